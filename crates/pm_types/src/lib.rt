@@ -1,0 +1,32 @@
+//! The values that every layer of the store speaks of, and the limits that they keep.
+#![tactic(auto)]
+
+mod address;
+mod bytes;
+mod command;
+mod entry;
+mod limits;
+mod name;
+mod no_memory;
+mod object;
+mod register;
+mod reply;
+mod size;
+
+pub use address::Addr;
+pub use bytes::Bytes;
+pub use command::Cmd;
+pub use entry::Entry;
+pub use limits::{
+    CLIENTS, FIELDS, LAST_ID, NAME_BYTES, OBJECT_BYTES, REGISTERS, ROOTS, SCRIPT_LINES,
+    SOURCE_BYTES,
+};
+pub use name::{Name, NameFault};
+pub use no_memory::NoMemory;
+pub use object::{Fields, Object, Slot};
+pub use register::Reg;
+pub use reply::Reply;
+pub use size::room;
+
+/// The identity of an object: 1 to 4,294,967,295, given in order of creation and never given again.
+pub type Id = u32;

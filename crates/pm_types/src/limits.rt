@@ -1,0 +1,26 @@
+/// How many clients there are. Their numbers run from 0.
+pub const CLIENTS: u32 = 8;
+
+/// How many registers each client has. Their numbers run from 0.
+pub const REGISTERS: u32 = 1024;
+
+/// The most reference fields of an object.
+pub const FIELDS: u32 = 64;
+
+/// The most bytes of an object.
+pub const OBJECT_BYTES: usize = 4096;
+
+/// The last identity: once it was given, no further object can be made.
+pub const LAST_ID: u32 = 4_294_967_295;
+
+/// The most names that are bound at one time.
+pub const ROOTS: usize = 4096;
+
+/// The most bytes of a name. It has at least one.
+pub const NAME_BYTES: usize = 64;
+
+/// The most bytes of a script.
+pub const SOURCE_BYTES: usize = 268_435_456;
+
+/// The most lines of a script.
+pub const SCRIPT_LINES: usize = 65_536;
