@@ -1,0 +1,4 @@
+pub mod Shown
+pub mod Orders
+pub mod Reaching
+pub mod Unused

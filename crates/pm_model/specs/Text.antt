@@ -1,0 +1,24 @@
+-- What is written of a journal.
+use Rattle.std.specs.Prelude.{ℕ, List, ◌++◌, codes, decimal}
+use Rattle.std.specs.List.{flat_map}
+use Rattle.pm_types.specs.declared.entry.Entry.{Entry}
+use Rattle.pm_types.specs.declared.reply.Reply.{Reply}
+use Rattle.pm_types.specs.declared.reply.Reply.TheVariants.{Done, Ident, TooLarge, IdsSpent, NoHandle, TooManyRoots, NoRoot}
+
+-- a reply in words
+abbrev pub reply_words : Reply → List ℕ
+reply_words Done = codes "ok"
+reply_words (Ident id) = codes "ok " ++ decimal id
+reply_words TooLarge = codes "too-large"
+reply_words IdsSpent = codes "ids-spent"
+reply_words NoHandle = codes "no-handle"
+reply_words TooManyRoots = codes "too-many-roots"
+reply_words NoRoot = codes "no-root"
+
+-- the line of an entry: the client, a space, the reply, a newline
+abbrev pub reply_line : Entry → List ℕ
+reply_line entry = decimal entry.client ++ codes " " ++ reply_words entry.reply ++ codes "\n"
+
+-- the text of a journal: the line of each entry, in order
+abbrev pub text : List Entry → List ℕ
+text journal = flat_map reply_line journal

@@ -1,0 +1,87 @@
+-- The world that clients see: an object graph, its names and registers, and what was saved of it.
+use Rattle.std.specs.Prelude.{ℕ, ◌+◌, List, Option, None, refl}
+use Rattle.std.specs.declared.cmp.Ordering.{Ordering}
+use Rattle.std.specs.Ordering.{nat_cmp, ordering_then}
+use Rattle.std.specs.Cmp.Lexicographic.{slice_cmp}
+use Rattle.std.specs.FinMap.{FinMap, get, insert, empty, code}
+use Rattle.std.specs.Coded.{Coded, code_by, coded×, coded_ℕ, coded_list, coded_option}
+use Rattle.pm_model.specs.Heap.{Object, Heap, object_code}
+
+-- names are ordered by their bytes
+abbrev pub name_cmp : List ℕ → List ℕ → Ordering
+name_cmp = slice_cmp nat_cmp
+
+-- the identity that each bound name stands for
+abbrev pub Roots : Type 0
+Roots = FinMap name_cmp ℕ
+
+-- places of registers are ordered by the client, and then by the register
+abbrev pub place_cmp : ℕ × ℕ → ℕ × ℕ → Ordering
+place_cmp a b = ordering_then (nat_cmp a.0 b.0) (nat_cmp a.1 b.1)
+
+-- the identity that each register holds, at (client, register); an empty register has none
+abbrev pub Registers : Type 0
+Registers = FinMap place_cmp ℕ
+
+-- what a checkpoint keeps: a heap, its roots, and the next identity
+pub record Copy : Type 0 where
+  pub heap : Heap
+  pub roots : Roots
+  pub next : ℕ
+
+-- a copy is stored as the tuple of its parts
+abbrev pub copy_code : Coded Copy
+copy_code =
+    code_by (Heap × (Roots × ℕ)) (coded× (code coded_ℕ object_code) (coded× (code (coded_list coded_ℕ) coded_ℕ) coded_ℕ))
+    (λ c. (c.heap, (c.roots, c.next))) (λ p. record { heap = p.0; roots = p.1.0; next = p.1.1 }) (λ _. refl)
+
+-- the copy of nothing
+abbrev pub empty_copy : Copy
+empty_copy = record { heap = empty; roots = empty; next = 1 }
+
+-- A world: every object that was ever made, since none is ever taken away, the roots, the registers, the
+-- next identity, the number and copy that settled last, those in progress, and how many watches are set.
+pub record World : Type 0 where
+  pub heap : Heap
+  pub roots : Roots
+  pub registers : Registers
+  pub next : ℕ
+  pub settled : ℕ
+  pub settled_copy : Copy
+  pub saving : Option (ℕ × Copy)
+  pub watches : ℕ
+
+-- a world is stored as the tuple of its parts
+abbrev pub world_code : Coded World
+world_code =
+    code_by (Heap × (Roots × (Registers × (ℕ × (ℕ × (Copy × (Option (ℕ × Copy) × ℕ)))))))
+    (coded× (code coded_ℕ object_code) (coded× (code (coded_list coded_ℕ) coded_ℕ) (coded× (code (coded× coded_ℕ coded_ℕ) coded_ℕ)
+    (coded× coded_ℕ (coded× coded_ℕ (coded× copy_code (coded× (coded_option (coded× coded_ℕ copy_code)) coded_ℕ)))))))
+    (λ w. (w.heap, (w.roots, (w.registers, (w.next, (w.settled, (w.settled_copy, (w.saving, w.watches))))))))
+    (λ p. record { heap = p.0; roots = p.1.0; registers = p.1.1.0; next = p.1.1.1.0; settled = p.1.1.1.1.0; settled_copy = p.1.1.1.1.1.0; saving = p.1.1.1.1.1.1.0; watches = p.1.1.1.1.1.1.1 })
+    (λ _. refl)
+
+-- the world in which a copy with this number has just been opened
+abbrev pub begin : ℕ → Copy → World
+begin number copy =
+    record { heap = copy.heap; roots = copy.roots; registers = empty; next = copy.next; settled = number; settled_copy = copy; saving = None; watches = 0 }
+
+-- the world in which nothing was ever made
+abbrev pub empty_world : World
+empty_world = begin 0 empty_copy
+
+-- what a register of a client holds
+abbrev pub held : World → ℕ → ℕ → Option ℕ
+held world client reg = get world.registers (client, reg)
+
+-- the world in which a register of a client holds this identity, and all else is the same
+abbrev pub holding : World → ℕ → ℕ → ℕ → World
+holding world client reg id = record world { registers = insert world.registers (client, reg) id }
+
+-- the world in which this object has the next identity, and all else is the same
+abbrev pub with_object : World → Object → World
+with_object world object = record world { heap = insert world.heap world.next object; next = world.next + 1 }
+
+-- the world in which the name stands for this identity, and all else is the same
+abbrev pub naming : World → List ℕ → ℕ → World
+naming world name id = record world { roots = insert world.roots name id }
