@@ -2,6 +2,7 @@
 use Rattle.std.specs.Prelude.{◌≡◌, ℕ, List, [], ◌∷◌, map, filter, nat_eq}
 use Rattle.pm_types.specs.declared.command.Cmd.{Cmd}
 use Rattle.pm_types.specs.declared.entry.Entry.{Entry}
+use Rattle.pm_model.specs.declared.request.Request.{Request}
 use Rattle.pm_model.specs.World.{World}
 use Rattle.pm_model.specs.Answer.{answer}
 
@@ -14,11 +15,6 @@ IsLegal world (entry ∷ rest) = (entry.reply ≡ (answer world entry.client ent
 abbrev pub after : World → List Entry → World
 after world [] = world
 after world (entry ∷ rest) = after (answer world entry.client entry.cmd).1 rest
-
--- a client and what it asks
-pub record Request : Type 0 where
-  pub client : ℕ
-  pub cmd : Cmd
 
 -- what was asked, in order
 abbrev pub requests_of : List Entry → List Request

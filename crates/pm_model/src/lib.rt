@@ -6,10 +6,12 @@ mod laws;
 mod objects;
 mod oracle;
 mod registers;
+mod request;
 mod roots;
 
 pub use laws::reachable_is_least_closed;
 pub use objects::Node;
 pub use oracle::Oracle;
 pub use registers::Registers;
+pub use request::Request;
 pub use roots::Roots;
