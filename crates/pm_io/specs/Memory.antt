@@ -1,0 +1,21 @@
+-- What contracts see of the source and the sink in memory.
+use Rattle.std.specs.Prelude.{ℕ, List}
+
+-- a source in memory: the bytes that are left, the most that a call gives, the numbers of the calls that fail,
+-- how many calls were made, and how many of them failed
+pub record SourceState : Type 0 where
+  pub left : List ℕ
+  pub piece : ℕ
+  pub fails : List ℕ
+  pub calls : ℕ
+  pub faults : ℕ
+
+-- a sink in memory: the bytes that were written, how many of them are finished, the numbers of the calls that fail,
+-- how many calls were made, how many of them failed, and how many growths were refused
+pub record SinkState : Type 0 where
+  pub written : List ℕ
+  pub finished : ℕ
+  pub fails : List ℕ
+  pub calls : ℕ
+  pub faults : ℕ
+  pub refused : ℕ
