@@ -4,11 +4,19 @@
 
 mod calls;
 mod failed;
+mod mem_sink;
 mod mem_source;
+mod reading;
 mod sink;
 mod source;
+mod std_sink;
+mod std_source;
 
 pub use failed::Failed;
+pub use mem_sink::MemSink;
 pub use mem_source::MemSource;
+pub use reading::{ReadAll, read_all};
 pub use sink::Sink;
 pub use source::Source;
+pub use std_sink::StdSink;
+pub use std_source::StdSource;

@@ -1,6 +1,7 @@
 ghost use Rattle.std.specs.Prelude.{◌≡◌, ◌<◌, [], ◌++◌, min, length, take, drop, is_err, IfOk, OnErr, Some};
 ghost use Rattle.pm_types.specs.Counts.{Rose};
 ghost use Rattle.pm_io.specs.Calls.{raised, is_listed};
+ghost use Rattle.pm_io.specs.Memory.{after_failed_take};
 
 use crate::calls::{count_call, raise};
 use crate::{Failed, Source};
@@ -62,7 +63,7 @@ impl Source for MemSource {
 
         // A call that fails takes nothing.
         ensures room_stays { OnErr result (into.new ≡ into.old) }
-        ensures counted { OnErr result (self.new ≡ record self.old { calls = raised self.old.calls; faults = raised self.old.faults }) }
+        ensures counted { OnErr result (self.new ≡ after_failed_take self.old) }
         ensures cause { OnErr result (Rose self.old.faults self.new.faults) }
     {
         if count_call(&mut self.calls, &self.fails) {
