@@ -2,3 +2,4 @@ pub mod Calls
 pub mod Streams
 pub mod Memory
 pub mod Reading
+pub mod Known

@@ -1,46 +1,80 @@
-ghost use Rattle.std.specs.Prelude.{◌≡◌, None};
-ghost use Rattle.std.specs.Prelude.{is_ok, OnOk, OnErr};
+ghost use Rattle.std.specs.Prelude.{◌≡◌, ℕ, ◌<◌, ◌≤◌, List, ◌++◌, length, take, Some, None, IfOk, OnOk, OnErr, is_ok};
+ghost use Rattle.std.specs.Io.KnownBytes.{Appends, Keeps};
 ghost use Rattle.pm_types.specs.Counts.{Rose};
+ghost use Rattle.pm_io.specs.Streams.{AppendsPart};
 
 use crate::calls::raise;
 use crate::{Failed, Sink};
-use std::io;
-use std::io::Write;
+use std::io::{ErrorKind, Write};
 use std::marker::Model;
 
-/// A sink over one of std's writers. It tells nothing of the bytes that were put.
+/// A sink over one of std's writers. As a sink it tells nothing of the bytes that were put.
 #[derive(Drop)]
-pub struct StdSink<W> {
+pub struct StdSink<W: Write> {
     writer: W,
     faults: u64,
 }
 
-// Contracts see the count of faults alone.
-impl<W> Model for StdSink<W> {
-    ghost use Rattle.std.specs.Prelude.{ℕ};
+impl<W: Write> Model for StdSink<W> {
+    ghost use Rattle.pm_io.specs.Known.{StreamState};
 
-    ghost Value = { ℕ };
+    ghost Value = { StreamState };
 
-    ghost view = { λ sink. sink.faults };
+    ghost view = { λ s. record { known = W.contents s.writer; faults = s.faults } };
+}
+
+// One write of at least a byte, tried again where it was interrupted.
+fn write_once<W: Write>(writer: &mut W, from: &[u8]) -> Result<usize, Failed>
+    ensures some { IfOk result (λ n. 0 < n) }
+    ensures fits { IfOk result (λ n. n ≤ length from.now) }
+    ensures ok { IfOk result (λ n. Appends (W.contents writer.old) (W.contents writer.new) (take n from.now)) }
+    ensures err { OnErr result (Keeps (W.contents writer.old) (W.contents writer.new)) }
+{
+    for _ in 0..u64::MAX {
+        match writer.write(from) {
+            Ok(0) => return Err(Failed),
+            Ok(n) => return Ok(n),
+            Err(error) => {
+                if error.kind() != ErrorKind::Interrupted {
+                    return Err(Failed);
+                }
+            }
+        }
+    }
+    Err(Failed)
+}
+
+// Writes the whole piece, all of its rest at each write.
+fn write_whole<W: Write>(writer: &mut W, from: &[u8]) -> Result<(), Failed>
+    ensures ok { OnOk result ((bytes : List ℕ) → W.contents writer.old ≡ Some bytes
+        → W.contents writer.new ≡ Some (bytes ++ from.now)) }
+    ensures err { OnErr result ((bytes : List ℕ) → W.contents writer.old ≡ Some bytes
+        → AppendsPart bytes from.now (W.contents writer.new)) }
+{
+    let mut done = 0;
+    while done < from.len() {
+        done += write_once(writer, &from[done..])?;
+    }
+    Ok(())
 }
 
 // Counts an outcome that is a failure.
-fn count(outcome: io::Result<()>, faults: &mut u64) -> Result<(), Failed>
-    ensures same { is_ok result ≡ is_ok outcome }
+fn count(outcome: Result<(), Failed>, faults: &mut u64) -> Result<(), Failed>
+    ensures same { result ≡ outcome }
     ensures ok { OnOk result (faults.new ≡ faults.old) }
     ensures err { OnErr result (Rose faults.old faults.new) }
 {
     if outcome.is_err() {
         raise(faults);
-        return Err(Failed);
     }
-    Ok(())
+    outcome
 }
 
 impl<W: Write + Drop> StdSink<W> {
     /// A sink that hands on to the writer. It takes no memory.
     pub fn new(writer: W) -> Self
-        ensures { result ≡ 0 }
+        ensures known { result.known ≡ W.contents writer }
+        ensures faults { result.faults ≡ 0 }
     {
         StdSink { writer, faults: 0 }
     }
@@ -51,15 +85,30 @@ impl<W: Write + Drop> Sink for StdSink<W> {
 
     ghost finished = { λ _. 0 };
 
-    ghost count = { λ faults. faults };
+    ghost count = { λ sink. sink.faults };
 
-    fn put(&mut self, from: &[u8]) -> Result<(), Failed> {
-        let outcome = self.writer.write_all(from);
+    fn put(&mut self, from: &[u8]) -> Result<(), Failed>
+        ensures counted { OnOk result (self.new.faults ≡ self.old.faults) }
+        ensures cause { OnErr result (Rose self.old.faults self.new.faults) }
+
+        // What std knows of the bytes: they grow by the piece, and by a first part of it where it fails.
+        ensures appended { OnOk result ((bytes : List ℕ) → self.old.known ≡ Some bytes
+            → self.new.known ≡ Some (bytes ++ from.now)) }
+        ensures failed { OnErr result ((bytes : List ℕ) → self.old.known ≡ Some bytes
+            → AppendsPart bytes from.now self.new.known) }
+    {
+        let outcome = write_whole(&mut self.writer, from);
         count(outcome, &mut self.faults)
     }
 
-    fn finish(&mut self) -> Result<(), Failed> {
-        let outcome = self.writer.flush();
+    fn finish(&mut self) -> Result<(), Failed>
+        ensures counted { OnOk result (self.new.faults ≡ self.old.faults) }
+        ensures cause { OnErr result (Rose self.old.faults self.new.faults) }
+
+        // What std knows of the bytes stays.
+        ensures bytes_stay { Keeps self.old.known self.new.known }
+    {
+        let outcome = self.writer.flush().map_err(|_| Failed);
         count(outcome, &mut self.faults)
     }
 

@@ -1,26 +1,26 @@
-ghost use Rattle.std.specs.Prelude.{◌≡◌, None};
+ghost use Rattle.std.specs.Prelude.{◌≡◌, ◌≤◌, length, None, IfOk, OnOk, OnErr};
 ghost use Rattle.std.specs.Io.{ReadsAtMost};
 ghost use Rattle.std.specs.Io.KnownBytes.{ReadConsumes};
+ghost use Rattle.pm_types.specs.Counts.{Rose};
 
 use crate::calls::raise;
 use crate::{Failed, Source};
 use std::io::{ErrorKind, Read};
 use std::marker::Model;
 
-/// A source over one of std's readers. It tells nothing of the bytes that are to come.
+/// A source over one of std's readers. As a source it tells nothing of the bytes that are to come.
 #[derive(Drop)]
-pub struct StdSource<R> {
+pub struct StdSource<R: Read> {
     reader: R,
     faults: u64,
 }
 
-// Contracts see the count of faults alone.
-impl<R> Model for StdSource<R> {
-    ghost use Rattle.std.specs.Prelude.{ℕ};
+impl<R: Read> Model for StdSource<R> {
+    ghost use Rattle.pm_io.specs.Known.{StreamState};
 
-    ghost Value = { ℕ };
+    ghost Value = { StreamState };
 
-    ghost view = { λ source. source.faults };
+    ghost view = { λ s. record { known = R.remaining s.reader; faults = s.faults } };
 }
 
 // One read, tried again where it was interrupted.
@@ -44,7 +44,8 @@ fn read_once<R: Read>(reader: &mut R, into: &mut [u8]) -> Result<usize, Failed>
 impl<R: Read + Drop> StdSource<R> {
     /// A source of what the reader gives. It takes no memory.
     pub fn new(reader: R) -> Self
-        ensures { result ≡ 0 }
+        ensures known { result.known ≡ R.remaining reader }
+        ensures faults { result.faults ≡ 0 }
     {
         StdSource { reader, faults: 0 }
     }
@@ -53,9 +54,17 @@ impl<R: Read + Drop> StdSource<R> {
 impl<R: Read + Drop> Source for StdSource<R> {
     ghost left = { λ _. None };
 
-    ghost count = { λ faults. faults };
+    ghost count = { λ source. source.faults };
 
-    fn take(&mut self, into: &mut [u8]) -> Result<usize, Failed> {
+    fn take(&mut self, into: &mut [u8]) -> Result<usize, Failed>
+        ensures fits { IfOk result (λ n. n ≤ length into.old) }
+        ensures counted { OnOk result (self.new.faults ≡ self.old.faults) }
+        ensures cause { OnErr result (Rose self.old.faults self.new.faults) }
+
+        // What std knows of the bytes: those that came were the first, 0 came only at the end, and a
+        // call that fails loses none.
+        ensures bytes { ReadConsumes self.old.known self.new.known result into.new }
+    {
         let taken = read_once(&mut self.reader, into);
         if taken.is_err() {
             raise(&mut self.faults);

@@ -24,14 +24,14 @@ loop-all-preserved g c = record {
   short = search rules;
   counted = search rules;
   taken = λ bytes told.
-    rw c.in_ok-append.ensures.ok (more_taken bytes _ _ _ _ _ (c.loop-all.invariant.taken bytes told) c.in_ok-n.ensures.taken);
+      rw c.in_ok-append.ensures.ok (more_taken bytes _ _ _ _ _ (c.loop-all.invariant.taken bytes told) c.in_ok-n.ensures.taken);
 }
 
 pub returns-in_err-append-clause-too_long : goal.returns-in_err-append-clause-too_long
 returns-in_err-append-clause-too_long g c = λ is bytes told.
-  let within = taken_within bytes _ _ (more_taken bytes _ _ _ _ _ (c.loop-all.invariant.taken bytes told) c.in_ok-n.ensures.taken) in
-  grind (arith, common_steps, length-append, within, is, c.in_err-append.ensures.too_long, c.from_residual-in_err-append.ensures)
+    let within = taken_within bytes _ _ (more_taken bytes _ _ _ _ _ (c.loop-all.invariant.taken bytes told) c.in_ok-n.ensures.taken) in
+    grind (arith, common_steps, length-append, within, is, c.in_err-append.ensures.too_long, c.from_residual-in_err-append.ensures)
 
 pub returns-in_err-append-clause-rest : goal.returns-in_err-append-clause-rest
-returns-in_err-append-clause-rest g c = 
+returns-in_err-append-clause-rest g c =
     λ bytes told. leaves_end bytes _ _ (more_taken bytes _ _ _ _ _ (c.loop-all.invariant.taken bytes told) c.in_ok-n.ensures.taken)
