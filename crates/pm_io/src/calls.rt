@@ -1,6 +1,8 @@
-ghost use Rattle.std.specs.Prelude.{◌≡◌};
+ghost use Rattle.std.specs.Prelude.{◌≡◌, is_err, OnOk, OnErr};
 ghost use Rattle.pm_types.specs.Counts.{Rose};
 ghost use Rattle.pm_io.specs.Calls.{raised, is_listed};
+
+use crate::Failed;
 
 // Counts a fault. The count stays at its end.
 pub(crate) fn raise(count: &mut u64)
@@ -11,7 +13,7 @@ pub(crate) fn raise(count: &mut u64)
 }
 
 // Counts a call, and says whether it is one that fails.
-pub(crate) fn count_call(calls: &mut u64, fails: &[u64]) -> bool
+fn count_call(calls: &mut u64, fails: &[u64]) -> bool
     ensures counted { calls.new ≡ raised calls.old }
     ensures listed { result ≡ is_listed fails.now calls.old }
 {
@@ -20,4 +22,19 @@ pub(crate) fn count_call(calls: &mut u64, fails: &[u64]) -> bool
     }
     *calls += 1;
     fails.contains(calls)
+}
+
+// Begins a call of a stream in memory. It fails where its number is listed, and counts that.
+pub(crate) fn begin(calls: &mut u64, fails: &[u64], faults: &mut u64) -> Result<(), Failed>
+    ensures listed { is_err result ≡ is_listed fails.now calls.old }
+    ensures counted { calls.new ≡ raised calls.old }
+    ensures ok { OnOk result (faults.new ≡ faults.old) }
+    ensures err { OnErr result (faults.new ≡ raised faults.old) }
+    ensures cause { OnErr result (Rose faults.old faults.new) }
+{
+    if count_call(calls, fails) {
+        raise(faults);
+        return Err(Failed);
+    }
+    Ok(())
 }

@@ -3,7 +3,7 @@ ghost use Rattle.pm_types.specs.Counts.{Rose};
 ghost use Rattle.pm_io.specs.Calls.{raised, is_listed};
 ghost use Rattle.pm_io.specs.Memory.{after_failed_call, after_refused_growth};
 
-use crate::calls::{count_call, raise};
+use crate::calls::{begin, raise};
 use crate::{Failed, Sink};
 use std::alloc::Global;
 use std::marker::Model;
@@ -85,10 +85,7 @@ impl Sink for MemSink {
         ensures refused_rose { OnErr result (is_listed self.old.fails self.old.calls ≡ false → Rose self.old.refused self.new.refused) }
         ensures cause { OnErr result (Rose self.old.faults self.new.faults) }
     {
-        if count_call(&mut self.calls, &self.fails) {
-            raise(&mut self.faults);
-            return Err(Failed);
-        }
+        begin(&mut self.calls, &self.fails, &mut self.faults)?;
         if self.written.extend_from_slice(from).is_err() {
             raise(&mut self.refused);
             raise(&mut self.faults);
@@ -103,10 +100,7 @@ impl Sink for MemSink {
         ensures err { OnErr result (self.new ≡ after_failed_call self.old) }
         ensures cause { OnErr result (Rose self.old.faults self.new.faults) }
     {
-        if count_call(&mut self.calls, &self.fails) {
-            raise(&mut self.faults);
-            return Err(Failed);
-        }
+        begin(&mut self.calls, &self.fails, &mut self.faults)?;
         self.finished = self.written.len();
         Ok(())
     }

@@ -3,7 +3,7 @@ ghost use Rattle.pm_types.specs.Counts.{Rose};
 ghost use Rattle.pm_io.specs.Calls.{raised, is_listed};
 ghost use Rattle.pm_io.specs.Memory.{after_failed_take};
 
-use crate::calls::{count_call, raise};
+use crate::calls::begin;
 use crate::{Failed, Source};
 use std::marker::Model;
 
@@ -66,10 +66,7 @@ impl Source for MemSource {
         ensures counted { OnErr result (self.new ≡ after_failed_take self.old) }
         ensures cause { OnErr result (Rose self.old.faults self.new.faults) }
     {
-        if count_call(&mut self.calls, &self.fails) {
-            raise(&mut self.faults);
-            return Err(Failed);
-        }
+        begin(&mut self.calls, &self.fails, &mut self.faults)?;
         let left = &self.bytes[self.at..];
         let n = self.piece.min(into.len()).min(left.len());
         into[..n].copy_from_slice(&left[..n]);

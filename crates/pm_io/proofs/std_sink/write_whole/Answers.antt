@@ -1,4 +1,4 @@
-use Rattle.std.proofs.Common.{arith, length}
+use Rattle.std.proofs.Common.{arith}
 use Rattle.std.proofs.lemmas.Grind.{common_steps}
 use Rattle.pm_io.proofs.WrittenSoFar.{written_more}
 use Rattle.pm_io.proofs.std_sink.write_whole.Goals as goal
