@@ -1,8 +1,9 @@
-ghost use Rattle.std.specs.Prelude.{◌≡◌, is_err, OnOk, OnErr};
+ghost use Rattle.std.specs.Prelude.{◌≡◌, is_err, IsErr, OnOk, OnErr, MatchResult};
 ghost use Rattle.pm_types.specs.Counts.{Rose};
 ghost use Rattle.pm_io.specs.Calls.{raised, is_listed};
 
 use crate::Failed;
+use std::io;
 
 // Counts a fault. The count stays at its end.
 pub(crate) fn raise(count: &mut u64)
@@ -37,4 +38,19 @@ pub(crate) fn begin(calls: &mut u64, fails: &[u64], faults: &mut u64) -> Result<
         return Err(Failed);
     }
     Ok(())
+}
+
+// Counts an outcome that is a failure.
+pub(crate) fn count<T: Drop>(outcome: io::Result<T>, faults: &mut u64) -> Result<T, Failed>
+    ensures same { MatchResult outcome (λ answer. result ≡ Ok answer) (λ _. IsErr result) }
+    ensures ok { OnOk result (faults.new ≡ faults.old) }
+    ensures err { OnErr result (Rose faults.old faults.new) }
+{
+    match outcome {
+        Ok(answer) => Ok(answer),
+        Err(_) => {
+            raise(faults);
+            Err(Failed)
+        }
+    }
 }

@@ -25,7 +25,14 @@ impl Model for MemSink {
 
     ghost Value = { SinkState };
 
-    ghost view = { λ s. record { written = s.written.items; finished = s.finished; fails = s.fails.items; calls = s.calls; faults = s.faults; refused = s.refused } };
+    ghost view = { λ s. record {
+      written = s.written.items;
+      finished = s.finished;
+      fails = s.fails.items;
+      calls = s.calls;
+      faults = s.faults;
+      refused = s.refused;
+    } };
 }
 
 impl MemSink {
@@ -33,7 +40,14 @@ impl MemSink {
     /// from 1 over both, is in `fails`, and the calls of `put` in which it was refused memory. `new`
     /// itself takes no memory.
     pub fn new(alloc: Global, fails: Vec<u64>) -> Self
-        ensures { result ≡ record { written = []; finished = 0; fails = fails.items; calls = 0; faults = 0; refused = 0 } }
+        ensures { result ≡ record {
+          written = [];
+          finished = 0;
+          fails = fails.items;
+          calls = 0;
+          faults = 0;
+          refused = 0;
+        } }
     {
         MemSink {
             written: Vec::new(alloc),
@@ -76,13 +90,20 @@ impl Sink for MemSink {
     ghost count = { λ sink. sink.faults };
 
     fn put(&mut self, from: &[u8]) -> Result<(), Failed>
-        ensures ok { OnOk result (self.new ≡ record self.old { written = self.old.written ++ from.now; calls = raised self.old.calls }) }
+        ensures ok { OnOk result (self.new ≡ record self.old {
+          written = self.old.written ++ from.now;
+          calls = raised self.old.calls;
+        }) }
 
-        // A listed call fails, and no other call does but one whose growth was refused. Neither appends anything.
+        // A listed call fails, and no other call does but one whose growth was refused. Neither
+        // appends anything.
         ensures listed { is_listed self.old.fails self.old.calls ≡ true → IsErr result }
-        ensures listed_stays { is_listed self.old.fails self.old.calls ≡ true → self.new ≡ after_failed_call self.old }
-        ensures refused { OnErr result (is_listed self.old.fails self.old.calls ≡ false → self.new ≡ after_refused_growth self.old) }
-        ensures refused_rose { OnErr result (is_listed self.old.fails self.old.calls ≡ false → Rose self.old.refused self.new.refused) }
+        ensures listed_stays { is_listed self.old.fails self.old.calls ≡ true
+            → self.new ≡ after_failed_call self.old }
+        ensures refused { OnErr result (is_listed self.old.fails self.old.calls ≡ false
+            → self.new ≡ after_refused_growth self.old) }
+        ensures refused_rose { OnErr result (is_listed self.old.fails self.old.calls ≡ false
+            → Rose self.old.refused self.new.refused) }
         ensures cause { OnErr result (Rose self.old.faults self.new.faults) }
     {
         begin(&mut self.calls, &self.fails, &mut self.faults)?;
@@ -96,7 +117,10 @@ impl Sink for MemSink {
 
     fn finish(&mut self) -> Result<(), Failed>
         ensures listed { is_err result ≡ is_listed self.old.fails self.old.calls }
-        ensures ok { OnOk result (self.new ≡ record self.old { finished = length self.old.written; calls = raised self.old.calls }) }
+        ensures ok { OnOk result (self.new ≡ record self.old {
+          finished = length self.old.written;
+          calls = raised self.old.calls;
+        }) }
         ensures err { OnErr result (self.new ≡ after_failed_call self.old) }
         ensures cause { OnErr result (Rose self.old.faults self.new.faults) }
     {

@@ -24,7 +24,13 @@ impl Model for MemSource {
 
     ghost Value = { SourceState };
 
-    ghost view = { λ s. record { left = drop s.at s.bytes.items; piece = s.piece; fails = s.fails.items; calls = s.calls; faults = s.faults } };
+    ghost view = { λ s. record {
+      left = drop s.at s.bytes.items;
+      piece = s.piece;
+      fails = s.fails.items;
+      calls = s.calls;
+      faults = s.faults;
+    } };
 
     ghost invariant = { λ s. (s.at ≤ length s.bytes.items) × (0 < s.piece) };
 }
@@ -34,7 +40,13 @@ impl MemSource {
     /// of `take` whose number, counted from 1, is in `fails`. It takes no memory.
     pub fn new(bytes: Vec<u8>, piece: usize, fails: Vec<u64>) -> Self
         requires { 0 < piece }
-        ensures { result ≡ record { left = bytes.items; piece = piece; fails = fails.items; calls = 0; faults = 0 } }
+        ensures { result ≡ record {
+          left = bytes.items;
+          piece = piece;
+          fails = fails.items;
+          calls = 0;
+          faults = 0;
+        } }
     {
         MemSource {
             bytes,
@@ -56,9 +68,13 @@ impl Source for MemSource {
         ensures listed { is_err result ≡ is_listed self.old.fails self.old.calls }
 
         // What an `Ok` gives: as much as the piece, the room and the bytes that are left allow.
-        ensures number { IfOk result (λ n. n ≡ min self.old.piece (min (length into.old) (length self.old.left))) }
+        ensures number { IfOk result
+            (λ n. n ≡ min self.old.piece (min (length into.old) (length self.old.left))) }
         ensures moved { IfOk result (λ n. into.new ≡ take n self.old.left ++ drop n into.old) }
-        ensures rest { IfOk result (λ n. self.new ≡ record self.old { left = drop n self.old.left; calls = raised self.old.calls }) }
+        ensures rest { IfOk result (λ n. self.new ≡ record self.old {
+          left = drop n self.old.left;
+          calls = raised self.old.calls;
+        }) }
         ensures end { IfOk result (λ n. n ≡ 0 → 0 < length into.old → self.old.left ≡ []) }
 
         // A call that fails takes nothing.

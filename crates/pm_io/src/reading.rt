@@ -23,6 +23,11 @@ pub enum ReadAll {
 }
 
 impl fmt::Display for ReadAll {
+    ghost use Rattle.std.specs.Prelude.{Some};
+    ghost use Rattle.pm_io.specs.Reading.{text_of};
+
+    ghost output = { λ why. Some (text_of why) };
+
     fn fmt<W: fmt::Write>(&self, f: &mut fmt::Formatter<W>) -> fmt::Result {
         match self {
             ReadAll::Failed => write!(f, "the source failed"),
@@ -61,7 +66,8 @@ fn append(all: &mut Vec<u8>, piece: &[u8]) -> Result<(), ReadAll>
     requires { vec_len all.old ≤ SOURCE_BYTES }
     ensures ok { OnOk result (all.new.items ≡ all.old.items ++ piece.now) }
     ensures short { OnOk result (vec_len all.new ≤ SOURCE_BYTES) }
-    ensures too_long { IsErrOf result ReadAll.TooLong ↔ (SOURCE_BYTES < vec_len all.old + length piece.now) }
+    ensures too_long { IsErrOf result ReadAll.TooLong
+        ↔ (SOURCE_BYTES < vec_len all.old + length piece.now) }
     ensures not_failed { result ≢ Err ReadAll.Failed }
 {
     if piece.len() > SOURCE_BYTES - all.len() {
@@ -71,11 +77,12 @@ fn append(all: &mut Vec<u8>, piece: &[u8]) -> Result<(), ReadAll>
     Ok(())
 }
 
-/// Takes all bytes that are left in the source. `Failed` comes before `TooLong`, and `TooLong` before
-/// `Memory`, as the source is read. After a failure the source has lost what was taken.
+/// Takes all bytes that are left in the source. It stops at the first failure that it meets, and asks
+/// for no memory for a piece that is too long. After a failure the source has lost what was taken.
 pub fn read_all<S: Source>(alloc: Global, source: &mut S) -> Result<Vec<u8>, ReadAll>
     // All that was left, and no more than the limit, whether the source tells or not.
-    ensures all { IfOk result (λ v. (bytes : List ℕ) → S.left source.old ≡ Some bytes → v.items ≡ bytes) }
+    ensures all { IfOk result (λ v. (bytes : List ℕ) → S.left source.old ≡ Some bytes
+        → v.items ≡ bytes) }
     ensures emptied { OnOk result ((bytes : List ℕ) → S.left source.old ≡ Some bytes
         → S.left source.new ≡ Some []) }
     ensures short { IfOk result (λ v. vec_len v ≤ SOURCE_BYTES) }

@@ -1,11 +1,13 @@
-ghost use Rattle.std.specs.Prelude.{◌≡◌, ◌≤◌, length, None, IfOk, OnOk, OnErr};
+ghost use Rattle.std.specs.Prelude.{◌≡◌, ◌≢◌, ◌≤◌, length, None, IfOk, IfErr, OnOk, OnErr};
 ghost use Rattle.std.specs.Io.{ReadsAtMost};
 ghost use Rattle.std.specs.Io.KnownBytes.{ReadConsumes};
+ghost use Rattle.std.specs.IoError.{error_kind};
 ghost use Rattle.pm_types.specs.Counts.{Rose};
 
-use crate::calls::raise;
+use crate::calls::count;
 use crate::{Failed, Source};
-use std::io::{ErrorKind, Read};
+use std::io;
+use std::io::{Error, ErrorKind, Read};
 use std::marker::Model;
 
 /// A source over one of std's readers. As a source it tells nothing of the bytes that are to come.
@@ -24,21 +26,22 @@ impl<R: Read> Model for StdSource<R> {
 }
 
 // One read, tried again where it was interrupted.
-fn read_once<R: Read>(reader: &mut R, into: &mut [u8]) -> Result<usize, Failed>
+fn read_once<R: Read>(reader: &mut R, into: &mut [u8]) -> io::Result<usize>
     ensures fits { ReadsAtMost result into.new }
     ensures bytes { ReadConsumes (R.remaining reader.old) (R.remaining reader.new) result into.new }
+    ensures tried_again { IfErr result (λ error. error_kind error ≢ ErrorKind.Interrupted) }
 {
     for _ in 0..u64::MAX {
         match reader.read(into) {
             Ok(n) => return Ok(n),
             Err(error) => {
                 if error.kind() != ErrorKind::Interrupted {
-                    return Err(Failed);
+                    return Err(error);
                 }
             }
         }
     }
-    Err(Failed)
+    Err(Error::other("interrupted too often"))
 }
 
 impl<R: Read + Drop> StdSource<R> {
@@ -66,10 +69,7 @@ impl<R: Read + Drop> Source for StdSource<R> {
         ensures bytes { ReadConsumes self.old.known self.new.known result into.new }
     {
         let taken = read_once(&mut self.reader, into);
-        if taken.is_err() {
-            raise(&mut self.faults);
-        }
-        taken
+        count(taken, &mut self.faults)
     }
 
     fn faults(&self) -> u64 {

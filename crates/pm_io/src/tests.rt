@@ -130,17 +130,3 @@ fn a_writer_gets_all_that_is_put(rt: HostRuntime) {
     assert_eq!(rt; sink.finish(), Err(Failed));
     assert_eq!(rt; sink.faults(), 1);
 }
-
-#[test]
-fn errors_have_their_texts(rt: HostRuntime) -> Result<(), Fail> {
-    assert_eq!(rt; Failed.to_string(rt.alloc())?.as_str(), "the stream failed");
-    let texts = [
-        (ReadAll::Failed, "the source failed"),
-        (ReadAll::TooLong, "the source is too long"),
-        (ReadAll::Memory, "no memory"),
-    ];
-    for (error, text) in texts {
-        assert_eq!(rt; error.to_string(rt.alloc())?.as_str(), text);
-    }
-    Ok(())
-}
