@@ -1,0 +1,2 @@
+pub mod TakenSoFar
+pub mod WrittenSoFar

@@ -1,0 +1,11 @@
+use Rattle.std.proofs.Common.{arith}
+use Rattle.std.proofs.lemmas.Grind.{common_steps}
+use Rattle.pm_io.proofs.WrittenSoFar.{written_more}
+use Rattle.pm_io.proofs.std_sink.write_whole.Goals as goal
+
+pub loop-done-preserved : goal.loop-done-preserved
+loop-done-preserved g c = record {
+  within = grind (arith, common_steps, c.in_ok-done.ensures.fits);
+  written = λ bytes told.
+      written_more bytes c.args.from.now c.loop-done.done c.in_ok-done.field-0 _ _ c.loop-done.invariant.within (c.loop-done.invariant.written bytes told) c.in_ok-done.ensures.ok;
+}

@@ -1,0 +1,5 @@
+pub mod Calls
+pub mod Streams
+pub mod Memory
+pub mod Reading
+pub mod Known

@@ -1,0 +1,24 @@
+//! Streams of bytes: sources that bytes are taken from, sinks that they are put into, each with a
+//! count of the calls that failed.
+#![tactic(auto)]
+
+mod calls;
+mod failed;
+mod mem_sink;
+mod mem_source;
+mod reading;
+mod sink;
+mod source;
+mod std_sink;
+mod std_source;
+#[cfg(test)]
+mod tests;
+
+pub use failed::Failed;
+pub use mem_sink::MemSink;
+pub use mem_source::MemSource;
+pub use reading::{ReadAll, read_all};
+pub use sink::Sink;
+pub use source::Source;
+pub use std_sink::StdSink;
+pub use std_source::StdSource;

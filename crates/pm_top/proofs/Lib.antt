@@ -1,0 +1,10 @@
+pub mod PartsLemmas
+pub mod Numerals
+pub mod NameTests
+pub mod Steps
+pub mod Found
+pub mod Again
+pub mod Lines
+pub mod MemoryLemmas
+pub mod Written
+pub mod Runs

@@ -1,0 +1,9 @@
+pub mod Script
+pub mod Parts
+pub mod Reading
+pub mod Memories
+pub mod Writing
+pub mod Events
+pub mod Running
+pub mod Words
+pub mod Ends

@@ -1,0 +1,112 @@
+ghost use Rattle.std.specs.Prelude.{◌≡◌, List, ℕ, [], ◌∷◌, ◌++◌, length, Some, OnOk, OnErr, IsErrOf};
+ghost use Rattle.pm_types.specs.Counts.{Rose};
+ghost use Rattle.pm_model.specs.Journal.{requests_of};
+ghost use Rattle.pm_model.specs.Text.{text};
+ghost use Rattle.pm_model.specs.declared.request.Request.{Request as Line};
+ghost use Rattle.pm_top.specs.Running.{Runs, RanSome};
+ghost use Rattle.pm_top.specs.Writing.{Wrote, WrotePart};
+
+use crate::event::make_event;
+use crate::memory::Memory;
+use crate::output::{BUFFER_BYTES, Stop, add_line, flush};
+use pm_io::Sink;
+use pm_model::Request;
+use pm_types::Entry;
+use std::alloc::Global;
+
+// Answers a request and writes its reply.
+fn step<K: Sink>(
+    alloc: Global,
+    world: &mut Memory,
+    journal: &mut Vec<Entry>,
+    request: Request,
+    sink: &mut K,
+    out: &mut Vec<u8>,
+) -> Result<(), Stop>
+    ensures runs { OnOk result ((lines rest : List Line) → Runs lines world.old journal.old.items (request ∷ rest)
+        → Runs lines world.new journal.new.items rest) }
+    ensures ran { OnErr result ((lines rest : List Line) → Runs lines world.old journal.old.items (request ∷ rest)
+        → RanSome lines journal.new.items) }
+    ensures wrote { OnOk result ((before : List ℕ) → Wrote before (K.written sink.old) out.old.items (text journal.old.items)
+        → Wrote before (K.written sink.new) out.new.items (text journal.new.items)) }
+    ensures part { OnErr result ((before : List ℕ) → Wrote before (K.written sink.old) out.old.items (text journal.old.items)
+        → WrotePart before (K.written sink.new) (text journal.new.items)) }
+    ensures counted { OnOk result (K.count sink.new ≡ K.count sink.old) }
+    ensures cause { IsErrOf result Stop.Writing → Rose (K.count sink.old) (K.count sink.new) }
+{
+    match make_event(alloc, world, journal, request) {
+        Ok(()) => {
+            let last = journal.len() - 1;
+            add_line(sink, out, &journal[last])
+        }
+        Err(_) => {
+            flush_what_goes(sink, out);
+            Err(Stop::Memory)
+        }
+    }
+}
+
+// Puts what is in the buffer, as far as the sink takes it: the run ends for another cause.
+fn flush_what_goes<K: Sink>(sink: &mut K, out: &mut Vec<u8>)
+    ensures part { (before text : List ℕ) → Wrote before (K.written sink.old) out.old.items text
+        → WrotePart before (K.written sink.new) text }
+{
+    match flush(sink, out) {
+        Ok(()) => {}
+        Err(_) => {}
+    }
+}
+
+// Writes what is left in the buffer, and finishes the sink.
+fn end<K: Sink>(sink: &mut K, out: &mut Vec<u8>) -> Result<(), Stop>
+    ensures wrote { OnOk result ((before text : List ℕ) → Wrote before (K.written sink.old) out.old.items text
+        → K.written sink.new ≡ Some (before ++ text)) }
+    ensures finished { OnOk result ((before text : List ℕ) → Wrote before (K.written sink.old) out.old.items text
+        → K.finished sink.new ≡ length (before ++ text)) }
+    ensures part { OnErr result ((before text : List ℕ) → Wrote before (K.written sink.old) out.old.items text
+        → WrotePart before (K.written sink.new) text) }
+    ensures counted { OnOk result (K.count sink.new ≡ K.count sink.old) }
+    ensures cause { OnErr result (Rose (K.count sink.old) (K.count sink.new)) }
+{
+    match flush(sink, out) {
+        Ok(()) => match sink.finish() {
+            Ok(()) => Ok(()),
+            Err(_) => Err(Stop::Writing),
+        },
+        Err(_) => Err(Stop::Writing),
+    }
+}
+
+/// Runs the lines in their order over an empty world. Each reply is written after its event, through a
+/// buffer whose room is taken before the first event.
+pub(crate) fn run_lines<K: Sink>(
+    alloc: Global,
+    lines: Vec<Request>,
+    sink: &mut K,
+    journal: &mut Vec<Entry>,
+) -> Result<(), Stop>
+    requires { journal.old.items ≡ [] }
+    ensures ran { RanSome lines.items journal.new.items }
+    ensures all { OnOk result (requests_of journal.new.items ≡ lines.items) }
+    ensures wrote { OnOk result ((before : List ℕ) → K.written sink.old ≡ Some before
+        → K.written sink.new ≡ Some (before ++ text journal.new.items)) }
+    ensures finished { OnOk result ((before : List ℕ) → K.written sink.old ≡ Some before
+        → K.finished sink.new ≡ length (before ++ text journal.new.items)) }
+    ensures part { OnErr result ((before : List ℕ) → K.written sink.old ≡ Some before
+        → WrotePart before (K.written sink.new) (text journal.new.items)) }
+    ensures counted { OnOk result (K.count sink.new ≡ K.count sink.old) }
+    ensures cause { IsErrOf result Stop.Writing → Rose (K.count sink.old) (K.count sink.new) }
+{
+    let Ok(mut out) = Vec::with_capacity(alloc, BUFFER_BYTES) else {
+        return Err(Stop::Memory);
+    };
+    if journal.reserve(lines.len()).is_err() {
+        return Err(Stop::Memory);
+    }
+    let mut world = Memory::new(alloc);
+    let mut rest = lines.into_iter();
+    while let Some(request) = rest.next() {
+        step(alloc, &mut world, journal, request, sink, &mut out)?;
+    }
+    end(sink, &mut out)
+}
