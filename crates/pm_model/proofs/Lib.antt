@@ -2,3 +2,4 @@ pub mod Shown
 pub mod Orders
 pub mod Reaching
 pub mod Unused
+pub mod AnswerLaws

@@ -1,5 +1,5 @@
 -- What each command answers, and the world that it leaves.
-use Rattle.std.specs.Prelude.{ℕ, Bool, ◌||◌, List, length, Option, Some, None, nat_lt, nat_le, is_some, not, ◌&&◌, if◌then◌else◌, replicate}
+use Rattle.std.specs.Prelude.{ℕ, Bool, true, false, ◌||◌, List, length, Option, Some, None, nat_lt, nat_le, is_some, not, ◌&&◌, if◌then◌else◌, replicate}
 use Rattle.std.specs.FinMap.{get, len}
 use Rattle.pm_types.specs.declared.limits.TheConstants.{FIELDS, OBJECT_BYTES, LAST_ID, ROOTS}
 use Rattle.pm_types.specs.declared.command.Cmd.{Cmd}
@@ -49,3 +49,13 @@ answer world client (New reg count bytes) = answer_new world client reg count by
 answer world client (IdOf reg) = answer_id world (held world client reg)
 answer world client (Bind name reg) = answer_root world name (held world client reg)
 answer world client (Find to name) = answer_find world client to (get world.roots name)
+
+-- the replies that refuse a command
+abbrev pub is_refusal : Reply → Bool
+is_refusal Done = false
+is_refusal (Ident id) = false
+is_refusal TooLarge = true
+is_refusal IdsSpent = true
+is_refusal NoHandle = true
+is_refusal TooManyRoots = true
+is_refusal NoRoot = true

@@ -9,7 +9,10 @@ mod registers;
 mod request;
 mod roots;
 
-pub use laws::reachable_is_least_closed;
+pub use laws::{
+    no_object_is_taken_away, reachable_is_least_closed, refusals_keep_the_world,
+    what_is_bound_is_found,
+};
 pub use objects::Node;
 pub use oracle::Oracle;
 pub use registers::Registers;

@@ -230,3 +230,31 @@ lines_from_script bytes end is newline lines script =
       each = script.each;
       few = script.few;
     }
+
+-- lines of one body are one line
+same_line : (a b : Request) → IsLine a → IsLine b → line_body a ≡ line_body b → a ≡ b
+same_line a b valid_a valid_b same =
+    let read : ◌≡◌ {A = Option (Request × List (List ℕ))} (Some (a, [])) (Some (b, [])) = sym (read_again (line_body a) a valid_a refl) ∙ read_again (line_body a) b valid_b same in
+    let pairs : ◌≡◌ {A = Request × List (List ℕ)} (a, []) (b, []) = cc read in
+    ap (λ (p : Request × List (List ℕ)). p.0) pairs
+
+same_lines : (a b : List Request) → AllByRecursion IsLine a → AllByRecursion IsLine b → map line_body a ≡ map line_body b → a ≡ b
+same_lines [] [] each_a each_b same = refl
+same_lines [] (y ∷ b) each_a each_b same = let bad : [] ≡ line_body y ∷ map line_body b = same in cc bad
+same_lines (x ∷ a) [] each_a each_b same = let bad : line_body x ∷ map line_body a ≡ [] = same in cc bad
+same_lines (x ∷ a) (y ∷ b) each_a each_b same =
+    let both : line_body x ∷ map line_body a ≡ line_body y ∷ map line_body b = same in
+    let first : x ≡ y = same_line x y each_a.0 each_b.0 (cc both) in
+    let rest : a ≡ b = same_lines a b each_a.1 each_b.1 (cc both) in
+    (λ i. first i ∷ rest i)
+
+-- bytes are a script of one list of lines at most
+pub one_reading : (bytes : List ℕ) (a b : List Request) → IsScript bytes a → IsScript bytes b → a ≡ b
+one_reading bytes [] [] script_a script_b = refl
+one_reading bytes [] (y ∷ b) script_a script_b = absurd (not_empty _ 10 (sym script_a.spelled ∙ script_b.spelled ∙ text_joined y b))
+one_reading bytes (x ∷ a) [] script_a script_b = absurd (not_empty _ 10 (sym script_b.spelled ∙ script_a.spelled ∙ text_joined x a))
+one_reading bytes (x ∷ a) (y ∷ b) script_a script_b =
+    let body = join_with_byte 10 (map line_body (x ∷ a)) in
+    same_lines (x ∷ a) (y ∷ b) script_a.each script_b.each
+    (sym (script_parts body (x ∷ a) script_a.each (sym (text_joined x a)))
+    ∙ script_parts body (y ∷ b) script_b.each (sym (text_joined x a) ∙ sym script_a.spelled ∙ script_b.spelled))

@@ -4,7 +4,7 @@ use crate::{Id, NoMemory};
 use std::alloc::Global;
 
 /// The answer to a command. From `TooLarge` on it is a refusal, and the command changed nothing.
-#[derive(Debug, Drop)]
+#[derive(Debug, PartialEq, Eq, Drop)]
 pub enum Reply {
     /// Done, and there is nothing to tell.
     Done,

@@ -1,0 +1,5 @@
+use Rattle.pm_model.proofs.AnswerLaws.{stays_after}
+use Rattle.pm_model.proofs.laws.no_object_is_taken_away.Goals as goal
+
+pub returns : goal.returns
+returns c world journal id is = stays_after world journal id is
