@@ -1,1 +1,3 @@
 mod Walks
+pub mod WriteLemmas
+pub mod ImageLemmas

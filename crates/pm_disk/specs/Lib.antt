@@ -1,0 +1,5 @@
+pub mod Images
+pub mod Writes
+pub mod Disk
+pub mod Replay
+pub mod History
