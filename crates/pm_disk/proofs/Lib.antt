@@ -1,3 +1,4 @@
 mod Walks
 pub mod WriteLemmas
 pub mod ImageLemmas
+pub mod ReplayLemmas

@@ -3,8 +3,10 @@
 
 mod call;
 mod disk;
+mod mem_disk;
 mod moments;
 
 pub use call::DiskCall;
 pub use disk::{Disk, DiskFailed};
+pub use mem_disk::MemDisk;
 pub use moments::Moments;
