@@ -1,6 +1,6 @@
 -- What stands where after a write.
-use Rattle.std.proofs.Common.{◌≡◌, ◌⊎◌, inl, inr, ℕ, ◌+◌, ◌-◌, ◌<◌, ◌≤◌, max, List, [], ◌∷◌, ◌++◌, length, get_or, take, drop, replicate, refl, sym, ◌∙◌, arith, rules, length-append, length-take, length-drop, append_assoc}
-use Rattle.std.proofs.lemmas.List.{places, length-replicate, get_or-append-add, get_or_append_left, get_or-append_right, get_or-take, get_or-drop, get_or-replicate, get_or_past}
+use Rattle.std.proofs.Common.{◌≡◌, ◌⊎◌, inl, inr, ℕ, ◌+◌, ◌-◌, ◌<◌, ◌≤◌, max, List, [], ◌∷◌, ◌++◌, length, get_or, take, drop, replicate, refl, sym, ◌∙◌, ap, arith, rules, length-append, length-take, length-drop, append_assoc}
+use Rattle.std.proofs.lemmas.List.{places, length-replicate, get_or-append-add, get_or_append_left, get_or-append_right, get_or-take, get_or-drop, get_or-replicate, get_or_past, ext_get_or, take_at}
 use Rattle.std.proofs.lemmas.Bool.{cases_lt}
 use Rattle.pm_disk.specs.Images.{IsBytes}
 use Rattle.pm_disk.specs.Writes.{written, Torn}
@@ -95,3 +95,57 @@ written_behind at (byte ∷ bytes) old i le = laid_behind at (byte ∷ bytes) ol
 pub written_gap : (at : ℕ) (bytes old : List ℕ) (i : ℕ) → length old ≤ i → i < at → get_or (written at bytes old) i 0 ≡ 0
 written_gap at [] old i past before = get_or_past old i 0 past
 written_gap at (byte ∷ bytes) old i past before = laid_gap at (byte ∷ bytes) old i past before
+
+abbrev zeros : ℕ → List ℕ
+zeros n = replicate n 0
+
+zero_at : (n i : ℕ) → get_or (zeros n) i 0 ≡ 0
+zero_at n i = elim (cases_lt i n) [ inl lt ↦ get_or-replicate n i 0 0 lt | inr past ↦ get_or_past (zeros n) i 0 (omega (arith, length-replicate {A = ℕ} n 0)) ]
+
+module _ (at : ℕ) (old : List ℕ) (end : ℕ) (le : at ≤ end) where
+  abbrev long : List ℕ
+  long = old ++ replicate (end - length old) 0
+
+  length-long : length long ≡ max (length old) end
+  length-long = omega (arith, length-append old (replicate (end - length old) 0), length-replicate {A = ℕ} (end - length old) 0)
+
+  at_long : (i : ℕ) → get_or long i 0 ≡ get_or old i 0
+  at_long i = elim (cases_lt i (length old)) [
+    | inl there ↦ get_or_append_left old (replicate (end - length old) 0) 0 i there
+    | inr past ↦ get_or-append_right old (replicate (end - length old) 0) (length old) i 0 refl past ∙ zero_at (end - length old) (i - length old) ∙ sym (get_or_past old i 0 past)
+  ]
+
+pub front_long : (at : ℕ) (old : List ℕ) (end : ℕ) → at ≤ end → take at (old ++ replicate (end - length old) 0) ≡ front at old
+front_long at old end le =
+    ext_get_or 0 (take at (long at old end le)) (front at old)
+    (omega (arith, length-take at (long at old end le), length-long at old end le, length-front at [] old))
+    (λ i lt.
+    let before : i < at = omega (arith, length-take at (long at old end le)) in
+    get_or-take at (long at old end le) i 0 before ∙ at_long at old end le i ∙ sym (at_long at old at (omega arith) i) ∙ sym (get_or-take at (old ++ replicate (at - length old) 0) i 0 before))
+
+pub back_long : (old : List ℕ) (end : ℕ) → drop end (old ++ replicate (end - length old) 0) ≡ drop end old
+back_long old end =
+    ext_get_or 0 (drop end (long end old end (omega arith))) (drop end old)
+    (omega (arith, length-drop end (long end old end (omega arith)), length-drop end old, length-long end old end (omega arith)))
+    (λ i lt. get_or-drop end (long end old end (omega arith)) i 0 ∙ at_long end old end (omega arith) (end + i) ∙ sym (get_or-drop end old i 0))
+
+-- bytes laid over a file that was made long enough
+pub laid_over : (at : ℕ) (bytes old new : List ℕ) → 0 < length bytes
+    → new ≡ take at (old ++ replicate (at + length bytes - length old) 0) ++ bytes ++ drop (at + length bytes) (old ++ replicate (at + length bytes - length old) 0)
+    → new ≡ written at bytes old
+laid_over at [] old new some is = absurd (omega arith)
+laid_over at (byte ∷ bytes) old new some is =
+    let end = at + length (byte ∷ bytes) in
+    is ∙ (λ i. front_long at old end (omega arith) i ++ (byte ∷ bytes) ++ back_long old end i)
+
+-- a file that was made long enough has room for the bytes
+pub has_room : (at n : ℕ) (old grown file : List ℕ) → file ≡ grown → grown ≡ old ++ replicate (at + n - length old) 0 → at + n ≤ length file
+has_room at n old grown file is was =
+    omega (arith, ap length is, ap length was, length-append old (replicate (at + n - length old) 0), length-replicate {A = ℕ} (at + n - length old) 0)
+
+-- the bytes of a list of some length are written
+pub overwritten : (at : ℕ) (bytes old grown file laid : List ℕ) (len : ℕ) → 0 < length bytes → file ≡ grown → grown ≡ old ++ replicate (at + length bytes - length old) 0
+    → laid ≡ take at file ++ bytes ++ drop (at + length bytes) file → length laid ≡ len → take len (laid ++ drop (length laid) grown) ≡ written at bytes old
+overwritten at bytes old grown file laid len some is was put same =
+    take_at laid (drop (length laid) grown) len same
+    ∙ laid_over at bytes old laid some (put ∙ ap (λ (f : List ℕ). take at f ++ bytes ++ drop (at + length bytes) f) (is ∙ was))

@@ -5,6 +5,8 @@ mod call;
 mod disk;
 mod mem_disk;
 mod moments;
+mod noting;
+mod overwrite;
 
 pub use call::DiskCall;
 pub use disk::{Disk, DiskFailed};
