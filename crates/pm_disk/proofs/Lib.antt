@@ -2,3 +2,4 @@ mod Walks
 pub mod WriteLemmas
 pub mod ImageLemmas
 pub mod ReplayLemmas
+pub mod Steps

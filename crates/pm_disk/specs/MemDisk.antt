@@ -1,7 +1,9 @@
 -- What contracts see of a disk in memory.
-use Rattle.std.specs.Prelude.{◌≡◌, ◌⊎◌, ℕ, ◌+◌, nat_lt, Bool, true, false, List, [], ◌∷◌, ◌++◌, length, Result, MatchResult}
+use Rattle.std.specs.Prelude.{◌≡◌, ◌⊎◌, ℕ, ◌+◌, nat_lt, Bool, true, false, List, [], ◌∷◌, ◌++◌, length, Option, Some, Result, MatchResult}
 use Rattle.pm_types.specs.Counts.{Rose}
+use Rattle.pm_disk.specs.Images.{IsImage}
 use Rattle.pm_disk.specs.Replay.{Held, held_after, is_listed}
+use Rattle.pm_disk.specs.History.{LeftSince}
 use Rattle.pm_disk.specs.declared.call.DiskCall.{DiskCall}
 use Rattle.pm_disk.specs.declared.mem_disk.MemDisk.{MemDisk}
 
@@ -24,6 +26,26 @@ refused_of disk = disk.refused
 -- what the calls made of it
 abbrev pub held_of : MemDisk → Held
 held_of disk = held_after (start_of disk) (fails_of disk) (calls_of disk)
+
+-- its contents, which it tells
+abbrev pub contents_of : MemDisk → List ℕ
+contents_of disk = (held_of disk).contents
+
+-- a crash at this moment may leave this
+abbrev pub MayLeave : MemDisk → List ℕ → Type 0
+MayLeave disk = let held = held_of disk in IsImage held.synced held.ranges
+
+-- the number of its calls, of which those that were refused memory are some
+abbrev pub moment_of : MemDisk → ℕ
+moment_of disk = length disk.moments.marks
+
+-- a crash at some moment from that one on may have left this
+abbrev pub MayHaveLeft : MemDisk → ℕ → List ℕ → Type 0
+MayHaveLeft disk = LeftSince (start_of disk) (fails_of disk) (calls_of disk) disk.moments.marks
+
+-- how many calls have failed
+abbrev pub count_of : MemDisk → ℕ
+count_of disk = disk.faults
 
 -- the next call is one of those that are to fail
 abbrev pub fails_next : MemDisk → Bool

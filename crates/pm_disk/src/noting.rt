@@ -1,10 +1,9 @@
 //! Calls noted in a list, and the counts that follow.
-ghost use Rattle.std.specs.Prelude.{◌≡◌, ◌+◌, ◌^◌, ◌<◌, ◌++◌, [], ◌∷◌, not, length, if◌then◌else◌, IfOk, OnErr};
+ghost use Rattle.std.specs.Prelude.{◌≡◌, ◌+◌, ◌^◌, ◌<◌, ◌++◌, [], ◌∷◌, not, ◌||◌, length, IfOk, OnErr};
 ghost use Rattle.pm_types.specs.Counts.{Rose};
-ghost use Rattle.pm_disk.specs.Writes.{written};
 ghost use Rattle.pm_disk.specs.Replay.{is_listed};
 ghost use Rattle.pm_disk.specs.Sound.{shown};
-ghost use Rattle.pm_disk.specs.Outcomes.{EndsAs};
+ghost use Rattle.pm_disk.specs.Outcomes.{EndsAs, IsGrown, IsWritten};
 
 use crate::overwrite::change;
 use crate::{DiskCall, DiskFailed};
@@ -25,23 +24,24 @@ fn is_fine(fails: &[u64], calls: &[DiskCall]) -> bool
     !fails.contains(&(calls.len() as u64 + 1))
 }
 
-/// Notes a call, and answers whether it is not one of those that are to fail.
+/// Notes a call, and answers whether it is to succeed: `past` says that it fails in any case.
 pub(crate) fn note(
     fails: &[u64],
+    past: bool,
     calls: &mut Vec<DiskCall>,
     call: DiskCall,
 ) -> Result<bool, AllocError>
-    ensures fine { IfOk result (λ fine. fine ≡ not (is_listed fails.now (length calls.old.items + 1))) }
+    ensures fine { IfOk result (λ fine. fine ≡ not (is_listed fails.now (length calls.old.items + 1) || past)) }
     ensures noted { IfOk result (λ _. calls.new.items ≡ calls.old.items ++ call ∷ []) }
     ensures err { OnErr result (calls.new.items ≡ calls.old.items) }
+    ensures grown { IsGrown call calls.old.items calls.new.items }
 {
-    let fine = is_fine(fails, calls);
+    let fine = is_fine(fails, calls) && !past;
     calls.push(call)?;
     Ok(fine)
 }
 
-/// The same for a write, which is made where it is not to fail. All memory is taken before
-/// anything changes.
+/// Notes a write, which is made where it is not to fail. All memory is taken before anything changes.
 pub(crate) fn note_write(
     start: &[u8],
     changed: &mut Option<Vec<u8>>,
@@ -53,9 +53,9 @@ pub(crate) fn note_write(
     requires { at + length from.now < 2 ^ 63 }
     ensures fine { IfOk result (λ fine. fine ≡ not (is_listed fails.now (length calls.old.items + 1))) }
     ensures noted { IfOk result (λ _. calls.new.items ≡ calls.old.items ++ DiskCall.Write at from.now ∷ []) }
-    ensures made { IfOk result (λ fine. shown start.now changed.new ≡ (if fine then written at from.now (shown start.now changed.old) else shown start.now changed.old)) }
     ensures err { OnErr result (calls.new.items ≡ calls.old.items) }
-    ensures same { OnErr result (shown start.now changed.new ≡ shown start.now changed.old) }
+    ensures made { IsWritten (is_listed fails.now (length calls.old.items + 1)) at from.now
+        calls.old.items calls.new.items (shown start.now changed.old) (shown start.now changed.new) }
 {
     let alloc = *calls.allocator();
     let bytes = Bytes::from_vec(from.to_vec(alloc)?);
