@@ -3,3 +3,4 @@ pub mod WriteLemmas
 pub mod ImageLemmas
 pub mod ReplayLemmas
 pub mod Steps
+pub mod DiskSteps

@@ -1,5 +1,5 @@
 -- One call of a disk in memory.
-use Rattle.std.proofs.Common.{◌≡◌, ◌⊎◌, inl, inr, ⊎_elim, ℕ, zero, suc, ◌+◌, ◌<◌, ◌≤◌, Bool, true, false, not, ◌&&◌, List, [], ◌∷◌, ◌++◌, length, take, get_or, Result, Ok, Err, refl, sym, ◌∙◌, ap, subst, arith, rules}
+use Rattle.std.proofs.Common.{◌≡◌, ◌⊎◌, inl, inr, ⊎_elim, ℕ, zero, suc, ◌+◌, ◌<◌, ◌≤◌, Bool, true, false, cond, not, ◌&&◌, List, [], ◌∷◌, ◌++◌, length, take, get_or, Result, Ok, Err, refl, sym, ◌∙◌, ap, subst, arith, rules}
 use Rattle.std.specs.Prelude.{IsTrue, IfOk, OnErr, MatchResult, OnOk}
 use Rattle.std.specs.List.{list_all}
 use Rattle.std.proofs.lemmas.List.{length_push, take_at, take_all, take-take}
@@ -131,3 +131,21 @@ module _ (start fails : List ℕ) (calls : List DiskCall) where
     -- the clock goes on by one, and the images at that moment join the others
     pub elapses_one : Elapses (length marks) (length (length calls ∷ marks)) (LeftSince start fails calls marks) (LeftSince start fails calls' (length calls ∷ marks)) (IsImageAfter start fails calls')
     elapses_one = record { later = omega arith; nothing_else = nothing_else; keeps = keeps }
+
+  -- a write shows what the list says
+  pub write_shows : (at : ℕ) (bytes : List ℕ) (calls' : List DiskCall) (shown shown' : List ℕ) → IsWritten fails_here at bytes calls calls' shown shown' → shown ≡ (held calls).contents → shown' ≡ (held calls').contents
+  write_shows at bytes calls' shown shown' (inl none) were = none.1 ∙ were ∙ sym (ap (λ (list : List DiskCall). (held list).contents) none.0)
+  write_shows at bytes calls' shown shown' (inr one) were =
+      one.1 ∙ at_flag fails_here ∙ sym (ap (λ (h : Held). h.contents) (ap held one.0 ∙ held_push start fails calls (Write at bytes)))
+    where
+      at_flag : (b : Bool) → cond b shown (written at bytes shown) ≡ (after b (Write at bytes) (held calls)).contents
+      at_flag true = were
+      at_flag false = ap (written at bytes) were
+
+  pub written_grown : (at : ℕ) (bytes : List ℕ) (calls' : List DiskCall) (shown shown' : List ℕ) → IsWritten fails_here at bytes calls calls' shown shown' → IsGrown (Write at bytes) calls calls'
+  written_grown at bytes calls' shown shown' (inl none) = inl none.0
+  written_grown at bytes calls' shown shown' (inr one) = inr one.0
+
+  pub write_sound : (at : ℕ) (bytes : List ℕ) (calls' : List DiskCall) → IsBytes bytes → IsGrown (Write at bytes) calls calls' → IsSound (held calls) → IsSound (held calls')
+  write_sound at bytes calls' new grown sound =
+      ⊎_elim (λ same. subst IsSound (sym same) sound) (λ more. subst IsSound (sym more) (sound_write fails_here at bytes (held calls) new sound)) (held_step (Write at bytes) calls' grown)

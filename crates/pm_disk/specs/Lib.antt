@@ -1,8 +1,10 @@
 pub mod Images
 pub mod Writes
 pub mod Disk
+pub mod Reads
 pub mod Replay
 pub mod History
 pub mod Sound
 pub mod MemDisk
 pub mod Outcomes
+pub mod MemDiskLaws

@@ -51,10 +51,6 @@ count_of disk = disk.faults
 abbrev pub fails_next : MemDisk → Bool
 fails_next disk = is_listed (fails_of disk) (length (calls_of disk) + 1)
 
--- a read of so many bytes from this place reaches past the end
-abbrev pub reads_past : ℕ → ℕ → List ℕ → Bool
-reads_past at n bytes = nat_lt (length bytes) (at + n)
-
 -- the call was refused memory: it is in no list, and has no number
 pub record WasRefused (old new : MemDisk) : Type 0 where
   pub refused : Rose (refused_of old) (refused_of new)

@@ -26,3 +26,10 @@ IsQuiet Len = Unit {0}
 IsQuiet (Read at len) = Unit {0}
 IsQuiet (Write at bytes) = ⊥
 IsQuiet Sync = Unit {0}
+
+-- the call changes nothing, whether it fails or not
+abbrev pub IsLook : DiskCall → Type 0
+IsLook Len = Unit {0}
+IsLook (Read at len) = Unit {0}
+IsLook (Write at bytes) = ⊥
+IsLook Sync = ⊥

@@ -7,6 +7,7 @@ mod mem_disk;
 mod moments;
 mod noting;
 mod overwrite;
+mod reading;
 
 pub use call::DiskCall;
 pub use disk::{Disk, DiskFailed};

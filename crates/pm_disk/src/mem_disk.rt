@@ -1,4 +1,5 @@
 use crate::noting::{note, note_write, settle};
+use crate::reading::{copy_out, is_past};
 use crate::{Disk, DiskCall, DiskFailed, Moments};
 ghost use Rattle.std.specs.Prelude.{◌≡◌, length};
 ghost use Rattle.pm_disk.specs.Replay.{held_after};
@@ -24,10 +25,10 @@ pub struct MemDisk {
 }
 
 impl MemDisk {
-    ghost use Rattle.std.specs.Prelude.{◌≡◌, ◌||◌, [], ◌∷◌, length};
-    ghost use Rattle.pm_disk.specs.Disk.{HasCause};
-    ghost use Rattle.pm_disk.specs.Outcomes.{IsQuiet};
-    ghost use Rattle.pm_disk.specs.MemDisk.{start_of, fails_of, calls_of, refused_of, held_of, contents_of, moment_of, count_of, fails_next, Answers};
+    ghost use Rattle.std.specs.Prelude.{◌≡◌, ◌+◌, ◌^◌, ◌<◌, ◌||◌, [], length};
+    ghost use Rattle.pm_disk.specs.Disk.{SameImages, Elapses, HasCause};
+    ghost use Rattle.pm_disk.specs.Outcomes.{IsQuiet, IsLook};
+    ghost use Rattle.pm_disk.specs.MemDisk.{start_of, fails_of, calls_of, refused_of, contents_of, MayLeave, moment_of, MayHaveLeft, count_of, fails_next, Answers};
 
     /// A disk that holds these bytes, all of them synced, and that fails the calls of these numbers.
     /// It takes no memory.
@@ -79,13 +80,129 @@ impl MemDisk {
     /// Makes a call that writes nothing. `past` says that it fails in any case.
     fn pass(&mut self, past: bool, call: DiskCall) -> Result<(), DiskFailed>
         requires { IsQuiet call }
-        ensures answers { Answers (fails_next self.old || past) call self.old self.new result }
+        ensures exact { Answers (fails_next self.old || past) call self.old self.new result }
+        ensures contents { contents_of self.new ≡ contents_of self.old }
+        ensures looks { IsLook call → SameImages (MayLeave self.old) (MayLeave self.new) }
+        ensures time { Elapses (moment_of self.old) (moment_of self.new) (MayHaveLeft self.old) (MayHaveLeft self.new) (MayLeave self.new) }
         ensures cause { HasCause (count_of self.old) (count_of self.new) result }
-        ensures marks { self.new.moments.marks ≡ length (calls_of self.old) ∷ self.old.moments.marks }
     {
         let mark = self.calls.len() as u64;
         self.moments = self.moments.after(&mark);
         let outcome = note(&self.fails, past, &mut self.calls, call);
         settle(outcome, &mut self.faults, &mut self.refused)
+    }
+
+    /// Makes a write.
+    fn put(&mut self, at: u64, from: &[u8]) -> Result<(), DiskFailed>
+        requires { at + length from.now < 2 ^ 63 }
+        ensures exact { Answers (fails_next self.old) (DiskCall.Write at from.now) self.old self.new result }
+        ensures time { Elapses (moment_of self.old) (moment_of self.new) (MayHaveLeft self.old) (MayHaveLeft self.new) (MayLeave self.new) }
+        ensures cause { HasCause (count_of self.old) (count_of self.new) result }
+    {
+        let mark = self.calls.len() as u64;
+        self.moments = self.moments.after(&mark);
+        let outcome = note_write(
+            &self.start,
+            &mut self.changed,
+            &self.fails,
+            &mut self.calls,
+            at,
+            from,
+        );
+        settle(outcome, &mut self.faults, &mut self.refused)
+    }
+}
+
+impl Disk for MemDisk {
+    ghost use Rattle.std.specs.Prelude.{◌≡◌, ◌||◌, ◌+◌, ◌-◌, ◌^◌, ◌≤◌, ℕ, List, Some, false, length, take, drop, option_map, IfOk, OnOk, OnErr};
+    ghost use Rattle.pm_disk.specs.Writes.{written, TornIfTold};
+    ghost use Rattle.pm_disk.specs.Disk.{IfTold, SameImages, OnlyTorn, AllTorn, Elapses, HasCause};
+    ghost use Rattle.pm_disk.specs.MemDisk.{start_of, fails_of, calls_of, contents_of, MayLeave, moment_of, MayHaveLeft, count_of, fails_next, Answers};
+    ghost use Rattle.pm_disk.specs.Reads.{reads_past};
+    ghost use Rattle.pm_disk.specs.MemDiskLaws.{counts_now_of, only_now_of, earlier_of, contents_stay_of, leaves_bytes_of};
+
+    ghost contents = { λ disk. Some (contents_of disk) };
+
+    ghost image = { MayLeave };
+
+    ghost moment = { moment_of };
+
+    ghost since = { MayHaveLeft };
+
+    ghost count = { count_of };
+
+    ghost counts_now = { counts_now_of };
+
+    ghost only_now = { only_now_of };
+
+    ghost earlier = { earlier_of };
+
+    ghost contents_stay = { contents_stay_of };
+
+    ghost leaves_bytes = { leaves_bytes_of };
+
+    fn faults(&self) -> u64 {
+        self.faults
+    }
+
+    fn len(&mut self) -> Result<u64, DiskFailed>
+        ensures len { IfOk result (λ n. n ≡ length (contents_of self.old)) }
+        ensures contents { contents_of self.new ≡ contents_of self.old }
+        ensures images { SameImages (MayLeave self.old) (MayLeave self.new) }
+        ensures time { Elapses (moment_of self.old) (moment_of self.new) (MayHaveLeft self.old) (MayHaveLeft self.new) (MayLeave self.new) }
+        ensures cause { HasCause (count_of self.old) (count_of self.new) result }
+        ensures exact { Answers (fails_next self.old) DiskCall.Len self.old self.new result }
+    {
+        self.pass(false, DiskCall::Len)?;
+        Ok(self.contents().len() as u64)
+    }
+
+    fn read_at(&mut self, at: u64, into: &mut [u8]) -> Result<(), DiskFailed>
+        ensures within { OnOk result (at + length into.old ≤ length (contents_of self.old)) }
+        ensures read { OnOk result (into.new ≡ take (length into.old) (drop at (contents_of self.old))) }
+        ensures unread { OnErr result (into.new ≡ into.old) }
+        ensures contents { contents_of self.new ≡ contents_of self.old }
+        ensures images { SameImages (MayLeave self.old) (MayLeave self.new) }
+        ensures time { Elapses (moment_of self.old) (moment_of self.new) (MayHaveLeft self.old) (MayHaveLeft self.new) (MayLeave self.new) }
+        ensures cause { HasCause (count_of self.old) (count_of self.new) result }
+        ensures exact { Answers (fails_next self.old || reads_past at (length into.old) (contents_of self.old)) (DiskCall.Read at (length into.old)) self.old self.new result }
+    {
+        let past = is_past(self.contents(), at, into);
+        self.pass(
+            past,
+            DiskCall::Read {
+                at,
+                len: into.len() as u64,
+            },
+        )?;
+        copy_out(self.contents(), at as usize, into);
+        Ok(())
+    }
+
+    fn write_at(&mut self, at: u64, from: &[u8]) -> Result<(), DiskFailed>
+        requires { at + length from.now ≤ 2 ^ 63 - 1 }
+        ensures written { OnOk result (Some (contents_of self.new) ≡ Some (written at from.now (contents_of self.old))) }
+        ensures torn { OnErr result (TornIfTold at (length from.now) (Some (contents_of self.old)) (Some (contents_of self.new))) }
+        ensures unwritten { OnErr result (contents_of self.new ≡ contents_of self.old) }
+        ensures only_torn { OnlyTorn at (length from.now) (MayLeave self.old) (MayLeave self.new) }
+        ensures all_torn { OnOk result (AllTorn at (length from.now) (MayLeave self.old) (MayLeave self.new)) }
+        ensures none_lost { (bytes : List ℕ) → MayLeave self.old bytes → MayLeave self.new bytes }
+        ensures time { Elapses (moment_of self.old) (moment_of self.new) (MayHaveLeft self.old) (MayHaveLeft self.new) (MayLeave self.new) }
+        ensures cause { HasCause (count_of self.old) (count_of self.new) result }
+        ensures exact { Answers (fails_next self.old) (DiskCall.Write at from.now) self.old self.new result }
+    {
+        self.put(at, from)
+    }
+
+    fn sync(&mut self) -> Result<(), DiskFailed>
+        ensures contents { contents_of self.new ≡ contents_of self.old }
+        ensures only { OnOk result ((left : List ℕ) → MayLeave self.new left → left ≡ contents_of self.old) }
+        ensures no_more { (bytes : List ℕ) → MayLeave self.new bytes → MayLeave self.old bytes }
+        ensures failed { OnErr result (SameImages (MayLeave self.old) (MayLeave self.new)) }
+        ensures time { Elapses (moment_of self.old) (moment_of self.new) (MayHaveLeft self.old) (MayHaveLeft self.new) (MayLeave self.new) }
+        ensures cause { HasCause (count_of self.old) (count_of self.new) result }
+        ensures exact { Answers (fails_next self.old) DiskCall.Sync self.old self.new result }
+    {
+        self.pass(false, DiskCall::Sync)
     }
 }
