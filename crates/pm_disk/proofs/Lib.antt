@@ -4,3 +4,4 @@ pub mod ImageLemmas
 pub mod ReplayLemmas
 pub mod Steps
 pub mod DiskSteps
+pub mod CrashLemmas

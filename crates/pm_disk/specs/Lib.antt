@@ -5,6 +5,7 @@ pub mod Reads
 pub mod Replay
 pub mod History
 pub mod Sound
+pub mod Crash
 pub mod MemDisk
 pub mod Outcomes
 pub mod MemDiskLaws

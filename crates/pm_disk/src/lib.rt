@@ -2,6 +2,7 @@
 #![tactic(auto)]
 
 mod call;
+mod crash;
 mod disk;
 mod mem_disk;
 mod moments;

@@ -1,6 +1,9 @@
+use crate::crash::image_after;
 use crate::noting::{note, note_write, settle};
 use crate::reading::{copy_out, is_past};
 use crate::{Disk, DiskCall, DiskFailed, Moments};
+use pm_types::NoMemory;
+use std::alloc::Global;
 ghost use Rattle.std.specs.Prelude.{◌≡◌, length};
 ghost use Rattle.pm_disk.specs.Replay.{held_after};
 ghost use Rattle.pm_disk.specs.History.{IsMarked};
@@ -25,10 +28,11 @@ pub struct MemDisk {
 }
 
 impl MemDisk {
-    ghost use Rattle.std.specs.Prelude.{◌≡◌, ◌+◌, ◌^◌, ◌<◌, ◌||◌, [], length};
+    ghost use Rattle.std.specs.Prelude.{◌≡◌, ◌+◌, ◌^◌, ◌<◌, ◌||◌, [], length, IfOk};
+    ghost use Rattle.pm_disk.specs.Replay.{picked};
     ghost use Rattle.pm_disk.specs.Disk.{SameImages, Elapses, HasCause};
     ghost use Rattle.pm_disk.specs.Outcomes.{IsQuiet, IsLook};
-    ghost use Rattle.pm_disk.specs.MemDisk.{start_of, fails_of, calls_of, refused_of, contents_of, MayLeave, moment_of, MayHaveLeft, count_of, fails_next, Answers};
+    ghost use Rattle.pm_disk.specs.MemDisk.{start_of, fails_of, calls_of, refused_of, held_of, contents_of, MayLeave, moment_of, MayHaveLeft, count_of, fails_next, Answers};
 
     /// A disk that holds these bytes, all of them synced, and that fails the calls of these numbers.
     /// It takes no memory.
@@ -75,6 +79,22 @@ impl MemDisk {
         ensures { result ≡ refused_of self.now }
     {
         self.refused
+    }
+
+    /// What one crash at this moment leaves: of the writes since the last sync, numbered from 0 and
+    /// without those that failed, number i is kept where bit i of `pick` is 1, and none from number
+    /// 64 on. It is no call.
+    pub fn image(&self, alloc: Global, pick: u64) -> Result<Vec<u8>, NoMemory>
+        ensures value { IfOk result (λ image. let held = held_of self.now in image.items ≡ picked pick 0 held.changes held.synced) }
+        ensures left { IfOk result (λ image. MayLeave self.now image.items) }
+    {
+        Ok(image_after(
+            alloc,
+            pick,
+            &self.start,
+            &self.fails,
+            &self.calls,
+        )?)
     }
 
     /// Makes a call that writes nothing. `past` says that it fails in any case.
