@@ -5,3 +5,4 @@ pub mod ReplayLemmas
 pub mod Steps
 pub mod DiskSteps
 pub mod CrashLemmas
+pub mod RunLemmas

@@ -9,3 +9,4 @@ pub mod Crash
 pub mod MemDisk
 pub mod Outcomes
 pub mod MemDiskLaws
+pub mod Ordered

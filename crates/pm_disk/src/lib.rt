@@ -7,6 +7,7 @@ mod disk;
 mod mem_disk;
 mod moments;
 mod noting;
+mod ordered;
 mod overwrite;
 mod reading;
 
@@ -14,3 +15,4 @@ pub use call::DiskCall;
 pub use disk::{Disk, DiskFailed};
 pub use mem_disk::MemDisk;
 pub use moments::Moments;
+pub use ordered::write_in_order;
