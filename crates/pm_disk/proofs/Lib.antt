@@ -6,3 +6,4 @@ pub mod Steps
 pub mod DiskSteps
 pub mod CrashLemmas
 pub mod RunLemmas
+pub mod Crossing
