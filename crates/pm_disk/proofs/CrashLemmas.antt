@@ -1,11 +1,9 @@
 -- How one call more changes what a crash leaves.
-use Rattle.std.proofs.Common.{◌≡◌, ℕ, ◌+◌, ◌<◌, ◌≤◌, Bool, cond, List, [], ◌∷◌, ◌++◌, length, take, get_or, refl, sym, ◌∙◌, ap, subst, arith, length-take}
+use Rattle.std.proofs.Common.{◌≡◌, ℕ, ◌+◌, ◌<◌, Bool, cond, List, [], ◌∷◌, ◌++◌, length, take, get_or, sym, ◌∙◌, ap, arith}
 use Rattle.std.proofs.lemmas.List.{take_more, length-take-le}
 use Rattle.pm_disk.specs.Writes.{written}
-use Rattle.pm_disk.specs.Replay.{Change, Held, is_listed, after, held_after, is_picked, picked}
-use Rattle.pm_disk.specs.Crash.{Follows}
+use Rattle.pm_disk.specs.Replay.{Change, is_listed, after, held_after, is_picked, picked}
 use Rattle.pm_disk.specs.declared.call.DiskCall.{DiskCall}
-use Rattle.pm_disk.specs.declared.crash.Crashed.{Crashed}
 use Rattle.pm_disk.proofs.ReplayLemmas.{held_push, picked_more}
 
 pub image_more : (pick writes at : ℕ) (bytes : List ℕ) (changes : List Change) (synced image : List ℕ) (kept : Bool) → writes ≡ length changes → image ≡ picked pick 0 changes synced → kept ≡ is_picked pick writes

@@ -1,15 +1,12 @@
 -- What one call does to the images and the clock of a disk in memory.
-use Rattle.std.proofs.Common.{◌≡◌, ◌⊎◌, inl, inr, ⊎_elim, ℕ, ◌+◌, ◌≤◌, Bool, true, false, not, ◌||◌, List, [], ◌∷◌, ◌++◌, length, Option, Some, Result, Ok, Err, refl, sym, ◌∙◌, ap, subst, arith}
-use Rattle.std.specs.Prelude.{IfOk, OnOk, OnErr}
-use Rattle.pm_types.specs.Counts.{Rose}
-use Rattle.pm_disk.specs.Images.{IsImage}
+use Rattle.std.proofs.Common.{◌≡◌, ◌⊎◌, inl, inr, ⊎_elim, ℕ, ◌+◌, Bool, true, false, ◌||◌, List, [], ◌∷◌, ◌++◌, length, Some, Result, Ok, Err, refl, sym, ◌∙◌, ap, subst}
+use Rattle.std.specs.Prelude.{OnOk, OnErr}
 use Rattle.pm_disk.specs.Writes.{written, Torn, TornIfTold}
-use Rattle.pm_disk.specs.Disk.{SameImages, OnlyTorn, AllTorn, Elapses, HasCause}
+use Rattle.pm_disk.specs.Disk.{SameImages, OnlyTorn, AllTorn, Elapses}
 use Rattle.pm_disk.specs.Replay.{Held, is_listed, after, held_after, IsImageAfter}
 use Rattle.pm_disk.specs.History.{IsMarked, LeftSince}
-use Rattle.pm_disk.specs.Sound.{IsSound}
-use Rattle.pm_disk.specs.Outcomes.{EndsAs, IsGrown, IsLook}
-use Rattle.pm_disk.specs.MemDisk.{start_of, fails_of, calls_of, refused_of, held_of, contents_of, MayLeave, moment_of, MayHaveLeft, fails_next, WasRefused, WasNoted, Answers}
+use Rattle.pm_disk.specs.Outcomes.{IsGrown, IsLook}
+use Rattle.pm_disk.specs.MemDisk.{start_of, fails_of, calls_of, held_of, contents_of, MayLeave, fails_next, Answers}
 use Rattle.pm_disk.specs.declared.call.DiskCall.{DiskCall}
 use Rattle.pm_disk.specs.declared.call.DiskCall.TheVariants.{Len, Read, Write, Sync}
 use Rattle.pm_disk.specs.declared.mem_disk.MemDisk.{MemDisk}
@@ -83,7 +80,7 @@ module _ (old new : MemDisk) where
     | inl refused ↦ same_images (held_same answers.start answers.fails_stay refused.calls)
     | inr noted ↦
         same_images (
-          held_more Sync answers.start answers.fails_stay noted.1.calls ∙ ap (λ b. after b Sync (held_of old)) (sym (or_false (fails_next old)) ∙ noted.0)
+        held_more Sync answers.start answers.fails_stay noted.1.calls ∙ ap (λ b. after b Sync (held_of old)) (sym (or_false (fails_next old)) ∙ noted.0)
         )
   ]
 

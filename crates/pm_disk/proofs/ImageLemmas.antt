@@ -1,11 +1,11 @@
 -- How the images of a disk change.
-use Rattle.std.proofs.Common.{◌≡◌, ◌⊎◌, inl, inr, ⊎_elim, ℕ, zero, suc, ◌+◌, ◌-◌, ◌<◌, ◌≤◌, min, max, List, [], ◌∷◌, ◌++◌, length, get_or, map, refl, sym, ◌∙◌, arith, rules, length-append, length-take, length-drop}
+use Rattle.std.proofs.Common.{◌≡◌, ◌⊎◌, inl, inr, ⊎_elim, ℕ, ◌+◌, ◌<◌, ◌≤◌, min, max, List, [], ◌∷◌, length, get_or, map, refl, sym, ◌∙◌, arith}
 use Rattle.std.specs.List.{range_with_len}
 use Rattle.std.proofs.lemmas.List.{ext_get_or}
 use Rattle.std.proofs.lemmas.List.FromFn.{length-map-range_with_len, get_or-map-range_with_len}
 use Rattle.std.proofs.lemmas.Bool.{cases_lt}
 use Rattle.pm_disk.specs.Images.{Range, IsBytes, furthest, IsUntouched, IsImage}
-use Rattle.pm_disk.specs.Writes.{written, Torn}
+use Rattle.pm_disk.specs.Writes.{Torn}
 use Rattle.pm_disk.proofs.WriteLemmas.{torn_refl}
 
 -- what was synced is the only image before the next write
@@ -23,8 +23,8 @@ image_torn synced ranges at n was image is torn bytes = record {
   no_shorter = omega (arith, is.no_shorter, torn.no_shorter);
   no_longer = omega (arith, is.no_longer, torn.no_longer);
   untouched = λ i lt untouched.
-  let there : i < length was = omega (arith, lt, is.no_shorter) in
-  ⊎_elim (λ before. torn.before i there before ∙ is.untouched i lt untouched.1) (λ behind. torn.behind i there behind ∙ is.untouched i lt untouched.1) untouched.0;
+      let there : i < length was = omega (arith, lt, is.no_shorter) in
+      ⊎_elim (λ before. torn.before i there before ∙ is.untouched i lt untouched.1) (λ behind. torn.behind i there behind ∙ is.untouched i lt untouched.1) untouched.0;
 }
 
 -- an image from before a write is one after it

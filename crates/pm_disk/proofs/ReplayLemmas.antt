@@ -1,14 +1,13 @@
 -- What one call more makes of a disk in memory.
-use Rattle.std.proofs.Common.{◌≡◌, ℕ, ◌+◌, Bool, true, false, cond, List, [], ◌∷◌, ◌++◌, length, refl, sym, ◌∙◌, ap, subst, arith}
-use Rattle.std.proofs.lemmas.List.{length_push}
+use Rattle.std.proofs.Common.{◌≡◌, ℕ, ◌+◌, Bool, true, false, cond, List, [], ◌∷◌, ◌++◌, length, sym, ap, subst, arith}
 use Rattle.pm_disk.specs.Images.{Range, IsBytes, IsImage}
-use Rattle.pm_disk.specs.Writes.{written, Torn}
-use Rattle.pm_disk.specs.Disk.{SameImages, OnlyTorn, AllTorn}
-use Rattle.pm_disk.specs.Replay.{Change, Held, fresh, is_listed, after, replay, held_after, IsImageAfter, is_picked, picked}
+use Rattle.pm_disk.specs.Writes.{written}
+use Rattle.pm_disk.specs.Disk.{OnlyTorn, AllTorn}
+use Rattle.pm_disk.specs.Replay.{Change, Held, fresh, is_listed, after, replay, held_after, is_picked, picked}
 use Rattle.pm_disk.specs.Sound.{IsSound}
 use Rattle.pm_disk.specs.declared.call.DiskCall.{DiskCall}
-use Rattle.pm_disk.specs.declared.call.DiskCall.TheVariants.{Len, Read, Write, Sync}
-use Rattle.pm_disk.proofs.WriteLemmas.{torn_refl, torn_written, bytes_written}
+use Rattle.pm_disk.specs.declared.call.DiskCall.TheVariants.{Write, Sync}
+use Rattle.pm_disk.proofs.WriteLemmas.{torn_written, bytes_written}
 use Rattle.pm_disk.proofs.ImageLemmas.{fresh_image, only_fresh, image_torn, image_stays, image_before}
 
 -- the last call comes last
@@ -49,8 +48,8 @@ sound_write false at bytes held new sound = record {
   synced = sound.synced;
   contents = choice held.synced held.ranges at bytes held.contents true new sound.contents;
   each_pick = λ pick.
-  subst (λ (image : List ℕ). IsImage held.synced ((at, length bytes) ∷ held.ranges) image) (sym (picked_more pick held.changes at bytes held.synced))
-  (choice held.synced held.ranges at bytes (picked pick 0 held.changes held.synced) (is_picked pick (length held.changes)) new (sound.each_pick pick));
+      subst (λ (image : List ℕ). IsImage held.synced ((at, length bytes) ∷ held.ranges) image) (sym (picked_more pick held.changes at bytes held.synced))
+      (choice held.synced held.ranges at bytes (picked pick 0 held.changes held.synced) (is_picked pick (length held.changes)) new (sound.each_pick pick));
 }
 
 pub sound_sync : (fails : Bool) (held : Held) → IsSound held → IsSound (after fails Sync held)

@@ -1,19 +1,18 @@
 -- One call of a disk in memory.
-use Rattle.std.proofs.Common.{◌≡◌, ◌⊎◌, inl, inr, ⊎_elim, ℕ, zero, suc, ◌+◌, ◌<◌, ◌≤◌, Bool, true, false, cond, not, ◌&&◌, List, [], ◌∷◌, ◌++◌, length, take, get_or, Result, Ok, Err, refl, sym, ◌∙◌, ap, subst, arith, rules}
-use Rattle.std.specs.Prelude.{IsTrue, IfOk, OnErr, MatchResult, OnOk}
+use Rattle.std.proofs.Common.{◌≡◌, ◌⊎◌, inl, inr, ⊎_elim, ℕ, zero, suc, ◌+◌, ◌≤◌, Bool, true, false, cond, ◌&&◌, List, [], ◌∷◌, ◌++◌, length, take, refl, sym, ◌∙◌, ap, subst, arith}
+use Rattle.std.specs.Prelude.{IsTrue}
 use Rattle.std.specs.List.{list_all}
 use Rattle.std.proofs.lemmas.List.{length_push, take_at, take_all, take-take}
-use Rattle.pm_types.specs.Counts.{Rose}
-use Rattle.pm_disk.specs.Images.{IsBytes, IsImage}
+use Rattle.pm_disk.specs.Images.{IsBytes}
 use Rattle.pm_disk.specs.Writes.{written}
-use Rattle.pm_disk.specs.Disk.{SameImages, OnlyTorn, AllTorn, Elapses, HasCause}
-use Rattle.pm_disk.specs.Replay.{Held, fresh, is_listed, after, replay, held_after, IsImageAfter}
+use Rattle.pm_disk.specs.Disk.{Elapses}
+use Rattle.pm_disk.specs.Replay.{Held, is_listed, after, held_after, IsImageAfter}
 use Rattle.pm_disk.specs.History.{HadSince, IsMarked, LeftSince}
 use Rattle.pm_disk.specs.Sound.{IsSound, ArePlaced, is_placed, shown}
-use Rattle.pm_disk.specs.Outcomes.{EndsAs, IsGrown, IsWritten, IsQuiet}
+use Rattle.pm_disk.specs.Outcomes.{IsGrown, IsWritten, IsQuiet}
 use Rattle.pm_disk.specs.declared.call.DiskCall.{DiskCall}
 use Rattle.pm_disk.specs.declared.call.DiskCall.TheVariants.{Len, Read, Write, Sync}
-use Rattle.pm_disk.proofs.ReplayLemmas.{held_push, sound_write, sound_sync, Left, write_only_torn, write_all_torn, write_none_lost, sync_no_more}
+use Rattle.pm_disk.proofs.ReplayLemmas.{held_push, sound_write, sound_sync}
 
 -- a call that writes nothing changes no contents
 quiet_contents : (fails : Bool) (call : DiskCall) (held : Held) → IsQuiet call → (after fails call held).contents ≡ held.contents

@@ -1,5 +1,5 @@
 -- The moments of a disk in memory. Each call before which so many calls stood in the list is marked by their number.
-use Rattle.std.specs.Prelude.{◌≡◌, ◌⊎◌, ℕ, zero, suc, ◌<◌, ◌≤◌, List, [], ◌∷◌, length, take, slice_index}
+use Rattle.std.specs.Prelude.{◌⊎◌, ℕ, ◌<◌, ◌≤◌, List, [], ◌∷◌, length, take, slice_index}
 use Rattle.std.proofs.Common.{inl, inr, arith}
 use Rattle.pm_disk.specs.Images.{IsBytes}
 use Rattle.pm_disk.specs.Replay.{IsImageAfter}

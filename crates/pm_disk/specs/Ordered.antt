@@ -1,5 +1,5 @@
 -- Two writes with a sync between them.
-use Rattle.std.specs.Prelude.{◌≡◌, ◌⊎◌, ℕ, List, length}
+use Rattle.std.specs.Prelude.{◌⊎◌, ℕ, List, length}
 use Rattle.pm_disk.specs.Writes.{written, Torn}
 
 -- a crash leaves what it might have left before, or that with the first write cut short, or the contents with the first write whole and the second, of n bytes, cut short

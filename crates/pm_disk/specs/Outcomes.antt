@@ -1,5 +1,5 @@
 -- How the calls of a disk in memory are noted, and how they end.
-use Rattle.std.specs.Prelude.{◌≡◌, ◌⊎◌, ℕ, Bool, List, [], ◌∷◌, ◌++◌, length, if◌then◌else◌, IsOk, IsErr, Result, MatchResult, MatchBool}
+use Rattle.std.specs.Prelude.{◌≡◌, ◌⊎◌, ℕ, Bool, List, [], ◌∷◌, ◌++◌, if◌then◌else◌, IsOk, IsErr, Result, MatchResult, MatchBool}
 use Rattle.pm_types.specs.Counts.{Rose}
 use Rattle.pm_disk.specs.Writes.{written}
 use Rattle.pm_disk.specs.declared.call.DiskCall.{DiskCall}

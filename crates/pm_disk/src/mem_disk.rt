@@ -1,13 +1,14 @@
+ghost use Rattle.std.specs.Prelude.{◌≡◌, length};
+ghost use Rattle.pm_disk.specs.Replay.{held_after};
+ghost use Rattle.pm_disk.specs.History.{IsMarked};
+ghost use Rattle.pm_disk.specs.Sound.{IsSound, ArePlaced, shown};
+
 use crate::crash::image_after;
 use crate::noting::{note, note_write, settle};
 use crate::reading::{copy_out, is_past};
 use crate::{Disk, DiskCall, DiskFailed, Moments};
 use pm_types::NoMemory;
 use std::alloc::Global;
-ghost use Rattle.std.specs.Prelude.{◌≡◌, length};
-ghost use Rattle.pm_disk.specs.Replay.{held_after};
-ghost use Rattle.pm_disk.specs.History.{IsMarked};
-ghost use Rattle.pm_disk.specs.Sound.{IsSound, ArePlaced, shown};
 
 /// A disk in memory that fails and crashes on demand. It keeps all its calls, and what a crash may
 /// leave is what they say. A call's number is its place in their list, from 1.
@@ -88,13 +89,7 @@ impl MemDisk {
         ensures value { IfOk result (λ image. let held = held_of self.now in image.items ≡ picked pick 0 held.changes held.synced) }
         ensures left { IfOk result (λ image. MayLeave self.now image.items) }
     {
-        Ok(image_after(
-            alloc,
-            pick,
-            &self.start,
-            &self.fails,
-            &self.calls,
-        )?)
+        Ok(image_after(alloc, pick, &self.start, &self.fails, &self.calls)?)
     }
 
     /// Makes a call that writes nothing. `past` says that it fails in any case.

@@ -24,11 +24,7 @@ fn missing() -> io::Error {
 }
 
 /// The length in bytes.
-pub(crate) fn measure<R: Files>(
-    rt: &R,
-    path: &str,
-    file: &mut Option<R::File>,
-) -> io::Result<u64> {
+pub(crate) fn measure<R: Files>(rt: &R, path: &str, file: &mut Option<R::File>) -> io::Result<u64> {
     open(rt, path, file)?;
     match file {
         Some(file) => Ok(file.metadata()?.len()),
