@@ -1,5 +1,5 @@
 -- What the calls of a disk say of its images, its clock and its count.
-use Rattle.std.specs.Prelude.{◌≡◌, ◌⊎◌, ℕ, ◌<◌, ◌≤◌, List, Option, Some, Result, MatchResult}
+use Rattle.std.specs.Prelude.{◌≡◌, ◌⊎◌, ℕ, ◌+◌, ◌<◌, ◌≤◌, List, Option, Some, Result, MatchResult}
 use Rattle.pm_types.specs.Counts.{Rose}
 use Rattle.pm_disk.specs.Images.{IsBytes}
 use Rattle.pm_disk.specs.Writes.{Torn}
@@ -27,9 +27,13 @@ pub record Elapses (before now : ℕ) (past since : ℕ → List ℕ → Type 0)
   pub nothing_else : (t : ℕ) (image : List ℕ) → t ≤ before → since t image → past t image ⊎ images image
   pub keeps : (t : ℕ) (image : List ℕ) → t ≤ before → past t image → since t image
 
--- the count stands still at Ok, and has risen at a failure
+-- one failure was counted: the count has risen, and by no more than one
+abbrev pub IsCounted : ℕ → ℕ → Type 0
+IsCounted before after = Rose before after × (after ≤ before + 1)
+
+-- the count stands still at Ok, and one failure was counted otherwise
 abbrev pub HasCause : {T E : Type 0} → ℕ → ℕ → Result T E → Type 0
-HasCause before after result = MatchResult result (λ _. after ≡ before) (λ _. Rose before after)
+HasCause before after result = MatchResult result (λ _. after ≡ before) (λ _. IsCounted before after)
 
 -- each image since the disk was old has P, and none other has come
 pub record LeavesOnly {D : Type 0} (moment : D → ℕ) (since : D → ℕ → List ℕ → Type 0) (old new : D) (P : List ℕ → Type 0) : Type 0 where

@@ -1,6 +1,6 @@
 -- What contracts see of a disk in memory.
 use Rattle.std.specs.Prelude.{◌≡◌, ◌⊎◌, ℕ, ◌+◌, Bool, true, false, List, [], ◌∷◌, ◌++◌, length, Result, MatchResult}
-use Rattle.pm_types.specs.Counts.{Rose}
+use Rattle.pm_disk.specs.Disk.{IsCounted}
 use Rattle.pm_disk.specs.Images.{IsImage}
 use Rattle.pm_disk.specs.Replay.{Held, held_after, is_listed}
 use Rattle.pm_disk.specs.History.{LeftSince}
@@ -53,7 +53,7 @@ fails_next disk = is_listed (fails_of disk) (length (calls_of disk) + 1)
 
 -- the call was refused memory: it is in no list, and has no number
 pub record WasRefused (old new : MemDisk) : Type 0 where
-  pub refused : Rose (refused_of old) (refused_of new)
+  pub refused : IsCounted (refused_of old) (refused_of new)
   pub calls : calls_of new ≡ calls_of old
 
 -- the call is the next of the list

@@ -1,6 +1,6 @@
 -- How the calls of a disk in memory are noted, and how they end.
 use Rattle.std.specs.Prelude.{◌≡◌, ◌⊎◌, ℕ, Bool, List, [], ◌∷◌, ◌++◌, if◌then◌else◌, IsOk, IsErr, Result, MatchResult, MatchBool}
-use Rattle.pm_types.specs.Counts.{Rose}
+use Rattle.pm_disk.specs.Disk.{IsCounted}
 use Rattle.pm_disk.specs.Writes.{written}
 use Rattle.pm_disk.specs.declared.call.DiskCall.{DiskCall}
 use Rattle.pm_disk.specs.declared.call.DiskCall.TheVariants.{Len, Read, Write, Sync}
@@ -8,8 +8,8 @@ use Rattle.pm_disk.specs.declared.call.DiskCall.TheVariants.{Len, Read, Write, S
 -- Ok(true) was made, Ok(false) was to fail, and an error was refused memory; the counts follow
 abbrev pub EndsAs : {E T F : Type 0} → Result Bool E → ℕ → ℕ → ℕ → ℕ → Result T F → Type 0
 EndsAs outcome faults faults' refused refused' result = MatchResult outcome
-    (λ fine. (refused' ≡ refused) × MatchBool fine (IsOk result × (faults' ≡ faults)) (IsErr result × Rose faults faults'))
-    (λ _. Rose refused refused' × Rose faults faults' × IsErr result)
+    (λ fine. (refused' ≡ refused) × MatchBool fine (IsOk result × (faults' ≡ faults)) (IsErr result × IsCounted faults faults'))
+    (λ _. IsCounted refused refused' × IsCounted faults faults' × IsErr result)
 
 -- the call was noted, or nothing was
 abbrev pub IsGrown : DiskCall → List DiskCall → List DiskCall → Type 0

@@ -1,6 +1,6 @@
 //! Calls noted in a list, and the counts that follow.
 ghost use Rattle.std.specs.Prelude.{◌≡◌, ◌+◌, ◌^◌, ◌<◌, ◌++◌, [], ◌∷◌, not, ◌||◌, length, IfOk, OnErr};
-ghost use Rattle.pm_types.specs.Counts.{Rose};
+ghost use Rattle.pm_disk.specs.Disk.{IsCounted};
 ghost use Rattle.pm_disk.specs.Replay.{is_listed};
 ghost use Rattle.pm_disk.specs.Sound.{shown};
 ghost use Rattle.pm_disk.specs.Outcomes.{EndsAs, IsGrown, IsWritten};
@@ -12,7 +12,7 @@ use std::alloc::AllocError;
 
 /// Raises a count by one; at its end it stays.
 pub(crate) fn raise(count: &mut u64)
-    ensures { Rose count.old count.new }
+    ensures { IsCounted count.old count.new }
 {
     *count = count.saturating_add(1);
 }
