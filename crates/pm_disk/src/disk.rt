@@ -57,9 +57,9 @@ pub trait Disk {
         ensures time { Elapses (moment self.old) (moment self.new) (since self.old) (since self.new) (image self.new) }
         ensures cause { HasCause (count self.old) (count self.new) result };
 
-    /// Writes over the bytes from place `at` on, and past the end; a gap before `at` reads as 0. Until
-    /// the next sync a crash may leave any bytes in the range and past the old end, also where the
-    /// write failed.
+    /// Writes over the bytes from place `at` on, and past the end; a gap before `at` reads as 0. A
+    /// write of no bytes changes nothing. Until the next successful sync a crash may leave any bytes in
+    /// the range and past the old end, also where the write failed.
     fn write_at(&mut self, at: u64, from: &[u8]) -> Result<(), DiskFailed>
         requires { at + length from.now ≤ 2 ^ 63 - 1 }
         ensures written { OnOk result (contents self.new ≡ option_map (written at from.now) (contents self.old)) }
