@@ -1,0 +1,12 @@
+pub mod Images
+pub mod Writes
+pub mod Disk
+pub mod Reads
+pub mod Replay
+pub mod History
+pub mod Sound
+pub mod Crash
+pub mod MemDisk
+pub mod Outcomes
+pub mod MemDiskLaws
+pub mod Ordered

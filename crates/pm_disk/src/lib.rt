@@ -1,0 +1,20 @@
+//! The disk: what its calls answer, and what a crash at any moment may leave.
+#![tactic(auto)]
+
+mod call;
+mod crash;
+mod disk;
+mod mem_disk;
+mod moments;
+mod noting;
+mod ordered;
+mod overwrite;
+mod reading;
+#[cfg(test)]
+mod tests;
+
+pub use call::DiskCall;
+pub use disk::{Disk, DiskFailed};
+pub use mem_disk::MemDisk;
+pub use moments::Moments;
+pub use ordered::write_in_order;

@@ -1,0 +1,9 @@
+//! A real file as a disk: the edge that is trusted.
+#![tactic(auto)]
+
+mod calls;
+mod file_disk;
+#[cfg(test)]
+mod tests;
+
+pub use file_disk::FileDisk;
