@@ -1,0 +1,5 @@
+pub mod Loop
+pub mod Sizes
+pub mod Numbers
+pub mod Texts
+pub mod Slots
