@@ -3,3 +3,4 @@ pub mod Sizes
 pub mod Numbers
 pub mod Texts
 pub mod Slots
+pub mod Again

@@ -8,4 +8,4 @@ mod writing;
 
 pub use fault::LayoutFault;
 pub use reading::read_slot;
-pub use writing::size;
+pub use writing::{size, write_slot};

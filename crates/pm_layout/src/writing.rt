@@ -94,3 +94,42 @@ fn put_fields(out: &mut Vec<u8>, fields: &[Option<Addr>])
         put_field(out, reference);
     }
 }
+
+#[tactic(auto, unfolding(crate::specs::Spelling::spelling))]
+fn put_object(out: &mut Vec<u8>, object: &Object)
+    requires fits { HasSpelling FIELDS (Slot.Live object.now) }
+    requires room { HasRoom out.old (slot_size (Slot.Live object.now)) }
+    ensures { Appends out.old out.new (spelling (Slot.Live object.now)) }
+{
+    let fields = object.fields.as_slice();
+    let bytes = object.bytes.as_slice();
+    put_u8(out, LIVE);
+    put_u64(out, object.id as u64);
+    put_u16(out, fields.len() as u16);
+    put_u16(out, bytes.len() as u16);
+    put_fields(out, fields);
+    put_bytes(out, bytes);
+}
+
+#[tactic(auto, unfolding(crate::specs::Spelling::spelling))]
+fn put_moved(out: &mut Vec<u8>, to: &Addr)
+    requires { HasRoom out.old 13 }
+    ensures { Appends out.old out.new (spelling (Slot.Moved to.now)) }
+{
+    put_u8(out, MOVED);
+    put_address(out, to);
+}
+
+/// Appends the bytes of the slot. After `NoMemory` nothing was appended.
+pub fn write_slot(slot: &Slot, out: &mut Vec<u8>) -> Result<(), NoMemory>
+    requires { HasSpelling FIELDS slot.now }
+    ensures ok { OnOk result (out.new.items ≡ out.old.items ++ spelling slot.now) }
+    ensures err { OnErr result (out.new.items ≡ out.old.items) }
+{
+    out.reserve(size(slot) as usize)?;
+    match slot {
+        Slot::Live(object) => put_object(out, object),
+        Slot::Moved(to) => put_moved(out, to),
+    }
+    Ok(())
+}
