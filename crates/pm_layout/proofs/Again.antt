@@ -2,8 +2,7 @@
 use Rattle.std.proofs.Common.{◌≡◌, ℕ, zero, suc, ◌+◌, ◌-◌, ◌*◌, ◌^◌, ◌<◌, ◌≤◌, Bool, true, false, cond, eqb, ltb, leb, ◌||◌, List, [], ◌∷◌, ◌++◌, length, get_or, take, drop, Option, Some, None, Result, Ok, Err, refl, sym, ap, subst, ◌∙◌, append_assoc, arith, length-append}
 use Rattle.std.specs.List.{flat_map, slice_range, AllByRecursion}
 use Rattle.std.specs.Prelude.{IfSome}
-use Rattle.std.proofs.lemmas.Bool.{le-ltb, lt-ltb}
-use Rattle.std.proofs.lemmas.Bool.Decides.{nat_tests}
+use Rattle.std.proofs.lemmas.Bool.{le-ltb, lt-ltb, lt-leb}
 use Rattle.std.proofs.Math.Dec.{eqb-suc-zero}
 use Rattle.std.proofs.lemmas.List.{take_at, drop_at, append_cancel_left}
 use Rattle.byteorder.specs.Endian.{big_bytes}
@@ -32,9 +31,6 @@ holds b x y e = ap (λ (c : Bool). cond c x y) e
 other_than_zero : (n : ℕ) → 0 < n → eqb n 0 ≡ false
 other_than_zero zero h = absurd (omega arith)
 other_than_zero (suc n) h = eqb-suc-zero n
-
-not_past : (a b : ℕ) → a < b → leb b a ≡ false
-not_past a b h = grind (arith, nat_tests)
 
 -- ---- fields
 
@@ -163,10 +159,10 @@ slot_again most bytes at (Live o) next small start range s =
     let s0 = Stands-split bytes (1 ∷ []) (big_bytes 8 o.id ++ (big_bytes 2 (length o.fields) ++ (big_bytes 2 (length o.bytes) ++ (flat_map field o.fields ++ o.bytes)))) at (at + 1) next start refl s.stands in
     let inside : at + 1 ≤ length bytes = s0.first.inside in
     let chosen : ℕ → Result (Slot × ℕ) LayoutFault = λ k. cond (eqb k 1) (live_at most bytes at) (cond (eqb k 2) (moved_at bytes at) (Err (Kind at k))) in
-    passes (leb (length bytes) at) (Err (Short at)) (chosen (get_or bytes at 0)) (not_past _ _ (omega arith)) ∙ ap chosen kind ∙ live_again most bytes at o next small start range s
+    passes (leb (length bytes) at) (Err (Short at)) (chosen (get_or bytes at 0)) (lt-leb _ _ (omega arith)) ∙ ap chosen kind ∙ live_again most bytes at o next small start range s
 slot_again most bytes at (Moved to) next small start range s =
     let kind : get_or bytes at 0 ≡ 2 = byte_is bytes (address to) at next 2 s.stands in
     let s0 = Stands-split bytes (2 ∷ []) (address to) at (at + 1) next start refl s.stands in
     let inside : at + 1 ≤ length bytes = s0.first.inside in
     let chosen : ℕ → Result (Slot × ℕ) LayoutFault = λ k. cond (eqb k 1) (live_at most bytes at) (cond (eqb k 2) (moved_at bytes at) (Err (Kind at k))) in
-    passes (leb (length bytes) at) (Err (Short at)) (chosen (get_or bytes at 0)) (not_past _ _ (omega arith)) ∙ ap chosen kind ∙ moved_again most bytes at to next start range s
+    passes (leb (length bytes) at) (Err (Short at)) (chosen (get_or bytes at 0)) (lt-leb _ _ (omega arith)) ∙ ap chosen kind ∙ moved_again most bytes at to next start range s

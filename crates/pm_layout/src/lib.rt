@@ -2,10 +2,14 @@
 #![tactic(auto)]
 
 mod fault;
+mod hash;
+mod header;
 mod kind;
 mod reading;
 mod writing;
 
 pub use fault::LayoutFault;
+pub use hash::digest;
+pub use header::{Header, HeaderFault, write_header};
 pub use reading::read_slot;
 pub use writing::{size, write_slot};
