@@ -4,3 +4,4 @@ pub mod Numbers
 pub mod Texts
 pub mod Slots
 pub mod Again
+pub mod HeaderLaws

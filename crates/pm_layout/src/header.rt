@@ -1,8 +1,10 @@
 ghost use Rattle.std.specs.Prelude.{◌≡◌, ◌≢◌, ◌+◌, ◌≤◌, ◌<◌, ◌++◌, length, drop, take, slice_range, IfOk, Ok};
+ghost use Rattle.pm_layout.specs.declared.header.Header.{Header};
 ghost use Rattle.byteorder.specs.Endian.{big_bytes};
-ghost use Rattle.pm_layout.specs.Headers.{HasHeaderSpelling, IsHeaderInRange, magic, header_numbers, header_body, header_spelling, header_at};
+ghost use Rattle.pm_layout.specs.Headers.{HasHeaderSpelling, IsHeaderInRange, magic, header_numbers, header_body, header_spelling, magic_at, version_at, digest_kept, next_at, header_at};
 
 use crate::digest;
+use crate::number::{u32_at, u64_at};
 use byteorder::{BigEndian, ByteOrder};
 use thiserror::Error;
 
@@ -73,6 +75,7 @@ fn put_places(out: &mut [u8], next: u64, first: u64)
 }
 
 // The four numbers of a header.
+#[tactic(auto, unfolding(crate::specs::Headers::header_numbers))]
 fn put_numbers(out: &mut [u8], header: &Header)
     requires { length out.old ≡ 24 }
     ensures { out.new ≡ header_numbers header.now }
@@ -83,6 +86,7 @@ fn put_numbers(out: &mut [u8], header: &Header)
 }
 
 // The first 64 bytes of a header.
+#[tactic(auto, unfolding(crate::specs::Headers::header_body))]
 fn put_body(out: &mut [u8], header: &Header)
     requires { length out.old ≡ 64 }
     ensures { out.new ≡ header_body header.now }
@@ -95,6 +99,7 @@ fn put_body(out: &mut [u8], header: &Header)
 }
 
 /// The bytes of the header. It takes no memory.
+#[tactic(auto, unfolding(crate::specs::Headers::header_spelling))]
 pub fn write_header(header: &Header) -> [u8; 96]
     requires { HasHeaderSpelling header.now }
     ensures { result ≡ header_spelling header.now }
@@ -104,4 +109,90 @@ pub fn write_header(header: &Header) -> [u8; 96]
     put_body(body, header);
     kept.copy_from_slice(&digest(body));
     bytes
+}
+
+// The digest that stands at a place of a header.
+fn digest_at(bytes: &[u8; 96], place: usize) -> [u8; 32]
+    requires { place ≤ 64 }
+    ensures { result ≡ slice_range bytes.now place (place + 32) }
+{
+    let mut digest = [0; 32];
+    digest.copy_from_slice(&bytes[place..place + 32]);
+    digest
+}
+
+// The first eight bytes are the magic.
+#[tactic(auto, unfolding(crate::specs::Headers::magic_at))]
+fn check_magic(bytes: &[u8; 96]) -> Result<(), HeaderFault>
+    ensures { result ≡ magic_at bytes.now }
+{
+    if bytes[..8] != MAGIC[..] {
+        return Err(HeaderFault::Magic);
+    }
+    Ok(())
+}
+
+#[tactic(auto, unfolding(crate::specs::Headers::version_at))]
+fn version_at(bytes: &[u8; 96]) -> Result<u32, HeaderFault>
+    ensures { result ≡ version_at bytes.now }
+{
+    let version = u32_at(bytes, 8);
+    if version != VERSION {
+        return Err(HeaderFault::Version(version));
+    }
+    Ok(version)
+}
+
+// The digest of the first 64 bytes stands at byte 64.
+#[tactic(auto, unfolding(crate::specs::Headers::digest_kept))]
+fn check_digest(bytes: &[u8; 96]) -> Result<(), HeaderFault>
+    ensures { result ≡ digest_kept bytes.now }
+{
+    let kept = digest_at(bytes, 64);
+    let found = digest(&bytes[..64]);
+    if kept != found {
+        return Err(HeaderFault::Digest { kept, found });
+    }
+    Ok(())
+}
+
+#[tactic(auto, unfolding(crate::specs::Headers::next_at))]
+fn next_at(bytes: &[u8; 96]) -> Result<u64, HeaderFault>
+    ensures { result ≡ next_at bytes.now }
+{
+    let next = u64_at(bytes, 16);
+    if next == 0 || next > LAST_NEXT {
+        return Err(HeaderFault::Next);
+    }
+    Ok(next)
+}
+
+// The header, or the first fault.
+#[tactic(auto, unfolding(crate::specs::Headers::header_at))]
+fn header_at(bytes: &[u8; 96]) -> Result<Header, HeaderFault>
+    ensures { result ≡ header_at bytes.now }
+{
+    check_magic(bytes)?;
+    let version = version_at(bytes)?;
+    check_digest(bytes)?;
+    let next = next_at(bytes)?;
+    Ok(Header {
+        version,
+        epoch: u32_at(bytes, 12),
+        next,
+        first: u64_at(bytes, 24),
+        digest: digest_at(bytes, 32),
+    })
+}
+
+/// The header that the bytes spell. It takes no memory.
+pub fn read_header(bytes: &[u8; 96]) -> Result<Header, HeaderFault>
+    // What is read is spelled so.
+    ensures found { IfOk result (λ header. HasHeaderSpelling header × (bytes.now ≡ header_spelling header)) }
+    // What is spelled so is read.
+    ensures only { (header : Header) → HasHeaderSpelling header → IsHeaderInRange header → bytes.now ≡ header_spelling header → result ≡ Ok header }
+    // Which fault it is.
+    ensures exact { result ≡ header_at bytes.now }
+{
+    header_at(bytes)
 }

@@ -5,11 +5,12 @@ mod fault;
 mod hash;
 mod header;
 mod kind;
+mod number;
 mod reading;
 mod writing;
 
 pub use fault::LayoutFault;
 pub use hash::digest;
-pub use header::{Header, HeaderFault, write_header};
+pub use header::{Header, HeaderFault, read_header, write_header};
 pub use reading::read_slot;
 pub use writing::{size, write_slot};

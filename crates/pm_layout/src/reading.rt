@@ -5,30 +5,9 @@ ghost use Rattle.pm_types.specs.declared.object.Slot.{Slot};
 
 use crate::LayoutFault;
 use crate::kind::{LIVE, MOVED};
-use byteorder::{BigEndian, ByteOrder};
+use crate::number::{u16_at, u32_at, u64_at};
 use pm_types::{Addr, Bytes, FIELDS, Fields, LAST_ID, OBJECT_BYTES, Object, Slot};
 use std::alloc::Global;
-
-fn u16_at(bytes: &[u8], place: usize) -> u16
-    requires { place + 2 ≤ length bytes.now }
-    ensures { result ≡ number_from 2 bytes.now place }
-{
-    BigEndian::read_u16(&bytes[place..])
-}
-
-fn u32_at(bytes: &[u8], place: usize) -> u32
-    requires { place + 4 ≤ length bytes.now }
-    ensures { result ≡ number_from 4 bytes.now place }
-{
-    BigEndian::read_u32(&bytes[place..])
-}
-
-fn u64_at(bytes: &[u8], place: usize) -> u64
-    requires { place + 8 ≤ length bytes.now }
-    ensures { result ≡ number_from 8 bytes.now place }
-{
-    BigEndian::read_u64(&bytes[place..])
-}
 
 // The place after a Live slot, which is inside the bytes.
 #[tactic(auto, unfolding(crate::specs::Reading::end_at))]
