@@ -5,3 +5,4 @@ pub mod Texts
 pub mod Slots
 pub mod Again
 pub mod HeaderLaws
+pub mod Laws
