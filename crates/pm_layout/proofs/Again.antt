@@ -3,7 +3,6 @@ use Rattle.std.proofs.Common.{◌≡◌, ℕ, zero, suc, ◌+◌, ◌-◌, ◌*�
 use Rattle.std.specs.List.{flat_map, slice_range, AllByRecursion}
 use Rattle.std.specs.Prelude.{IfSome}
 use Rattle.std.proofs.lemmas.Bool.{le-ltb, lt-ltb, lt-leb}
-use Rattle.std.proofs.Math.Dec.{eqb-suc-zero}
 use Rattle.std.proofs.lemmas.List.{take_at, drop_at, append_cancel_left}
 use Rattle.byteorder.specs.Endian.{big_bytes}
 use Rattle.pm_types.specs.declared.limits.TheConstants.{OBJECT_BYTES, LAST_ID}
@@ -14,23 +13,11 @@ use Rattle.pm_types.specs.declared.object.Slot.TheVariants.{Live, Moved}
 use Rattle.pm_layout.specs.declared.fault.LayoutFault.{LayoutFault}
 use Rattle.pm_layout.specs.declared.fault.LayoutFault.TheVariants.{Short, Kind, Fields, Count, Null, Ident, Memory}
 use Rattle.pm_layout.specs.Spelling.{address, field, spelling, HasCar, IsAddress, IsInRange, HasSpelling, Stands, IsSpelled}
-use Rattle.pm_layout.specs.Reading.{◌>>=◌, Gives, number_from, live_end, end_at, ident_at, field_count_at, byte_count_at, address_at, field_at, fields_at, live_at, target_at, moved_at, slot_at}
+use Rattle.pm_layout.specs.Steps.{◌>>=◌}
+use Rattle.pm_layout.specs.Reading.{Gives, number_from, live_end, end_at, ident_at, field_count_at, byte_count_at, address_at, field_at, fields_at, live_at, target_at, moved_at, slot_at}
+use Rattle.pm_layout.proofs.Steps.{holds, passes, other_than_zero}
 use Rattle.pm_layout.proofs.Sizes.{field_length, fields_length}
 use Rattle.pm_layout.proofs.Texts.{Stands-split, Stands-end, number_is, byte_is}
-
--- ---- tests
-
--- a test that does not hold takes the second
-passes : {X : Type 0} (b : Bool) (x y : X) → b ≡ false → cond b x y ≡ y
-passes b x y e = ap (λ (c : Bool). cond c x y) e
-
--- a test that holds takes the first
-holds : {X : Type 0} (b : Bool) (x y : X) → b ≡ true → cond b x y ≡ x
-holds b x y e = ap (λ (c : Bool). cond c x y) e
-
-other_than_zero : (n : ℕ) → 0 < n → eqb n 0 ≡ false
-other_than_zero zero h = absurd (omega arith)
-other_than_zero (suc n) h = eqb-suc-zero n
 
 -- ---- fields
 

@@ -9,47 +9,16 @@ use Rattle.std.proofs.lemmas.Slice.Eq.{bytes_eq-Decides}
 use Rattle.byteorder.specs.Endian.{big_bytes}
 use Rattle.sha2.specs.Sha256.{sha256}
 use Rattle.sha2.proofs.Facts256.{length-sha256}
-use Rattle.std.proofs.Math.Dec.{eqb-suc-zero}
 use Rattle.pm_layout.specs.declared.header.Header.{Header}
 use Rattle.pm_layout.specs.declared.header.HeaderFault.{HeaderFault}
 use Rattle.pm_layout.specs.declared.header.HeaderFault.TheVariants.{Magic, Version, Digest, Next}
 use Rattle.pm_layout.specs.Spelling.{Stands}
+use Rattle.pm_layout.specs.Steps.{◌>>=◌}
 use Rattle.pm_layout.specs.Reading.{number_from}
-use Rattle.pm_layout.specs.Headers.{HasHeaderSpelling, IsHeaderInRange, magic, header_numbers, header_body, header_spelling, ◌>>=◌, magic_at, version_at, digest_kept, next_at, header_at}
+use Rattle.pm_layout.specs.Headers.{HasHeaderSpelling, IsHeaderInRange, magic, header_numbers, header_body, header_spelling, magic_at, version_at, digest_kept, next_at, header_at}
+use Rattle.pm_layout.proofs.Steps.{bind_ok, ok_is, guard_ok, wanted_ok, holds, passes, neither, not_zero, other_than_zero}
 use Rattle.pm_layout.proofs.Numbers.{IsBytes, wide_4, wide_8}
 use Rattle.pm_layout.proofs.Texts.{Stands-then, Stands-split, Stands-end, number_stands, number_is, between_stands}
-
--- ---- steps
-
--- the value of a step that did not fail
-bind_ok : {A B : Type 0} (r : Result A HeaderFault) (f : A → Result B HeaderFault) (y : B) → (r >>= f) ≡ Ok y → (x : A) × (r ≡ Ok x) × (f x ≡ Ok y)
-bind_ok (Ok x) f y e = (x, refl, e)
-bind_ok (Err d) f y e = absurd cc
-
-abbrev done : {A : Type 0} → A → Result A HeaderFault
-done x = Ok x
-
-ok_is : {A : Type 0} (x y : A) → done x ≡ done y → x ≡ y
-ok_is x y e = cc
-
--- a test that had to hold
-wanted_ok : {X : Type 0} (b : Bool) (d : HeaderFault) (x : Result X HeaderFault) (y : X) → cond b x (Err d) ≡ Ok y → (b ≡ true) × (x ≡ Ok y)
-wanted_ok true d x y e = (refl, e)
-wanted_ok false d x y e = absurd cc
-
--- a test that did not fail
-guard_ok : {X : Type 0} (b : Bool) (d : HeaderFault) (x : Result X HeaderFault) (y : X) → cond b (Err d) x ≡ Ok y → (b ≡ false) × (x ≡ Ok y)
-guard_ok true d x y e = absurd cc
-guard_ok false d x y e = (refl, e)
-
--- neither of two tests held
-neither : (a b : Bool) → (a || b) ≡ false → (a ≡ false) × (b ≡ false)
-neither true b e = absurd cc
-neither false b e = (refl, e)
-
-not_zero : (n : ℕ) → eqb n 0 ≡ false → 0 < n
-not_zero zero e = absurd cc
-not_zero (suc n) e = omega arith
 
 -- ---- what is read is spelled so
 
@@ -136,20 +105,8 @@ header_found bytes (Err e) len fits given = tt
 
 -- ---- what is spelled so is read
 
--- a test that holds takes the first
-holds : {X : Type 0} (b : Bool) (x y : X) → b ≡ true → cond b x y ≡ x
-holds b x y e = ap (λ (c : Bool). cond c x y) e
-
--- a test that does not hold takes the second
-passes : {X : Type 0} (b : Bool) (x y : X) → b ≡ false → cond b x y ≡ y
-passes b x y e = ap (λ (c : Bool). cond c x y) e
-
 same_bytes : (xs ys : List ℕ) → xs ≡ ys → bytes_eq xs ys ≡ true
 same_bytes xs ys e = (bytes_eq-Decides xs ys).1 e
-
-other_than_zero : (n : ℕ) → 0 < n → eqb n 0 ≡ false
-other_than_zero zero h = absurd (omega arith)
-other_than_zero (suc n) h = eqb-suc-zero n
 
 magic_again : (bytes : List ℕ) → take 8 bytes ≡ magic → magic_at bytes ≡ Ok tt
 unfolding magic_at

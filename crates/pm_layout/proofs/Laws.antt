@@ -12,7 +12,9 @@ use Rattle.pm_types.specs.declared.object.Slot.TheVariants.{Live, Moved}
 use Rattle.pm_layout.specs.declared.fault.LayoutFault.{LayoutFault}
 use Rattle.pm_layout.specs.declared.fault.LayoutFault.TheVariants.{Short, Kind}
 use Rattle.pm_layout.specs.Spelling.{field, spelling, slot_size, IsInRange, HasSpelling, Stands, IsSpelled}
-use Rattle.pm_layout.specs.Reading.{◌>>=◌, number_from, live_end, end_at, ident_at, field_count_at, byte_count_at, fields_at, live_at, target_at, moved_at, slot_at}
+use Rattle.pm_layout.specs.Steps.{◌>>=◌}
+use Rattle.pm_layout.specs.Reading.{number_from, live_end, end_at, ident_at, field_count_at, byte_count_at, fields_at, live_at, target_at, moved_at, slot_at}
+use Rattle.pm_layout.proofs.Steps.{ok_is, holds, passes}
 use Rattle.pm_layout.proofs.Sizes.{spelling_length}
 use Rattle.pm_layout.proofs.Again.{slot_again}
 
@@ -33,20 +35,13 @@ again most before rest slot small fits range =
     let read = slot_again most bytes (length before) slot (length before + length (spelling slot)) small (omega (arith, length-append before (spelling slot ++ rest))) range (record { fits = fits; stands = placed before (spelling slot) rest }) in
     read ∙ ap (λ (k : ℕ). Ok (slot, length before + k)) (spelling_length slot)
 
-same_value : (p q : Slot × ℕ) → (let r : Result (Slot × ℕ) LayoutFault = Ok p in r) ≡ Ok q → p ≡ q
-same_value p q e = cc
-
-abbrev done : Slot → ℕ → Result (Slot × ℕ) LayoutFault
-done slot next = Ok (slot, next)
-
-same_pair : (a b : Slot) (m n : ℕ) → done a m ≡ done b n → a ≡ b
-same_pair a b m n e = ap (λ (p : Slot × ℕ). p.0) (same_value (a, m) (b, n) e)
-
 pub apart : (most : ℕ) (a b : Slot) (x y : List ℕ) → most < 65536 → HasSpelling most a → IsInRange a → HasSpelling most b → IsInRange b → spelling a ++ x ≡ spelling b ++ y → (a ≡ b) × (x ≡ y)
 apart most a b x y small fits_a range_a fits_b range_b e =
     let read_a = again most [] x a small fits_a range_a in
     let read_b = again most [] y b small fits_b range_b in
-    let same : a ≡ b = same_pair a b (0 + slot_size a) (0 + slot_size b) (sym read_a ∙ ap (λ (t : List ℕ). slot_at most t 0) e ∙ read_b) in
+    let one : Slot × ℕ = (a, 0 + slot_size a) in
+    let other : Slot × ℕ = (b, 0 + slot_size b) in
+    let same : a ≡ b = ap (λ (p : Slot × ℕ). p.0) (ok_is one other (sym read_a ∙ ap (λ (t : List ℕ). slot_at most t 0) e ∙ read_b)) in
     (same, append_cancel_left (spelling a) x y (e ∙ ap (λ (s : Slot). spelling s ++ y) (sym same)))
 
 -- ---- spellings that are cut
@@ -70,14 +65,6 @@ cut_kind len before text some =
 -- so many bytes are left
 cut_length : (len : ℕ) (before text : List ℕ) → len ≤ length text → length (before ++ take len text) ≡ length before + len
 cut_length len before text le = omega (arith, length-append before (take len text), length-take len text)
-
--- a test that holds takes the first
-holds : {X : Type 0} (b : Bool) (x y : X) → b ≡ true → cond b x y ≡ x
-holds b x y e = ap (λ (c : Bool). cond c x y) e
-
--- a test that does not hold takes the second
-passes : {X : Type 0} (b : Bool) (x y : X) → b ≡ false → cond b x y ≡ y
-passes b x y e = ap (λ (c : Bool). cond c x y) e
 
 end_cut : (bytes : List ℕ) (at : ℕ) → (13 + at ≤ length bytes → length bytes < live_end bytes at) → end_at bytes at ≡ Err (Short at)
 unfolding end_at

@@ -1,3 +1,4 @@
+pub mod Steps
 pub mod Loop
 pub mod Sizes
 pub mod Numbers

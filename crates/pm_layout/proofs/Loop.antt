@@ -4,7 +4,8 @@ use Rattle.std.proofs.lemmas.List.{append-nil}
 use Rattle.pm_types.specs.declared.address.Addr.{Addr}
 use Rattle.pm_layout.specs.declared.fault.LayoutFault.{LayoutFault}
 use Rattle.pm_layout.specs.declared.fault.LayoutFault.TheVariants.{Short, Kind, Fields, Count, Null, Ident, Memory}
-use Rattle.pm_layout.specs.Reading.{◌>>=◌, Fails, field_at, fields_at}
+use Rattle.pm_layout.specs.Steps.{◌>>=◌}
+use Rattle.pm_layout.specs.Reading.{Fails, field_at, fields_at}
 
 -- what was read before, and what is still read
 abbrev pub with_front : List (Option Addr) → Result (List (Option Addr)) LayoutFault → Result (List (Option Addr)) LayoutFault

@@ -2,7 +2,7 @@
 use Rattle.std.proofs.Common.{◌≡◌, ℕ, zero, suc, ◌+◌, ◌-◌, ◌*◌, ◌^◌, ◌<◌, ◌≤◌, Bool, true, false, cond, eqb, ltb, leb, ◌||◌, List, [], ◌∷◌, ◌++◌, length, get_or, take, drop, replicate, Option, Some, None, Result, Ok, Err, refl, sym, ap, subst, ◌∙◌, ◌⊎◌, inl, inr, append_assoc, arith, length-take, length-drop}
 use Rattle.std.specs.List.{flat_map, slice_range, AllByRecursion}
 use Rattle.std.specs.Prelude.{IfSome, IfOk}
-use Rattle.std.proofs.lemmas.Bool.{eqb-true, ltb-false, leb-false}
+use Rattle.std.proofs.lemmas.Bool.{eqb-true, ltb-false, ltb-true, leb-false}
 use Rattle.byteorder.specs.Endian.{big_bytes}
 use Rattle.pm_types.specs.declared.limits.TheConstants.{OBJECT_BYTES, LAST_ID}
 use Rattle.pm_types.specs.declared.address.Addr.{Addr}
@@ -12,53 +12,11 @@ use Rattle.pm_types.specs.declared.object.Slot.TheVariants.{Live, Moved}
 use Rattle.pm_layout.specs.declared.fault.LayoutFault.{LayoutFault}
 use Rattle.pm_layout.specs.declared.fault.LayoutFault.TheVariants.{Short, Kind, Fields, Count, Null, Ident, Memory}
 use Rattle.pm_layout.specs.Spelling.{address, field, spelling, HasCar, IsAddress, IsInRange, IsWithinLimits, IsNumbered, HasSpelling, Stands, IsSpelled}
-use Rattle.pm_layout.specs.Reading.{◌>>=◌, Gives, number_from, live_end, end_at, ident_at, field_count_at, byte_count_at, address_at, field_at, fields_at, live_at, target_at, moved_at, slot_at}
+use Rattle.pm_layout.specs.Steps.{◌>>=◌}
+use Rattle.pm_layout.specs.Reading.{Gives, number_from, live_end, end_at, ident_at, field_count_at, byte_count_at, address_at, field_at, fields_at, live_at, target_at, moved_at, slot_at}
+use Rattle.pm_layout.proofs.Steps.{bind_ok, ok_is, chosen, guard_ok, wanted_ok, neither, not_positive, not_zero}
 use Rattle.pm_layout.proofs.Numbers.{IsBytes, wide_2, wide_4, wide_8}
 use Rattle.pm_layout.proofs.Texts.{Stands-then, number_stands, byte_stands, between_stands}
-
--- ---- steps
-
--- the value of a step that did not fail
-pub bind_ok : {A B : Type 0} (r : Result A LayoutFault) (f : A → Result B LayoutFault) (y : B) → (r >>= f) ≡ Ok y → (x : A) × (r ≡ Ok x) × (f x ≡ Ok y)
-bind_ok (Ok x) f y e = (x, refl, e)
-bind_ok (Err d) f y e = absurd cc
-
--- which way a test went
-pub chosen : {X : Type 0} (b : Bool) (x y z : X) → cond b x y ≡ z → ((b ≡ true) × (x ≡ z)) ⊎ ((b ≡ false) × (y ≡ z))
-chosen true x y z e = inl (refl, e)
-chosen false x y z e = inr (refl, e)
-
--- a test that did not fail
-pub guard_ok : {X : Type 0} (b : Bool) (d : LayoutFault) (x : Result X LayoutFault) (y : X) → cond b (Err d) x ≡ Ok y → (b ≡ false) × (x ≡ Ok y)
-guard_ok true d x y e = absurd cc
-guard_ok false d x y e = (refl, e)
-
--- a test that had to hold
-pub wanted_ok : {X : Type 0} (b : Bool) (d : LayoutFault) (x : Result X LayoutFault) (y : X) → cond b x (Err d) ≡ Ok y → (b ≡ true) × (x ≡ Ok y)
-wanted_ok true d x y e = (refl, e)
-wanted_ok false d x y e = absurd cc
-
-abbrev done : {A : Type 0} → A → Result A LayoutFault
-done x = Ok x
-
-pub ok_is : {A : Type 0} (x y : A) → done x ≡ done y → x ≡ y
-ok_is x y e = cc
-
--- neither of two tests held
-neither : (a b : Bool) → (a || b) ≡ false → (a ≡ false) × (b ≡ false)
-neither true b e = absurd cc
-neither false b e = (refl, e)
-
-positive : (n : ℕ) → ltb 0 n ≡ true → 0 < n
-positive zero e = absurd cc
-positive (suc n) e = omega arith
-
-not_positive : (n : ℕ) → ltb 0 n ≡ false → n ≡ 0
-not_positive n e = let le = ltb-false 0 n e in omega arith
-
-not_zero : (n : ℕ) → eqb n 0 ≡ false → 0 < n
-not_zero zero e = absurd cc
-not_zero (suc n) e = omega arith
 
 -- ---- what is read is spelled so
 
@@ -88,7 +46,7 @@ field_takes bytes p q f e inside fits read =
     elim way [
       | inl some ↦
         let P : Option Addr → Type 0 = λ g. Stands bytes p (field g) q × HasCar g in
-        subst P (ok_is (Some a) f some.1) (subst (λ (t : List ℕ). Stands bytes p t q) (sym (some_field a)) whole, positive a.car some.0)
+        subst P (ok_is (Some a) f some.1) (subst (λ (t : List ℕ). Stands bytes p t q) (sym (some_field a)) whole, ltb-true 0 a.car some.0)
       | inr none ↦
         let g = wanted_ok (eqb a.slot 0) (Null p) (Ok None) f none.1 in
         let P : Option Addr → Type 0 = λ g. Stands bytes p (field g) q × HasCar g in
@@ -101,7 +59,7 @@ target_takes bytes p q a e inside fits read =
     let b = address_at bytes p in
     let g = wanted_ok (ltb 0 b.car) (Null p) (Ok b) a read in
     let P : Addr → Type 0 = λ x. Stands bytes p (address x) q × (0 < x.car) in
-    subst P (ok_is b a g.1) (address_stands bytes p q e inside fits, positive b.car g.0)
+    subst P (ok_is b a g.1) (address_stands bytes p q e inside fits, ltb-true 0 b.car g.0)
 
 -- nothing stands between a place and itself
 nothing_stands : (bytes : List ℕ) (p q : ℕ) → p ≡ q → q ≤ length bytes → Stands bytes p [] q

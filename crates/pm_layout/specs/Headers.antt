@@ -1,6 +1,7 @@
 -- How headers are spelled, which have a spelling, and what bytes say of one.
 use Rattle.std.specs.Prelude.{◌≡◌, ℕ, ◌<◌, ◌≤◌, ◌^◌, List, [], ◌∷◌, ◌++◌, length, drop, take, slice_range, Result, Ok, Err, nat_lt, ◌==◌, ◌||◌, if◌then◌else◌}
 use Rattle.std.specs.Str.{bytes_eq}
+use Rattle.pm_layout.specs.Steps.{◌>>=◌}
 use Rattle.byteorder.specs.Endian.{big_bytes, big_number}
 use Rattle.sha2.specs.Sha256.{sha256}
 use Rattle.pm_layout.specs.declared.header.Header.{Header}
@@ -35,12 +36,6 @@ pub record IsHeaderInRange (h : Header) : Type 0 where
   pub epoch : h.epoch < 2 ^ 32
   pub first : h.first < 2 ^ 64
   pub digest : length h.digest ≡ 32
-
--- the first step, and with its value the second; a fault ends both
-infixl 10 ◌>>=◌
-abbrev pub ◌>>=◌ : {A B : Type 0} → Result A HeaderFault → (A → Result B HeaderFault) → Result B HeaderFault
-(Ok x) >>= f = f x
-(Err e) >>= f = Err e
 
 -- the first eight bytes are the magic
 unfoldable pub magic_at : List ℕ → Result (Unit {0}) HeaderFault

@@ -1,5 +1,6 @@
 -- Reading a slot from left to right, with the first fault that is met. Bytes are read at places of the whole.
 use Rattle.std.specs.Prelude.{◌≡◌, ℕ, zero, suc, ◌+◌, ◌-◌, ◌*◌, List, [], ◌∷◌, length, drop, slice_index, slice_range, Option, Some, None, Result, Ok, Err, nat_lt, nat_le, ◌==◌, ◌||◌, if◌then◌else◌}
+use Rattle.pm_layout.specs.Steps.{◌>>=◌}
 use Rattle.byteorder.specs.Endian.{big_number}
 use Rattle.pm_types.specs.declared.limits.TheConstants.{OBJECT_BYTES, LAST_ID}
 use Rattle.pm_types.specs.declared.address.Addr.{Addr}
@@ -8,12 +9,6 @@ use Rattle.pm_types.specs.declared.object.Slot.{Slot}
 use Rattle.pm_types.specs.declared.object.Slot.TheVariants.{Live, Moved}
 use Rattle.pm_layout.specs.declared.fault.LayoutFault.{LayoutFault}
 use Rattle.pm_layout.specs.declared.fault.LayoutFault.TheVariants.{Short, Kind, Fields, Count, Null, Ident, Memory}
-
--- the first step, and with its value the second; a fault ends both
-infixl 10 ◌>>=◌
-abbrev pub ◌>>=◌ : {A B : Type 0} → Result A LayoutFault → (A → Result B LayoutFault) → Result B LayoutFault
-(Ok x) >>= f = f x
-(Err e) >>= f = Err e
 
 -- an error that was answered is the fault that reading meets, or memory ran out
 abbrev pub Fails : {X : Type 0} → LayoutFault → Result X LayoutFault → Type 0
