@@ -121,7 +121,7 @@ live_again most bytes at o next small start range s =
     let first_place : next - count ≡ p5 = omega arith in
     let long : length o.bytes ≡ next - p5 = omega arith in
     let text : slice_range bytes (next - count) next ≡ o.bytes =
-      ap (λ (k : ℕ). take (next - k) (drop k bytes)) first_place ∙ ap (λ (t : List ℕ). take (next - p5) t) s4.second.parts ∙ take_at o.bytes (drop next bytes) (next - p5) long in
+    ap (λ (k : ℕ). take (next - k) (drop k bytes)) first_place ∙ ap (λ (t : List ℕ). take (next - p5) t) s4.second.parts ∙ take_at o.bytes (drop next bytes) (next - p5) long in
     let made : List ℕ → Result (Slot × ℕ) LayoutFault = λ t. Ok (Live (record { id = o.id; fields = o.fields; bytes = t }), next) in
     rw (e0, e1, e2, e3, e4) (ap made text)
 

@@ -96,7 +96,7 @@ header_takes bytes h len fits read =
     let body = body_stands bytes b.0 d.0 len fits (magic_takes bytes a.0 a.1) version.0 next.0 in
     let whole = whole_spelling bytes (header_of bytes b.0 d.0) len body (digest_takes bytes c.0 c.1) in
     let P : Header → Type 0 = λ x. HasHeaderSpelling x × (bytes ≡ header_spelling x) in
-    subst P (ok_is (header_of bytes b.0 d.0) h d.2) (record { version = version.1; some = next.1; last = next.2 }, whole)
+    subst P {x = header_of bytes b.0 d.0} (ok_is (header_of bytes b.0 d.0) h d.2) (record { version = version.1; some = next.1; last = next.2 }, whole)
 
 -- what was answered is spelled so
 pub header_found : (bytes : List ℕ) (r : Result Header HeaderFault) → length bytes ≡ 96 → IsBytes bytes → r ≡ header_at bytes → IfOk r (λ h. HasHeaderSpelling h × (bytes ≡ header_spelling h))
@@ -164,8 +164,8 @@ header_again bytes h fits range e =
     let whole : slice_range bytes 64 96 ≡ sha256 (take 64 bytes) = kept ∙ ap (λ (t : List ℕ). sha256 t) (sym front) in
     let made : ℕ → ℕ → List ℕ → ℕ → Result Header HeaderFault = λ epoch first kept version. Ok (record { version = version; epoch = epoch; next = h.next; first = first; digest = kept }) in
     rw (magic_again bytes is_magic, version_again bytes version_is, digest_again bytes whole, next_again bytes h.next next_is fits.some fits.last)
-      (ap (λ (k : ℕ). made k (number_from 8 bytes 24) (slice_range bytes 32 64) 1) epoch_is ∙ ap (λ (k : ℕ). made h.epoch k (slice_range bytes 32 64) 1) first_is
-        ∙ ap (λ (t : List ℕ). made h.epoch h.first t 1) digest_is ∙ ap (λ (k : ℕ). made h.epoch h.first h.digest k) (sym fits.version))
+    (ap (λ (k : ℕ). made k (number_from 8 bytes 24) (slice_range bytes 32 64) 1) epoch_is ∙ ap (λ (k : ℕ). made h.epoch k (slice_range bytes 32 64) 1) first_is
+    ∙ ap (λ (t : List ℕ). made h.epoch h.first t 1) digest_is ∙ ap (λ (k : ℕ). made h.epoch h.first h.digest k) (sym fits.version))
 
 -- steps that did not fail make the header
 pub header_made : (bytes : List ℕ) (u w : Unit {0}) (version epoch next first : ℕ) (kept : List ℕ) → magic_at bytes ≡ Ok u → version_at bytes ≡ Ok version → digest_kept bytes ≡ Ok w → next_at bytes ≡ Ok next

@@ -23,7 +23,7 @@ pub placed : (before text rest : List ℕ) → Stands (before ++ (text ++ rest))
 placed before text rest =
     let bytes = before ++ (text ++ rest) in
     let back : drop (length before + length text) bytes ≡ rest =
-      ap (λ (t : List ℕ). drop (length before + length text) t) (sym (append_assoc before text rest)) ∙ drop_at (before ++ text) rest (length before + length text) (length-append before text) in
+    ap (λ (t : List ℕ). drop (length before + length text) t) (sym (append_assoc before text rest)) ∙ drop_at (before ++ text) rest (length before + length text) (length-append before text) in
     record {
       inside = omega (arith, length-append before (text ++ rest), length-append text rest);
       parts = drop_at before (text ++ rest) (length before) refl ∙ ap (λ (t : List ℕ). text ++ t) (sym back);
@@ -53,7 +53,7 @@ cut_number n j len before text le =
     let m = len - j in
     let parts : len ≡ j + m = omega arith in
     let here : drop (length before + j) (before ++ take len text) ≡ take m (drop j text) =
-      sym (drop-drop j (length before) (before ++ take len text)) ∙ ap (λ (t : List ℕ). drop j t) front ∙ ap (λ (k : ℕ). drop j (take k text)) parts ∙ drop-take j m text in
+    sym (drop-drop j (length before) (before ++ take len text)) ∙ ap (λ (t : List ℕ). drop j t) front ∙ ap (λ (k : ℕ). drop j (take k text)) parts ∙ drop-take j m text in
     ap (λ (t : List ℕ). big_number n t) here ∙ big_from-take 0 n m (drop j text) (omega arith)
 
 -- the first byte is the same
@@ -87,9 +87,9 @@ live_cut most len before o small fits cut =
     let tail4 = flat_map field o.fields ++ o.bytes in
     let tail3 = big_bytes 2 (length o.bytes) ++ tail4 in
     let past : 13 + at ≤ length bytes → length bytes < live_end bytes at = λ long.
-      let n_is : number_from 2 bytes (at + 9) ≡ length o.fields = cut_number 2 9 len before text (omega arith) ∙ big_number-reads_back 2 (length o.fields) tail3 (omega arith) in
-      let count_is : number_from 2 bytes (at + 11) ≡ length o.bytes = cut_number 2 11 len before text (omega arith) ∙ big_number-reads_back 2 (length o.bytes) tail4 (omega arith) in
-      omega (arith, n_is, count_is, len_is) in
+    let n_is : number_from 2 bytes (at + 9) ≡ length o.fields = cut_number 2 9 len before text (omega arith) ∙ big_number-reads_back 2 (length o.fields) tail3 (omega arith) in
+    let count_is : number_from 2 bytes (at + 11) ≡ length o.bytes = cut_number 2 11 len before text (omega arith) ∙ big_number-reads_back 2 (length o.bytes) tail4 (omega arith) in
+    omega (arith, n_is, count_is, len_is) in
     rw (end_cut bytes at past) refl
 
 moved_cut : (bytes : List ℕ) (at : ℕ) → length bytes < at + 13 → moved_at bytes at ≡ Err (Short at)

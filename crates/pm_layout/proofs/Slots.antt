@@ -25,8 +25,8 @@ address_stands : (bytes : List ℕ) (p q : ℕ) → p + 12 ≡ q → q ≤ lengt
 unfolding address
 address_stands bytes p q e inside fits =
     Stands-then bytes (big_bytes 8 (number_from 8 bytes p)) (big_bytes 4 (number_from 4 bytes (p + 8))) p (p + 8) q
-      (number_stands 8 wide_8 bytes p (p + 8) refl (omega arith) fits)
-      (number_stands 4 wide_4 bytes (p + 8) q (omega arith) inside fits)
+    (number_stands 8 wide_8 bytes p (p + 8) refl (omega arith) fits)
+    (number_stands 4 wide_4 bytes (p + 8) q (omega arith) inside fits)
 
 -- twelve zero bytes are those of a null field
 null_address : (bytes : List ℕ) (p : ℕ) → number_from 8 bytes p ≡ 0 → number_from 4 bytes (p + 8) ≡ 0 → address (address_at bytes p) ≡ field None
@@ -45,12 +45,12 @@ field_takes bytes p q f e inside fits read =
     let way = chosen (ltb 0 a.car) (Ok (Some a)) (cond (eqb a.slot 0) (Ok None) (Err (Null p))) (Ok f) read in
     elim way [
       | inl some ↦
-        let P : Option Addr → Type 0 = λ g. Stands bytes p (field g) q × HasCar g in
-        subst P (ok_is (Some a) f some.1) (subst (λ (t : List ℕ). Stands bytes p t q) (sym (some_field a)) whole, ltb-true 0 a.car some.0)
+          let P : Option Addr → Type 0 = λ g. Stands bytes p (field g) q × HasCar g in
+          subst P (ok_is (Some a) f some.1) (subst (λ (t : List ℕ). Stands bytes p t q) (sym (some_field a)) whole, ltb-true 0 a.car some.0)
       | inr none ↦
-        let g = wanted_ok (eqb a.slot 0) (Null p) (Ok None) f none.1 in
-        let P : Option Addr → Type 0 = λ g. Stands bytes p (field g) q × HasCar g in
-        subst P (ok_is None f g.1) (subst (λ (t : List ℕ). Stands bytes p t q) (null_address bytes p (not_positive a.car none.0) (eqb-true _ _ g.0)) whole, tt)
+          let g = wanted_ok (eqb a.slot 0) (Null p) (Ok None) f none.1 in
+          let P : Option Addr → Type 0 = λ g. Stands bytes p (field g) q × HasCar g in
+          subst P (ok_is None f g.1) (subst (λ (t : List ℕ). Stands bytes p t q) (null_address bytes p (not_positive a.car none.0) (eqb-true _ _ g.0)) whole, tt)
     ]
 
 target_takes : (bytes : List ℕ) (p q : ℕ) (a : Addr) → p + 12 ≡ q → q ≤ length bytes → IsBytes bytes → target_at bytes p ≡ Ok a → Stands bytes p (address a) q × (0 < a.car)
@@ -162,10 +162,10 @@ live_takes most bytes at x fits lt kind read =
     let fs = fields_take c.0 bytes (at + 13) (a.0 - d.0) f.0 (omega arith) (omega arith) fits f.1 in
     let long = last_length bytes d.0 a.0 (omega arith) inside in
     let spelled : IsSpelled most bytes at (made a.0 b.0 d.0 f.0).0 a.0 = record {
-        fits = record { within = (omega (arith, fs.counted, n.1), omega (arith, long, count.1)); numbered = (ident.1, fs.cars) };
-        stands = live_stands bytes at b.0 c.0 d.0 a.0 f.0 fits inside whole kind ident.0 n.0 count.0 fs;
-      } in
-    subst (λ (y : Slot × ℕ). IsSpelled most bytes at y.0 y.1) (ok_is (made a.0 b.0 d.0 f.0) x f.2) spelled
+      fits = record { within = (omega (arith, fs.counted, n.1), omega (arith, long, count.1)); numbered = (ident.1, fs.cars) };
+      stands = live_stands bytes at b.0 c.0 d.0 a.0 f.0 fits inside whole kind ident.0 n.0 count.0 fs;
+    } in
+    subst (λ (y : Slot × ℕ). IsSpelled most bytes at y.0 y.1) {x = made a.0 b.0 d.0 f.0} (ok_is (made a.0 b.0 d.0 f.0) x f.2) spelled
 
 moved_takes : (most : ℕ) (bytes : List ℕ) (at : ℕ) (x : Slot × ℕ) → IsBytes bytes → at < length bytes → get_or bytes at 0 ≡ 2 → moved_at bytes at ≡ Ok x → IsSpelled most bytes at x.0 x.1
 unfolding moved_at spelling
@@ -176,9 +176,9 @@ moved_takes most bytes at x fits lt kind read =
     let inside : at + 13 ≤ length bytes = ltb-false _ _ g.0 in
     let to = target_takes bytes (at + 1) (at + 13) a.0 (omega arith) inside fits a.1 in
     let spelled : IsSpelled most bytes at (Moved a.0) (at + 13) = record {
-        fits = record { within = tt; numbered = to.1 };
-        stands = Stands-then bytes (2 ∷ []) (address a.0) at (at + 1) (at + 13) (byte_stands bytes at 2 lt kind) to.0;
-      } in
+      fits = record { within = tt; numbered = to.1 };
+      stands = Stands-then bytes (2 ∷ []) (address a.0) at (at + 1) (at + 13) (byte_stands bytes at 2 lt kind) to.0;
+    } in
     subst (λ (y : Slot × ℕ). IsSpelled most bytes at y.0 y.1) (ok_is (made a.0) x a.2) spelled
 
 -- what is read is spelled there
@@ -192,8 +192,8 @@ slot_takes most bytes at x fits read =
     elim way [
       | inl live ↦ live_takes most bytes at x fits lt (eqb-true kind 1 live.0) live.1
       | inr other ↦
-        let h = wanted_ok (eqb kind 2) (Kind at kind) (moved_at bytes at) x other.1 in
-        moved_takes most bytes at x fits lt (eqb-true kind 2 h.0) h.1
+          let h = wanted_ok (eqb kind 2) (Kind at kind) (moved_at bytes at) x other.1 in
+          moved_takes most bytes at x fits lt (eqb-true kind 2 h.0) h.1
     ]
 
 -- what was answered is spelled there

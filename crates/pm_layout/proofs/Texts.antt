@@ -30,7 +30,7 @@ pub Stands-split : (bytes a b : List ℕ) (p q r : ℕ) → p ≤ length bytes �
 Stands-split bytes a b p q r start e s =
     let whole : drop p bytes ≡ a ++ (b ++ drop r bytes) = s.parts ∙ append_assoc a b (drop r bytes) in
     let rest : drop q bytes ≡ b ++ drop r bytes =
-      ap (λ (k : ℕ). drop k bytes) (sym e) ∙ sym (drop-drop (length a) p bytes) ∙ ap (λ (t : List ℕ). drop (length a) t) whole ∙ drop_at a (b ++ drop r bytes) (length a) refl in
+    ap (λ (k : ℕ). drop k bytes) (sym e) ∙ sym (drop-drop (length a) p bytes) ∙ ap (λ (t : List ℕ). drop (length a) t) whole ∙ drop_at a (b ++ drop r bytes) (length a) refl in
     let ended = Stands-end bytes (a ++ b) p r start s in
     let inside = s.inside in
     record {
@@ -52,8 +52,8 @@ number_stands n wide bytes p q e inside fits =
     record {
       inside = inside;
       parts = sym (take-append-drop n (drop p bytes))
-        ∙ ap (λ (t : List ℕ). t ++ drop n (drop p bytes)) (sym (wide.back (drop p bytes) long (IsBytes-drop p bytes fits)))
-        ∙ ap (λ (t : List ℕ). big_bytes n (number_from n bytes p) ++ t) (drop-drop n p bytes ∙ ap (λ (k : ℕ). drop k bytes) e);
+          ∙ ap (λ (t : List ℕ). t ++ drop n (drop p bytes)) (sym (wide.back (drop p bytes) long (IsBytes-drop p bytes fits)))
+          ∙ ap (λ (t : List ℕ). big_bytes n (number_from n bytes p) ++ t) (drop-drop n p bytes ∙ ap (λ (k : ℕ). drop k bytes) e);
     }
 
 -- a number that stands there is read

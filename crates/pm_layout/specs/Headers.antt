@@ -44,21 +44,21 @@ magic_at bytes = if bytes_eq (take 8 bytes) magic then Ok tt else Err Magic
 -- the version is the one
 unfoldable pub version_at : List ℕ → Result ℕ HeaderFault
 version_at bytes =
-  let version = number_from 4 bytes 8 in
-  if version == 1 then Ok version else Err (Version version)
+    let version = number_from 4 bytes 8 in
+    if version == 1 then Ok version else Err (Version version)
 
 -- the digest that is kept is that of the first 64 bytes
 unfoldable pub digest_kept : List ℕ → Result (Unit {0}) HeaderFault
 digest_kept bytes =
-  let kept = slice_range bytes 64 96 in
-  let found = sha256 (take 64 bytes) in
-  if bytes_eq kept found then Ok tt else Err (Digest kept found)
+    let kept = slice_range bytes 64 96 in
+    let found = sha256 (take 64 bytes) in
+    if bytes_eq kept found then Ok tt else Err (Digest kept found)
 
 -- the next identity, from 1 to one past the last
 unfoldable pub next_at : List ℕ → Result ℕ HeaderFault
 next_at bytes =
-  let next = number_from 8 bytes 16 in
-  if (next == 0) || nat_lt 4294967296 next then Err Next else Ok next
+    let next = number_from 8 bytes 16 in
+    if (next == 0) || nat_lt 4294967296 next then Err Next else Ok next
 
 -- the header that the bytes spell, or the first fault
 unfoldable pub header_at : List ℕ → Result Header HeaderFault

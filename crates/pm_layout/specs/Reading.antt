@@ -36,26 +36,26 @@ live_end bytes at = at + 13 + 12 * number_from 2 bytes (at + 9) + number_from 2 
 -- that place, where it is inside the bytes
 unfoldable pub end_at : List ℕ → ℕ → Result ℕ LayoutFault
 end_at bytes at =
-  if nat_lt (length bytes) (at + 13) then Err (Short at) else
-  if nat_lt (length bytes) (live_end bytes at) then Err (Short at) else Ok (live_end bytes at)
+    if nat_lt (length bytes) (at + 13) then Err (Short at) else
+    if nat_lt (length bytes) (live_end bytes at) then Err (Short at) else Ok (live_end bytes at)
 
 -- an identity, from 1 to the last
 unfoldable pub ident_at : List ℕ → ℕ → Result ℕ LayoutFault
 ident_at bytes place =
-  let id = number_from 8 bytes place in
-  if (id == 0) || nat_lt LAST_ID id then Err (Ident place) else Ok id
+    let id = number_from 8 bytes place in
+    if (id == 0) || nat_lt LAST_ID id then Err (Ident place) else Ok id
 
 -- a number of fields, within the limit
 unfoldable pub field_count_at : ℕ → List ℕ → ℕ → Result ℕ LayoutFault
 field_count_at most bytes place =
-  let n = number_from 2 bytes place in
-  if nat_lt most n then Err (Fields place n) else Ok n
+    let n = number_from 2 bytes place in
+    if nat_lt most n then Err (Fields place n) else Ok n
 
 -- a number of bytes, within the limit
 unfoldable pub byte_count_at : List ℕ → ℕ → Result ℕ LayoutFault
 byte_count_at bytes place =
-  let n = number_from 2 bytes place in
-  if nat_lt OBJECT_BYTES n then Err (Count place n) else Ok n
+    let n = number_from 2 bytes place in
+    if nat_lt OBJECT_BYTES n then Err (Count place n) else Ok n
 
 -- an address, whatever its numbers are
 abbrev pub address_at : List ℕ → ℕ → Addr
@@ -64,9 +64,9 @@ address_at bytes place = record { car = number_from 8 bytes place; slot = number
 -- a field: with car 0 it is null, and its slot is 0
 unfoldable pub field_at : List ℕ → ℕ → Result (Option Addr) LayoutFault
 field_at bytes place =
-  let a = address_at bytes place in
-  if nat_lt 0 a.car then Ok (Some a) else
-  if a.slot == 0 then Ok None else Err (Null place)
+    let a = address_at bytes place in
+    if nat_lt 0 a.car then Ok (Some a) else
+    if a.slot == 0 then Ok None else Err (Null place)
 
 -- so many fields, of 12 bytes each
 unfoldable pub fields_at : List ℕ → ℕ → ℕ → Result (List (Option Addr)) LayoutFault
@@ -89,19 +89,19 @@ live_at most bytes at = do
 -- the address that a Moved slot keeps, which is not null
 unfoldable pub target_at : List ℕ → ℕ → Result Addr LayoutFault
 target_at bytes place =
-  let a = address_at bytes place in
-  if nat_lt 0 a.car then Ok a else Err (Null place)
+    let a = address_at bytes place in
+    if nat_lt 0 a.car then Ok a else Err (Null place)
 
 -- a Moved slot, and the place after it
 unfoldable pub moved_at : List ℕ → ℕ → Result (Slot × ℕ) LayoutFault
 moved_at bytes at =
-  if nat_lt (length bytes) (at + 13) then Err (Short at) else do
-    to ← target_at bytes (at + 1)
-    Ok (Moved to, at + 13)
+    if nat_lt (length bytes) (at + 13) then Err (Short at) else do
+      to ← target_at bytes (at + 1)
+      Ok (Moved to, at + 13)
 
 -- a slot of at most so many fields, and the place after it
 unfoldable pub slot_at : ℕ → List ℕ → ℕ → Result (Slot × ℕ) LayoutFault
 slot_at most bytes at =
-  if nat_le (length bytes) at then Err (Short at) else
-  if slice_index bytes at == 1 then live_at most bytes at else
-  if slice_index bytes at == 2 then moved_at bytes at else Err (Kind at (slice_index bytes at))
+    if nat_le (length bytes) at then Err (Short at) else
+    if slice_index bytes at == 1 then live_at most bytes at else
+    if slice_index bytes at == 2 then moved_at bytes at else Err (Kind at (slice_index bytes at))

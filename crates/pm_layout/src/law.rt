@@ -14,11 +14,9 @@ pub fn slots_are_read_again()
     ensures apart { (most : ℕ) (a b : Slot) (x y : List ℕ) → most < 65536 → HasSpelling most a → IsInRange a → HasSpelling most b → IsInRange b → spelling a ++ x ≡ spelling b ++ y → (a ≡ b) × (x ≡ y) }
     // A spelling that is cut anywhere is short, at the place where it begins.
     ensures cut { (most len : ℕ) (before : List ℕ) (slot : Slot) → most < 65536 → HasSpelling most slot → len < slot_size slot → slot_at most (before ++ take len (spelling slot)) (length before) ≡ Err (Short (length before)) }
-{
-}
+{}
 
 /// What is written of a header is read again.
 pub fn headers_are_read_again()
     ensures { (header : Header) → HasHeaderSpelling header → IsHeaderInRange header → header_at (header_spelling header) ≡ Ok header }
-{
-}
+{}

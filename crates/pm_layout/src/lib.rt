@@ -16,3 +16,6 @@ pub use header::{Header, HeaderFault, read_header, write_header};
 pub use law::{headers_are_read_again, slots_are_read_again};
 pub use reading::read_slot;
 pub use writing::{size, write_slot};
+
+#[cfg(test)]
+mod tests;

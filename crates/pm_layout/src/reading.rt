@@ -100,12 +100,7 @@ fn field_at(bytes: &[u8], place: usize) -> Result<Option<Addr>, LayoutFault>
 }
 
 // So many fields, which are inside the bytes.
-fn fields_at(
-    alloc: Global,
-    bytes: &[u8],
-    count: u32,
-    start: usize,
-) -> Result<Fields, LayoutFault>
+fn fields_at(alloc: Global, bytes: &[u8], count: u32, start: usize) -> Result<Fields, LayoutFault>
     requires { start + 12 * count ≤ length bytes.now }
     ensures { Gives result (fields_at bytes.now count start) }
 {
@@ -146,12 +141,7 @@ fn moved_at(bytes: &[u8], at: usize) -> Result<(Slot, usize), LayoutFault>
 
 // The lengths are looked at first; then the slot is read from left to right.
 #[tactic(auto, unfolding(crate::specs::Reading::live_at))]
-fn live_at(
-    alloc: Global,
-    most: u32,
-    bytes: &[u8],
-    at: usize,
-) -> Result<(Slot, usize), LayoutFault>
+fn live_at(alloc: Global, most: u32, bytes: &[u8], at: usize) -> Result<(Slot, usize), LayoutFault>
     requires { at ≤ length bytes.now }
     ensures { Gives result (live_at most bytes.now at) }
 {
@@ -171,12 +161,7 @@ fn live_at(
 
 // A slot of at most so many fields.
 #[tactic(auto, unfolding(crate::specs::Reading::slot_at))]
-fn slot_at(
-    alloc: Global,
-    most: u32,
-    bytes: &[u8],
-    at: usize,
-) -> Result<(Slot, usize), LayoutFault>
+fn slot_at(alloc: Global, most: u32, bytes: &[u8], at: usize) -> Result<(Slot, usize), LayoutFault>
     requires { at ≤ length bytes.now }
     ensures { Gives result (slot_at most bytes.now at) }
 {
