@@ -1,9 +1,9 @@
 -- What is spelled at a place is read there.
-use Rattle.std.proofs.Common.{◌≡◌, ℕ, zero, suc, ◌+◌, ◌-◌, ◌*◌, ◌^◌, ◌<◌, ◌≤◌, Bool, true, false, cond, eqb, ltb, leb, ◌||◌, List, [], ◌∷◌, ◌++◌, length, get_or, take, drop, Option, Some, None, Result, Ok, Err, refl, sym, ap, subst, ◌∙◌, append_assoc, arith, length-append}
+use Rattle.std.proofs.Common.{◌≡◌, ℕ, ◌+◌, ◌-◌, ◌*◌, ◌^◌, ◌<◌, ◌≤◌, Bool, false, cond, eqb, ltb, leb, ◌||◌, List, [], ◌∷◌, ◌++◌, length, get_or, take, drop, Option, Some, None, Result, Ok, Err, refl, ap, ◌∙◌, arith}
 use Rattle.std.specs.List.{flat_map, slice_range, AllByRecursion}
 use Rattle.std.specs.Prelude.{IfSome}
 use Rattle.std.proofs.lemmas.Bool.{le-ltb, lt-ltb, lt-leb}
-use Rattle.std.proofs.lemmas.List.{take_at, drop_at, append_cancel_left}
+use Rattle.std.proofs.lemmas.List.{take_at}
 use Rattle.byteorder.specs.Endian.{big_bytes}
 use Rattle.pm_types.specs.declared.limits.TheConstants.{OBJECT_BYTES, LAST_ID}
 use Rattle.pm_types.specs.declared.address.Addr.{Addr}
@@ -11,10 +11,10 @@ use Rattle.pm_types.specs.declared.object.Object.{Object}
 use Rattle.pm_types.specs.declared.object.Slot.{Slot}
 use Rattle.pm_types.specs.declared.object.Slot.TheVariants.{Live, Moved}
 use Rattle.pm_layout.specs.declared.fault.LayoutFault.{LayoutFault}
-use Rattle.pm_layout.specs.declared.fault.LayoutFault.TheVariants.{Short, Kind, Fields, Count, Null, Ident, Memory}
-use Rattle.pm_layout.specs.Spelling.{address, field, spelling, HasCar, IsAddress, IsInRange, HasSpelling, Stands, IsSpelled}
+use Rattle.pm_layout.specs.declared.fault.LayoutFault.TheVariants.{Short, Kind, Fields, Count, Null, Ident}
+use Rattle.pm_layout.specs.Spelling.{address, field, spelling, HasCar, IsAddress, IsInRange, Stands, IsSpelled}
 use Rattle.pm_layout.specs.Steps.{◌>>=◌}
-use Rattle.pm_layout.specs.Reading.{Gives, number_from, live_end, end_at, ident_at, field_count_at, byte_count_at, address_at, field_at, fields_at, live_at, target_at, moved_at, slot_at}
+use Rattle.pm_layout.specs.Reading.{number_from, live_end, end_at, ident_at, field_count_at, byte_count_at, field_at, fields_at, live_at, target_at, moved_at, slot_at}
 use Rattle.pm_layout.proofs.Steps.{holds, passes, other_than_zero}
 use Rattle.pm_layout.proofs.Sizes.{field_length, fields_length}
 use Rattle.pm_layout.proofs.Texts.{Stands-split, Stands-end, number_is, byte_is}

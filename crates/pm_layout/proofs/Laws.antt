@@ -1,8 +1,8 @@
 -- The laws of the spelling of slots.
-use Rattle.std.proofs.Common.{◌≡◌, ℕ, zero, suc, ◌+◌, ◌-◌, ◌*◌, ◌<◌, ◌≤◌, Bool, true, false, cond, eqb, ltb, leb, List, [], ◌∷◌, ◌++◌, length, get_or, take, drop, Result, Ok, Err, refl, sym, ap, ◌∙◌, append_assoc, arith, length-take, length-drop, length-append, inl, inr}
+use Rattle.std.proofs.Common.{◌≡◌, ℕ, zero, suc, ◌+◌, ◌-◌, ◌<◌, ◌≤◌, cond, eqb, ltb, leb, List, [], ◌++◌, length, get_or, take, drop, Result, Ok, Err, refl, sym, ap, ◌∙◌, append_assoc, arith, length-take, length-append, inl, inr}
 use Rattle.std.specs.List.{flat_map}
 use Rattle.std.proofs.lemmas.Bool.{le-leb, lt-ltb, lt-leb, le-ltb, cases_lt}
-use Rattle.std.proofs.lemmas.List.{append-nil, drop-drop, drop_at, drop-take, append_cancel_left, get_or-take, get_or-append-add}
+use Rattle.std.proofs.lemmas.List.{drop-drop, drop_at, drop-take, append_cancel_left, get_or-take, get_or-append-add}
 use Rattle.byteorder.specs.Endian.{big_bytes, big_number}
 use Rattle.byteorder.specs.Numbers.{big_from-take, big_number-reads_back}
 use Rattle.pm_types.specs.declared.address.Addr.{Addr}
@@ -11,9 +11,9 @@ use Rattle.pm_types.specs.declared.object.Slot.{Slot}
 use Rattle.pm_types.specs.declared.object.Slot.TheVariants.{Live, Moved}
 use Rattle.pm_layout.specs.declared.fault.LayoutFault.{LayoutFault}
 use Rattle.pm_layout.specs.declared.fault.LayoutFault.TheVariants.{Short, Kind}
-use Rattle.pm_layout.specs.Spelling.{field, spelling, slot_size, IsInRange, HasSpelling, Stands, IsSpelled}
+use Rattle.pm_layout.specs.Spelling.{field, spelling, slot_size, IsInRange, HasSpelling, Stands}
 use Rattle.pm_layout.specs.Steps.{◌>>=◌}
-use Rattle.pm_layout.specs.Reading.{number_from, live_end, end_at, ident_at, field_count_at, byte_count_at, fields_at, live_at, target_at, moved_at, slot_at}
+use Rattle.pm_layout.specs.Reading.{number_from, live_end, end_at, live_at, target_at, moved_at, slot_at}
 use Rattle.pm_layout.proofs.Steps.{ok_is, holds, passes}
 use Rattle.pm_layout.proofs.Sizes.{spelling_length}
 use Rattle.pm_layout.proofs.Again.{slot_again}

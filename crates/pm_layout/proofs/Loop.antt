@@ -1,11 +1,11 @@
 -- Reading fields one after the other, as a loop does.
-use Rattle.std.proofs.Common.{◌≡◌, ℕ, suc, ◌-◌, ◌+◌, ◌≤◌, ◌<◌, List, [], ◌∷◌, ◌++◌, Option, Result, Ok, Err, refl, sym, ap, ◌∙◌, append_assoc, arith}
+use Rattle.std.proofs.Common.{◌≡◌, ℕ, zero, suc, ◌-◌, ◌+◌, ◌≤◌, ◌<◌, Bool, true, false, cond, eqb, ltb, List, [], ◌∷◌, ◌++◌, Option, Some, None, Result, Ok, Err, refl, sym, ap, subst, ◌∙◌, append_assoc, arith}
 use Rattle.std.proofs.lemmas.List.{append-nil}
 use Rattle.pm_types.specs.declared.address.Addr.{Addr}
 use Rattle.pm_layout.specs.declared.fault.LayoutFault.{LayoutFault}
 use Rattle.pm_layout.specs.declared.fault.LayoutFault.TheVariants.{Short, Kind, Fields, Count, Null, Ident, Memory}
 use Rattle.pm_layout.specs.Steps.{◌>>=◌}
-use Rattle.pm_layout.specs.Reading.{Fails, field_at, fields_at}
+use Rattle.pm_layout.specs.Reading.{CanRunOut, Fails, address_at, field_at, fields_at}
 
 -- what was read before, and what is still read
 abbrev pub with_front : List (Option Addr) → Result (List (Option Addr)) LayoutFault → Result (List (Option Addr)) LayoutFault
@@ -43,10 +43,41 @@ is_done bytes front count i place total le so_far =
 
 -- the fault that reading meets may be answered
 pub fails_as : {X : Type 0} (e : LayoutFault) (read : Result X LayoutFault) → read ≡ Err e → Fails e read
-fails_as Memory read h = tt
+fails_as Memory read h = subst (λ (r : Result _ LayoutFault). CanRunOut r) (sym h) tt
 fails_as (Short at) read h = h
 fails_as (Kind at byte) read h = h
 fails_as (Fields at n) read h = h
 fails_as (Count at n) read h = h
 fails_as (Null at) read h = h
 fails_as (Ident at) read h = h
+
+-- ---- where memory can run out
+
+-- of two that a test chooses from, both can
+can_cond : {X : Type 0} (b : Bool) (x y : Result X LayoutFault) → CanRunOut x → CanRunOut y → CanRunOut (cond b x y)
+can_cond true x y h k = h
+can_cond false x y h k = k
+
+-- of two steps, both can
+can_then : {A B : Type 0} (r : Result A LayoutFault) (f : A → Result B LayoutFault) → CanRunOut r → ((x : A) → CanRunOut (f x)) → CanRunOut (r >>= f)
+can_then (Ok x) f h k = k x
+can_then (Err (Short at)) f h k = absurd h
+can_then (Err (Kind at byte)) f h k = absurd h
+can_then (Err (Fields at n)) f h k = absurd h
+can_then (Err (Count at n)) f h k = absurd h
+can_then (Err (Null at)) f h k = tt
+can_then (Err (Ident at)) f h k = absurd h
+can_then (Err Memory) f h k = tt
+
+field_can : (bytes : List ℕ) (p : ℕ) → CanRunOut (field_at bytes p)
+unfolding field_at
+field_can bytes p =
+    let a = address_at bytes p in
+    can_cond (ltb 0 a.car) (Ok (Some a)) (cond (eqb a.slot 0) (Ok None) (Err (Null p))) tt (can_cond (eqb a.slot 0) (Ok None) (Err (Null p)) tt tt)
+
+pub fields_can : (n : ℕ) (bytes : List ℕ) (p : ℕ) → CanRunOut (fields_at bytes n p)
+unfolding fields_at
+fields_can zero bytes p = tt
+fields_can (suc n) bytes p =
+    can_then (field_at bytes p) (λ first. fields_at bytes n (p + 12) >>= λ others. Ok (first ∷ others)) (field_can bytes p)
+    (λ first. can_then (fields_at bytes n (p + 12)) (λ others. Ok (first ∷ others)) (fields_can n bytes (p + 12)) (λ others. tt))

@@ -4,15 +4,26 @@ use Rattle.pm_layout.specs.Steps.{◌>>=◌}
 use Rattle.byteorder.specs.Endian.{big_number}
 use Rattle.pm_types.specs.declared.limits.TheConstants.{OBJECT_BYTES, LAST_ID}
 use Rattle.pm_types.specs.declared.address.Addr.{Addr}
-use Rattle.pm_types.specs.declared.object.Object.{Object}
 use Rattle.pm_types.specs.declared.object.Slot.{Slot}
 use Rattle.pm_types.specs.declared.object.Slot.TheVariants.{Live, Moved}
 use Rattle.pm_layout.specs.declared.fault.LayoutFault.{LayoutFault}
 use Rattle.pm_layout.specs.declared.fault.LayoutFault.TheVariants.{Short, Kind, Fields, Count, Null, Ident, Memory}
 
+-- Memory runs out only once a slot's kind, length, identity and counts were read without a fault: then
+-- the slot has no fault, or that of an address. (Reading itself never gives Memory.)
+abbrev pub CanRunOut : {X : Type 0} → Result X LayoutFault → Type 0
+CanRunOut (Ok x) = Unit {0}
+CanRunOut (Err (Short at)) = ⊥
+CanRunOut (Err (Kind at byte)) = ⊥
+CanRunOut (Err (Fields at n)) = ⊥
+CanRunOut (Err (Count at n)) = ⊥
+CanRunOut (Err (Null at)) = Unit {0}
+CanRunOut (Err (Ident at)) = ⊥
+CanRunOut (Err Memory) = Unit {0}
+
 -- an error that was answered is the fault that reading meets, or memory ran out
 abbrev pub Fails : {X : Type 0} → LayoutFault → Result X LayoutFault → Type 0
-Fails Memory read = Unit {0}
+Fails Memory read = CanRunOut read
 Fails (Short at) read = read ≡ Err (Short at)
 Fails (Kind at byte) read = read ≡ Err (Kind at byte)
 Fails (Fields at n) read = read ≡ Err (Fields at n)

@@ -1,4 +1,4 @@
-use Rattle.std.proofs.Common.{subst, lit<, arith}
+use Rattle.std.proofs.Common.{subst, arith}
 use Rattle.pm_types.specs.declared.limits.TheConstants.{FIELDS}
 use Rattle.pm_layout.specs.Reading.{Gives}
 use Rattle.pm_layout.proofs.Slots.{is_found}

@@ -1,5 +1,4 @@
-use Rattle.std.proofs.Common.{◌+◌, ◌*◌, length, arith}
-use Rattle.pm_layout.specs.Room.{HasRoom, Appends}
+use Rattle.std.proofs.Common.{◌+◌, arith}
 use Rattle.pm_layout.proofs.Sizes.{fields_more, fields_counted}
 use Rattle.pm_layout.proofs.writing.put_fields.Goals as goal
 

@@ -1,6 +1,4 @@
 use Rattle.std.proofs.Common.{length, ap, arith}
-use Rattle.std.specs.List.{flat_map}
-use Rattle.pm_layout.specs.Spelling.{field}
 use Rattle.pm_layout.proofs.Sizes.{fields_length, live_written}
 use Rattle.pm_layout.proofs.writing.put_object.Goals as goal
 

@@ -1,5 +1,5 @@
 use Rattle.std.proofs.Common.{◌≡◌, ◌+◌, ◌*◌, length, sym, ◌∙◌, ap, refl}
-use Rattle.pm_layout.specs.Spelling.{spelling, slot_size}
+use Rattle.pm_layout.specs.Spelling.{slot_size}
 use Rattle.pm_layout.proofs.Sizes.{spelling_length}
 use Rattle.pm_layout.proofs.writing.size.Goals as goal
 
