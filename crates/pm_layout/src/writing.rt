@@ -1,4 +1,4 @@
-ghost use Rattle.std.specs.Prelude.{◌≡◌, ◌+◌, ◌*◌, ◌≤◌, ◌++◌, length, OnOk, OnErr};
+ghost use Rattle.std.specs.Prelude.{◌≡◌, ◌+◌, ◌*◌, ◌≤◌, ◌++◌, length, OnOk, OnErr, IsOk};
 ghost use Rattle.std.specs.Vec.{vec_len, vec_capacity};
 ghost use Rattle.std.specs.List.{flat_map};
 ghost use Rattle.byteorder.specs.Endian.{big_bytes};
@@ -120,11 +120,13 @@ fn put_moved(out: &mut Vec<u8>, to: &Addr)
     put_address(out, to);
 }
 
-/// Appends the bytes of the slot. After `NoMemory` nothing was appended.
+/// Appends the bytes of the slot. After `NoMemory` nothing was appended. Where `out` has room for them it
+/// takes no memory.
 pub fn write_slot(slot: &Slot, out: &mut Vec<u8>) -> Result<(), NoMemory>
     requires { HasSpelling FIELDS slot.now }
     ensures ok { OnOk result (out.new.items ≡ out.old.items ++ spelling slot.now) }
     ensures err { OnErr result (out.new.items ≡ out.old.items) }
+    ensures room { HasRoom out.old (slot_size slot.now) → IsOk result }
 {
     out.reserve(size(slot) as usize)?;
     match slot {
