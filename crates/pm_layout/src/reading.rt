@@ -1,4 +1,4 @@
-ghost use Rattle.std.specs.Prelude.{◌≡◌, ℕ, ◌+◌, ◌*◌, ◌≤◌, length, IfOk, Ok};
+ghost use Rattle.std.specs.Prelude.{◌≡◌, ℕ, ◌+◌, ◌*◌, ◌≤◌, length, slice_index, IfOk, Ok};
 ghost use Rattle.pm_layout.specs.Spelling.{IsInRange, IsSpelled};
 ghost use Rattle.pm_layout.specs.Reading.{Gives, number_from, end_at, live_end, ident_at, field_count_at, byte_count_at, address_at, field_at, fields_at, live_at, target_at, moved_at, slot_at};
 ghost use Rattle.pm_types.specs.declared.object.Slot.{Slot};
@@ -163,7 +163,8 @@ fn live_at(alloc: Global, most: u32, bytes: &[u8], at: usize) -> Result<(Slot, u
 #[tactic(auto, unfolding(crate::specs::Reading::slot_at))]
 fn slot_at(alloc: Global, most: u32, bytes: &[u8], at: usize) -> Result<(Slot, usize), LayoutFault>
     requires { at ≤ length bytes.now }
-    ensures { Gives result (slot_at most bytes.now at) }
+    ensures exact { Gives result (slot_at most bytes.now at) }
+    ensures moved { slice_index bytes.now at ≡ 2 → result ≡ slot_at most bytes.now at }
 {
     if at == bytes.len() {
         return Err(LayoutFault::Short(at as u64));
@@ -188,6 +189,8 @@ pub fn read_slot(alloc: Global, bytes: &[u8], at: usize) -> Result<(Slot, usize)
     ensures only { (slot : Slot) (next : ℕ) → IsInRange slot → IsSpelled FIELDS bytes.now at slot next → Gives result (Ok (slot, next)) }
     // Which fault it is.
     ensures exact { Gives result (slot_at FIELDS bytes.now at) }
+    // A Moved slot is read without memory.
+    ensures moved { slice_index bytes.now at ≡ 2 → result ≡ slot_at FIELDS bytes.now at }
 {
     slot_at(alloc, FIELDS, bytes, at)
 }
