@@ -1,0 +1,5 @@
+pub mod Steps
+pub mod Spelling
+pub mod Reading
+pub mod Room
+pub mod Headers

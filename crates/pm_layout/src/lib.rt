@@ -1,0 +1,21 @@
+//! The bytes of slots and headers: what has a spelling, how it is written, and how it is read.
+#![tactic(auto)]
+
+mod fault;
+mod hash;
+mod header;
+mod kind;
+mod law;
+mod number;
+mod reading;
+mod writing;
+
+pub use fault::LayoutFault;
+pub use hash::digest;
+pub use header::{Header, HeaderFault, read_header, write_header};
+pub use law::{headers_are_read_again, slots_are_read_again};
+pub use reading::read_slot;
+pub use writing::{size, write_slot};
+
+#[cfg(test)]
+mod tests;
