@@ -1,6 +1,6 @@
 -- What is spelled is read.
 use Rattle.std.proofs.Common.{◌≡◌, ℕ, ◌<◌, ◌^◌, true, List, [], ◌∷◌, Option, Some, None, refl, ap, sym, ◌∙◌, arith, nat_lt, codes, decimal, if◌then◌else◌}
-use Rattle.std.proofs.lemmas.Bool.Decides.{nat_tests}
+use Rattle.std.proofs.lemmas.Bool.{lt-ltb}
 use Rattle.pm_types.specs.Names.{IsName}
 use Rattle.pm_types.specs.declared.command.Cmd.{Cmd}
 use Rattle.pm_types.specs.declared.command.Cmd.TheVariants.{New, IdOf, Bind, Find}
@@ -11,9 +11,6 @@ use Rattle.pm_top.proofs.Steps.{passed}
 use Rattle.pm_top.proofs.Numerals.{number_of_decimal}
 use Rattle.pm_top.proofs.NameTests.{name_passes}
 
-below : (m n : ℕ) → m < n → nat_lt m n ≡ true
-below m n lt = grind (arith, nat_tests)
-
 number_again : (n : ℕ) (rest : Words) → n < 2 ^ 32 → number_at (decimal n ∷ rest) ≡ Some (n, rest)
 unfolding number_at
 number_again n rest small = ap (λ (o : Option ℕ). o >>= λ m. Some (m, rest)) (number_of_decimal n small)
@@ -22,13 +19,13 @@ client_again : (n : ℕ) (rest : Words) → n < 8 → client_at (decimal n ∷ r
 unfolding client_at
 client_again n rest small =
     ap (λ (o : Option (ℕ × Words)). o >>= λ number. if nat_lt number.0 8 then Some number else None) (number_again n rest (omega arith))
-    ∙ passed (nat_lt n 8) (n, rest) (below n 8 small)
+    ∙ passed (nat_lt n 8) (n, rest) (lt-ltb n 8 small)
 
 register_again : (n : ℕ) (rest : Words) → n < 1024 → register_at (decimal n ∷ rest) ≡ Some (n, rest)
 unfolding register_at
 register_again n rest small =
     ap (λ (o : Option (ℕ × Words)). o >>= λ number. if nat_lt number.0 1024 then Some number else None) (number_again n rest (omega arith))
-    ∙ passed (nat_lt n 1024) (n, rest) (below n 1024 small)
+    ∙ passed (nat_lt n 1024) (n, rest) (lt-ltb n 1024 small)
 
 name_again : (name : List ℕ) (rest : Words) → IsName name → name_at (name ∷ rest) ≡ Some (name, rest)
 unfolding name_at

@@ -1,6 +1,6 @@
 -- What is read is spelled so.
 use Rattle.std.proofs.Common.{◌≡◌, ℕ, ◌<◌, ◌≤◌, ◌^◌, ◌==◌, Bool, true, false, ◌&&◌, List, [], ◌∷◌, ◌++◌, length, Option, Some, refl, ap, sym, subst, ◌∙◌, arith, nat_lt, nat_le, codes, decimal, IsTrue, if◌then◌else◌}
-use borrow.Author.Tests.{ltb-true}
+use Rattle.std.proofs.lemmas.Bool.{ltb-true, leb-true}
 use Rattle.std.proofs.lemmas.Bool.Decides.{nat_tests}
 use Rattle.std.specs.List.{AllByRecursion, list_all}
 use Rattle.std.specs.Cmp.Lexicographic.{pointwise, bytes_decides}
@@ -10,16 +10,9 @@ use Rattle.pm_types.specs.declared.command.Cmd.TheVariants.{New, IdOf, Bind, Fin
 use Rattle.pm_model.specs.declared.request.Request.{Request}
 use Rattle.pm_top.specs.Script.{words_of, HasSpelling, IsLine, line_words}
 use Rattle.pm_top.specs.Reading.{Words, number_of, is_name, number_at, client_at, register_at, name_at, nothing_at, new_at, id_at, root_at, find_at, command_at, request_at}
+use Rattle.pm_top.proofs.Tests.{first_true, second_true}
 use Rattle.pm_top.proofs.Steps.{both, guarded, word_found}
 use Rattle.pm_top.proofs.Numerals.{numeral_spelled}
-
-first_true : (a b : Bool) → (a && b) ≡ true → a ≡ true
-first_true true b is = refl
-first_true false b is = is
-
-second_true : (a b : Bool) → (a && b) ≡ true → b ≡ true
-second_true true b is = is
-second_true false b is = cc
 
 number_of_found : (word : List ℕ) (n : ℕ) → number_of word ≡ Some n → (word ≡ decimal n) × (n < 2 ^ 32)
 number_of_found word n is =
@@ -53,15 +46,12 @@ each_of : (p : ℕ → Bool) (xs : List ℕ) → list_all p xs ≡ true → AllB
 each_of p [] is = tt
 each_of p (x ∷ xs) is = (first_true (p x) (list_all p xs) is, each_of p xs (second_true (p x) (list_all p xs) is))
 
-le-of : (m n : ℕ) → nat_le m n ≡ true → m ≤ n
-le-of m n is = grind (arith, nat_tests)
-
 is_name_found : (word : List ℕ) → is_name word ≡ true → IsName word
 is_name_found word is =
     let outer = first_true (nat_lt 0 (length word) && nat_le (length word) 64) (list_all is_name_byte word) is in
     record {
       some = ltb-true 0 (length word) (first_true (nat_lt 0 (length word)) (nat_le (length word) 64) outer);
-      short = le-of (length word) 64 (second_true (nat_lt 0 (length word)) (nat_le (length word) 64) outer);
+      short = leb-true (length word) 64 (second_true (nat_lt 0 (length word)) (nat_le (length word) 64) outer);
       each = each_of is_name_byte word (second_true (nat_lt 0 (length word) && nat_le (length word) 64) (list_all is_name_byte word) is);
     }
 

@@ -1,3 +1,4 @@
+pub mod Tests
 pub mod PartsLemmas
 pub mod Numerals
 pub mod NameTests

@@ -1,7 +1,7 @@
 -- Lines and the parts of a script.
 use Rattle.std.proofs.Common.{◌≡◌, ℕ, ◌+◌, ◌<◌, ◌≤◌, ◌^◌, Bool, true, false, cond, ◌&&◌, List, [], ◌∷◌, ◌++◌, length, map, Option, Some, refl, ap, sym, ◌∙◌, arith, nat_lt, nat_eq, decimal, IsTrue, lit<, take, slice_index}
 use Rattle.std.proofs.lemmas.Bool.Decides.{nat_tests}
-use Rattle.std.proofs.lemmas.List.{append_cancel_right, take_all, take_more}
+use Rattle.std.proofs.lemmas.List.{append_cancel_right, append-nil, take_all, take_more}
 use Rattle.std.proofs.lemmas.List.Elements.{All-from_recursion}
 use Rattle.std.proofs.lemmas.List.Splits.{slice_split_none, slice_split_at, join_with_byte-slice_split}
 use Rattle.std.specs.List.{AllByRecursion, list_all, flat_map, join_with_byte, onto_first}
@@ -14,6 +14,7 @@ use Rattle.pm_top.specs.Script.{words_of, HasSpelling, IsLine, line_words, line_
 use Rattle.pm_top.specs.Reading.{is_digit, request_at, Fails}
 use Rattle.pm_top.specs.declared.fault.ScriptFault.{ScriptFault}
 use Rattle.pm_top.specs.declared.fault.ScriptFault.TheVariants.{Unread, Memory}
+use Rattle.pm_top.proofs.Tests.{first_true, second_true, both_true}
 use Rattle.pm_top.proofs.Found.{request_found}
 use Rattle.pm_top.proofs.Again.{request_again}
 use Rattle.pm_top.proofs.Numerals.{decimal_digits}
@@ -21,18 +22,6 @@ use Rattle.pm_top.proofs.Numerals.{decimal_digits}
 -- each byte is above the space
 IsPlain : List ℕ → Type 0
 IsPlain word = list_all (λ b. nat_lt 32 b) word ≡ true
-
-first_true : (a b : Bool) → (a && b) ≡ true → a ≡ true
-first_true true b is = refl
-first_true false b is = is
-
-second_true : (a b : Bool) → (a && b) ≡ true → b ≡ true
-second_true true b is = is
-second_true false b is = cc
-
-both_true : (a b : Bool) → a ≡ true → b ≡ true → (a && b) ≡ true
-both_true true b one two = two
-both_true false b one two = one
 
 implied : (p q : ℕ → Bool) → ((b : ℕ) → p b ≡ true → q b ≡ true) → (xs : List ℕ) → list_all p xs ≡ true → list_all q xs ≡ true
 implied p q so [] each = refl
@@ -119,23 +108,15 @@ bodies_lack : (lines : List Request) → AllByRecursion IsLine lines → AllByRe
 bodies_lack [] each = tt
 bodies_lack (line ∷ lines) each = (body_lacks line each.0, bodies_lack lines each.1)
 
-append_nil : (xs : List ℕ) → xs ++ [] ≡ xs
-append_nil [] = refl
-append_nil (x ∷ xs) = ap (λ rest. x ∷ rest) (append_nil xs)
-
 regrouped : (a b : List ℕ) → (a ++ 10 ∷ []) ++ (b ++ 10 ∷ []) ≡ (a ++ 10 ∷ b) ++ 10 ∷ []
 regrouped [] b = refl
 regrouped (x ∷ a) b = ap (λ rest. x ∷ rest) (regrouped a b)
 
 -- the text of lines is their bodies, joined by newlines, and a newline
 text_joined : (line : Request) (lines : List Request) → flat_map line_text (line ∷ lines) ≡ join_with_byte 10 (map line_body (line ∷ lines)) ++ 10 ∷ []
-text_joined line [] = append_nil (line_text line)
+text_joined line [] = append-nil (line_text line)
 text_joined line (next ∷ lines) =
     ap (λ rest. line_text line ++ rest) (text_joined next lines) ∙ regrouped (line_body line) (join_with_byte 10 (map line_body (next ∷ lines)))
-
-append_nothing : (words : List (List ℕ)) → words ++ [] ≡ words
-append_nothing [] = refl
-append_nothing (word ∷ words) = ap (λ rest. word ∷ rest) (append_nothing words)
 
 -- a body is read as the line that it spells
 read_again : (body : List ℕ) (line : Request) → IsLine line → body ≡ line_body line → request_at (parts_of 32 body) ≡ Some (line, [])
@@ -158,7 +139,7 @@ left_over body other word words read line valid spelled =
 pub line_found : (body : List ℕ) (line : Request) → request_at (parts_of 32 body) ≡ Some (line, []) → IsLine line × (body ≡ line_body line)
 line_found body line read =
     let found = request_found (parts_of 32 body) (line, []) read in
-    (found.1, body_found body line (found.0 ∙ append_nothing (line_words line)))
+    (found.1, body_found body line (found.0 ∙ append-nil (line_words line)))
 
 -- a part after the bodies of some lines is the body of the next line
 pub next_line : (lines all : List Request) (part : List ℕ) (rest : List (List ℕ)) → AllByRecursion IsLine all → map line_body all ≡ map line_body lines ++ part ∷ rest → (line : Request) × IsLine line × (line_body line ≡ part)

@@ -1,5 +1,6 @@
 -- The test of a name passes just where the bytes are a name.
 use Rattle.std.proofs.Common.{◌≡◌, ℕ, ◌+◌, ◌<◌, ◌≤◌, Bool, true, false, ◌&&◌, cond, not, List, [], ◌∷◌, length, nat_lt, nat_le, Option, Some, refl, sym, ap, ◌∙◌, arith, IsTrue}
+use Rattle.std.proofs.lemmas.Bool.{lt-ltb, le-leb}
 use Rattle.std.proofs.lemmas.Bool.Decides.{nat_tests}
 use Rattle.std.proofs.lemmas.Iterator.Adapters.{position_from-zero}
 use Rattle.std.specs.List.{AllByRecursion, list_all, position_from}
@@ -8,12 +9,6 @@ use Rattle.pm_types.specs.NameFaults.{IsFirstFault}
 use Rattle.pm_types.specs.declared.name.NameFault.{NameFault}
 use Rattle.pm_types.specs.declared.name.NameFault.TheVariants.{Empty, TooLong, BadByte, Memory}
 use Rattle.pm_top.specs.Reading.{is_name}
-
-lt-ltb : (m n : ℕ) → m < n → nat_lt m n ≡ true
-lt-ltb m n lt = grind (arith, nat_tests)
-
-le-leb : (m n : ℕ) → m ≤ n → nat_le m n ≡ true
-le-leb m n le = grind (arith, nat_tests)
 
 lt-leb_false : (m n : ℕ) → n < m → nat_le m n ≡ false
 lt-leb_false m n lt = grind (arith, nat_tests)

@@ -1,7 +1,7 @@
 -- Numerals: digits with no leading zero.
 use Rattle.std.proofs.Common.{◌≡◌, ℕ, zero, suc, ◌<◌, ◌≤◌, ◌^◌, Bool, true, false, ◌&&◌, ◌||◌, not, List, length, nat_lt, Some, None, Ok, Err, refl, sym, ap, subst, ◌∙◌, arith, rules, if◌then◌else◌, slice_index, decimal, ◌==◌, lit<}
 use borrow.Author.Tests.{ltb-true}
-use Rattle.std.proofs.lemmas.Bool.{eqb-true}
+use Rattle.std.proofs.lemmas.Bool.{eqb-true, lt-ltb}
 use Rattle.std.proofs.lemmas.Bool.Decides.{nat_tests}
 use Rattle.std.proofs.lemmas.Str.{IsUtf8-from_ascii}
 use Rattle.std.proofs.lemmas.Str.Parse.{IsDigitsTest, IsNumeralModel, numerals_by_value, parse_digits}
@@ -69,9 +69,6 @@ no_zero_first true true true false is first = is
 no_zero_first true true false false is first = first
 no_zero_first true false c d is first = cc
 no_zero_first false b c d is first = cc
-
-lt-ltb : (m n : ℕ) → m < n → nat_lt m n ≡ true
-lt-ltb m n lt = grind (arith, nat_tests)
 
 eqb_of : (m n : ℕ) → m ≡ n → (m == n) ≡ true
 eqb_of m n is = grind (arith, nat_tests)

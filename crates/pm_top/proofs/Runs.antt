@@ -1,5 +1,6 @@
 -- A run goes on by one request.
 use Rattle.std.proofs.Common.{◌≡◌, ℕ, List, [], ◌∷◌, ◌++◌, refl, ap, sym, subst, ◌∙◌, append_assoc, Result, Ok, Err, OnOk, OnErr}
+use Rattle.std.proofs.lemmas.List.{append-nil}
 use Rattle.pm_types.specs.declared.entry.Entry.{Entry}
 use Rattle.pm_model.specs.declared.request.Request.{Request}
 use Rattle.pm_model.specs.World.{World, empty_world}
@@ -21,13 +22,9 @@ requests_push : (journal : List Entry) (entry : Entry) (rest : List Request) →
 requests_push [] entry rest = refl
 requests_push (other ∷ journal) entry rest = ap (λ requests. record { client = other.client; cmd = other.cmd } ∷ requests) (requests_push journal entry rest)
 
-append_nil : (xs : List ℕ) → xs ++ [] ≡ xs
-append_nil [] = refl
-append_nil (x ∷ xs) = ap (λ rest. x ∷ rest) (append_nil xs)
-
 -- the text of a journal with one more entry
 pub text_push : (journal : List Entry) (entry : Entry) → text (journal ++ entry ∷ []) ≡ text journal ++ reply_line entry
-text_push [] entry = append_nil (reply_line entry)
+text_push [] entry = append-nil (reply_line entry)
 text_push (other ∷ journal) entry = ap (λ rest. reply_line other ++ rest) (text_push journal entry) ∙ sym (append_assoc (reply_line other) (text journal) (reply_line entry))
 
 -- the run of one more request

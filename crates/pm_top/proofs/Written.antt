@@ -1,13 +1,9 @@
 -- What was written, as pieces go to the sink.
 use Rattle.std.proofs.Common.{◌≡◌, ℕ, ◌+◌, List, [], ◌∷◌, ◌++◌, length, take, drop, Option, Some, refl, ap, sym, ◌∙◌, append_assoc}
 use Rattle.std.proofs.Math.Seq.{take-append-add, take-append_seam, take-length}
-use Rattle.std.proofs.lemmas.List.{take-append-drop}
+use Rattle.std.proofs.lemmas.List.{append-nil, take-append-drop}
 use Rattle.pm_io.specs.Streams.{AppendsPart}
 use Rattle.pm_top.specs.Writing.{Wrote, WrotePart}
-
-append_nil : (xs : List ℕ) → xs ++ [] ≡ xs
-append_nil [] = refl
-append_nil (x ∷ xs) = ap (λ rest. x ∷ rest) (append_nil xs)
 
 -- the whole buffer went to the sink
 pub put_all : (before : List ℕ) (told after : Option (List ℕ)) (buffered left text : List ℕ) → Wrote before told buffered text → ((bytes : List ℕ) → told ≡ Some bytes → after ≡ Some (bytes ++ buffered)) → left ≡ [] → Wrote before after left text
@@ -15,7 +11,7 @@ put_all before told after buffered left text wrote appended none =
     record {
       done = wrote.done ++ buffered;
       put = appended (before ++ wrote.done) wrote.put ∙ ap Some (append_assoc before wrote.done buffered);
-      whole = ap (λ rest. (wrote.done ++ buffered) ++ rest) none ∙ append_nil (wrote.done ++ buffered) ∙ wrote.whole;
+      whole = ap (λ rest. (wrote.done ++ buffered) ++ rest) none ∙ append-nil (wrote.done ++ buffered) ∙ wrote.whole;
     }
 
 -- a first part of the buffer went to the sink
@@ -35,7 +31,7 @@ some_wrote before told buffered text wrote =
     record {
       part = length wrote.done + 0;
       put =
-          wrote.put ∙ ap (λ rest. Some (before ++ rest)) (sym (append_nil wrote.done) ∙ sym (take-append-add wrote.done buffered 0) ∙ ap (take (length wrote.done + 0)) wrote.whole);
+          wrote.put ∙ ap (λ rest. Some (before ++ rest)) (sym (append-nil wrote.done) ∙ sym (take-append-add wrote.done buffered 0) ∙ ap (take (length wrote.done + 0)) wrote.whole);
     }
 
 take_shorter : (text more : List ℕ) (n : ℕ) → take (length (take n text)) (text ++ more) ≡ take n text
@@ -63,7 +59,7 @@ line_added before told buffered after text line wrote is =
 -- where nothing is in the buffer, the whole text went to the sink
 pub all_wrote : (before : List ℕ) (told : Option (List ℕ)) (buffered text : List ℕ) → Wrote before told buffered text → buffered ≡ [] → told ≡ Some (before ++ text)
 all_wrote before told buffered text wrote none =
-    wrote.put ∙ ap (λ rest. Some (before ++ rest)) (sym (append_nil wrote.done) ∙ ap (λ rest. wrote.done ++ rest) (sym none) ∙ wrote.whole)
+    wrote.put ∙ ap (λ rest. Some (before ++ rest)) (sym (append-nil wrote.done) ∙ ap (λ rest. wrote.done ++ rest) (sym none) ∙ wrote.whole)
 
 -- the whole of a text is a first part of it
 pub whole_part : (before : List ℕ) (told : Option (List ℕ)) (text : List ℕ) → told ≡ Some (before ++ text) → WrotePart before told text
