@@ -10,7 +10,7 @@ use Rattle.pm_types.specs.declared.command.Cmd.TheVariants.{New, IdOf, Bind, Fin
 use Rattle.pm_model.specs.declared.request.Request.{Request}
 use Rattle.pm_top.specs.Script.{words_of, HasSpelling, IsLine, line_words}
 use Rattle.pm_top.specs.Reading.{Words, number_of, is_name, number_at, client_at, register_at, name_at, nothing_at, new_at, id_at, root_at, find_at, command_at, request_at}
-use Rattle.pm_top.proofs.Tests.{first_true, second_true}
+use Rattle.pm_top.proofs.Both.{first_true, second_true}
 use Rattle.pm_top.proofs.Steps.{both, guarded, word_found}
 use Rattle.pm_top.proofs.Numerals.{numeral_spelled}
 

@@ -1,4 +1,4 @@
-pub mod Tests
+pub mod Both
 pub mod PartsLemmas
 pub mod Numerals
 pub mod NameTests

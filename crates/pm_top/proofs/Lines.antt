@@ -14,7 +14,7 @@ use Rattle.pm_top.specs.Script.{words_of, HasSpelling, IsLine, line_words, line_
 use Rattle.pm_top.specs.Reading.{is_digit, request_at, Fails}
 use Rattle.pm_top.specs.declared.fault.ScriptFault.{ScriptFault}
 use Rattle.pm_top.specs.declared.fault.ScriptFault.TheVariants.{Unread, Memory}
-use Rattle.pm_top.proofs.Tests.{first_true, second_true, both_true}
+use Rattle.pm_top.proofs.Both.{first_true, second_true, both_true}
 use Rattle.pm_top.proofs.Found.{request_found}
 use Rattle.pm_top.proofs.Again.{request_again}
 use Rattle.pm_top.proofs.Numerals.{decimal_digits}
