@@ -1,5 +1,5 @@
 -- A run goes on by one request.
-use Rattle.std.proofs.Common.{◌≡◌, List, [], ◌∷◌, ◌++◌, refl, ap, sym, subst, ◌∙◌, append_assoc, Result, Ok, Err, OnOk, OnErr}
+use Rattle.std.proofs.Common.{◌≡◌, List, [], ◌∷◌, ◌++◌, refl, ap, sym, subst, ◌∙◌, append_assoc}
 use Rattle.std.proofs.lemmas.List.{append-nil}
 use Rattle.pm_types.specs.declared.entry.Entry.{Entry}
 use Rattle.pm_model.specs.declared.request.Request.{Request}
@@ -42,12 +42,3 @@ runs_on lines now next journal longer request rest runs pushed answered =
 -- what a run has done so far
 pub ran_some : (lines : List Request) (now : World) (journal : List Entry) (rest : List Request) → Runs lines now journal rest → RanSome lines journal
 ran_some lines now journal rest runs = record { rest = rest; legal = runs.legal; served = runs.served }
-
--- what holds in any case holds for each variant
-pub on_ok : {T E : Type 0} (r : Result T E) (P : Type 0) → P → OnOk r P
-on_ok (Ok x) P p = p
-on_ok (Err e) P p = tt
-
-pub on_err : {T E : Type 0} (r : Result T E) (P : Type 0) → P → OnErr r P
-on_err (Ok x) P p = tt
-on_err (Err e) P p = p

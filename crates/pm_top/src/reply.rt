@@ -1,11 +1,14 @@
-ghost use Rattle.std.specs.Prelude.{◌≡◌, ◌++◌, ◌<◌, OnOk, decimal};
+ghost use Rattle.std.specs.Prelude.{◌≡◌, ◌+◌, ◌≤◌, ◌++◌, OnOk, IsOk, vec_len, vec_capacity, decimal};
 ghost use Rattle.pm_model.specs.Text.{reply_words, reply_line};
 
 use itoa::Buffer;
 use pm_types::{Entry, NoMemory, Reply};
 
 fn append_number(out: &mut Vec<u8>, number: u32) -> Result<(), NoMemory>
-    ensures { OnOk result (out.new.items ≡ out.old.items ++ decimal number) }
+    ensures text { OnOk result (out.new.items ≡ out.old.items ++ decimal number) }
+    ensures room { vec_len out.old + 10 ≤ vec_capacity out.old → IsOk result }
+    ensures len { vec_len out.new ≤ vec_len out.old + 10 }
+    ensures capacity { vec_capacity out.old ≤ vec_capacity out.new }
 {
     let mut buffer = Buffer::new();
     out.extend_from_slice(buffer.format(number).as_bytes())?;
@@ -13,7 +16,10 @@ fn append_number(out: &mut Vec<u8>, number: u32) -> Result<(), NoMemory>
 }
 
 fn append_words(out: &mut Vec<u8>, reply: &Reply) -> Result<(), NoMemory>
-    ensures { OnOk result (out.new.items ≡ out.old.items ++ reply_words reply.now) }
+    ensures text { OnOk result (out.new.items ≡ out.old.items ++ reply_words reply.now) }
+    ensures room { vec_len out.old + 16 ≤ vec_capacity out.old → IsOk result }
+    ensures len { vec_len out.new ≤ vec_len out.old + 16 }
+    ensures capacity { vec_capacity out.old ≤ vec_capacity out.new }
 {
     let words: &[u8] = match reply {
         Reply::Done => b"ok",
@@ -31,9 +37,12 @@ fn append_words(out: &mut Vec<u8>, reply: &Reply) -> Result<(), NoMemory>
     Ok(())
 }
 
-/// Appends the line of an entry: the client, a space, the reply, a newline.
+/// Appends the line of an entry: the client, a space, the reply, a newline. It takes no memory where
+/// there is room for 32 bytes.
 pub(crate) fn append_line(out: &mut Vec<u8>, entry: &Entry) -> Result<(), NoMemory>
-    ensures { OnOk result (out.new.items ≡ out.old.items ++ reply_line entry.now) }
+    ensures text { OnOk result (out.new.items ≡ out.old.items ++ reply_line entry.now) }
+    ensures room { vec_len out.old + 32 ≤ vec_capacity out.old → IsOk result }
+    ensures capacity { vec_capacity out.old ≤ vec_capacity out.new }
 {
     append_number(out, entry.client)?;
     out.extend_from_slice(b" ")?;

@@ -1,4 +1,4 @@
-ghost use Rattle.std.specs.Prelude.{◌≡◌, List, ℕ, [], ◌∷◌, ◌++◌, length, Some, OnOk, OnErr, IsErrOf};
+ghost use Rattle.std.specs.Prelude.{◌≡◌, ◌≤◌, List, ℕ, [], ◌∷◌, ◌++◌, length, vec_capacity, Some, OnOk, OnErr, IsErrOf};
 ghost use Rattle.pm_types.specs.Counts.{Rose};
 ghost use Rattle.pm_model.specs.Journal.{requests_of};
 ghost use Rattle.pm_model.specs.Text.{text};
@@ -8,11 +8,20 @@ ghost use Rattle.pm_top.specs.Writing.{Wrote, WrotePart};
 
 use crate::event::make_event;
 use crate::memory::Memory;
-use crate::output::{BUFFER_BYTES, Stop, add_line, flush};
+use crate::output::{BUFFER_BYTES, add_line, flush};
 use pm_io::Sink;
 use pm_model::Request;
 use pm_types::Entry;
 use std::alloc::Global;
+
+/// Why a run stopped before its end.
+#[derive(Clone, Copy, Debug, PartialEq, Eq)]
+pub(crate) enum Stop {
+    /// Memory ran out.
+    Memory,
+    /// The sink failed.
+    Writing,
+}
 
 // Answers a request and writes its reply.
 fn step<K: Sink>(
@@ -23,6 +32,7 @@ fn step<K: Sink>(
     sink: &mut K,
     out: &mut Vec<u8>,
 ) -> Result<(), Stop>
+    requires { BUFFER_BYTES ≤ vec_capacity out.old }
     ensures runs { OnOk result ((lines rest : List Line) → Runs lines world.old journal.old.items (request ∷ rest)
         → Runs lines world.new journal.new.items rest) }
     ensures ran { OnErr result ((lines rest : List Line) → Runs lines world.old journal.old.items (request ∷ rest)
@@ -31,13 +41,20 @@ fn step<K: Sink>(
         → Wrote before (K.written sink.new) out.new.items (text journal.new.items)) }
     ensures part { OnErr result ((before : List ℕ) → Wrote before (K.written sink.old) out.old.items (text journal.old.items)
         → WrotePart before (K.written sink.new) (text journal.new.items)) }
+    ensures memory { IsErrOf result Stop.Memory → ¬ (Rose (K.count sink.old) (K.count sink.new))
+        → (before : List ℕ) → Wrote before (K.written sink.old) out.old.items (text journal.old.items)
+        → K.written sink.new ≡ Some (before ++ text journal.new.items) }
+    ensures capacity { BUFFER_BYTES ≤ vec_capacity out.new }
     ensures counted { OnOk result (K.count sink.new ≡ K.count sink.old) }
     ensures cause { IsErrOf result Stop.Writing → Rose (K.count sink.old) (K.count sink.new) }
 {
     match make_event(alloc, world, journal, request) {
         Ok(()) => {
             let last = journal.len() - 1;
-            add_line(sink, out, &journal[last])
+            match add_line(sink, out, &journal[last]) {
+                Ok(()) => Ok(()),
+                Err(_) => Err(Stop::Writing),
+            }
         }
         Err(_) => {
             flush_what_goes(sink, out);
@@ -48,6 +65,9 @@ fn step<K: Sink>(
 
 // Puts what is in the buffer, as far as the sink takes it: the run ends for another cause.
 fn flush_what_goes<K: Sink>(sink: &mut K, out: &mut Vec<u8>)
+    ensures capacity { vec_capacity out.new ≡ vec_capacity out.old }
+    ensures whole { ¬ (Rose (K.count sink.old) (K.count sink.new)) → (before text : List ℕ)
+        → Wrote before (K.written sink.old) out.old.items text → K.written sink.new ≡ Some (before ++ text) }
     ensures part { (before text : List ℕ) → Wrote before (K.written sink.old) out.old.items text
         → WrotePart before (K.written sink.new) text }
 {
@@ -94,6 +114,11 @@ pub(crate) fn run_lines<K: Sink>(
         → K.finished sink.new ≡ length (before ++ text journal.new.items)) }
     ensures part { OnErr result ((before : List ℕ) → K.written sink.old ≡ Some before
         → WrotePart before (K.written sink.new) (text journal.new.items)) }
+
+    // Where memory ran out and the sink did not fail, every reply so far was written.
+    ensures memory { IsErrOf result Stop.Memory → ¬ (Rose (K.count sink.old) (K.count sink.new))
+        → (before : List ℕ) → K.written sink.old ≡ Some before
+        → K.written sink.new ≡ Some (before ++ text journal.new.items) }
     ensures counted { OnOk result (K.count sink.new ≡ K.count sink.old) }
     ensures cause { IsErrOf result Stop.Writing → Rose (K.count sink.old) (K.count sink.new) }
 {

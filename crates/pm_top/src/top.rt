@@ -1,4 +1,5 @@
 ghost use Rattle.std.specs.Prelude.{◌≡◌, ◌≤◌, ◌↔◌, List, ℕ, [], ◌++◌, length, map, true, false, Some};
+ghost use Rattle.pm_types.specs.Counts.{Rose};
 ghost use Rattle.pm_model.specs.declared.request.Request.{Request as Line};
 ghost use Rattle.pm_model.specs.World.{empty_world};
 ghost use Rattle.pm_model.specs.Journal.{IsLegal, requests_of};
@@ -11,8 +12,7 @@ ghost use Rattle.pm_top.specs.Ends.{status_of, IsPastReading, IsPastScript, HasR
 
 use crate::command_line::is_run;
 use crate::fault::ScriptFault;
-use crate::output::Stop;
-use crate::run::run_lines;
+use crate::run::{Stop, run_lines};
 use crate::script::read_script;
 use crate::{Detail, Ended};
 use pm_io::{ReadAll, Sink, Source, read_all};
@@ -57,6 +57,9 @@ fn run_script<S: Source, K: Sink>(
         → K.finished result.sink ≡ length (before ++ text result.journal.items) }
     ensures part { (before : List ℕ) → K.written sink ≡ Some before
         → WrotePart before (K.written result.sink) (text result.journal.items) }
+    ensures memory { result.detail ≡ Detail.Memory → ¬ (Rose (K.count sink) (K.count result.sink))
+        → (before : List ℕ) → K.written sink ≡ Some before
+        → K.written result.sink ≡ Some (before ++ text result.journal.items) }
     ensures writing { ShowsWriting result.detail (K.count sink) (K.count result.sink) }
 {
     let before = sink.faults();
@@ -90,6 +93,9 @@ fn run_bytes<S: Source, K: Sink>(alloc: Global, bytes: &[u8], source: S, sink: K
         → K.finished result.sink ≡ length (before ++ text result.journal.items) }
     ensures part { (before : List ℕ) → K.written sink ≡ Some before
         → WrotePart before (K.written result.sink) (text result.journal.items) }
+    ensures memory { result.detail ≡ Detail.Memory → ¬ (Rose (K.count sink) (K.count result.sink))
+        → (before : List ℕ) → K.written sink ≡ Some before
+        → K.written result.sink ≡ Some (before ++ text result.journal.items) }
     ensures writing { ShowsWriting result.detail (K.count sink) (K.count result.sink) }
 {
     match read_script(alloc, bytes) {
@@ -122,6 +128,9 @@ fn run_source<S: Source, K: Sink>(alloc: Global, mut source: S, sink: K) -> Ende
         → K.finished result.sink ≡ length (before ++ text result.journal.items) }
     ensures part { (before : List ℕ) → K.written sink ≡ Some before
         → WrotePart before (K.written result.sink) (text result.journal.items) }
+    ensures memory { result.detail ≡ Detail.Memory → ¬ (Rose (K.count sink) (K.count result.sink))
+        → (before : List ℕ) → K.written sink ≡ Some before
+        → K.written result.sink ≡ Some (before ++ text result.journal.items) }
     ensures writing { ShowsWriting result.detail (K.count sink) (K.count result.sink) }
 {
     let before = source.faults();
@@ -181,6 +190,11 @@ pub fn pmos<R: AllocGlobal, S: Source, K: Sink>(
     ensures part { (before : List ℕ) → K.written sink ≡ Some before
         → WrotePart before (K.written result.sink) (text result.journal.items) }
     ensures quiet { LeavesSink result.detail result.journal.items sink result.sink }
+
+    // Where memory ran out and the sink did not fail, all of it was.
+    ensures memory { result.detail ≡ Detail.Memory → ¬ (Rose (K.count sink) (K.count result.sink))
+        → (before : List ℕ) → K.written sink ≡ Some before
+        → K.written result.sink ≡ Some (before ++ text result.journal.items) }
     ensures source_stays { result.detail ≡ Detail.Usage → result.source ≡ source }
 {
     let alloc = rt.alloc();

@@ -10,5 +10,6 @@ loop-request-preserved g c =
           c.in_ok-step.ensures.runs c.args.lines.items _
           (subst (λ (rest : List Request). Runs c.args.lines.items c.loop-request.world c.loop-request.journal.items rest) c.in-Some.ensures.items c.loop-request.invariant.runs);
       wrote = λ before told. c.in_ok-step.ensures.wrote before (c.loop-request.invariant.wrote before told);
+      room = c.step.ensures.capacity;
       counted = c.in_ok-step.ensures.counted ∙ c.loop-request.invariant.counted;
     }
