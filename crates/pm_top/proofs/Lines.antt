@@ -8,7 +8,9 @@ use Rattle.std.specs.List.{AllByRecursion, list_all, flat_map, join_with_byte, o
 use Rattle.pm_types.specs.Names.{is_name_byte, IsName}
 use Rattle.pm_types.specs.declared.command.Cmd.{Cmd}
 use Rattle.pm_types.specs.declared.command.Cmd.TheVariants.{New, IdOf, Bind, Find}
+use Rattle.pm_types.specs.declared.entry.Entry.{Entry}
 use Rattle.pm_model.specs.declared.request.Request.{Request}
+use Rattle.pm_model.specs.Journal.{requests_of, commands_of, Serves}
 use Rattle.pm_top.specs.Parts.{parts_of}
 use Rattle.pm_top.specs.Script.{words_of, HasSpelling, IsLine, line_words, line_body, line_text, AreLines, IsScript}
 use Rattle.pm_top.specs.Reading.{is_digit, request_at, Fails}
@@ -239,3 +241,7 @@ one_reading bytes (x ∷ a) (y ∷ b) script_a script_b =
     same_lines (x ∷ a) (y ∷ b) script_a.each script_b.each
     (sym (script_parts body (x ∷ a) script_a.each (sym (text_joined x a)))
     ∙ script_parts body (y ∷ b) script_b.each (sym (text_joined x a) ∙ sym script_a.spelled ∙ script_b.spelled))
+
+-- a journal of all the lines of a script serves them, by whichever reading they are lines of it
+pub all_served : (bytes : List ℕ) (journal : List Entry) (lines : List Request) → IsScript bytes (requests_of journal) → IsScript bytes lines → Serves journal lines
+all_served bytes journal lines script_a script_b client = ap (commands_of client) (one_reading bytes (requests_of journal) lines script_a script_b)

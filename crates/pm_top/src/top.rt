@@ -2,7 +2,7 @@ ghost use Rattle.std.specs.Prelude.{◌≡◌, ◌≤◌, ◌↔◌, List, ℕ, 
 ghost use Rattle.pm_types.specs.Counts.{Rose};
 ghost use Rattle.pm_model.specs.declared.request.Request.{Request as Line};
 ghost use Rattle.pm_model.specs.World.{empty_world};
-ghost use Rattle.pm_model.specs.Journal.{IsLegal, requests_of};
+ghost use Rattle.pm_model.specs.Journal.{IsLegal, requests_of, Serves};
 ghost use Rattle.pm_model.specs.Text.{text};
 ghost use Rattle.pm_top.specs.Words.{is_run};
 ghost use Rattle.pm_top.specs.Script.{IsScript};
@@ -181,6 +181,8 @@ pub fn pmos<R: AllocGlobal, S: Source, K: Sink>(
     // Where all is fine, they are all of its lines, and what was written is the journal's text, all of it finished.
     ensures all { result.detail ≡ Detail.Fine → (bytes : List ℕ) → S.left source ≡ Some bytes
         → IsScript bytes (requests_of result.journal.items) }
+    ensures serves { result.detail ≡ Detail.Fine → (bytes : List ℕ) → S.left source ≡ Some bytes
+        → (lines : List Line) → IsScript bytes lines → Serves result.journal.items lines }
     ensures written { result.detail ≡ Detail.Fine → (before : List ℕ) → K.written sink ≡ Some before
         → K.written result.sink ≡ Some (before ++ text result.journal.items) }
     ensures finished { result.detail ≡ Detail.Fine → (before : List ℕ) → K.written sink ≡ Some before
