@@ -2,6 +2,10 @@
 //! to `pm_top`.
 #![tactic(auto)]
 
+ghost use Rattle.std.specs.Prelude.{◌≡◌, ◌↔◌, map, false, string_bytes, IfOk};
+ghost use Rattle.pm_top.specs.Words.{is_run};
+ghost use Rattle.pm_top.specs.Ends.{status_of};
+
 use pm_io::{StdSink, StdSource};
 use pm_top::{Detail, detail_text, pmos};
 use std::alloc::{AllocError, Global};
@@ -26,22 +30,40 @@ fn words(rt: &HostRuntime) -> Result<Vec<String>, AllocError> {
     }
 }
 
-fn texts(alloc: Global, words: &[String]) -> Result<Vec<&str>, AllocError> {
-    words.iter().map(|word| word.as_str()).collect(alloc)
+fn texts(alloc: Global, words: &[String]) -> Result<Vec<&str>, AllocError>
+    ensures { IfOk result (λ texts. map (λ text. text.now) texts.items ≡ map string_bytes words.now) }
+{
+    let mut texts = Vec::new(alloc);
+    for word in words {
+        texts.push(word.as_str())?;
+    }
+    Ok(texts)
 }
 
-// Runs the program, and answers its status and how it ended.
-fn run(rt: &HostRuntime) -> Result<(u8, Detail), AllocError> {
-    let words = words(rt)?;
-    let texts = texts(rt.alloc(), words.as_slice())?;
+// Runs the program over the real input and output, and answers its status and how it ended.
+fn run(rt: &HostRuntime, words: &[String]) -> Result<(u8, Detail), AllocError>
+    ensures status { IfOk result (λ ended. ended.0 ≡ status_of ended.1) }
+    ensures usage { IfOk result (λ ended. (ended.1 ≡ Detail.Usage) ↔ (is_run (map string_bytes words.now) ≡ false)) }
+{
+    let texts = texts(rt.alloc(), words)?;
     let source = StdSource::new(rt.reader());
     let sink = StdSink::new(io::writer(rt));
     let ended = pmos(rt, texts.as_slice(), source, sink);
     Ok((ended.status, ended.detail))
 }
 
+// The status with which the program ends, and how it ended.
+fn end(rt: &HostRuntime) -> (u8, Detail)
+    ensures { result.0 ≡ status_of result.1 }
+{
+    match words(rt) {
+        Ok(words) => run(rt, words.as_slice()).unwrap_or((7, Detail::Memory)),
+        Err(_) => (7, Detail::Memory),
+    }
+}
+
 fn main(rt: HostRuntime) -> ExitCode {
-    let (status, detail) = run(&rt).unwrap_or((7, Detail::Memory));
+    let (status, detail) = end(&rt);
     if let Ok(text) = detail_text(rt.alloc(), &detail) {
         let _ = rt.stderr().write_all(text.as_slice());
     }
