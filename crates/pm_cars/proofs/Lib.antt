@@ -1,0 +1,4 @@
+pub mod Rooms
+pub mod Listed
+pub mod Places
+pub mod Kept

@@ -1,0 +1,132 @@
+-- The room of all slots, after one slot was filled or emptied.
+use Rattle.std.proofs.Common.{◌≡◌, ℕ, ◌+◌, ◌==◌, Bool, true, false, ◌&&◌, cond, refl, ap, sym, subst, ◌∙◌, arith, List, [], ◌∷◌, length, Option, Some, None, unwrap_or, option_map}
+use Rattle.std.specs.Prelude.{T}
+use Rattle.std.specs.declared.cmp.Ordering.{Ordering}
+use Rattle.std.specs.declared.cmp.Ordering.TheVariants.{Less, Equal, Greater}
+use Rattle.std.specs.Cmp.{nat_cmp_total, unsigned_tied}
+use Rattle.std.specs.Ordering.{nat_cmp, is_lt, is_eq, eq_by_cmp, match_ordering}
+use Rattle.std.specs.List.{AllByRecursion, sum_by}
+use Rattle.std.specs.List.Sorted.{IsStrictlySortedBy}
+use Rattle.std.specs.Map.{lookup, keys_of, values_of}
+use Rattle.std.specs.BTreeMap.{insert_entry, is_at}
+use Rattle.std.specs.FinMap.{find, put, is_sorted, entries, entries_sorted, entries-insert, get, get-entries, get-insert, get-remove, insert, remove, empty, len-empty, len-entries, same_map, nat_cmp-IsAntisymmetric}
+use Rattle.std.specs.FinMap.Entries.{below_all, by_order}
+use Rattle.std.proofs.lemmas.Bool.{eqb-true}
+use Rattle.std.proofs.lemmas.Bool.Decides.{nat_tests}
+use Rattle.std.proofs.lemmas.Map.Entries.{sum_by-insert_entry}
+use Rattle.pm_types.specs.declared.object.Slot.{Slot}
+use Rattle.pm_types.specs.declared.object.Object.{Object}
+use Rattle.pm_types.specs.declared.object.Slot.TheVariants.{Live, Moved}
+use Rattle.pm_cars.specs.Cars.{Slots, slot_room, slots_room, object_of, object_room}
+
+both_of : (a b : Bool) → T (a && b) → T a × T b
+both_of true b h = (tt, h)
+both_of false b h = absurd h
+
+less_of : (r : Ordering) → T (is_lt r) → r ≡ Less
+less_of Less h = refl
+less_of Equal h = absurd h
+less_of Greater h = absurd h
+
+module _ {K X : Type 0} (R : K → K → Ordering) where
+  all_below : (x : K) (es : List (K × X)) → T (below_all R x es) → AllByRecursion (λ y. R x y ≡ Less) (keys_of es)
+  all_below x [] h = tt
+  all_below x (e ∷ es) h = let both = both_of _ _ h in (less_of _ both.0, all_below x es both.1)
+
+  keys_sorted : (es : List (K × X)) → T (is_sorted R es) → IsStrictlySortedBy R (keys_of es)
+  unfolding IsStrictlySortedBy
+  keys_sorted [] h = tt
+  keys_sorted (e ∷ es) h = let both = both_of _ _ h in (all_below e.0 es both.0, keys_sorted es both.1)
+
+  put_is : (k : K) (v : X) (es : List (K × X)) → put R k v es ≡ insert_entry R es k v
+  put_is k v [] = refl
+  put_is k v (e ∷ es) =
+      elim (R k e.0) as (λ r. ◌≡◌ {A = List (K × X)} (by_order r ((k, v) ∷ e ∷ es) ((e.0, v) ∷ es) (e ∷ put R k v es)) (match_ordering r ((k, v) ∷ e ∷ es) ((e.0, v) ∷ es) (e ∷ insert_entry R es k v))) [
+        | Less ↦ refl
+        | Equal ↦ refl
+        | Greater ↦ ap (λ rest. e ∷ rest) (put_is k v es)
+      ]
+
+  find_is : (q : K) (es : List (K × X)) → find R q es ≡ lookup (is_at (R q)) es
+  find_is q [] = refl
+  find_is q (e ∷ es) = ap (cond (is_eq (R q e.0)) (Some e.1)) (find_is q es)
+
+-- the room of what may stand in a slot
+abbrev pub held_room : Option Slot → ℕ
+held_room None = 0
+held_room (Some content) = slot_room content
+
+-- where an object stands, it is the object's
+pub live_room : (o : Option Slot) (object : Object) → object_of o ≡ Some object → held_room o ≡ object_room object
+live_room None object is = cc
+live_room (Some (Live it)) object is = ap some_room is
+  where
+    some_room : Option Object → ℕ
+    some_room None = 0
+    some_room (Some object) = object_room object
+live_room (Some (Moved to)) object is = cc
+
+held_room_is : (o : Option Slot) → unwrap_or (option_map slot_room o) 0 ≡ held_room o
+held_room_is None = refl
+held_room_is (Some content) = refl
+
+no_length : {A : Type 0} (xs : List A) → length xs ≡ 0 → xs ≡ []
+no_length [] is = refl
+no_length (x ∷ xs) is = absurd (omega arith)
+
+-- a map of no slot takes no room
+pub empty_room : slots_room empty ≡ 0
+empty_room =
+    let none : entries (empty {X = Slot} {R = nat_cmp}) ≡ [] = no_length _ (sym (len-entries (empty {X = Slot} {R = nat_cmp})) ∙ len-empty nat_cmp Slot) in
+    ap (λ es. sum_by slot_room (values_of es)) none
+
+-- what a slot is filled with adds its room, and what it held takes its room away
+pub insert_room : (slots : Slots) (k : ℕ) (content : Slot) → slots_room (insert slots k content) + held_room (get slots k) ≡ slots_room slots + slot_room content
+insert_room slots k content =
+    let es = entries slots in
+    let filled : entries (insert slots k content) ≡ insert_entry nat_cmp es k content = entries-insert nat_cmp_total slots k content ∙ put_is nat_cmp k content es in
+    let held : held_room (get slots k) ≡ unwrap_or (option_map slot_room (lookup (is_at (nat_cmp k)) es)) 0 =
+    sym (held_room_is (get slots k)) ∙ ap (λ (o : Option Slot). unwrap_or (option_map slot_room o) 0) (get-entries slots k ∙ find_is nat_cmp k es) in
+    (λ i. sum_by slot_room (values_of (filled i)) + held i) ∙ sum_by-insert_entry slot_room nat_cmp_total es k content (keys_sorted nat_cmp es (entries_sorted slots))
+
+pub at_insert : (slots : Slots) (k : ℕ) (content : Slot) (q : ℕ) → get (insert slots k content) q ≡ cond (eq_by_cmp nat_cmp q k) (Some content) (get slots q)
+at_insert slots k content q = get-insert nat_cmp_total slots k content q
+
+refilled : {X : Type 0} (b : Bool) (content : X) (old : Option X) → (b ≡ true → old ≡ Some content) → cond b (Some content) (cond b None old) ≡ old
+refilled true content old is = sym (is refl)
+refilled false content old is = refl
+
+emptied : {X : Type 0} (b : Bool) (old : Option X) → (b ≡ true → old ≡ None) → cond b None old ≡ old
+emptied true old is = sym (is refl)
+emptied false old is = refl
+
+-- the keys tie where they are equal
+same_key : (slots : Slots) (q k : ℕ) → eq_by_cmp nat_cmp q k ≡ true → get slots q ≡ get slots k
+same_key slots q k tied = ap (get slots) (eqb-true q k (sym (unsigned_tied q k) ∙ tied))
+
+eqb_same : (k : ℕ) → (k == k) ≡ true
+eqb_same k = grind (arith, nat_tests)
+
+gone_at_itself : (slots : Slots) (k : ℕ) → get (remove slots k) k ≡ None
+gone_at_itself slots k = get-remove nat_cmp_total slots k k ∙ ap (λ b. cond b None (get slots k)) (unsigned_tied k k ∙ eqb_same k)
+
+remove_room_of : (slots : Slots) (k : ℕ) (o : Option Slot) → get slots k ≡ o → slots_room (remove slots k) + held_room o ≡ slots_room slots
+remove_room_of slots k None is =
+    let stays : remove slots k ≡ slots =
+    same_map nat_cmp_total nat_cmp-IsAntisymmetric _ _ (λ q. get-remove nat_cmp_total slots k q ∙ emptied (eq_by_cmp nat_cmp q k) (get slots q) (λ tied. same_key slots q k tied ∙ is)) in
+    let same : slots_room (remove slots k) ≡ slots_room slots = ap slots_room stays in
+    omega arith
+remove_room_of slots k (Some content) is =
+    let rest = remove slots k in
+    let back : insert rest k content ≡ slots =
+    same_map nat_cmp_total nat_cmp-IsAntisymmetric _ _ (λ q.
+    get-insert nat_cmp_total rest k content q ∙ ap (cond (eq_by_cmp nat_cmp q k) (Some content)) (get-remove nat_cmp_total slots k q)
+    ∙ refilled (eq_by_cmp nat_cmp q k) content (get slots q) (λ tied. same_key slots q k tied ∙ is)) in
+    let same : slots_room (insert rest k content) ≡ slots_room slots = ap slots_room back in
+    let law : slots_room (insert rest k content) + 0 ≡ slots_room rest + slot_room content =
+    subst (λ (o : Option Slot). slots_room (insert rest k content) + held_room o ≡ slots_room rest + slot_room content) (gone_at_itself slots k) (insert_room rest k content) in
+    omega arith
+
+-- a slot that is emptied takes its room away
+pub remove_room : (slots : Slots) (k : ℕ) → slots_room (remove slots k) + held_room (get slots k) ≡ slots_room slots
+remove_room slots k = remove_room_of slots k (get slots k) refl

@@ -1,0 +1,120 @@
+ghost use Rattle.std.specs.Prelude.{◌≡◌, ◌+◌, ◌<◌, ◌≤◌, ◌^◌, length, Some, IsSome, IfSome, IfNone, IfOk, vec_capacity, option_copied};
+ghost use Rattle.pm_types.specs.declared.object.Slot.TheVariants.{Live};
+ghost use Rattle.pm_cars.specs.Cars.{object_of};
+ghost use Rattle.pm_cars.specs.Entries.{numbers, content_at, with_content, is_live, first_place, IsAscending, IsAt, HasNone};
+
+use pm_types::{NoMemory, Object, Slot};
+use std::alloc::Global;
+use std::mem;
+
+/// A slot and what it holds: nothing, once it is Gone.
+#[derive(Drop)]
+pub(crate) struct Entry {
+    pub slot: u32,
+    pub content: Option<Slot>,
+}
+
+impl Entry {
+    fn is_live(&self) -> bool
+        ensures { result ≡ is_live self.now }
+    {
+        matches!(&self.content, Some(Slot::Live(_)))
+    }
+
+    fn copy(&self, alloc: Global) -> Result<Entry, NoMemory>
+        ensures { IfOk result (λ copied. copied ≡ self.now) }
+    {
+        let content = match &self.content {
+            Some(content) => Some(content.copy(alloc)?),
+            None => None,
+        };
+        Ok(Entry {
+            slot: self.slot,
+            content,
+        })
+    }
+}
+
+// The place of the slot's entry.
+fn place_of(entries: &[Entry], slot: u32) -> Option<usize>
+    requires { IsAscending (numbers entries.now) }
+    ensures found { IfSome result (IsAt entries.now slot) }
+    ensures absent { IfNone result (HasNone entries.now slot) }
+{
+    entries.binary_search_by_key(&slot, |entry| entry.slot).ok()
+}
+
+/// What the slot holds.
+#[tactic(auto, using(crate::proofs::Listed::content_absent))]
+pub(crate) fn content_of(entries: &[Entry], slot: u32) -> Option<&Slot>
+    requires { IsAscending (numbers entries.now) }
+    ensures { option_copied result ≡ content_at entries.now slot }
+{
+    let place = place_of(entries, slot)?;
+    entries[place].content.as_ref()
+}
+
+// Lets the slot hold this, where it has an entry, and hands back what it held.
+#[tactic(auto, using(crate::proofs::Listed::content_absent))]
+fn replace(entries: &mut Vec<Entry>, slot: u32, content: Option<Slot>) -> Option<Slot>
+    requires { IsAscending (numbers entries.old.items) }
+    ensures held { result ≡ content_at entries.old.items slot }
+    ensures items { entries.new.items ≡ with_content entries.old.items slot content }
+    ensures capacity { vec_capacity entries.new ≡ vec_capacity entries.old }
+{
+    let place = place_of(entries, slot)?;
+    let entry = &mut entries[place];
+    mem::replace(&mut entry.content, content)
+}
+
+/// Lets a Live slot hold this, and hands its object back.
+pub(crate) fn exchange(entries: &mut Vec<Entry>, slot: u32, content: Option<Slot>) -> Object
+    requires ascending { IsAscending (numbers entries.old.items) }
+    requires live { IsSome (object_of (content_at entries.old.items slot)) }
+    ensures object { content_at entries.old.items slot ≡ Some (Live result) }
+    ensures items { entries.new.items ≡ with_content entries.old.items slot content }
+    ensures capacity { vec_capacity entries.new ≡ vec_capacity entries.old }
+{
+    match replace(entries, slot, content) {
+        Some(Slot::Live(object)) => object,
+        _ => unreachable!(),
+    }
+}
+
+/// Lets the slot hold the object.
+pub(crate) fn put_back(entries: &mut Vec<Entry>, slot: u32, object: Object)
+    requires ascending { IsAscending (numbers entries.old.items) }
+    ensures items { entries.new.items ≡ with_content entries.old.items slot (Some (Live object)) }
+    ensures capacity { vec_capacity entries.new ≡ vec_capacity entries.old }
+{
+    replace(entries, slot, Some(Slot::Live(object)));
+}
+
+/// The place of the first Live entry, or the number of entries. None before `from` is Live.
+pub(crate) fn first_live(entries: &[Entry], from: usize) -> usize
+    requires { from ≤ first_place entries.now }
+    ensures { result ≡ first_place entries.now }
+{
+    let mut place = from;
+    while place < entries.len() && !entries[place].is_live() {
+        place += 1;
+    }
+    place
+}
+
+/// The same entries again, with space for so many more.
+pub(crate) fn copy_all(
+    alloc: Global,
+    entries: &[Entry],
+    spare: usize,
+) -> Result<Vec<Entry>, NoMemory>
+    requires { length entries.now + spare < 2 ^ 64 }
+    ensures items { IfOk result (λ copied. copied.items ≡ entries.now) }
+    ensures space { IfOk result (λ copied. length entries.now + spare ≤ vec_capacity copied) }
+{
+    let mut copied = Vec::with_capacity(alloc, entries.len() + spare)?;
+    for entry in entries {
+        copied.push_reserved(entry.copy(alloc)?);
+    }
+    Ok(copied)
+}

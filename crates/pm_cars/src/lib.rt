@@ -1,0 +1,19 @@
+//! A car: a numbered space of bounded size in which objects stand, each in a slot of its own.
+#![tactic(auto)]
+
+mod car;
+mod entry;
+mod law;
+mod limits;
+mod look;
+mod object;
+
+pub use car::Car;
+pub use law::room_is_counted;
+pub use limits::{
+    CAR_BYTES, CAR_HEAD_BYTES, FIELD_BYTES, LAST_SLOT, MOVED_BYTES, OBJECT_HEAD_BYTES,
+};
+pub use look::Look;
+
+#[cfg(test)]
+mod tests;

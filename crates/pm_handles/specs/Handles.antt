@@ -1,0 +1,25 @@
+-- The registers of all clients as a finite map.
+use Rattle.std.specs.Prelude.{ℕ, ◌+◌, ◌/◌, ◌%◌, List, [], ◌∷◌, Option, Some, None}
+use Rattle.std.specs.declared.cmp.Ordering.{Ordering}
+use Rattle.std.specs.Ordering.{nat_cmp, ordering_then}
+use Rattle.std.specs.FinMap.{FinMap, insert, remove}
+use Rattle.pm_types.specs.declared.address.Addr.{Addr}
+
+-- places of registers are ordered by the client, and then by the register
+abbrev pub place_cmp : ℕ × ℕ → ℕ × ℕ → Ordering
+place_cmp a b = ordering_then (nat_cmp a.0 b.0) (nat_cmp a.1 b.1)
+
+-- the address that each register holds, at (client, register); an empty register has none
+abbrev pub Registers : Type 0
+Registers = FinMap place_cmp Addr
+
+-- the registers where this one holds the address, or nothing, and every other one what it held
+abbrev pub with_register : Registers → ℕ × ℕ → Option Addr → Registers
+with_register registers place None = remove registers place
+with_register registers place (Some at) = insert registers place at
+
+-- what registers hold that are listed one after another, the first being the one of this number
+abbrev pub held_from : ℕ → List (Option Addr) → List ((ℕ × ℕ) × Addr)
+held_from number [] = []
+held_from number (None ∷ rest) = held_from (number + 1) rest
+held_from number (Some at ∷ rest) = ((number / 1024, number % 1024), at) ∷ held_from (number + 1) rest

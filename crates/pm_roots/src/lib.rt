@@ -1,0 +1,12 @@
+//! The named roots of a store: each name has a number of its own, by which the collector knows it, and
+//! an address.
+#![tactic(auto)]
+
+mod fault;
+mod roots;
+mod search;
+#[cfg(test)]
+mod tests;
+
+pub use fault::BindFault;
+pub use roots::Roots;

@@ -1,0 +1,3 @@
+pub mod Shown
+pub mod Copied
+pub mod Unused

@@ -1,0 +1,3 @@
+pub mod Snapped
+pub mod Kept
+pub mod Lending

@@ -1,0 +1,11 @@
+use Rattle.std.proofs.Common.{rules}
+use Rattle.std.proofs.lemmas.List.Sorted.{answers_always}
+use Rattle.pm_trains.proofs.Order.{found}
+use Rattle.pm_trains.proofs.place.place_of.Goals as goal
+
+-- the closure gives a train's number
+pub returns : goal.returns
+returns c =
+    let facts = c.binary_search_by_key.ensures in
+    let by_number = facts.position (λ t. t.number) (answers_always _ _ _ (λ f a r g called. search rules)) in
+    rw c.ok.ensures.value (found 0 c.args.trains.now c.args.number c.binary_search_by_key.result c.requires facts.bound by_number)

@@ -1,0 +1,3 @@
+pub mod Trains
+pub mod Sound
+pub mod Places

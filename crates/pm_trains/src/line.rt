@@ -1,0 +1,86 @@
+ghost use Rattle.std.specs.Prelude.{◌≡◌, ◌+◌, ◌<◌, ◌==◌, ◌++◌, ◌∷◌, [], length, drop, Some, None, cond, ℕ, OnOk, OnErr};
+ghost use Rattle.std.specs.Ordering.{nat_cmp};
+ghost use Rattle.std.specs.BTreeMap as tree;
+ghost use Rattle.pm_trains.specs.Trains.{Train, empty_train};
+
+use pm_types::NoMemory;
+use std::alloc::Global;
+use std::collections::BTreeMap;
+use std::marker::Model;
+
+/// A train, seen as its number and the list of its cars, the first car first.
+#[derive(Drop)]
+pub struct Line {
+    number: u64,
+    cars: Vec<u64>,
+    /// How many cars at the front of `cars` have left.
+    left: usize,
+}
+
+impl Model for Line {
+    ghost use Rattle.std.specs.Prelude.{◌≤◌, length, drop};
+    ghost use Rattle.pm_trains.specs.Trains.{Train, train_code};
+
+    ghost Value = { Train };
+
+    ghost coded = { train_code };
+
+    ghost view = { λ it. record { number = it.number; cars = drop it.left it.cars.items } };
+
+    ghost invariant = { λ it. it.left ≤ length it.cars.items };
+}
+
+impl Line {
+    /// A train without a car. It takes no memory.
+    pub fn new(alloc: Global, number: u64) -> Line
+        ensures { result ≡ empty_train number }
+    {
+        Line {
+            number,
+            cars: Vec::new(alloc),
+            left: 0,
+        }
+    }
+
+    /// The train's number. It takes no memory.
+    pub fn number(&self) -> u64
+        ensures { result ≡ self.now.number }
+    {
+        self.number
+    }
+
+    /// The train's cars, the first car first. It takes no memory.
+    pub fn cars(&self) -> &[u64]
+        ensures { result.now ≡ self.now.cars }
+    {
+        &self.cars[self.left..]
+    }
+
+    /// Puts the car at the end of the train, and notes the train as its home.
+    pub fn append(&mut self, homes: &mut BTreeMap<u64, u64>, car: u64) -> Result<(), NoMemory>
+        ensures train { OnOk result (self.new ≡ record self.old { cars = self.old.cars ++ car ∷ [] }) }
+        ensures home { OnOk result ((c : ℕ) → tree.get nat_cmp homes.new c ≡ cond (c == car) (Some self.old.number) (tree.get nat_cmp homes.old c)) }
+        ensures err_train { OnErr result (self.new ≡ self.old) }
+        ensures err_homes { OnErr result ((c : ℕ) → tree.get nat_cmp homes.new c ≡ tree.get nat_cmp homes.old c) }
+    {
+        self.cars.reserve(1)?;
+        homes.insert(car, self.number)?;
+        self.cars.push_reserved(car);
+        Ok(())
+    }
+
+    /// Takes the first car out of the train, which has one, and answers it. It takes no memory.
+    pub fn take_first(&mut self) -> u64
+        requires { 0 < length self.old.cars }
+        ensures first { self.old.cars ≡ result ∷ self.new.cars }
+        ensures number { self.new.number ≡ self.old.number }
+    {
+        let car = self.cars[self.left];
+        self.left += 1;
+        if self.left > self.cars.len() / 2 {
+            self.cars.drain(..self.left);
+            self.left = 0;
+        }
+        car
+    }
+}
