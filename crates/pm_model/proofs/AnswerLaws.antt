@@ -5,12 +5,13 @@ use Rattle.std.specs.Ordering.{nat_cmp, eq_by_cmp}
 use Rattle.std.specs.Cmp.{nat_cmp_total, eq_by_cmp_equiv}
 use Rattle.std.specs.FinMap.{get, insert, get-insert}
 use Rattle.pm_types.specs.declared.command.Cmd.{Cmd}
-use Rattle.pm_types.specs.declared.command.Cmd.TheVariants.{New, IdOf, Bind, Find}
-use Rattle.pm_types.specs.declared.reply.Reply.TheVariants.{Done, Ident, TooLarge, IdsSpent, TooManyRoots}
+use Rattle.pm_types.specs.declared.command.Cmd.TheVariants.{New, Show, IdOf, Bind, Find, Save, Settle}
+use Rattle.pm_types.specs.declared.reply.Reply.TheVariants.{Done, Ident, Begun, TooLarge, IdsSpent, TooManyRoots, SavesSpent}
 use Rattle.pm_types.specs.declared.entry.Entry.{Entry}
 use Rattle.pm_model.specs.Heap.{Object, Heap}
-use Rattle.pm_model.specs.World.{World, Roots, name_cmp, held, holding, with_object, naming}
-use Rattle.pm_model.specs.Answer.{answer, answer_id, answer_root, answer_find, refused, fresh, has_no_room, is_refusal}
+use Rattle.pm_model.specs.World.{World, Roots, Copy, name_cmp, held, holding, with_object, naming, beginning}
+use Rattle.pm_model.specs.Copying.{copy}
+use Rattle.pm_model.specs.Answer.{answer, answer_data, answer_id, answer_root, answer_find, answer_save, answer_settle, refused, fresh, has_no_room, is_refusal}
 use Rattle.pm_model.specs.Journal.{after}
 use Rattle.pm_model.proofs.Orders.{names_total}
 
@@ -37,13 +38,34 @@ find_refused : (world : World) (client to : ℕ) (found : Option ℕ) → is_ref
 find_refused world client to None is = refl
 find_refused world client to (Some id) is = cc
 
+-- the bytes of an object are told, and nothing else
+data_same : (world : World) (held_id : Option ℕ) → (answer_data world held_id).1 ≡ world
+data_same world None = refl
+data_same world (Some id) = refl
+
+refused_save : (more : Bool) (number : ℕ) (world begun : World) → is_refusal (if more then (Begun number, begun) else refused world SavesSpent).0 ≡ true
+    → (if more then (Begun number, begun) else refused world SavesSpent).1 ≡ world
+refused_save true number world begun is = cc
+refused_save false number world begun is = refl
+
+save_refused : (world : World) (saving : Option (ℕ × Copy)) → is_refusal (answer_save world saving).0 ≡ true → (answer_save world saving).1 ≡ world
+save_refused world None is = refused_save _ _ world (beginning world _ _) is
+save_refused world (Some begun) is = refl
+
+settle_refused : (world : World) (saving : Option (ℕ × Copy)) → is_refusal (answer_settle world saving).0 ≡ true → (answer_settle world saving).1 ≡ world
+settle_refused world None is = refl
+settle_refused world (Some begun) is = cc
+
 -- a refusal gives the same world back
 pub refusal_keeps : (world : World) (client : ℕ) (cmd : Cmd) → is_refusal (answer world client cmd).0 ≡ true → (answer world client cmd).1 ≡ world
 unfolding answer
 refusal_keeps world client (New reg count bytes) is = refused_new _ _ world (holding (with_object world (fresh count bytes)) client reg world.next) world.next is
+refusal_keeps world client (Show reg) is = data_same world (held world client reg)
 refusal_keeps world client (IdOf reg) is = id_refused world (held world client reg)
 refusal_keeps world client (Bind name reg) is = root_refused world name (held world client reg) is
 refusal_keeps world client (Find to name) is = find_refused world client to (get world.roots name) is
+refusal_keeps world client Save is = save_refused world world.saving is
+refusal_keeps world client Settle is = settle_refused world world.saving is
 
 some_cond : {X : Type 0} (b : Bool) (x : X) (o : Option X) → IsSome o → IsSome (cond b (Some x) o)
 some_cond true x o is = refl
@@ -70,13 +92,29 @@ find_stays : (world : World) (client to : ℕ) (found : Option ℕ) (id : ℕ) �
 find_stays world client to None id is = is
 find_stays world client to (Some bound) id is = is
 
+cond_heap : (more : Bool) (number : ℕ) (world : World) → (if more then (Begun number, beginning world number (copy world)) else refused world SavesSpent).1.heap ≡ world.heap
+cond_heap true number world = refl
+cond_heap false number world = refl
+
+-- to begin and to settle a copy change no object
+save_heap : (world : World) (saving : Option (ℕ × Copy)) → (answer_save world saving).1.heap ≡ world.heap
+save_heap world None = cond_heap _ _ world
+save_heap world (Some begun) = refl
+
+settle_heap : (world : World) (saving : Option (ℕ × Copy)) → (answer_settle world saving).1.heap ≡ world.heap
+settle_heap world None = refl
+settle_heap world (Some begun) = refl
+
 stays : (world : World) (client : ℕ) (cmd : Cmd) (id : ℕ) → IsSome (get world.heap id) → IsSome (get (answer world client cmd).1.heap id)
 unfolding answer
 stays world client (New reg count bytes) id is =
     stays_new _ _ world (holding (with_object world (fresh count bytes)) client reg world.next) world.next id is (stays_inserted world.heap world.next (fresh count bytes) id is)
+stays world client (Show reg) id is = subst (λ (w : World). IsSome (get w.heap id)) (sym (data_same world (held world client reg))) is
 stays world client (IdOf reg) id is = subst (λ (w : World). IsSome (get w.heap id)) (sym (id_refused world (held world client reg))) is
 stays world client (Bind name reg) id is = root_stays world name (held world client reg) id is
 stays world client (Find to name) id is = find_stays world client to (get world.roots name) id is
+stays world client Save id is = subst (λ heap. IsSome (get heap id)) (sym (save_heap world world.saving)) is
+stays world client Settle id is = subst (λ heap. IsSome (get heap id)) (sym (settle_heap world world.saving)) is
 
 -- no object is taken away, whatever is asked
 pub stays_after : (world : World) (journal : List Entry) (id : ℕ) → IsSome (get world.heap id) → IsSome (get (after world journal).heap id)

@@ -8,7 +8,7 @@ use Rattle.std.proofs.lemmas.Bool.Decides.{nat_tests}
 use Rattle.pm_model.specs.Heap.{Object, Heap}
 use Rattle.pm_model.specs.Oracles.{IsSound}
 
-tied_nat : (m n : ℕ) → is_eq (nat_cmp m n) ≡ (m == n)
+pub tied_nat : (m n : ℕ) → is_eq (nat_cmp m n) ≡ (m == n)
 tied_nat m n = grind (arith, nat_tests)
 
 -- to take away what was put at an unused identity gives the heap back

@@ -1,9 +1,11 @@
 -- Journals: what was asked and answered, in order.
-use Rattle.std.specs.Prelude.{◌≡◌, ℕ, List, [], ◌∷◌, map, filter, nat_eq}
+use Rattle.std.specs.Prelude.{◌≡◌, ℕ, Bool, true, false, List, [], ◌∷◌, ◌++◌, map, filter, nat_eq, if◌then◌else◌, Option}
 use Rattle.pm_types.specs.declared.command.Cmd.{Cmd}
 use Rattle.pm_types.specs.declared.entry.Entry.{Entry}
 use Rattle.pm_model.specs.declared.request.Request.{Request}
-use Rattle.pm_model.specs.World.{World}
+use Rattle.pm_types.specs.declared.reply.Reply.{Reply}
+use Rattle.pm_types.specs.declared.reply.Reply.TheVariants.{Saved}
+use Rattle.pm_model.specs.World.{World, Copy}
 use Rattle.pm_model.specs.Answer.{answer}
 
 -- each reply is the one that the world at that point gives
@@ -31,3 +33,27 @@ part client journal = commands_of client (requests_of journal)
 -- the journal serves what is asked: each client's part is the list of its commands
 abbrev pub Serves : List Entry → List Request → Type 0
 Serves journal asked = (client : ℕ) → part client journal ≡ commands_of client asked
+
+-- the number and the copy that settled last in a world
+abbrev pub settled_in : World → ℕ × Copy
+settled_in world = (world.settled, world.settled_copy)
+
+-- the reply says that a copy settled
+abbrev pub says_saved : Reply → Bool
+says_saved (Saved number) = true
+says_saved reply = false
+
+-- the copies that settle along a journal, in order, each with its number
+abbrev pub settled_along : World → List Entry → List (ℕ × Copy)
+settled_along world [] = []
+settled_along world (entry ∷ rest) =
+    let next = (answer world entry.client entry.cmd).1 in
+    (if says_saved entry.reply then settled_in next ∷ [] else []) ++ settled_along next rest
+
+-- the chain of settled copies: the one that had settled before, and those that settle along the journal
+abbrev pub chain : World → List Entry → List (ℕ × Copy)
+chain world journal = settled_in world ∷ settled_along world journal
+
+-- the copy that is in progress at the journal's end, if there is one
+abbrev pub progress : World → List Entry → Option (ℕ × Copy)
+progress world journal = (after world journal).saving

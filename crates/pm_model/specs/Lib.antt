@@ -1,7 +1,10 @@
 pub mod Heap
 pub mod World
 pub mod Reachability
+pub mod Copying
+pub mod Keeping
 pub mod Answer
 pub mod Journal
 pub mod Text
 pub mod Oracles
+pub mod Plain

@@ -1,13 +1,13 @@
 -- What the plain slow program keeps, as a world.
-use Rattle.std.specs.Prelude.{◌≡◌, ℕ, ◌≤◌, None}
+use Rattle.std.specs.Prelude.{◌≡◌, ℕ, ◌≤◌, Option, None}
 use Rattle.std.specs.FinMap.{get}
 use Rattle.pm_model.specs.Heap.{Heap}
-use Rattle.pm_model.specs.World.{World, Roots, Registers, empty_copy}
+use Rattle.pm_model.specs.World.{World, Roots, Registers, Copy}
 
--- the world of these parts, of which nothing was saved or watched
-abbrev pub world_of : Heap → Roots → Registers → ℕ → World
-world_of heap roots registers next =
-    record { heap = heap; roots = roots; registers = registers; next = next; settled = 0; settled_copy = empty_copy; saving = None; watches = 0 }
+-- the world of these parts, in which nothing is watched
+abbrev pub world_of : Heap → Roots → Registers → ℕ → ℕ → Copy → Option (ℕ × Copy) → World
+world_of heap roots registers next settled settled_copy saving =
+    record { heap = heap; roots = roots; registers = registers; next = next; settled = settled; settled_copy = settled_copy; saving = saving; watches = 0 }
 
 -- the next identity is in range, and no object has it or a later one
 pub record IsSound (heap : Heap) (next : ℕ) : Type 0 where

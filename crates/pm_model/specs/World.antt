@@ -1,10 +1,11 @@
 -- The world that clients see: an object graph, its names and registers, and what was saved of it.
-use Rattle.std.specs.Prelude.{ℕ, ◌+◌, List, Option, None, refl}
+use Rattle.std.specs.Prelude.{◌≡◌, ◌≤◌, ℕ, ◌+◌, List, Option, Some, None, IfSome, refl}
 use Rattle.std.specs.declared.cmp.Ordering.{Ordering}
 use Rattle.std.specs.Ordering.{nat_cmp, ordering_then}
 use Rattle.std.specs.Cmp.Lexicographic.{slice_cmp}
 use Rattle.std.specs.FinMap.{FinMap, get, insert, empty, code}
 use Rattle.std.specs.Coded.{Coded, code_by, coded×, coded_ℕ, coded_list, coded_option}
+use Rattle.pm_types.specs.declared.limits.TheConstants.{LAST_COPY}
 use Rattle.pm_model.specs.Heap.{Object, Heap, object_code}
 
 -- names are ordered by their bytes
@@ -85,3 +86,15 @@ with_object world object = record world { heap = insert world.heap world.next ob
 -- the world in which the name stands for this identity, and all else is the same
 abbrev pub naming : World → List ℕ → ℕ → World
 naming world name id = record world { roots = insert world.roots name id }
+
+-- the world in which this copy was begun under this number, and all else is the same
+abbrev pub beginning : World → ℕ → Copy → World
+beginning world number copy = record world { saving = Some (number, copy) }
+
+-- the world in which this copy settled under this number, none is begun, and all else is the same
+abbrev pub settling : World → ℕ → Copy → World
+settling world number copy = record world { settled = number; settled_copy = copy; saving = None }
+
+-- no number of a copy is over the last one, and the copy in progress has the number after the one that settled last
+abbrev pub IsNumbered : World → Type 0
+IsNumbered world = (world.settled ≤ LAST_COPY) × IfSome world.saving (λ begun. (begun.0 ≡ world.settled + 1) × (begun.0 ≤ LAST_COPY))

@@ -2,18 +2,23 @@
 //! program that does just that.
 #![tactic(auto)]
 
+mod graph;
 mod laws;
 mod objects;
 mod oracle;
 mod registers;
 mod request;
 mod roots;
+#[cfg(test)]
+mod tests;
 
+pub use graph::Graph;
 pub use laws::{
-    no_object_is_taken_away, reachable_is_least_closed, refusals_keep_the_world,
-    what_is_bound_is_found,
+    a_chain_ends_at_the_settled_copy, a_copy_keeps_what_the_roots_reach, an_entry_goes_at_the_end,
+    copies_are_numbered_in_order, no_object_is_taken_away, reachable_is_least_closed,
+    refusals_keep_the_world, what_is_bound_is_found, what_settles_was_in_progress,
 };
-pub use objects::Node;
+pub use objects::{Node, Objects};
 pub use oracle::Oracle;
 pub use registers::Registers;
 pub use request::Request;

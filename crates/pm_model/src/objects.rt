@@ -1,10 +1,12 @@
-ghost use Rattle.std.specs.Prelude.{◌≡◌, OnOk, OnErr, IfOk};
+ghost use Rattle.std.specs.Prelude.{◌≡◌, ◌++◌, OnOk, OnErr, IfOk};
+ghost use Rattle.std.specs.Option.{option_map};
 ghost use Rattle.std.specs.FinMap as map;
 ghost use Rattle.pm_model.specs.Answer.{fresh};
+ghost use Rattle.pm_model.specs.Copying.{held_ids};
 
 use pm_types::{Bytes, Id, NoMemory};
 use std::alloc::Global;
-use std::collections::BTreeMap;
+use std::collections::{BTreeMap, btree_map};
 use std::marker::Model;
 
 /// An object of the graph, seen as its fields and its bytes.
@@ -25,6 +27,14 @@ impl Model for Node {
 }
 
 impl Node {
+    /// An object of these fields, each null or an identity, and these bytes. It takes no memory.
+    pub fn new(fields: Vec<Option<Id>>, bytes: Bytes) -> Node
+        ensures fields { result.fields ≡ fields.items }
+        ensures bytes { result.bytes ≡ bytes }
+    {
+        Node { fields, bytes }
+    }
+
     /// An object of so many null fields and these bytes.
     pub fn fresh(alloc: Global, count: u32, bytes: &Bytes) -> Result<Node, NoMemory>
         ensures { IfOk result (λ node. node ≡ fresh count bytes.now) }
@@ -33,11 +43,47 @@ impl Node {
         let bytes = bytes.copy(alloc)?;
         Ok(Node { fields, bytes })
     }
+
+    /// The fields, lent. It takes no memory.
+    pub fn fields(&self) -> &[Option<Id>]
+        ensures { result.now ≡ self.now.fields }
+    {
+        self.fields.as_slice()
+    }
+
+    /// The bytes, lent. It takes no memory.
+    pub fn bytes(&self) -> &Bytes
+        ensures { result.now ≡ self.now.bytes }
+    {
+        &self.bytes
+    }
+
+    /// The same object again.
+    pub fn copy(&self, alloc: Global) -> Result<Node, NoMemory>
+        ensures { IfOk result (λ copied. copied ≡ self.now) }
+    {
+        let fields = self.fields.as_slice().to_vec(alloc)?;
+        let bytes = self.bytes.copy(alloc)?;
+        Ok(Node { fields, bytes })
+    }
+
+    /// Puts the identities that the fields hold behind those of the list, in the order of the fields.
+    /// After want of memory some of them may have been put there.
+    pub(crate) fn push_held(&self, pending: &mut Vec<Id>) -> Result<(), NoMemory>
+        ensures { OnOk result (pending.new.items ≡ pending.old.items ++ held_ids self.now) }
+    {
+        for field in self.fields.as_slice() {
+            if let Some(id) = field {
+                pending.push(*id)?;
+            }
+        }
+        Ok(())
+    }
 }
 
 /// A heap, seen as a finite map from identities to objects.
 #[derive(Drop)]
-pub(crate) struct Objects {
+pub struct Objects {
     nodes: BTreeMap<Id, Node>,
 }
 
@@ -62,6 +108,20 @@ impl Objects {
         Objects {
             nodes: BTreeMap::new(alloc),
         }
+    }
+
+    /// The object at the identity. It takes no memory.
+    pub fn get(&self, id: Id) -> Option<&Node>
+        ensures { option_map (λ node. node.now) result ≡ map.get self.now id }
+    {
+        self.nodes.get(&id)
+    }
+
+    /// Goes over the objects in ascending order of their identities. It takes no memory.
+    pub fn iter(&self) -> btree_map::Iter<'_, Id, Node>
+        ensures { result ≡ map.entries self.now }
+    {
+        self.nodes.iter()
     }
 
     /// Puts the object at the identity.

@@ -1,12 +1,15 @@
 ghost use Rattle.std.specs.Prelude.{◌≡◌, ◌<◌, OnOk, OnErr, IfOk};
 ghost use Rattle.std.specs.FinMap.{get};
 ghost use Rattle.pm_model.specs.World.{empty_world, held};
-ghost use Rattle.pm_model.specs.Answer.{answer, answer_new, answer_id, answer_root, answer_find};
+ghost use Rattle.pm_model.specs.Answer.{answer, answer_new, answer_data, answer_id, answer_root, answer_find, answer_save, answer_settle};
 
+use crate::graph::Graph;
 use crate::objects::{Node, Objects};
 use crate::registers::Registers;
 use crate::roots::Roots;
-use pm_types::{Bytes, Cmd, FIELDS, Id, LAST_ID, Name, NoMemory, OBJECT_BYTES, ROOTS, Reg, Reply};
+use pm_types::{
+    Bytes, Cmd, FIELDS, Id, LAST_COPY, LAST_ID, Name, NoMemory, OBJECT_BYTES, ROOTS, Reg, Reply,
+};
 use std::alloc::Global;
 use std::marker::Model;
 
@@ -18,6 +21,11 @@ pub struct Oracle {
     registers: Registers,
     // The next identity, 1 to 4,294,967,296.
     next: u64,
+    // The number of the copy that settled last, 0 where none did, and that copy.
+    settled: u32,
+    settled_copy: Graph,
+    // The number of the copy in progress, and that copy.
+    saving: Option<(u32, Graph)>,
 }
 
 impl Model for Oracle {
@@ -28,7 +36,7 @@ impl Model for Oracle {
 
     ghost coded = { world_code };
 
-    ghost view = { λ it. world_of it.objects it.roots it.registers it.next };
+    ghost view = { λ it. world_of it.objects it.roots it.registers it.next it.settled it.settled_copy it.saving };
 
     ghost invariant = { λ it. IsSound it.objects it.next };
 }
@@ -43,6 +51,9 @@ impl Oracle {
             roots: Roots::new(alloc),
             registers: Registers::new(alloc),
             next: 1,
+            settled: 0,
+            settled_copy: Graph::empty(alloc),
+            saving: None,
         }
     }
 
@@ -56,9 +67,12 @@ impl Oracle {
     {
         match cmd {
             Cmd::New { reg, count, bytes } => self.make(alloc, client, *reg, *count, bytes),
+            Cmd::Show { reg } => self.show(alloc, client, *reg),
             Cmd::IdOf { reg } => Ok(self.tell(client, *reg)),
             Cmd::Bind { name, reg } => self.bind(alloc, client, name, *reg),
             Cmd::Find { to, name } => self.find(client, *to, name),
+            Cmd::Save => self.save(alloc),
+            Cmd::Settle => Ok(self.settle()),
         }
     }
 
@@ -89,6 +103,19 @@ impl Oracle {
         }
         self.next += 1;
         Ok(Reply::Ident(id))
+    }
+
+    fn show(&self, alloc: Global, client: u32, reg: Reg) -> Result<Reply, NoMemory>
+        ensures { IfOk result (λ reply. (reply, self.now) ≡ answer_data self.now (held self.now client reg)) }
+    {
+        let Some(id) = self.registers.get(client, reg.number()) else {
+            return Ok(Reply::NoHandle);
+        };
+        let bytes = match self.objects.get(id) {
+            Some(node) => node.bytes().copy(alloc)?,
+            None => Bytes::from_vec(Vec::new(alloc)),
+        };
+        Ok(Reply::Shown(bytes))
     }
 
     fn tell(&self, client: u32, reg: Reg) -> Reply
@@ -126,5 +153,34 @@ impl Oracle {
         };
         self.registers.set(client, to.number(), id)?;
         Ok(Reply::Ident(id))
+    }
+
+    fn save(&mut self, alloc: Global) -> Result<Reply, NoMemory>
+        ensures reply { IfOk result (λ reply. reply ≡ (answer_save self.old self.old.saving).0) }
+        ensures world { OnOk result (self.new ≡ (answer_save self.old self.old.saving).1) }
+        ensures err { OnErr result (self.new ≡ self.old) }
+    {
+        if let Some((number, _)) = &self.saving {
+            return Ok(Reply::Busy(*number));
+        }
+        if self.settled >= LAST_COPY {
+            return Ok(Reply::SavesSpent);
+        }
+        let number = self.settled + 1;
+        let copy = Graph::copied(alloc, &self.objects, &self.roots, self.next)?;
+        self.saving = Some((number, copy));
+        Ok(Reply::Begun(number))
+    }
+
+    fn settle(&mut self) -> Reply
+        ensures reply { result ≡ (answer_settle self.old self.old.saving).0 }
+        ensures world { self.new ≡ (answer_settle self.old self.old.saving).1 }
+    {
+        let Some((number, copy)) = self.saving.take() else {
+            return Reply::Idle;
+        };
+        self.settled = number;
+        self.settled_copy = copy;
+        Reply::Saved(number)
     }
 }

@@ -1,9 +1,9 @@
-ghost use Rattle.std.specs.Prelude.{◌≡◌, OnOk, OnErr};
+ghost use Rattle.std.specs.Prelude.{◌≡◌, OnOk, OnErr, IfOk};
 ghost use Rattle.std.specs.FinMap as map;
 
 use pm_types::{Id, Name, NoMemory};
 use std::alloc::Global;
-use std::collections::BTreeMap;
+use std::collections::{BTreeMap, btree_map};
 use std::marker::Model;
 
 /// Names and what they stand for, seen as a finite map.
@@ -47,6 +47,31 @@ impl Roots {
         ensures { result ≡ map.get self.now name.now }
     {
         self.bound.get(name).copied()
+    }
+
+    /// Goes over the names in the order of their bytes, each with what it stands for. It takes no memory.
+    pub fn iter(&self) -> btree_map::Iter<'_, Name, Id>
+        ensures { result ≡ map.entries self.now }
+    {
+        self.bound.iter()
+    }
+
+    /// What the names stand for, in the order of the names' bytes.
+    pub fn ids(&self, alloc: Global) -> Result<Vec<Id>, NoMemory>
+        ensures { IfOk result (λ ids. ids.items ≡ map.values self.now) }
+    {
+        Ok(self.bound.values().copied().collect(alloc)?)
+    }
+
+    /// The same names again, each for what it stands for.
+    pub fn copy(&self, alloc: Global) -> Result<Roots, NoMemory>
+        ensures { IfOk result (λ copied. copied ≡ self.now) }
+    {
+        let mut copied = Roots::new(alloc);
+        for (name, id) in self.bound.iter() {
+            copied.bind(name.copy(alloc)?, *id)?;
+        }
+        Ok(copied)
     }
 
     /// Binds the name, in place of an earlier binding.

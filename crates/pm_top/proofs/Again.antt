@@ -3,7 +3,7 @@ use Rattle.std.proofs.Common.{◌≡◌, ℕ, ◌<◌, ◌^◌, List, [], ◌∷
 use Rattle.std.proofs.lemmas.Bool.{lt-ltb}
 use Rattle.pm_types.specs.Names.{IsName}
 use Rattle.pm_types.specs.declared.command.Cmd.{Cmd}
-use Rattle.pm_types.specs.declared.command.Cmd.TheVariants.{New, IdOf, Bind, Find}
+use Rattle.pm_types.specs.declared.command.Cmd.TheVariants.{New, Show, IdOf, Bind, Find, Save, Settle}
 use Rattle.pm_model.specs.declared.request.Request.{Request}
 use Rattle.pm_top.specs.Script.{words_of, HasSpelling, IsLine, line_words}
 use Rattle.pm_top.specs.Reading.{◌>>=◌, Words, is_name, number_at, client_at, register_at, name_at, nothing_at, new_at, id_at, root_at, find_at, command_at, request_at}
@@ -39,9 +39,12 @@ command_again : (cmd : Cmd) → HasSpelling cmd → command_at (words_of cmd) �
 unfolding command_at new_at id_at root_at find_at
 command_again (New reg count bytes) has =
     rw (register_again reg (decimal count ∷ codes "-" ∷ []) has.0, number_again count (codes "-" ∷ []) has.1, nothing_again []) (ap (λ (b : List ℕ). Some (New reg count b, [])) (sym has.2))
+command_again (Show reg) has = absurd has
 command_again (IdOf reg) has = rw (register_again reg [] has) refl
 command_again (Bind name reg) has = rw (name_again name (decimal reg ∷ []) has.0, register_again reg [] has.1) refl
 command_again (Find to name) has = rw (register_again to (name ∷ []) has.0, name_again name [] has.1) refl
+command_again Save has = absurd has
+command_again Settle has = absurd has
 
 -- the words of a line are read as that line
 pub request_again : (line : Request) → IsLine line → request_at (line_words line) ≡ Some (line, [])

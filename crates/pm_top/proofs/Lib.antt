@@ -6,6 +6,5 @@ pub mod Steps
 pub mod Found
 pub mod Again
 pub mod Lines
-pub mod MemoryLemmas
 pub mod Written
 pub mod Runs

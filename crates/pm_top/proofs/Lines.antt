@@ -7,7 +7,7 @@ use Rattle.std.proofs.lemmas.List.Splits.{slice_split_none, slice_split_at, join
 use Rattle.std.specs.List.{AllByRecursion, list_all, flat_map, join_with_byte, onto_first}
 use Rattle.pm_types.specs.Names.{is_name_byte, IsName}
 use Rattle.pm_types.specs.declared.command.Cmd.{Cmd}
-use Rattle.pm_types.specs.declared.command.Cmd.TheVariants.{New, IdOf, Bind, Find}
+use Rattle.pm_types.specs.declared.command.Cmd.TheVariants.{New, Show, IdOf, Bind, Find, Save, Settle}
 use Rattle.pm_types.specs.declared.entry.Entry.{Entry}
 use Rattle.pm_model.specs.declared.request.Request.{Request}
 use Rattle.pm_model.specs.Journal.{requests_of, commands_of, Serves}
@@ -50,9 +50,12 @@ name_plain name named = implied is_name_byte (λ b. nat_lt 32 b) name_byte_plain
 words_plain : (cmd : Cmd) → HasSpelling cmd → AllByRecursion IsPlain (words_of cmd)
 unfolding IsPlain
 words_plain (New reg count bytes) has = (refl, (decimal_plain reg (omega (arith, has.0)), (decimal_plain count has.1, (refl, tt))))
+words_plain (Show reg) has = absurd has
 words_plain (IdOf reg) has = (refl, (decimal_plain reg (omega (arith, has)), tt))
 words_plain (Bind name reg) has = (refl, (name_plain name has.0, (decimal_plain reg (omega (arith, has.1)), tt)))
 words_plain (Find to name) has = (refl, (decimal_plain to (omega (arith, has.0)), (name_plain name has.1, tt)))
+words_plain Save has = absurd has
+words_plain Settle has = absurd has
 
 line_plain : (line : Request) → IsLine line → AllByRecursion IsPlain (line_words line)
 line_plain line is = (decimal_plain line.client (omega (arith, is.client)), words_plain line.cmd is.cmd)

@@ -1,7 +1,6 @@
 pub mod Script
 pub mod Parts
 pub mod Reading
-pub mod Memories
 pub mod Writing
 pub mod Events
 pub mod Running

@@ -3,24 +3,30 @@ use Rattle.std.specs.Prelude.{◌≡◌, ℕ, ◌^◌, ◌<◌, ◌≤◌, List,
 use Rattle.std.specs.List.{AllByRecursion, flat_map, join_with_byte}
 use Rattle.pm_types.specs.declared.limits.TheConstants.{CLIENTS, REGISTERS, SCRIPT_LINES, SOURCE_BYTES}
 use Rattle.pm_types.specs.declared.command.Cmd.{Cmd}
-use Rattle.pm_types.specs.declared.command.Cmd.TheVariants.{New, IdOf, Bind, Find}
+use Rattle.pm_types.specs.declared.command.Cmd.TheVariants.{New, Show, IdOf, Bind, Find, Save, Settle}
 use Rattle.pm_types.specs.Names.{IsName}
 use Rattle.pm_top.specs.Parts.{parts_of}
 use Rattle.pm_model.specs.declared.request.Request.{Request}
 
--- the words of a command
+-- the words of a command; `data`, `save` and `settle` have none yet
 abbrev pub words_of : Cmd → List (List ℕ)
 words_of (New reg count bytes) = codes "new" ∷ decimal reg ∷ decimal count ∷ codes "-" ∷ []
+words_of (Show reg) = []
 words_of (IdOf reg) = codes "id" ∷ decimal reg ∷ []
 words_of (Bind name reg) = codes "root" ∷ name ∷ decimal reg ∷ []
 words_of (Find to name) = codes "find" ∷ decimal to ∷ name ∷ []
+words_of Save = []
+words_of Settle = []
 
 -- the commands that have a spelling: registers, counts and names within their limits, and an object of no bytes
 abbrev pub HasSpelling : Cmd → Type 0
 HasSpelling (New reg count bytes) = (reg < REGISTERS) × (count < 2 ^ 32) × (bytes ≡ [])
+HasSpelling (Show reg) = ⊥
 HasSpelling (IdOf reg) = reg < REGISTERS
 HasSpelling (Bind name reg) = IsName name × (reg < REGISTERS)
 HasSpelling (Find to name) = (to < REGISTERS) × IsName name
+HasSpelling Save = ⊥
+HasSpelling Settle = ⊥
 
 -- a line: a client from 0 to 7, and a command that has a spelling
 pub record IsLine (line : Request) : Type 0 where

@@ -6,7 +6,6 @@ mod ended;
 mod event;
 mod fault;
 mod laws;
-mod memory;
 mod output;
 mod parts;
 mod reply;

@@ -1,6 +1,7 @@
 ghost use Rattle.std.specs.Prelude.{◌≡◌, List, ℕ, [], ◌+◌, ◌≤◌, ◌++◌, vec_len, vec_capacity, OnOk, OnErr};
 ghost use Rattle.pm_types.specs.Counts.{Rose};
 ghost use Rattle.pm_model.specs.Text.{reply_line};
+ghost use Rattle.pm_memory.specs.Memories.{IsShort};
 ghost use Rattle.pm_top.specs.Writing.{Wrote, WrotePart};
 
 use crate::reply::append_line;
@@ -11,7 +12,7 @@ use pm_types::Entry;
 pub(crate) const BUFFER_BYTES: usize = 65_536;
 
 // The most bytes of a reply line.
-const LINE_BYTES: usize = 32;
+const LINE_BYTES: usize = 8224;
 
 /// Puts what is in the buffer, and empties it.
 pub(crate) fn flush<K: Sink>(sink: &mut K, out: &mut Vec<u8>) -> Result<(), Failed>
@@ -58,7 +59,8 @@ pub(crate) fn add_line<K: Sink>(
     out: &mut Vec<u8>,
     entry: &Entry,
 ) -> Result<(), Failed>
-    requires { BUFFER_BYTES ≤ vec_capacity out.old }
+    requires room { BUFFER_BYTES ≤ vec_capacity out.old }
+    requires short { IsShort entry.now.reply }
     ensures wrote { OnOk result ((before text : List ℕ) → Wrote before (K.written sink.old) out.old.items text
         → Wrote before (K.written sink.new) out.new.items (text ++ reply_line entry.now)) }
     ensures part { OnErr result ((before text : List ℕ) → Wrote before (K.written sink.old) out.old.items text

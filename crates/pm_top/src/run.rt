@@ -7,9 +7,9 @@ ghost use Rattle.pm_top.specs.Running.{Runs, RanSome};
 ghost use Rattle.pm_top.specs.Writing.{Wrote, WrotePart};
 
 use crate::event::make_event;
-use crate::memory::Memory;
 use crate::output::{BUFFER_BYTES, add_line, flush};
 use pm_io::Sink;
+use pm_memory::Memory;
 use pm_model::Request;
 use pm_types::Entry;
 use std::alloc::Global;

@@ -8,12 +8,18 @@ use std::alloc::Global;
 pub enum Cmd {
     /// Make an object of `count` null fields and these bytes, and hold it in `reg`.
     New { reg: Reg, count: u32, bytes: Bytes },
+    /// Tell the bytes of the object that `reg` holds.
+    Show { reg: Reg },
     /// Tell the identity of what `reg` holds.
     IdOf { reg: Reg },
     /// Bind the name to what `reg` holds, in place of an earlier binding.
     Bind { name: Name, reg: Reg },
     /// Let `to` hold what the name is bound to.
     Find { to: Reg, name: Name },
+    /// Begin a copy of all that the names reach.
+    Save,
+    /// Settle the copy that was begun last.
+    Settle,
 }
 
 impl Cmd {
@@ -30,6 +36,7 @@ impl Cmd {
                     bytes,
                 })
             }
+            Cmd::Show { reg } => Ok(Cmd::Show { reg: *reg }),
             Cmd::IdOf { reg } => Ok(Cmd::IdOf { reg: *reg }),
             Cmd::Bind { name, reg } => {
                 let name = name.copy(alloc)?;
@@ -39,6 +46,8 @@ impl Cmd {
                 let name = name.copy(alloc)?;
                 Ok(Cmd::Find { to: *to, name })
             }
+            Cmd::Save => Ok(Cmd::Save),
+            Cmd::Settle => Ok(Cmd::Settle),
         }
     }
 }

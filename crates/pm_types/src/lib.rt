@@ -5,6 +5,7 @@ mod address;
 mod bytes;
 mod command;
 mod entry;
+mod fault;
 mod limits;
 mod name;
 mod no_memory;
@@ -17,9 +18,10 @@ pub use address::Addr;
 pub use bytes::Bytes;
 pub use command::Cmd;
 pub use entry::Entry;
+pub use fault::{InitFault, OpenFault};
 pub use limits::{
-    CLIENTS, FIELDS, LAST_ID, NAME_BYTES, OBJECT_BYTES, REGISTERS, ROOTS, SCRIPT_LINES,
-    SOURCE_BYTES,
+    CLIENTS, FIELDS, LAST_COPY, LAST_ID, NAME_BYTES, OBJECT_BYTES, PAGE_BYTES, REGISTERS, ROOTS,
+    SCRIPT_LINES, SOURCE_BYTES,
 };
 pub use name::{Name, NameFault};
 pub use no_memory::NoMemory;

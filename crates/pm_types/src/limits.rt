@@ -19,6 +19,12 @@ pub const ROOTS: usize = 4096;
 /// The most bytes of a name. It has at least one.
 pub const NAME_BYTES: usize = 64;
 
+/// The last number of a copy: once it settled, no further copy can be begun.
+pub const LAST_COPY: u32 = 4_294_967_295;
+
+/// How many bytes a page of a store has. Page p begins at byte `PAGE_BYTES * p`.
+pub const PAGE_BYTES: usize = 16_384;
+
 /// The most bytes of a script.
 pub const SOURCE_BYTES: usize = 268_435_456;
 

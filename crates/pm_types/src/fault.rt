@@ -1,0 +1,67 @@
+//! Why a store is not opened, and why none is made.
+
+use thiserror::Error;
+
+/// Why bytes are not opened as a store. The first that applies is the one that is answered.
+#[derive(Clone, Copy, Debug, PartialEq, Eq, Error)]
+pub enum OpenFault {
+    /// There are fewer than 32,768 bytes, neither of the two header pages is open, or the open one that
+    /// is current does not begin as a header does.
+    #[error("not a store")]
+    NotAStore,
+    /// The format has this version, which this program does not read.
+    #[error("version {0}")]
+    Version(u32),
+    /// What stands on this page has another digest than the one that is kept of it.
+    #[error("page {page} is damaged")]
+    Damaged {
+        /// The page, counted from 0.
+        page: u64,
+        /// The SHA-256 that is kept.
+        kept: [u8; 32],
+        /// The SHA-256 of what stands there.
+        found: [u8; 32],
+    },
+    /// A field of this page has a value that it can not have.
+    #[error("page {page} is malformed at byte {at}")]
+    Malformed {
+        /// The page, counted from 0.
+        page: u64,
+        /// The place of the field's first byte in the page, 0 to 16,384: a record that begins at the
+        /// page's end has none of its bytes there.
+        at: u32,
+    },
+    /// The header is sound, and no copy that this program reads stands behind it.
+    #[error("store not read")]
+    Broken,
+    /// The disk failed: its count of failed calls rose.
+    #[error("disk fault")]
+    Disk {
+        /// The count of failed calls before.
+        before: u64,
+        /// The count of failed calls after.
+        after: u64,
+    },
+    /// Memory ran out.
+    #[error("no memory")]
+    Memory,
+}
+
+/// Why no store is made on a disk.
+#[derive(Clone, Copy, Debug, PartialEq, Eq, Error)]
+pub enum InitFault {
+    /// The disk holds this number of bytes, which is over 0. They are as they were.
+    #[error("not empty: {0} bytes")]
+    NotEmpty(u64),
+    /// The disk failed: its count of failed calls rose.
+    #[error("disk fault")]
+    Disk {
+        /// The count of failed calls before.
+        before: u64,
+        /// The count of failed calls after.
+        after: u64,
+    },
+    /// Memory ran out.
+    #[error("no memory")]
+    Memory,
+}
