@@ -22,11 +22,11 @@ use Rattle.pm_layout.proofs.Texts.{Stands-split, Stands-end, number_is, byte_is}
 -- ---- fields
 
 -- the two numbers of an address
-record IsRead (bytes : List ℕ) (p car slot : ℕ) : Type 0 where
-  car_is : number_from 8 bytes p ≡ car
-  slot_is : number_from 4 bytes (p + 8) ≡ slot
+pub record IsRead (bytes : List ℕ) (p car slot : ℕ) : Type 0 where
+  pub car_is : number_from 8 bytes p ≡ car
+  pub slot_is : number_from 4 bytes (p + 8) ≡ slot
 
-address_again : (bytes : List ℕ) (p q car slot : ℕ) → p ≤ length bytes → car < 2 ^ 64 → slot < 2 ^ 32 → Stands bytes p (big_bytes 8 car ++ big_bytes 4 slot) q → IsRead bytes p car slot
+pub address_again : (bytes : List ℕ) (p q car slot : ℕ) → p ≤ length bytes → car < 2 ^ 64 → slot < 2 ^ 32 → Stands bytes p (big_bytes 8 car ++ big_bytes 4 slot) q → IsRead bytes p car slot
 address_again bytes p q car slot start small_car small_slot s =
     let parts = Stands-split bytes (big_bytes 8 car) (big_bytes 4 slot) p (p + 8) q start refl s in
     record { car_is = number_is 8 bytes p (p + 8) car small_car parts.first; slot_is = number_is 4 bytes (p + 8) q slot small_slot parts.second }

@@ -66,7 +66,7 @@ cut_kind len before text some =
 cut_length : (len : ℕ) (before text : List ℕ) → len ≤ length text → length (before ++ take len text) ≡ length before + len
 cut_length len before text le = omega (arith, length-append before (take len text), length-take len text)
 
-end_cut : (bytes : List ℕ) (at : ℕ) → (13 + at ≤ length bytes → length bytes < live_end bytes at) → end_at bytes at ≡ Err (Short at)
+pub end_cut : (bytes : List ℕ) (at : ℕ) → (13 + at ≤ length bytes → length bytes < live_end bytes at) → end_at bytes at ≡ Err (Short at)
 unfolding end_at
 end_cut bytes at short =
     let two = cond (ltb (length bytes) (live_end bytes at)) (Err (Short at)) (Ok (live_end bytes at)) in
@@ -97,12 +97,12 @@ unfolding moved_at
 moved_cut bytes at lt = holds (ltb (length bytes) (at + 13)) (Err (Short at)) (target_at bytes (at + 1) >>= λ to. Ok (Moved to, at + 13)) (lt-ltb _ _ lt)
 
 -- the first test of a slot
-nothing_left : (most : ℕ) (bytes : List ℕ) (at : ℕ) → length bytes ≤ at → slot_at most bytes at ≡ Err (Short at)
+pub nothing_left : (most : ℕ) (bytes : List ℕ) (at : ℕ) → length bytes ≤ at → slot_at most bytes at ≡ Err (Short at)
 unfolding slot_at
 nothing_left most bytes at le = holds (leb (length bytes) at) (Err (Short at)) (cond (eqb (get_or bytes at 0) 1) (live_at most bytes at) (cond (eqb (get_or bytes at 0) 2) (moved_at bytes at) (Err (Kind at (get_or bytes at 0))))) (le-leb _ _ le)
 
 -- the kind chooses the reader
-kind_live : (most : ℕ) (bytes : List ℕ) (at : ℕ) → at < length bytes → get_or bytes at 0 ≡ 1 → slot_at most bytes at ≡ live_at most bytes at
+pub kind_live : (most : ℕ) (bytes : List ℕ) (at : ℕ) → at < length bytes → get_or bytes at 0 ≡ 1 → slot_at most bytes at ≡ live_at most bytes at
 unfolding slot_at
 kind_live most bytes at lt kind =
     let chosen : ℕ → Result (Slot × ℕ) LayoutFault = λ k. cond (eqb k 1) (live_at most bytes at) (cond (eqb k 2) (moved_at bytes at) (Err (Kind at k))) in

@@ -20,7 +20,7 @@ use Rattle.pm_layout.proofs.Texts.{Stands-then, number_stands, byte_stands, betw
 -- ---- what is read is spelled so
 
 -- the twelve bytes of an address
-address_stands : (bytes : List ℕ) (p q : ℕ) → p + 12 ≡ q → q ≤ length bytes → IsBytes bytes → Stands bytes p (address (address_at bytes p)) q
+pub address_stands : (bytes : List ℕ) (p q : ℕ) → p + 12 ≡ q → q ≤ length bytes → IsBytes bytes → Stands bytes p (address (address_at bytes p)) q
 unfolding address
 address_stands bytes p q e inside fits =
     Stands-then bytes (big_bytes 8 (number_from 8 bytes p)) (big_bytes 4 (number_from 4 bytes (p + 8))) p (p + 8) q
@@ -85,7 +85,7 @@ fields_take (suc n) bytes p q fs e inside fits read =
       cars = (first.1, others.cars);
     })
 
-end_takes : (bytes : List ℕ) (at end : ℕ) → end_at bytes at ≡ Ok end → (live_end bytes at ≡ end) × (end ≤ length bytes)
+pub end_takes : (bytes : List ℕ) (at end : ℕ) → end_at bytes at ≡ Ok end → (live_end bytes at ≡ end) × (end ≤ length bytes)
 unfolding end_at
 end_takes bytes at end read =
     let g = guard_ok (ltb (length bytes) (at + 13)) (Short at) (cond (ltb (length bytes) (live_end bytes at)) (Err (Short at)) (Ok (live_end bytes at))) end read in
@@ -94,7 +94,7 @@ end_takes bytes at end read =
     let inside : live_end bytes at ≤ length bytes = ltb-false _ _ h.0 in
     (e, subst (λ (k : ℕ). k ≤ length bytes) e inside)
 
-ident_takes : (bytes : List ℕ) (p id : ℕ) → ident_at bytes p ≡ Ok id → (number_from 8 bytes p ≡ id) × (0 < id) × (id ≤ LAST_ID)
+pub ident_takes : (bytes : List ℕ) (p id : ℕ) → ident_at bytes p ≡ Ok id → (number_from 8 bytes p ≡ id) × (0 < id) × (id ≤ LAST_ID)
 unfolding ident_at
 ident_takes bytes p id read =
     let n = number_from 8 bytes p in
@@ -104,7 +104,7 @@ ident_takes bytes p id read =
     let P : ℕ → Type 0 = λ k. (n ≡ k) × (0 < k) × (k ≤ LAST_ID) in
     subst P e (refl, not_zero n both.0, ltb-false LAST_ID n both.1)
 
-field_count_takes : (most : ℕ) (bytes : List ℕ) (p n : ℕ) → field_count_at most bytes p ≡ Ok n → (number_from 2 bytes p ≡ n) × (n ≤ most)
+pub field_count_takes : (most : ℕ) (bytes : List ℕ) (p n : ℕ) → field_count_at most bytes p ≡ Ok n → (number_from 2 bytes p ≡ n) × (n ≤ most)
 unfolding field_count_at
 field_count_takes most bytes p n read =
     let m = number_from 2 bytes p in

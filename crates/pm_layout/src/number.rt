@@ -1,27 +1,78 @@
-// Numbers at places of bytes, the highest byte first.
+// Numbers in bytes, the highest byte first: read at a place, and appended.
 
 ghost use Rattle.std.specs.Prelude.{◌≡◌, ◌+◌, ◌≤◌, length};
+ghost use Rattle.byteorder.specs.Endian.{big_bytes};
 ghost use Rattle.pm_layout.specs.Reading.{number_from};
+ghost use Rattle.pm_layout.specs.Room.{HasRoom, Appends};
 
 use byteorder::{BigEndian, ByteOrder};
 
-pub(crate) fn u16_at(bytes: &[u8], place: usize) -> u16
+/// The number in the two bytes from a place on, which are inside the bytes. It takes no memory.
+pub fn u16_at(bytes: &[u8], place: usize) -> u16
     requires { place + 2 ≤ length bytes.now }
     ensures { result ≡ number_from 2 bytes.now place }
 {
     BigEndian::read_u16(&bytes[place..])
 }
 
-pub(crate) fn u32_at(bytes: &[u8], place: usize) -> u32
+/// The number in the four bytes from a place on, which are inside the bytes. It takes no memory.
+pub fn u32_at(bytes: &[u8], place: usize) -> u32
     requires { place + 4 ≤ length bytes.now }
     ensures { result ≡ number_from 4 bytes.now place }
 {
     BigEndian::read_u32(&bytes[place..])
 }
 
-pub(crate) fn u64_at(bytes: &[u8], place: usize) -> u64
+/// The number in the eight bytes from a place on, which are inside the bytes. It takes no memory.
+pub fn u64_at(bytes: &[u8], place: usize) -> u64
     requires { place + 8 ≤ length bytes.now }
     ensures { result ≡ number_from 8 bytes.now place }
 {
     BigEndian::read_u64(&bytes[place..])
+}
+
+/// Appends bytes, which there is room for. It takes no memory.
+pub fn put_bytes(out: &mut Vec<u8>, bytes: &[u8])
+    requires { HasRoom out.old (length bytes.now) }
+    ensures { Appends out.old out.new bytes.now }
+{
+    out.extend_from_slice(bytes).unwrap();
+}
+
+/// Appends a number of one byte, which there is room for. It takes no memory.
+pub fn put_u8(out: &mut Vec<u8>, byte: u8)
+    requires { HasRoom out.old 1 }
+    ensures { Appends out.old out.new (big_bytes 1 byte) }
+{
+    put_bytes(out, &[byte]);
+}
+
+/// Appends a number of two bytes, which there is room for. It takes no memory.
+pub fn put_u16(out: &mut Vec<u8>, number: u16)
+    requires { HasRoom out.old 2 }
+    ensures { Appends out.old out.new (big_bytes 2 number) }
+{
+    let mut bytes = [0; 2];
+    BigEndian::write_u16(&mut bytes, number);
+    put_bytes(out, &bytes);
+}
+
+/// Appends a number of four bytes, which there is room for. It takes no memory.
+pub fn put_u32(out: &mut Vec<u8>, number: u32)
+    requires { HasRoom out.old 4 }
+    ensures { Appends out.old out.new (big_bytes 4 number) }
+{
+    let mut bytes = [0; 4];
+    BigEndian::write_u32(&mut bytes, number);
+    put_bytes(out, &bytes);
+}
+
+/// Appends a number of eight bytes, which there is room for. It takes no memory.
+pub fn put_u64(out: &mut Vec<u8>, number: u64)
+    requires { HasRoom out.old 8 }
+    ensures { Appends out.old out.new (big_bytes 8 number) }
+{
+    let mut bytes = [0; 8];
+    BigEndian::write_u64(&mut bytes, number);
+    put_bytes(out, &bytes);
 }

@@ -1,12 +1,11 @@
 ghost use Rattle.std.specs.Prelude.{◌≡◌, ◌+◌, ◌*◌, ◌≤◌, ◌++◌, length, OnOk, OnErr, IsOk};
 ghost use Rattle.std.specs.Vec.{vec_len, vec_capacity};
 ghost use Rattle.std.specs.List.{flat_map};
-ghost use Rattle.byteorder.specs.Endian.{big_bytes};
 ghost use Rattle.pm_layout.specs.Spelling.{HasSpelling, IsWithinLimits, address, field, spelling, slot_size};
 ghost use Rattle.pm_layout.specs.Room.{HasRoom, Appends};
 
 use crate::kind::{LIVE, MOVED};
-use byteorder::{BigEndian, ByteOrder};
+use crate::number::{put_bytes, put_u8, put_u16, put_u32, put_u64};
 use pm_types::{Addr, FIELDS, NoMemory, Object, Slot};
 
 /// How many bytes the slot is spelled in. It takes no memory.
@@ -25,49 +24,9 @@ pub fn size(slot: &Slot) -> u32
     }
 }
 
-fn put_bytes(out: &mut Vec<u8>, bytes: &[u8])
-    requires { HasRoom out.old (length bytes.now) }
-    ensures { Appends out.old out.new bytes.now }
-{
-    out.extend_from_slice(bytes).unwrap();
-}
-
-fn put_u8(out: &mut Vec<u8>, byte: u8)
-    requires { HasRoom out.old 1 }
-    ensures { Appends out.old out.new (big_bytes 1 byte) }
-{
-    put_bytes(out, &[byte]);
-}
-
-fn put_u16(out: &mut Vec<u8>, number: u16)
-    requires { HasRoom out.old 2 }
-    ensures { Appends out.old out.new (big_bytes 2 number) }
-{
-    let mut bytes = [0; 2];
-    BigEndian::write_u16(&mut bytes, number);
-    put_bytes(out, &bytes);
-}
-
-fn put_u32(out: &mut Vec<u8>, number: u32)
-    requires { HasRoom out.old 4 }
-    ensures { Appends out.old out.new (big_bytes 4 number) }
-{
-    let mut bytes = [0; 4];
-    BigEndian::write_u32(&mut bytes, number);
-    put_bytes(out, &bytes);
-}
-
-fn put_u64(out: &mut Vec<u8>, number: u64)
-    requires { HasRoom out.old 8 }
-    ensures { Appends out.old out.new (big_bytes 8 number) }
-{
-    let mut bytes = [0; 8];
-    BigEndian::write_u64(&mut bytes, number);
-    put_bytes(out, &bytes);
-}
-
+/// Appends an address, of twelve bytes, which there is room for. It takes no memory.
 #[tactic(auto, unfolding(crate::specs::Spelling::address))]
-fn put_address(out: &mut Vec<u8>, to: &Addr)
+pub fn put_address(out: &mut Vec<u8>, to: &Addr)
     requires { HasRoom out.old 12 }
     ensures { Appends out.old out.new (address to.now) }
 {

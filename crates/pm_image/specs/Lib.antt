@@ -1,0 +1,12 @@
+pub mod Steps
+pub mod Answers
+pub mod CarPages
+pub mod CarAnswers
+pub mod CatalogPages
+pub mod CatalogReading
+pub mod Meeting
+pub mod Opening
+pub mod Graphs
+pub mod Stands
+pub mod Blank
+pub mod First

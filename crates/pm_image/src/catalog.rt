@@ -1,0 +1,78 @@
+//! A page of the catalog, which lists the cars and the roots of a copy.
+
+ghost use Rattle.std.specs.Prelude.{◌≡◌};
+
+use pm_types::{Addr, Name};
+use std::marker::Model;
+
+/// An entry of a catalog.
+#[derive(Debug, Drop)]
+pub enum CatEntry {
+    /// A car of the copy.
+    Car {
+        /// The number of the car, from 1.
+        car: u64,
+        /// The number of the train that it is in.
+        train: u64,
+        /// The page where it stands, counted from 0.
+        page: u64,
+        /// The SHA-256 of that page.
+        digest: [u8; 32],
+    },
+    /// A root of the copy.
+    Root {
+        /// Its name.
+        name: Name,
+        /// The object that it stands for.
+        at: Addr,
+    },
+}
+
+/// The entries of a catalog page, seen as a list.
+#[derive(Debug, Drop)]
+pub struct EntryList {
+    items: Vec<CatEntry>,
+}
+
+impl Model for EntryList {
+    ghost use Rattle.std.specs.Prelude.{List};
+    ghost use Rattle.pm_image.specs.declared.catalog.CatEntry.{CatEntry};
+
+    ghost Value = { List CatEntry };
+
+    ghost view = { λ list. list.items.items };
+}
+
+impl EntryList {
+    /// These entries. It takes no memory.
+    pub fn from_vec(items: Vec<CatEntry>) -> Self
+        ensures { result ≡ items.items }
+    {
+        EntryList { items }
+    }
+
+    /// The entries, lent. It takes no memory.
+    pub fn as_slice(&self) -> &[CatEntry]
+        ensures { result.now ≡ self.now }
+    {
+        self.items.as_slice()
+    }
+
+    /// The entries, given back. It takes no memory.
+    pub fn into_vec(self) -> Vec<CatEntry>
+        ensures { result.items ≡ self }
+    {
+        self.items
+    }
+}
+
+/// What a catalog page says.
+#[derive(Debug, Drop)]
+pub struct CatalogPage {
+    /// The next page of the catalog, counted from 0; 0 where there is none.
+    pub next: u64,
+    /// The SHA-256 of the next page; all 0 where there is none.
+    pub digest: [u8; 32],
+    /// The entries of this page.
+    pub entries: EntryList,
+}
