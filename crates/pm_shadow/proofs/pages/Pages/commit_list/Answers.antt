@@ -1,0 +1,16 @@
+use Rattle.pm_shadow.specs.Uses.{use_of}
+use Rattle.pm_shadow.specs.Pages.{state}
+use Rattle.pm_shadow.proofs.SoundLemmas.{sound_listed}
+use Rattle.pm_shadow.proofs.pages.Pages.commit_list.Goals as goal
+
+pub listing-requires : goal.listing-requires
+listing-requires g c k d lt = (c.requires k d lt).from_2
+
+pub invariant_of-self : goal.invariant_of-self
+invariant_of-self g c =
+    let it = c.args.self.now in
+    record {
+      is_slot = it.is_slot;
+      few = it.few;
+      sound = λ fine bytes told. sound_listed (state it) c.args.pages.now (use_of c.in_ok-table.table.uses.items) bytes (g.D.Disk.image it.disk) c.requires c.in_ok-table.ensures (it.sound fine bytes told);
+    }

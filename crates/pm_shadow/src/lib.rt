@@ -1,0 +1,19 @@
+//! The pages of a store on a disk: how a copy is written beside the current one, and becomes current by one byte.
+#![tactic(auto)]
+
+mod attaching;
+mod law;
+mod looking;
+mod making;
+mod page_use;
+mod pages;
+mod runs;
+mod slots;
+mod table;
+#[cfg(test)]
+mod tests;
+
+pub use law::a_header_in_the_picked_slot_is_current;
+pub use making::init;
+pub use page_use::PageUse;
+pub use pages::Pages;

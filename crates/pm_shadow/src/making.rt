@@ -1,0 +1,130 @@
+//! Making a store.
+ghost use Rattle.std.specs.Prelude.{◌≡◌, ◌+◌, ◌*◌, ◌-◌, ◌^◌, ◌≤◌, [], List, ℕ, Some, length, option_map, IfOk, IfErr, OnOk, OnErr};
+ghost use Rattle.pm_disk.specs.Writes.{written};
+ghost use Rattle.pm_disk.specs.Disk.{IfTold, SameImages, HasCause};
+ghost use Rattle.pm_layout.specs.Headers.{header_spelling};
+ghost use Rattle.pm_image.specs.CarPages.{padded};
+ghost use Rattle.pm_image.specs.Opening.{open_gate};
+ghost use Rattle.pm_image.specs.Blank.{blank_header, blank_catalog_page, blank_store};
+ghost use Rattle.pm_shadow.specs.Images.{place_of, with_gate};
+ghost use Rattle.pm_shadow.specs.Init.{IsInitFault, IsInitFaultOf, UnlessFailed};
+
+use crate::runs::write_and_sync;
+use crate::slots::{OPEN, gate_place};
+use pm_disk::{Disk, DiskFailed};
+use pm_layout::{Header, digest, write_header};
+use pm_types::{InitFault, NoMemory, PAGE_BYTES};
+use std::alloc::Global;
+
+/// How many bytes of a catalog page without entries are used.
+const BLANK_CATALOG: usize = 46;
+
+/// A page that begins with these bytes, and is zero behind them.
+fn padded_page(alloc: Global, used: &[u8]) -> Result<Vec<u8>, NoMemory>
+    requires { length used.now ≤ PAGE_BYTES }
+    ensures items { IfOk result (λ page. page.items ≡ padded used.now) }
+    ensures len { IfOk result (λ page. length page.items ≡ PAGE_BYTES) }
+{
+    let mut page = Vec::from_slice(alloc, used)?;
+    page.resize(PAGE_BYTES, 0)?;
+    Ok(page)
+}
+
+/// A catalog page without entries.
+fn catalog_page(alloc: Global) -> Result<Vec<u8>, NoMemory>
+    ensures items { IfOk result (λ page. page.items ≡ blank_catalog_page) }
+    ensures len { IfOk result (λ page. length page.items ≡ PAGE_BYTES) }
+{
+    let mut used = [0; BLANK_CATALOG];
+    used[..4].copy_from_slice(b"PCAT");
+    let page = padded_page(alloc, &used)?;
+    Ok(page)
+}
+
+/// The page of the first header, whose gate is closed.
+fn header_page(alloc: Global, catalog: &[u8]) -> Result<Vec<u8>, NoMemory>
+    requires { catalog.now ≡ blank_catalog_page }
+    ensures items { IfOk result (λ page. page.items ≡ padded (header_spelling blank_header)) }
+    ensures len { IfOk result (λ page. length page.items ≡ PAGE_BYTES) }
+{
+    let header = Header {
+        version: 1,
+        epoch: 0,
+        next: 1,
+        first: 2,
+        digest: digest(catalog),
+    };
+    padded_page(alloc, &write_header(&header))
+}
+
+/// Three pages, a sync, the gate of the first one, and a sync.
+fn write_pages<D: Disk>(
+    disk: &mut D,
+    zeroth: &[u8],
+    first: &[u8],
+    second: &[u8],
+) -> Result<(), DiskFailed>
+    requires zeroth { length zeroth.now ≡ PAGE_BYTES }
+    requires first { length first.now ≡ PAGE_BYTES }
+    requires second { length second.now ≡ PAGE_BYTES }
+    ensures written { OnOk result (IfTold (D.contents disk.old) (λ bytes. D.contents disk.new ≡ Some
+        (with_gate 0 open_gate (written (place_of 2) second.now (written (place_of 1) first.now (written 0 zeroth.now bytes)))))) }
+    ensures only { OnOk result (IfTold (D.contents disk.new) (λ told. (left : List ℕ) → D.image disk.new left → left ≡ told)) }
+    ensures cause { HasCause (D.count disk.old) (D.count disk.new) result }
+{
+    disk.write_at(0, zeroth)?;
+    disk.write_at(PAGE_BYTES as u64, first)?;
+    write_and_sync(disk, 2 * PAGE_BYTES as u64, second)?;
+    write_and_sync(disk, gate_place(0), &[OPEN])?;
+    Ok(())
+}
+
+/// Writes a store without an object and without a root: three pages, of which the first has the header.
+fn make<D: Disk>(alloc: Global, disk: &mut D) -> Result<Result<(), DiskFailed>, NoMemory>
+    ensures blank { IfOk result (λ made. OnOk made (IfTold (D.contents disk.old) (λ bytes. length bytes ≡ 0 → D.contents disk.new ≡ Some blank_store))) }
+    ensures only { IfOk result (λ made. OnOk made (IfTold (D.contents disk.new) (λ told. (left : List ℕ) → D.image disk.new left → left ≡ told))) }
+    ensures cause { IfOk result (λ made. HasCause (D.count disk.old) (D.count disk.new) made) }
+    ensures still { OnErr result (disk.new ≡ disk.old) }
+{
+    let second = catalog_page(alloc)?;
+    let zeroth = header_page(alloc, &second)?;
+    let first = padded_page(alloc, &[])?;
+    Ok(write_pages(disk, &zeroth, &first, &second))
+}
+
+/// Makes a store on an empty disk: copy 0, of no object and no root, on three pages of 16,384 bytes. The
+/// disk is asked for its length, the three pages are written with the gate of the header closed, and
+/// synced, and the gate is opened and synced.
+///
+/// # Errors
+///
+/// `NotEmpty` where the disk holds a byte, `Disk` where it failed, and `Memory` before anything is
+/// written. In the first case and in the last one nothing was written.
+pub fn init<D: Disk>(alloc: Global, disk: &mut D) -> Result<(), InitFault>
+    ensures blank { OnOk result (IfTold (D.contents disk.old) (λ bytes. D.contents disk.new ≡ Some blank_store)) }
+    ensures empty { OnOk result (IfTold (D.contents disk.old) (λ bytes. length bytes ≡ 0)) }
+    ensures only { OnOk result (IfTold (D.contents disk.new) (λ told. (left : List ℕ) → D.image disk.new left → left ≡ told)) }
+    ensures count { OnOk result (D.count disk.new ≡ D.count disk.old) }
+    ensures fault { IfErr result (λ fault. IfTold (D.contents disk.old) (λ bytes. IsInitFaultOf bytes fault)) }
+    ensures cause { IfErr result (IsInitFault (D.count disk.old) (D.count disk.new)) }
+    ensures still { IfErr result (λ fault. UnlessFailed fault (D.contents disk.new ≡ D.contents disk.old)) }
+    ensures images { IfErr result (λ fault. UnlessFailed fault (SameImages (D.image disk.old) (D.image disk.new))) }
+{
+    let before = disk.faults();
+    match disk.len() {
+        Ok(0) => {}
+        Ok(n) => return Err(InitFault::NotEmpty(n)),
+        Err(DiskFailed) => {
+            let after = disk.faults();
+            return Err(InitFault::Disk { before, after });
+        }
+    }
+    match make(alloc, disk) {
+        Ok(Ok(())) => Ok(()),
+        Ok(Err(DiskFailed)) => {
+            let after = disk.faults();
+            Err(InitFault::Disk { before, after })
+        }
+        Err(NoMemory) => Err(InitFault::Memory),
+    }
+}

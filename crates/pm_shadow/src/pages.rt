@@ -1,0 +1,247 @@
+//! The pages of a store, of which a copy uses some, and the next copy others.
+ghost use Rattle.std.specs.Prelude.{◌≡◌, ◌+◌, ◌*◌, ◌-◌, ◌^◌, ◌<◌, ◌≤◌, ℕ, List, Some, false, length};
+ghost use Rattle.pm_shadow.specs.Uses.{use_of};
+ghost use Rattle.pm_shadow.specs.Images.{IsSound};
+
+use crate::PageUse;
+use crate::attaching::Found;
+use crate::looking::find;
+use crate::runs::{write_and_sync, write_one_by_one};
+use crate::slots::{CLOSED, OPEN, body_of, gate_place};
+use crate::table::Table;
+use pm_disk::{Disk, DiskFailed};
+use pm_layout::Header;
+use pm_types::{NoMemory, OpenFault, PAGE_BYTES};
+use std::alloc::Global;
+
+/// The pages of a store on a disk. Its current copy stands on some of them, which are never written; the
+/// next copy is written on others, and becomes current by one byte.
+#[derive(Drop)]
+pub struct Pages<D: Disk> {
+    disk: D,
+    /// Where the current header stands: page 0 or 1.
+    slot: u64,
+    header: Header,
+    /// How many pages there were when the header became current, or was found.
+    settled: u64,
+    /// How many pages there are.
+    count: u64,
+    /// The pages of the current copy are those of the table.
+    known: bool,
+    table: Table,
+    /// The gate of the other slot is closed, whatever a crash leaves.
+    closed: bool,
+    /// A publish has failed: a crash may leave either copy.
+    failed: bool,
+    ghost is_slot: { slot < 2 },
+    ghost few: { count < 2 ^ 50 },
+    ghost sound: { failed ≡ false → (bytes : List ℕ) → D.contents disk ≡ Some bytes
+        → IsSound (record { slot = slot; header = header; settled = settled; count = count; known = known; uses = use_of table.uses.items; closed = closed; failed = failed }) bytes (D.image disk) },
+}
+
+impl<D: Disk> Pages<D> {
+    ghost use Rattle.std.specs.Prelude.{◌≡◌, ◌⊎◌, ◌+◌, ◌*◌, ◌-◌, ◌^◌, ◌<◌, ◌≤◌, ℕ, List, All, Some, true, false, [], ◌∷◌, length, option_map, not, Ok, IfOk, IfErr, OnOk, OnErr};
+    ghost use Rattle.pm_disk.specs.Writes.{written, TornIfTold};
+    ghost use Rattle.pm_disk.specs.Disk.{IfTold, SameImages, LeavesOnly, HasCause};
+    ghost use Rattle.pm_layout.specs.Headers.{HasHeaderSpelling};
+    ghost use Rattle.pm_image.specs.Opening.{current, is_open, page_count, page_of, gate_place, open_gate};
+    ghost use Rattle.pm_shadow.specs.Uses.{IsLowestFree, IsListed};
+    ghost use Rattle.pm_shadow.specs.State.{other, attached, IsListable, known_by, with_claimed, with_page, with_closed, with_failed, published};
+    ghost use Rattle.pm_shadow.specs.Images.{Holds, Renews, place_of, with_header, with_gate};
+    ghost use Rattle.pm_shadow.specs.Runs.{OnlyLooks};
+    ghost use Rattle.pm_shadow.specs.Attaching.{IsFaultOf, IsAttachFault, IsFoundIn};
+    ghost use Rattle.pm_shadow.specs.Pages.{state, disk_of};
+
+    /// Finds the current header of a store. The disk is synced first, and nothing is written. The pages of
+    /// the current copy are not known then, and none is claimed. It takes no memory.
+    ///
+    /// # Errors
+    ///
+    /// `NotAStore`, `Version`, `Damaged` and `Malformed` by the first rule of a header that fails, and
+    /// `Disk` where the disk failed. The disk is handed back.
+    pub fn attach(alloc: Global, disk: D) -> Result<Pages<D>, (D, OpenFault)>
+        ensures found { IfOk result (λ it. IfTold (D.contents disk) (λ bytes. current bytes ≡ Ok (record { slot = (state it).slot; header = (state it).header }))) }
+        ensures state { IfOk result (λ it. state it ≡ attached (state it).slot (state it).header (state it).count (state it).closed) }
+        ensures seen { IfOk result (λ it. IfTold (D.contents disk) (λ bytes. ((state it).count ≡ page_count bytes) × ((state it).closed ≡ not (is_open bytes (other (state it).slot))))) }
+        ensures told { IfOk result (λ it. D.contents (disk_of it) ≡ D.contents disk) }
+        ensures only { IfOk result (λ it. IfTold (D.contents disk) (λ bytes. (left : List ℕ) → D.image (disk_of it) left → left ≡ bytes)) }
+        ensures leaves { IfOk result (λ it. LeavesOnly D.moment D.since disk (disk_of it) (D.image disk)) }
+        ensures count { IfOk result (λ it. D.count (disk_of it) ≡ D.count disk) }
+
+        ensures fault { IfErr result (λ e. IfTold (D.contents disk) (λ bytes. IsFaultOf bytes e.1)) }
+        ensures cause { IfErr result (λ e. IsAttachFault (D.count disk) (D.count e.0) e.1) }
+        ensures told_err { IfErr result (λ e. D.contents e.0 ≡ D.contents disk) }
+        ensures leaves_err { IfErr result (λ e. LeavesOnly D.moment D.since disk e.0 (D.image disk)) }
+    {
+        let mut disk = disk;
+        match find(&mut disk) {
+            Ok(found) => Ok(Pages::found(alloc, disk, found)),
+            Err(fault) => Err((disk, fault)),
+        }
+    }
+
+    /// The pages of a store whose current header was found on a disk that is synced.
+    fn found(alloc: Global, disk: D, found: Found) -> Pages<D>
+        requires slot { found.slot < 2 }
+        requires count { found.count < 2 ^ 50 }
+        requires sound { (bytes : List ℕ) → D.contents disk ≡ Some bytes → IsFoundIn bytes (D.image disk) found }
+        ensures disk { disk_of result ≡ disk }
+        ensures state { state result ≡ attached found.slot found.header found.count found.closed }
+    {
+        Pages {
+            disk,
+            slot: found.slot,
+            header: found.header,
+            settled: found.count,
+            count: found.count,
+            known: false,
+            table: Table::new(alloc),
+            closed: found.closed,
+            failed: false,
+        }
+    }
+
+    /// The disk. It takes no memory.
+    pub fn into_disk(self) -> D
+        ensures { result ≡ disk_of self }
+    {
+        self.disk
+    }
+
+    /// The disk's count of failed calls. It takes no memory.
+    pub fn faults(&self) -> u64
+        ensures { result ≡ D.count (disk_of self.now) }
+    {
+        self.disk.faults()
+    }
+
+    /// The current header. It takes no memory.
+    pub fn header(&self) -> &Header
+        ensures { result.now ≡ (state self.now).header }
+    {
+        &self.header
+    }
+
+    /// How many whole pages of 16,384 bytes the store has. It takes no memory.
+    pub fn page_count(&self) -> u64
+        ensures { result ≡ (state self.now).count }
+    {
+        self.count
+    }
+
+    /// Lists the pages that the current copy uses, which are known from then on. They are exactly these:
+    /// each is a page of the store from page 2 on, and where the pages were known, one of them.
+    pub fn commit_list(&mut self, alloc: Global, pages: &[u64]) -> Result<(), NoMemory>
+        requires { All (IsListable (state self.old)) pages.now }
+        ensures listed { OnOk result (IsListed pages.now (state self.old).uses (state self.new).uses) }
+        ensures state { OnOk result (state self.new ≡ known_by (state self.old) (state self.new).uses) }
+        ensures state_err { OnErr result (state self.new ≡ state self.old) }
+        ensures still { disk_of self.new ≡ disk_of self.old }
+    {
+        let table = self.table.listing(alloc, pages)?;
+        self.table = table;
+        self.known = true;
+        Ok(())
+    }
+
+    /// Claims the lowest page from page 2 on that the current copy does not use and that is not claimed.
+    pub fn claim(&mut self) -> Result<u64, NoMemory>
+        requires { (state self.old).known ≡ true }
+        ensures lowest { IfOk result (IsLowestFree (state self.old).uses) }
+        ensures state { IfOk result (λ page. state self.new ≡ with_claimed (state self.old) page) }
+        ensures state_err { OnErr result (state self.new ≡ state self.old) }
+        ensures still { disk_of self.new ≡ disk_of self.old }
+    {
+        let page = self.table.claim()?;
+        Ok(page)
+    }
+
+    /// Fills `into` with the bytes of a page. It takes no memory.
+    pub fn read_page(&mut self, page: u64, into: &mut [u8]) -> Result<(), DiskFailed>
+        requires page { page < (state self.old).count }
+        requires len { length into.old ≡ PAGE_BYTES }
+        ensures read { OnOk result (IfTold (D.contents (disk_of self.old)) (λ bytes. into.new ≡ page_of bytes page)) }
+        ensures state { state self.new ≡ state self.old }
+        ensures looks { OnlyLooks D.contents D.image D.moment D.since (disk_of self.old) (disk_of self.new) }
+        ensures cause { HasCause (D.count (disk_of self.old)) (D.count (disk_of self.new)) result }
+    {
+        self.disk.read_at(PAGE_BYTES as u64 * page, into)
+    }
+
+    /// Writes a page that was claimed. It takes no memory.
+    pub fn write_page(&mut self, page: u64, bytes: &[u8]) -> Result<(), DiskFailed>
+        requires claimed { (state self.old).uses page ≡ PageUse.Claimed }
+        requires len { length bytes.now ≡ PAGE_BYTES }
+        requires sound { (state self.old).failed ≡ false }
+        ensures written { OnOk result (D.contents (disk_of self.new) ≡ option_map (written (place_of page) bytes.now) (D.contents (disk_of self.old))) }
+        ensures torn { OnErr result (TornIfTold (place_of page) PAGE_BYTES (D.contents (disk_of self.old)) (D.contents (disk_of self.new))) }
+        ensures state { OnOk result (state self.new ≡ with_page (state self.old) page) }
+        ensures state_err { OnErr result (state self.new ≡ state self.old) }
+
+        // A crash at any moment of the call leaves the current header and its pages.
+        ensures leaves { IfTold (D.contents (disk_of self.old)) (λ told. LeavesOnly D.moment D.since (disk_of self.old) (disk_of self.new) (Holds (state self.old) told)) }
+        ensures cause { HasCause (D.count (disk_of self.old)) (D.count (disk_of self.new)) result }
+    {
+        self.disk.write_at(PAGE_BYTES as u64 * page, bytes)?;
+        self.count = self.count.max(page + 1);
+        Ok(())
+    }
+
+    /// Closes the gate of the slot that the next header goes to. Where it is closed already no call of
+    /// the disk is made. It takes no memory.
+    pub fn close_gate(&mut self) -> Result<(), DiskFailed>
+        requires { (state self.old).failed ≡ false }
+        ensures state { OnOk result (state self.new ≡ with_closed (state self.old)) }
+        ensures state_err { OnErr result (state self.new ≡ state self.old) }
+        ensures still { (state self.old).closed ≡ true → disk_of self.new ≡ disk_of self.old }
+        ensures written { OnOk result ((state self.old).closed ≡ false → D.contents (disk_of self.new) ≡ option_map (with_gate (other (state self.old).slot) 0) (D.contents (disk_of self.old))) }
+        ensures only { OnOk result ((state self.old).closed ≡ false → IfTold (D.contents (disk_of self.new)) (λ told. (left : List ℕ) → D.image (disk_of self.new) left → left ≡ told)) }
+        ensures torn { OnErr result (TornIfTold (gate_place (other (state self.old).slot)) 1 (D.contents (disk_of self.old)) (D.contents (disk_of self.new))) }
+        ensures leaves { IfTold (D.contents (disk_of self.old)) (λ told. LeavesOnly D.moment D.since (disk_of self.old) (disk_of self.new) (Holds (state self.old) told)) }
+        ensures cause { HasCause (D.count (disk_of self.old)) (D.count (disk_of self.new)) result }
+    {
+        if self.closed {
+            return Ok(());
+        }
+        write_and_sync(&mut self.disk, gate_place(1 - self.slot), &[CLOSED])?;
+        self.closed = true;
+        Ok(())
+    }
+
+    /// Makes this header the current one: its body is written into the other slot and synced, and then
+    /// that slot's gate alone, and synced. It takes no memory.
+    pub fn publish(&mut self, header: &Header) -> Result<(), DiskFailed>
+        requires closed { (state self.old).closed ≡ true }
+        requires sound { (state self.old).failed ≡ false }
+        requires spelled { HasHeaderSpelling header.now }
+        requires later { (state self.old).header.epoch < header.now.epoch }
+        ensures state { OnOk result (state self.new ≡ published (state self.old) header.now) }
+        ensures state_err { OnErr result (state self.new ≡ with_failed (state self.old)) }
+        ensures written { OnOk result (D.contents (disk_of self.new) ≡ option_map (λ told. with_gate (other (state self.old).slot) open_gate (with_header (other (state self.old).slot) header.now told)) (D.contents (disk_of self.old))) }
+        ensures only { OnOk result (IfTold (D.contents (disk_of self.new)) (λ told. (left : List ℕ) → D.image (disk_of self.new) left → left ≡ told)) }
+        ensures renews { OnOk result (IfTold (D.contents (disk_of self.old)) (λ told. IfTold (D.contents (disk_of self.new)) (Renews (state self.old) header.now told))) }
+
+        // A crash at any moment of the call leaves the one header with its pages or the other.
+        ensures leaves { IfTold (D.contents (disk_of self.old)) (λ told. LeavesOnly D.moment D.since (disk_of self.old) (disk_of self.new)
+            (λ image. Holds (state self.old) told image ⊎ Renews (state self.old) header.now told image)) }
+        ensures cause { HasCause (D.count (disk_of self.old)) (D.count (disk_of self.new)) result }
+    {
+        let slot = 1 - self.slot;
+        self.failed = true;
+        write_one_by_one(
+            &mut self.disk,
+            PAGE_BYTES as u64 * slot,
+            &body_of(header),
+            gate_place(slot),
+            &[OPEN],
+        )?;
+        self.slot = slot;
+        self.header = *header;
+        self.settled = self.count;
+        self.known = true;
+        self.table.renew();
+        self.closed = false;
+        self.failed = false;
+        Ok(())
+    }
+}
