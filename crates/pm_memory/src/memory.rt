@@ -206,7 +206,9 @@ impl Memory {
         Ok(Reply::Begun(number))
     }
 
-    fn settle(&mut self) -> Reply
+    /// Answers `settle`: the copy in progress is the one that settled last, if one is in progress. It takes
+    /// no memory.
+    pub fn settle(&mut self) -> Reply
         ensures reply { result ≡ (answer_settle self.old self.old.saving).0 }
         ensures world { self.new ≡ (answer_settle self.old self.old.saving).1 }
     {

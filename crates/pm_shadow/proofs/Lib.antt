@@ -5,3 +5,4 @@ pub mod HoldLemmas
 pub mod SoundLemmas
 pub mod AttachLemmas
 pub mod BlankLemmas
+pub mod CopyLemmas

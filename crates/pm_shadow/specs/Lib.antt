@@ -6,3 +6,4 @@ pub mod Attaching
 pub mod Init
 pub mod Tables
 pub mod Pages
+pub mod Copies

@@ -1,6 +1,6 @@
 //! Finding the current header of a store.
 ghost use Rattle.std.specs.Prelude.{◌≡◌, ◌≤◌, ◌<◌, ◌*◌, ◌^◌, not, ◌==◌, Ok, Err, Some, MatchResult, IfOk, IfErr, IfSome, length};
-ghost use Rattle.pm_layout.specs.Headers.{header_at};
+ghost use Rattle.pm_layout.specs.Headers.{header_at, HasHeaderSpelling};
 ghost use Rattle.pm_layout.specs.Reading.{number_from};
 ghost use Rattle.pm_image.specs.Opening.{greater_slot, header_refusal, sound_header, is_placed};
 
@@ -60,6 +60,7 @@ impl SlotRead {
 impl Seen {
     ghost use Rattle.std.specs.Prelude.{◌≡◌, ◌<◌, not, IfOk, IfErr, IfSome, Ok, Err};
     ghost use Rattle.pm_shadow.specs.State.{other};
+    ghost use Rattle.pm_layout.specs.Headers.{HasHeaderSpelling};
     ghost use Rattle.pm_shadow.specs.Attaching.{is_on, picked_in, slot_in, header_seen};
 
     /// The slot of the current header: the one that is open, and of two the one of the greater epoch, and of
@@ -90,6 +91,7 @@ impl Seen {
         ensures slot { IfOk result (λ found. found.slot < 2) }
         ensures count { IfOk result (λ found. found.count ≡ self.now.count) }
         ensures closed { IfOk result (λ found. found.closed ≡ not (is_on (slot_in self.now (other found.slot)))) }
+        ensures spelled { IfOk result (λ found. HasHeaderSpelling found.header) }
     {
         let Some(slot) = self.picked() else {
             return Err(OpenFault::NotAStore);
@@ -132,6 +134,7 @@ fn refusal(slot: u64, fault: HeaderFault) -> OpenFault
 fn sound(count: u64, slot: u64, body: &[u8; 96]) -> Result<Header, OpenFault>
     ensures ok { IfOk result (λ header. sound_header count slot (header_at body.now) ≡ Ok (record { slot = slot; header = header })) }
     ensures err { IfErr result (λ fault. sound_header count slot (header_at body.now) ≡ Err fault) }
+    ensures spelled { IfOk result HasHeaderSpelling }
 {
     match read_header(body) {
         Err(fault) => Err(refusal(slot, fault)),

@@ -13,7 +13,7 @@ mod table;
 #[cfg(test)]
 mod tests;
 
-pub use law::a_header_in_the_picked_slot_is_current;
+pub use law::{a_header_in_the_picked_slot_is_current, an_image_is_opened_with_its_graph};
 pub use making::init;
 pub use page_use::PageUse;
 pub use pages::Pages;

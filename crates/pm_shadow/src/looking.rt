@@ -1,6 +1,7 @@
 //! Reading what attaching has to know.
 ghost use Rattle.std.specs.Prelude.{◌≡◌, ◌<◌, ◌^◌, List, ℕ, IfOk, IfErr, IfSome, OnOk};
 ghost use Rattle.pm_disk.specs.Disk.{IfTold, LeavesOnly, HasCause};
+ghost use Rattle.pm_layout.specs.Headers.{HasHeaderSpelling};
 ghost use Rattle.pm_shadow.specs.Runs.{OnlyLooks};
 ghost use Rattle.pm_shadow.specs.Attaching.{IsSlotOf, IsSeenIn, IsFoundIn, IsFaultOf, IsAttachFault};
 
@@ -65,6 +66,7 @@ pub(crate) fn find<D: Disk>(disk: &mut D) -> Result<Found, OpenFault>
     ensures found { IfOk result (λ found. IfTold (D.contents disk.old) (λ bytes. IsFoundIn bytes (D.image disk.new) found)) }
     ensures slot { IfOk result (λ found. found.slot < 2) }
     ensures few { IfOk result (λ found. found.count < 2 ^ 50) }
+    ensures spelled { IfOk result (λ found. HasHeaderSpelling found.header) }
     ensures count { OnOk result (D.count disk.new ≡ D.count disk.old) }
     ensures fault { IfErr result (λ fault. IfTold (D.contents disk.old) (λ bytes. IsFaultOf bytes fault)) }
     ensures cause { IfErr result (IsAttachFault (D.count disk.old) (D.count disk.new)) }

@@ -67,6 +67,8 @@ impl<D: Disk> Pages<D> {
         ensures only { IfOk result (λ it. IfTold (D.contents disk) (λ bytes. (left : List ℕ) → D.image (disk_of it) left → left ≡ bytes)) }
         ensures leaves { IfOk result (λ it. LeavesOnly D.moment D.since disk (disk_of it) (D.image disk)) }
         ensures count { IfOk result (λ it. D.count (disk_of it) ≡ D.count disk) }
+        // The header is one that can be spelled, whether the disk tells its contents or not.
+        ensures spelled { IfOk result (λ it. HasHeaderSpelling (state it).header) }
 
         ensures fault { IfErr result (λ e. IfTold (D.contents disk) (λ bytes. IsFaultOf bytes e.1)) }
         ensures cause { IfErr result (λ e. IsAttachFault (D.count disk) (D.count e.0) e.1) }

@@ -1,0 +1,4 @@
+pub mod Laying
+pub mod Laid
+pub mod Plain
+pub mod Kept

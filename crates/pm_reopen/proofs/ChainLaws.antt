@@ -1,0 +1,172 @@
+-- The pages of a catalog, read one after another.
+use Rattle.std.proofs.Common.{◌≡◌, ℕ, zero, suc, ◌+◌, ◌-◌, ◌<◌, ◌≤◌, Bool, true, false, not, ◌&&◌, ◌||◌, ◌==◌, nat_lt, nat_le, List, [], ◌∷◌, ◌++◌, Some, Result, Ok, Err, refl, sym, ap, subst, ◌∙◌, append_assoc, arith, if◌then◌else◌}
+use Rattle.std.specs.List.{AllByRecursion}
+use Rattle.std.proofs.lemmas.List.{append-nil}
+use Rattle.std.proofs.lemmas.Bool.Decides.{nat_tests}
+use Rattle.std.specs.FinSet as set
+use Rattle.pm_types.specs.declared.limits.TheConstants.{ROOTS}
+use Rattle.pm_types.specs.declared.fault.OpenFault.{OpenFault}
+use Rattle.pm_types.specs.declared.fault.OpenFault.TheVariants.{Broken}
+use Rattle.pm_image.specs.declared.catalog.CatEntry.{CatEntry}
+use Rattle.pm_image.specs.declared.catalog.CatEntry.TheVariants.{Car, Root}
+use Rattle.pm_image.specs.declared.catalog.CatalogPage.{CatalogPage}
+use Rattle.pm_image.specs.Steps.{◌>>=◌}
+use Rattle.pm_image.specs.CarPages.{Numbers}
+use Rattle.pm_image.specs.CatalogPages.{Met, meeting, meeting_next, meeting_all, meeting_page, is_free_page, HasCatalogPage, AreNext, catalog_at}
+use Rattle.pm_image.specs.Graphs.{Pages as Store, Catalog, undamaged, on_page, catalog_from, entries_of, most_pages}
+use Rattle.pm_image.proofs.Results.{bind_ok, bound, both_true}
+use Rattle.pm_reopen.specs.declared.fault.ReadFault.{ReadFault}
+use Rattle.pm_reopen.specs.declared.fault.ReadFault.TheVariants.{Refused, Failed, Memory}
+use Rattle.pm_reopen.specs.Reading.{IsRefused, Gives, link_at, IsThere, IsEntryThere, root_count, page_numbers, IsSound}
+use Rattle.pm_reopen.proofs.ReadLaws.{first_refused}
+use Rattle.pm_reopen.proofs.Lists.{all_both}
+
+-- the pages of a front, and those of the rest
+abbrev pub with_pages : Catalog → Result Catalog OpenFault → Result Catalog OpenFault
+with_pages front read = read >>= λ others. Ok (front ++ others)
+
+pub no_front : (read : Result Catalog OpenFault) → with_pages [] read ≡ read
+no_front (Ok catalog) = refl
+no_front (Err fault) = refl
+
+regroup : (front : Catalog) (page : ℕ × CatalogPage) (read : Result Catalog OpenFault) → with_pages front (read >>= λ others. Ok (page ∷ others)) ≡ with_pages (front ++ page ∷ []) read
+regroup front page (Ok others) = ap Ok (sym (append_assoc front (page ∷ []) others))
+regroup front page (Err fault) = refl
+
+-- the pages behind the first
+abbrev others_of : ℕ → Store → Met → CatalogPage → Result Catalog OpenFault
+others_of n store met first = if first.next == 0 then Ok [] else catalog_from n store (meeting_page met first) first.next first.digest
+
+-- a link that was read goes to the front
+step : (n : ℕ) (store : Store) (met : Met) (page : ℕ) (kept : List ℕ) (first : CatalogPage) (front : Catalog) → link_at store met page kept ≡ Ok first
+    → with_pages front (catalog_from (suc n) store met page kept) ≡ with_pages (front ++ (page, first) ∷ []) (others_of n store met first)
+unfolding catalog_from link_at
+step n store met page kept first front is =
+    let one = bind_ok (undamaged store page kept) _ first is in
+    ap (with_pages front) (bound (undamaged store page kept) _ one.0 _ one.1 (bound (on_page page (catalog_at (Some store.count) met (store.page page))) _ first _ one.2 refl))
+    ∙ regroup front (page, first) (others_of n store met first)
+
+zero_not : (n : ℕ) → (n ≡ 0 → ⊥) → (n == 0) ≡ false
+zero_not zero some = absurd (some refl)
+zero_not (suc n) some = grind (arith, nat_tests)
+
+-- one of two steps failed
+fails_pair : {A B C : Type 0} (first : Result A OpenFault) (second : Result B OpenFault) (rest : B → Result C OpenFault) (fault : OpenFault)
+    → (first >>= λ a. second) ≡ Err fault → IsRefused (first >>= λ a. second >>= rest)
+fails_pair (Err e) second rest fault is = (e, refl)
+fails_pair (Ok a) (Err e) rest fault is = (e, refl)
+fails_pair (Ok a) (Ok b) rest fault is = cc
+
+link_fault : (n : ℕ) (store : Store) (met : Met) (page : ℕ) (kept : List ℕ) (fault : OpenFault) → link_at store met page kept ≡ Err fault → IsRefused (catalog_from (suc n) store met page kept)
+unfolding catalog_from link_at
+link_fault n store met page kept fault is = fails_pair (undamaged store page kept) (on_page page (catalog_at (Some store.count) met (store.page page))) _ fault is
+
+link_refused : (n : ℕ) (store : Store) (met : Met) (page : ℕ) (kept : List ℕ) (front : Catalog) (fault : ReadFault) → Gives {X = CatalogPage} (Err fault) (link_at store met page kept)
+    → Gives {X = Catalog} (Err fault) (with_pages front (catalog_from (suc n) store met page kept))
+link_refused n store met page kept front Refused is = first_refused Refused (catalog_from (suc n) store met page kept) _ (link_fault n store met page kept is.0 is.1)
+link_refused n store met page kept front Failed is = tt
+link_refused n store met page kept front Memory is = tt
+
+module _ (store : Store) (i : ℕ) (met : Met) (page : ℕ) (kept : List ℕ) (front : Catalog) (total : Result Catalog OpenFault) where
+  rest_of : i < most_pages → with_pages front (catalog_from (most_pages - i) store met page kept) ≡ total → with_pages front (catalog_from (suc (most_pages - (i + 1))) store met page kept) ≡ total
+  rest_of lt so_far =
+      let k : most_pages - i ≡ suc (most_pages - (i + 1)) = omega arith in
+      ap (λ (n : ℕ). with_pages front (catalog_from n store met page kept)) (sym k) ∙ so_far
+
+  -- one page more was read
+  pub chain_on : (first : CatalogPage) → i < most_pages → link_at store met page kept ≡ Ok first → (first.next ≡ 0 → ⊥) → with_pages front (catalog_from (most_pages - i) store met page kept) ≡ total
+      → with_pages (front ++ (page, first) ∷ []) (catalog_from (most_pages - (i + 1)) store (meeting_page met first) first.next first.digest) ≡ total
+  chain_on first lt is some so_far =
+      ap (λ (b : Bool). with_pages (front ++ (page, first) ∷ []) (if b then Ok [] else catalog_from (most_pages - (i + 1)) store (meeting_page met first) first.next first.digest)) (sym (zero_not first.next some))
+      ∙ sym (step (most_pages - (i + 1)) store met page kept first front is) ∙ rest_of lt so_far
+
+  -- the last page was read
+  pub chain_done : (first : CatalogPage) → i < most_pages → link_at store met page kept ≡ Ok first → first.next ≡ 0 → with_pages front (catalog_from (most_pages - i) store met page kept) ≡ total
+      → total ≡ Ok (front ++ (page, first) ∷ [])
+  chain_done first lt is none so_far =
+      sym (rest_of lt so_far) ∙ step (most_pages - (i + 1)) store met page kept first front is
+      ∙ ap (λ (n : ℕ). with_pages (front ++ (page, first) ∷ []) (if n == 0 then Ok [] else catalog_from (most_pages - (i + 1)) store (meeting_page met first) first.next first.digest)) none
+      ∙ ap Ok (append-nil (front ++ (page, first) ∷ []))
+
+  -- a page was refused
+  pub chain_ends : (fault : ReadFault) → i < most_pages → Gives {X = CatalogPage} (Err fault) (link_at store met page kept) → with_pages front (catalog_from (most_pages - i) store met page kept) ≡ total
+      → Gives {X = Catalog} (Err fault) total
+  chain_ends fault lt is so_far =
+      subst (λ (r : Result Catalog OpenFault). Gives {X = Catalog} (Err fault) r) (rest_of lt so_far) (link_refused (most_pages - (i + 1)) store met page kept front fault is)
+
+  -- there are more pages than any store has
+  pub chain_long : most_pages ≤ i → with_pages front (catalog_from (most_pages - i) store met page kept) ≡ total → IsRefused total
+  unfolding catalog_from
+  chain_long le so_far =
+      let k : most_pages - i ≡ 0 = omega arith in
+      (Broken, sym so_far ∙ ap (λ (n : ℕ). with_pages front (catalog_from n store met page kept)) k)
+
+-- ---- what is known of the pages
+
+free_there : (count : ℕ) (met : Numbers) (page : ℕ) → is_free_page (Some count) met page ≡ true → IsThere count page
+free_there count met page is =
+    let one = both_true (nat_le 2 page) (nat_lt page count && not (set.contains met page)) is in
+    let two = both_true (nat_lt page count) (not (set.contains met page)) one.1 in
+    let low = one.0 in
+    let high = two.0 in
+    record { from_2 = grind (arith, nat_tests); there = grind (arith, nat_tests) }
+
+entries_there : (count : ℕ) (met : Met) (entries : List CatEntry) → AreNext (Some count) met entries → AllByRecursion (IsEntryThere count) entries
+entries_there count met [] next = tt
+entries_there count met (Car car train page digest ∷ entries) next = (free_there count met.pages page next.0.free, entries_there count (meeting met (Car car train page digest)) entries next.1)
+entries_there count met (Root name at ∷ entries) next = (tt, entries_there count (meeting met (Root name at)) entries next.1)
+
+roots_met : (count : ℕ) (met : Met) (entries : List CatEntry) (before : ℕ) → AreNext (Some count) met entries → met.roots ≤ ROOTS → met.roots ≡ before
+    → ((meeting_all met entries).roots ≡ before + root_count entries) × ((meeting_all met entries).roots ≤ ROOTS)
+roots_met count met [] before next few is = (omega (arith, is), few)
+roots_met count met (Car car train page digest ∷ entries) before next few is = roots_met count (meeting met (Car car train page digest)) entries before next.1 few is
+roots_met count met (Root name at ∷ entries) before next few is =
+    let left = next.0.left in
+    let lt : met.roots < ROOTS = grind (arith, nat_tests) in
+    let rest = roots_met count (meeting met (Root name at)) entries (before + 1) next.1 (omega arith) (ap (λ (n : ℕ). n + 1) is) in
+    (omega (arith, rest.0), rest.1)
+
+pub next_there : (count : ℕ) (met : Met) (read : CatalogPage) → HasCatalogPage (Some count) met read → (read.next ≡ 0 → ⊥) → IsThere count read.next
+next_there count met read has some =
+    free_there count met.pages read.next (ap (λ (b : Bool). b || is_free_page (Some count) met.pages read.next) (sym (zero_not read.next some)) ∙ has.next)
+
+-- meeting a next page meets no root
+same_roots : (met : Met) (next : ℕ) → (meeting_next met next).roots ≡ met.roots
+same_roots met zero = refl
+same_roots met (suc next) = refl
+
+entries_both : (xs ys : Catalog) → entries_of (xs ++ ys) ≡ entries_of xs ++ entries_of ys
+entries_both [] ys = refl
+entries_both (x ∷ xs) ys = ap (λ (rest : List CatEntry). x.1.entries ++ rest) (entries_both xs ys) ∙ sym (append_assoc x.1.entries (entries_of xs) (entries_of ys))
+
+pub numbers_both : (xs ys : Catalog) → page_numbers (xs ++ ys) ≡ page_numbers xs ++ page_numbers ys
+numbers_both [] ys = refl
+numbers_both (x ∷ xs) ys = ap (λ (rest : List ℕ). x.0 ∷ rest) (numbers_both xs ys)
+
+count_both : (xs ys : List CatEntry) → root_count (xs ++ ys) ≡ root_count xs + root_count ys
+count_both [] ys = omega arith
+count_both (Car car train page digest ∷ xs) ys = count_both xs ys
+count_both (Root name at ∷ xs) ys = let rest = count_both xs ys in omega (arith, rest)
+
+one_more : (front : Catalog) (page : ℕ) (read : CatalogPage) → entries_of (front ++ (page, read) ∷ []) ≡ entries_of front ++ read.entries
+one_more front page read = entries_both front ((page, read) ∷ []) ∙ ap (λ (es : List CatEntry). entries_of front ++ es) (append-nil read.entries)
+
+-- the roots that were met are those that are listed
+pub roots_on : (count : ℕ) (met : Met) (front : Catalog) (page : ℕ) (read : CatalogPage) → HasCatalogPage (Some count) met read → IsSound count front → met.roots ≡ root_count (entries_of front)
+    → ((meeting_page met read).roots ≡ root_count (entries_of (front ++ (page, read) ∷ []))) × ((meeting_page met read).roots ≤ ROOTS)
+roots_on count met front page read has sound is =
+    let same = same_roots met read.next in
+    let few : (meeting_next met read.next).roots ≤ ROOTS = omega (arith, same, is, sound.roots) in
+    let all = roots_met count (meeting_next met read.next) read.entries (root_count (entries_of front)) has.entries few (same ∙ is) in
+    (all.0 ∙ sym (count_both (entries_of front) read.entries) ∙ ap root_count (sym (one_more front page read)), all.1)
+
+pub sound_on : (count : ℕ) (met : Met) (front : Catalog) (page : ℕ) (read : CatalogPage) → HasCatalogPage (Some count) met read → IsThere count page → IsSound count front → met.roots ≡ root_count (entries_of front)
+    → IsSound count (front ++ (page, read) ∷ [])
+sound_on count met front page read has there sound is =
+    let roots = roots_on count met front page read has sound is in
+    record {
+      pages = subst (λ (ps : List ℕ). AllByRecursion (IsThere count) ps) (sym (numbers_both front ((page, read) ∷ []))) (all_both (IsThere count) (page_numbers front) (page ∷ []) sound.pages (there, tt));
+      entries = subst (λ (es : List CatEntry). AllByRecursion (IsEntryThere count) es) (sym (one_more front page read))
+          (all_both (IsEntryThere count) (entries_of front) read.entries sound.entries (entries_there count (meeting_next met read.next) read.entries has.entries));
+      roots = omega (arith, roots.0, roots.1);
+    }

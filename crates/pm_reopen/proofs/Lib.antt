@@ -1,0 +1,10 @@
+pub mod Back
+pub mod Built
+pub mod BuiltLaws
+pub mod ReadLaws
+pub mod Lists
+pub mod LookedLaws
+pub mod ChainLaws
+pub mod GraphLaws
+pub mod KnownLaws
+pub mod OpenLaws

@@ -1,0 +1,69 @@
+use Rattle.std.proofs.Common.{ℕ, List, sym, ap, subst, ◌∙◌}
+use Rattle.std.specs.Prelude.{All}
+use Rattle.std.proofs.lemmas.Result.{err_from_is_err_and}
+use Rattle.pm_layout.specs.declared.header.Header.{Header}
+use Rattle.pm_plain.specs.Kept.{HasCopy}
+use Rattle.pm_shadow.specs.State.{State, IsListable, known_by}
+use Rattle.pm_shadow.specs.Uses.{IsListed}
+use Rattle.pm_shadow.specs.Runs.{OnlyLooks}
+use Rattle.pm_shadow.specs.Pages.{state, disk_of}
+use Rattle.pm_shadow.proofs.TableLemmas.{claimed_from_2}
+use Rattle.pm_reopen.specs.Reading.{IsThere}
+use Rattle.pm_reopen.proofs.OpenLaws.{listable, none_claimed, read_has, read_opens, refused_opens, first_there, next_read}
+use Rattle.pm_reopen.proofs.opening.open.Goals as goal
+
+pub returns-then-not-is_there-clause-refused : goal.returns-then-not-is_there-clause-refused
+returns-then-not-is_there-clause-refused g c = λ is bytes told.
+    let there = first_there (state c.args.pages.now) bytes (c.requires.current bytes told) in
+    let here : IsThere c.page_count.result c.header.result.now.first
+    = subst (λ (n : ℕ). IsThere n c.header.result.now.first) (sym c.page_count.ensures) (subst (λ (h : Header). IsThere c.args.pages.now.count h.first) (sym c.header.ensures) there) in
+    let yes = c.is_there.ensures.only here in
+    let no = c.if-not-is_there.true in
+    absurd (cc (yes, no))
+
+pub returns-in_err-used-clause-refused : goal.returns-in_err-used-clause-refused
+returns-in_err-used-clause-refused g c =
+    let p = err_from_is_err_and c.from_residual.result c.from_residual.ensures.1 in
+    rw (p.1, p.2) (λ is bytes told. refused_opens (state c.args.pages.now) bytes (c.requires.current bytes told) (c.in_err-used.ensures.refused is bytes told))
+
+pub commit_list-requires : goal.commit_list-requires
+commit_list-requires g c =
+    let s = state c.args.pages.now in
+    let P : State → List ℕ → Type 0 = λ t used. All (IsListable t) used in
+    subst (λ (t : State). P t c.as_slice.result.now) (sym c.in_ok-used.ensures.looked.same)
+    (subst (λ (used : List ℕ). P s used) (sym c.as_slice.ensures.value) (listable s c.requires.attached c.in_ok-used.used.items c.in_ok-used.ensures.read.there))
+
+pub returns-clause-has : goal.returns-clause-has
+returns-clause-has g c bytes told =
+    let s = state c.args.pages.now in
+    let uses = (state c.commit_list.new.self).uses in
+    let looked = c.in_ok-used.ensures.looked in
+    let before = sym looked.looks.told ∙ ap g.D.Disk.contents (sym c.in_ok-commit_list.ensures.still) ∙ told in
+    let listed = subst (λ (t : State). IsListed c.in_ok-used.used.items t.uses uses) looked.same
+    (subst (λ (used : List ℕ). IsListed used (state c.read_copy.new.pages).uses uses) c.as_slice.ensures.value c.in_ok-commit_list.ensures.listed) in
+    let whole = c.in_ok-commit_list.ensures.state ∙ ap (λ (t : State). known_by t uses) looked.same in
+    subst (λ (t : State). HasCopy t bytes c.in_ok-used.copy) (sym whole)
+    (read_has s c.requires.attached uses (g.D.Disk.contents (disk_of c.args.pages.now)) bytes c.in_ok-used.used.items c.in_ok-used.copy c.in_ok-used.ensures.read listed (c.requires.current bytes before) before)
+
+pub returns-clause-found : goal.returns-clause-found
+returns-clause-found g c bytes told =
+    read_opens (state c.args.pages.now) (g.D.Disk.contents (disk_of c.args.pages.now)) bytes c.in_ok-used.used.items c.in_ok-used.copy c.in_ok-used.ensures.read (c.requires.current bytes told) told
+
+pub returns-clause-next : goal.returns-clause-next
+returns-clause-next g c =
+    next_read c.args.pages.now.count c.args.pages.now.header (g.D.Disk.contents (disk_of c.args.pages.now)) c.in_ok-used.used.items c.in_ok-used.copy c.in_ok-used.ensures.read
+
+pub returns-clause-state : goal.returns-clause-state
+returns-clause-state g c = c.in_ok-commit_list.ensures.state ∙ ap (λ (t : State). known_by t (state c.commit_list.new.self).uses) c.in_ok-used.ensures.looked.same
+
+pub returns-clause-unclaimed : goal.returns-clause-unclaimed
+returns-clause-unclaimed g c page claimed =
+    let s = state c.args.pages.now in
+    let uses = (state c.commit_list.new.self).uses in
+    let listed = subst (λ (t : State). IsListed c.in_ok-used.used.items t.uses uses) c.in_ok-used.ensures.looked.same
+    (subst (λ (used : List ℕ). IsListed used (state c.read_copy.new.pages).uses uses) c.as_slice.ensures.value c.in_ok-commit_list.ensures.listed) in
+    none_claimed s c.requires.attached c.in_ok-used.used.items uses listed page (claimed_from_2 c.commit_list.new.self.table.uses.items page claimed) claimed
+
+pub returns-clause-looks : goal.returns-clause-looks
+returns-clause-looks g c =
+    subst (λ (d : g.row.D.Denot). OnlyLooks g.D.Disk.contents g.D.Disk.image g.D.Disk.moment g.D.Disk.since (disk_of c.args.pages.now) d) (sym c.in_ok-commit_list.ensures.still) c.in_ok-used.ensures.looked.looks

@@ -1,0 +1,14 @@
+use Rattle.std.proofs.Common.{◌≡◌, ℕ, Bool, true, false, not, List, refl, sym, ap, ◌∙◌}
+use Rattle.std.specs.Str.{bytes_eq}
+use Rattle.pm_reopen.specs.Reading.{store_of}
+use Rattle.pm_reopen.proofs.ReadLaws.{other_digest}
+use Rattle.pm_reopen.proofs.reading.read_kept.Goals as goal
+
+not_true : (b r : Bool) → r ≡ true → r ≡ not b → b ≡ false
+not_true true r h is = cc
+not_true false r h is = refl
+
+pub returns-then-ne-clause-gives : goal.returns-then-ne-clause-gives
+returns-then-ne-clause-gives g c bytes told =
+    other_digest (store_of c.args.pages.now.count bytes) c.args.page c.args.kept.now c.read_page.new.into (c.in_ok-read_page.ensures.read bytes told)
+    (ap (λ (found : List ℕ). bytes_eq c.args.kept.now found) (sym c.digest-found.ensures) ∙ not_true (bytes_eq c.args.kept.now c.digest-found.result) c.ne.result c.if-ne.true c.ne.ensures)

@@ -1,0 +1,193 @@
+//! Reading the pages of a copy.
+
+ghost use Rattle.std.specs.Prelude.{◌≡◌, ◌<◌, ◌++◌, ℕ, List, IfOk, IfSome, OnOk, Some, length};
+ghost use Rattle.std.specs.List.{AllByRecursion};
+ghost use Rattle.std.specs.FinSet as set;
+ghost use Rattle.pm_types.specs.declared.limits.TheConstants.{FIELDS, PAGE_BYTES};
+ghost use Rattle.pm_disk.specs.Disk.{IfTold};
+ghost use Rattle.pm_image.specs.CatalogPages.{HasCatalogPage, meeting_page};
+ghost use Rattle.pm_image.specs.Opening.{page_of};
+ghost use Rattle.pm_image.specs.Graphs.{undamaged, catalog_of, cars_from};
+ghost use Rattle.pm_shadow.specs.Pages.{state, disk_of};
+ghost use Rattle.pm_reopen.specs.Reading.{Gives, Counts, Looked, store_of, link_at, car_on, entry_car, with_car, car_list, IsThere, IsEntryThere, IsSound, IsCar};
+
+use crate::chain::Chain;
+use crate::fault::ReadFault;
+use pm_disk::Disk;
+use pm_image::{
+    CatEntry, CatalogPage, KeptPage, Met, NumberSet, Settled, read_car_in, read_catalog_in,
+};
+use pm_layout::digest;
+use pm_shadow::Pages;
+use pm_types::NoMemory;
+use std::alloc::Global;
+
+// Fills the buffer with a page, which has this digest.
+fn read_kept<D: Disk>(
+    pages: &mut Pages<D>,
+    page: u64,
+    kept: &[u8; 32],
+    buffer: &mut [u8],
+) -> Result<(), ReadFault>
+    requires page { page < (state pages.old).count }
+    requires len { length buffer.old ≡ PAGE_BYTES }
+    ensures gives { IfTold (D.contents (disk_of pages.old)) (λ bytes. Gives result (undamaged (store_of (state pages.old).count bytes) page kept.now)) }
+    ensures read { OnOk result (IfTold (D.contents (disk_of pages.old)) (λ bytes. buffer.new ≡ page_of bytes page)) }
+    ensures looked { Looked pages.old pages.new }
+    ensures counts { Counts (D.count (disk_of pages.old)) (D.count (disk_of pages.new)) result }
+{
+    pages.read_page(page, buffer)?;
+    let found = digest(buffer);
+    if *kept != found {
+        return Err(ReadFault::Refused);
+    }
+    Ok(())
+}
+
+// The catalog page that stands on a page, which has this digest, with this met before.
+fn read_link<D: Disk>(
+    alloc: Global,
+    pages: &mut Pages<D>,
+    page: u64,
+    kept: &[u8; 32],
+    met: &mut Met,
+    buffer: &mut [u8],
+) -> Result<CatalogPage, ReadFault>
+    requires page { page < (state pages.old).count }
+    requires len { length buffer.old ≡ PAGE_BYTES }
+    ensures gives { IfTold (D.contents (disk_of pages.old)) (λ bytes. Gives result (link_at (store_of (state pages.old).count bytes) met.old page kept.now)) }
+    ensures has { IfOk result (λ read. HasCatalogPage (Some (state pages.old).count) met.old read) }
+    ensures met { IfOk result (λ read. met.new ≡ meeting_page met.old read) }
+    ensures looked { Looked pages.old pages.new }
+    ensures counts { Counts (D.count (disk_of pages.old)) (D.count (disk_of pages.new)) result }
+{
+    read_kept(pages, page, kept, buffer)?;
+    let count = pages.page_count();
+    let read = read_catalog_in(alloc, buffer, count, met)?;
+    Ok(read)
+}
+
+// The car that stands on a page, which has this digest, with these identities met before.
+fn read_car<D: Disk>(
+    alloc: Global,
+    pages: &mut Pages<D>,
+    number: u64,
+    page: u64,
+    kept: &[u8; 32],
+    next: u64,
+    met: &mut NumberSet,
+    buffer: &mut [u8],
+) -> Result<KeptPage, ReadFault>
+    requires page { IsThere (state pages.old).count page }
+    requires len { length buffer.old ≡ PAGE_BYTES }
+    ensures gives { IfTold (D.contents (disk_of pages.old)) (λ bytes. Gives result (car_on next (store_of (state pages.old).count bytes) met.old number page kept.now)) }
+    ensures car { IfOk result (λ car. IsCar (state pages.old).count next car) }
+    ensures met { IfOk result (λ car. met.new ≡ with_car met.old (Some car)) }
+    ensures looked { Looked pages.old pages.new }
+    ensures counts { Counts (D.count (disk_of pages.old)) (D.count (disk_of pages.new)) result }
+{
+    read_kept(pages, page, kept, buffer)?;
+    let image = read_car_in(alloc, buffer, number, next, met)?;
+    Ok(KeptPage {
+        image,
+        page,
+        digest: *kept,
+    })
+}
+
+// The car that an entry lists, if it lists one.
+fn read_entry<D: Disk>(
+    alloc: Global,
+    pages: &mut Pages<D>,
+    entry: &CatEntry,
+    next: u64,
+    met: &mut NumberSet,
+    buffer: &mut [u8],
+) -> Result<Option<KeptPage>, ReadFault>
+    requires page { IsEntryThere (state pages.old).count entry.now }
+    requires len { length buffer.old ≡ PAGE_BYTES }
+    ensures gives { IfTold (D.contents (disk_of pages.old)) (λ bytes. Gives result (entry_car next (store_of (state pages.old).count bytes) met.old entry.now)) }
+    ensures car { IfOk result (λ car. IfSome car (IsCar (state pages.old).count next)) }
+    ensures met { IfOk result (λ car. met.new ≡ with_car met.old car) }
+    ensures looked { Looked pages.old pages.new }
+    ensures counts { Counts (D.count (disk_of pages.old)) (D.count (disk_of pages.new)) result }
+{
+    match entry {
+        CatEntry::Car {
+            car,
+            page,
+            digest,
+            ..
+        } => {
+            let kept = read_car(alloc, pages, *car, *page, digest, next, met, buffer)?;
+            Ok(Some(kept))
+        }
+        CatEntry::Root { .. } => Ok(None),
+    }
+}
+
+// Puts a car at the end, if there is one.
+fn push(cars: &mut Vec<KeptPage>, car: Option<KeptPage>) -> Result<(), NoMemory>
+    ensures { OnOk result (cars.new.items ≡ cars.old.items ++ car_list car) }
+{
+    if let Some(kept) = car {
+        cars.push(kept)?;
+    }
+    Ok(())
+}
+
+/// The cars that entries list, in order, of a store with this next identity.
+pub(crate) fn read_cars<D: Disk>(
+    alloc: Global,
+    pages: &mut Pages<D>,
+    entries: &[CatEntry],
+    next: u64,
+    buffer: &mut [u8],
+) -> Result<Settled, ReadFault>
+    requires pages { AllByRecursion (IsEntryThere (state pages.old).count) entries.now }
+    requires len { length buffer.old ≡ PAGE_BYTES }
+    ensures gives { IfTold (D.contents (disk_of pages.old)) (λ bytes. Gives result (cars_from FIELDS next (store_of (state pages.old).count bytes) set.empty entries.now)) }
+    ensures cars { IfOk result (λ cars. AllByRecursion (IsCar (state pages.old).count next) cars) }
+    ensures looked { Looked pages.old pages.new }
+    ensures counts { Counts (D.count (disk_of pages.old)) (D.count (disk_of pages.new)) result }
+{
+    let mut met = NumberSet::new(alloc);
+    let mut cars = Vec::new(alloc);
+    for entry in entries {
+        let car = read_entry(alloc, pages, entry, next, &mut met, buffer)?;
+        push(&mut cars, car)?;
+    }
+    Ok(Settled::from_vec(cars))
+}
+
+/// The catalog that the current header names.
+pub(crate) fn read_chain<D: Disk>(
+    alloc: Global,
+    pages: &mut Pages<D>,
+    buffer: &mut [u8],
+) -> Result<Chain, ReadFault>
+    requires first { IsThere (state pages.old).count (state pages.old).header.first }
+    requires len { length buffer.old ≡ PAGE_BYTES }
+    ensures gives { IfTold (D.contents (disk_of pages.old)) (λ bytes. Gives result (catalog_of (store_of (state pages.old).count bytes) (state pages.old).header)) }
+    ensures sound { IfOk result (IsSound (state pages.old).count) }
+    ensures looked { Looked pages.old pages.new }
+    ensures counts { Counts (D.count (disk_of pages.old)) (D.count (disk_of pages.new)) result }
+{
+    let header = *pages.header();
+    let mut met = Met::beginning_at(alloc, header.first)?;
+    let mut chain = Vec::new(alloc);
+    let mut page = header.first;
+    let mut kept = header.digest;
+    for _ in 0..u64::MAX {
+        let read = read_link(alloc, pages, page, &kept, &mut met, buffer)?;
+        let next = read.next;
+        let digest = read.digest;
+        chain.push((page, read))?;
+        if next == 0 {
+            return Ok(Chain::from_vec(chain));
+        }
+        page = next;
+        kept = digest;
+    }
+    Err(ReadFault::Refused)
+}

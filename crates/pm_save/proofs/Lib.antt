@@ -1,0 +1,15 @@
+pub mod ListLemmas
+pub mod FullLemmas
+pub mod SpareLemmas
+pub mod StateLemmas
+pub mod PutLemmas
+pub mod CutLemmas
+pub mod RootLemmas
+pub mod CarLemmas
+pub mod FillLemmas
+pub mod OrderLemmas
+pub mod ChainLemmas
+pub mod GateLemmas
+pub mod LaidLemmas
+pub mod SettleLemmas
+pub mod TestLemmas

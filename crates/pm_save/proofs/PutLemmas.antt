@@ -1,0 +1,157 @@
+-- The pages that were written stay as they were while others are written.
+use Rattle.std.proofs.Common.{◌≡◌, ◌⊎◌, inl, inr, ⊎_elim, ℕ, ◌+◌, ◌-◌, ◌*◌, ◌<◌, ◌≤◌, Bool, true, false, List, [], ◌∷◌, ◌++◌, length, map, take, drop, get_or, Option, Some, sym, ◌∙◌, ap, subst, arith, length-take, length-drop}
+use Rattle.std.specs.Prelude.{option_map, ◌==◌, if◌then◌else◌}
+use Rattle.std.specs.List.{AllByRecursion, Contains}
+use Rattle.std.proofs.lemmas.Bool.{cases_lt, cases_eq}
+use Rattle.std.proofs.lemmas.Bool.Decides.{nat_tests}
+use Rattle.std.proofs.lemmas.List.{get_or-drop, get_or-take, ext_get_or, map-append}
+use Rattle.std.proofs.lemmas.List.Elements.{Contains-push_cases}
+use Rattle.pm_types.specs.declared.limits.TheConstants.{PAGE_BYTES}
+use Rattle.pm_disk.specs.Writes.{written, Torn}
+use Rattle.pm_disk.proofs.WriteLemmas.{torn_written, length-written, written_inside}
+use Rattle.pm_image.specs.Opening.{page_of, page_count}
+use Rattle.pm_model.proofs.Members.{in_none, in_rest, first_or_rest}
+use Rattle.pm_shadow.specs.declared.page_use.PageUse.{PageUse}
+use Rattle.pm_shadow.specs.declared.page_use.PageUse.TheVariants.{Free, Claimed}
+use Rattle.pm_shadow.specs.Uses.{with_use}
+use Rattle.pm_shadow.specs.State.{State, with_claimed, with_page}
+use Rattle.pm_shadow.specs.Images.{place_of}
+use Rattle.pm_shadow.proofs.RunLemmas.{told_before}
+use Rattle.pm_shadow.proofs.SlotLemmas.{part_torn, page_inside, count_le}
+use Rattle.pm_plain.specs.Laid.{AreApart}
+use Rattle.pm_save.specs.Putting.{Put, IsPut, ArePut, ArePutIfTold, IsWritten}
+
+-- ---- what stands on a page that was written
+
+-- what was written is read, also behind the old end
+part_written : (at : ℕ) (new old : List ℕ) → 0 < length new → take (length new) (drop at (written at new old)) ≡ new
+part_written at new old some =
+    let long = length-written at new old some in
+    ext_get_or 0 (take (length new) (drop at (written at new old))) new
+    (omega (arith, length-take (length new) (drop at (written at new old)), length-drop at (written at new old)))
+    (λ i lt.
+    let within : i < length new = omega (arith, length-take (length new) (drop at (written at new old))) in
+    get_or-take (length new) (drop at (written at new old)) i 0 within ∙ get_or-drop at (written at new old) i 0
+    ∙ written_inside at new old (at + i) (omega arith) (omega arith) ∙ ap (λ (n : ℕ). get_or new n 0) (let back : at + i - at ≡ i = omega arith in back))
+
+page_written : (page : ℕ) (new old : List ℕ) → length new ≡ PAGE_BYTES → page_of (written (place_of page) new old) page ≡ new
+page_written page new old len =
+    ap (λ (n : ℕ). take n (drop (place_of page) (written (place_of page) new old))) (sym len) ∙ part_written (place_of page) new old (omega arith)
+
+page_there : (page : ℕ) (new old : List ℕ) → length new ≡ PAGE_BYTES → page < page_count (written (place_of page) new old)
+page_there page new old len = let long = length-written (place_of page) new old (omega arith) in omega arith
+
+torn_page : (page : ℕ) (new old : List ℕ) → length new ≡ PAGE_BYTES → Torn (place_of page) PAGE_BYTES old (written (place_of page) new old)
+torn_page page new old len = subst (λ (n : ℕ). Torn (place_of page) n old (written (place_of page) new old)) len (torn_written (place_of page) new old)
+
+-- two pages lie apart
+aside : (page other : ℕ) → (other ≡ page → ⊥) → (PAGE_BYTES * other + PAGE_BYTES ≤ place_of page) ⊎ (place_of page + PAGE_BYTES ≤ PAGE_BYTES * other)
+aside page other apart =
+    ⊎_elim (λ (lt : other < page). inl (omega arith)) (λ (le : page ≤ other). ⊎_elim (λ (same : other ≡ page). absurd (apart same)) (λ (differ : other ≡ page → ⊥). inr (omega (arith, differ))) (cases_eq other page)) (cases_lt other page)
+
+-- ---- what stays through a write cut short
+
+module _ (at m : ℕ) (was image : List ℕ) (torn : Torn at m was image) where
+  pub page_stays : (page : ℕ) → page < page_count was → (PAGE_BYTES * page + PAGE_BYTES ≤ at) ⊎ (at + m ≤ PAGE_BYTES * page) → page_of image page ≡ page_of was page
+  page_stays page there apart = part_torn at m was image torn (PAGE_BYTES * page) PAGE_BYTES (page_inside page was there) apart
+
+  -- a page that was put is put still, where no other use was made of it
+  put_stays : (s t : State) (put : Put) → s.count ≤ t.count → t.uses put.0 ≡ s.uses put.0 → (PAGE_BYTES * put.0 + PAGE_BYTES ≤ at) ⊎ (at + m ≤ PAGE_BYTES * put.0) → IsPut s was put → IsPut t image put
+  put_stays s t put more same apart is =
+      let no_shorter = torn.no_shorter in
+      let low = is.next.from_2 in
+      let there = is.next.there in
+      let counted = is.next.counted in
+      record {
+        next = record { from_2 = low; there = (let le = count_le was image no_shorter in omega arith); counted = omega arith; claimed = same ∙ is.next.claimed };
+        page = page_stays put.0 there apart ∙ is.page;
+      }
+
+-- ---- one page more
+
+-- a page that is free is none of those that were claimed
+free_apart : (s : State) (bytes : List ℕ) (page : ℕ) (put : Put) → s.uses page ≡ Free → IsPut s bytes put → put.0 ≡ page → ⊥
+free_apart s bytes page put free is same =
+    let claimed : s.uses page ≡ Claimed = ap s.uses (sym same) ∙ is.next.claimed in absurd (cc (claimed, free))
+
+other_use : (uses : ℕ → PageUse) (page other : ℕ) → (other ≡ page → ⊥) → with_use page Claimed uses other ≡ uses other
+other_use uses page other apart =
+    let test : (other == page) ≡ false = grind (arith, nat_tests, apart) in ap (λ (b : Bool). if b then Claimed else uses other) test
+
+own_use : (uses : ℕ → PageUse) (page : ℕ) → with_use page Claimed uses page ≡ Claimed
+own_use uses page = let test : (page == page) ≡ true = grind (arith, nat_tests) in ap (λ (b : Bool). if b then Claimed else uses page) test
+
+module _ (s t : State) (old new : Option (List ℕ)) (page : ℕ) (bytes : List ℕ) (is : IsWritten s t old new page bytes) where
+  module _ (was now : List ℕ) (then_told : old ≡ Some was) (now_told : new ≡ Some now) where
+    now_is : now ≡ written (place_of page) bytes was
+    now_is = let both : Some now ≡ Some (written (place_of page) bytes was) = sym now_told ∙ is.contents ∙ ap (option_map (written (place_of page) bytes)) then_told in cc
+
+    one_stays : (put : Put) → IsPut s was put → IsPut t now put
+    one_stays put had =
+        let apart : put.0 ≡ page → ⊥ = free_apart s was page put is.free had in
+        subst (λ (t : State). IsPut t now put) (sym is.state)
+        (subst (λ (b : List ℕ). IsPut (with_page (with_claimed s page) page) b put) (sym now_is)
+        (put_stays (place_of page) PAGE_BYTES was (written (place_of page) bytes was) (torn_page page bytes was is.whole) s (with_page (with_claimed s page) page) put (omega arith) (other_use s.uses page put.0 apart) (aside page put.0 apart) had))
+
+    all_stay : (puts : List Put) → AllByRecursion (IsPut s was) puts → AllByRecursion (IsPut t now) puts
+    all_stay [] each = tt
+    all_stay (put ∷ puts) each = (one_stays put each.0, all_stay puts each.1)
+
+    not_among : (puts : List Put) → AllByRecursion (IsPut s was) puts → Contains (map (λ (put : Put). put.0) puts) page → ⊥
+    not_among [] each within = in_none page within
+    not_among (put ∷ puts) each within =
+        ⊎_elim (λ (here : put.0 ≡ page). free_apart s was page put is.free each.0 here) (λ there. not_among puts each.1 there) (first_or_rest put.0 page (map (λ (put : Put). put.0) puts) within)
+
+    new_is_put : IsPut t now (page, bytes)
+    new_is_put =
+        subst (λ (t : State). IsPut t now (page, bytes)) (sym is.state)
+        (subst (λ (b : List ℕ). IsPut (with_page (with_claimed s page) page) b (page, bytes)) (sym now_is)
+        (record {
+          next = record { from_2 = is.from_2; there = page_there page bytes was is.whole; counted = omega arith; claimed = own_use s.uses page };
+          page = page_written page bytes was is.whole;
+        }))
+
+  -- a page more before those that were put
+  pub put_before : (puts : List Put) → ArePutIfTold s old puts → ArePutIfTold t new ((page, bytes) ∷ puts)
+  put_before puts had now now_told =
+      let before = told_before (written (place_of page) bytes) old now (sym is.contents ∙ now_told) in
+      let then_put = had before.0 before.1 in
+      record {
+        each = (new_is_put before.0 now before.1 now_told, all_stay before.0 now before.1 now_told puts then_put.each);
+        apart = (not_among before.0 now before.1 now_told puts then_put.each, then_put.apart);
+      }
+
+  -- and one more behind them
+  pub put_behind : (puts : List Put) → ArePutIfTold s old puts → ArePutIfTold t new (puts ++ (page, bytes) ∷ [])
+  put_behind puts had now now_told =
+      let before = told_before (written (place_of page) bytes) old now (sym is.contents ∙ now_told) in
+      let then_put = had before.0 before.1 in
+      record {
+        each = all_behind puts (all_stay before.0 now before.1 now_told puts then_put.each) (new_is_put before.0 now before.1 now_told);
+        apart = subst AreApart (sym (map-append (λ (put : Put). put.0) puts ((page, bytes) ∷ []))) (apart_behind (map (λ (put : Put). put.0) puts) page then_put.apart (not_among before.0 now before.1 now_told puts then_put.each));
+      }
+    where
+      all_behind : (puts : List Put) → AllByRecursion (IsPut t now) puts → IsPut t now (page, bytes) → AllByRecursion (IsPut t now) (puts ++ (page, bytes) ∷ [])
+      all_behind [] each last = (last, tt)
+      all_behind (put ∷ puts) each last = (each.0, all_behind puts each.1 last)
+
+      apart_behind : (pages : List ℕ) (page : ℕ) → AreApart pages → (Contains pages page → ⊥) → AreApart (pages ++ page ∷ [])
+      apart_behind [] page apart other = ((λ within. in_none page within), tt)
+      apart_behind (first ∷ pages) page apart other = (
+        (λ within. ⊎_elim (λ there. apart.0 there) (λ (same : page ≡ first). other (0, omega arith, sym same)) (Contains-push_cases pages page first within)),
+        apart_behind pages page apart.1 (λ within. other (later first pages page within)),
+      )
+        where
+          later : (first : ℕ) (pages : List ℕ) (page : ℕ) → Contains pages page → Contains (first ∷ pages) page
+          later first pages page within = in_rest first page pages within
+
+-- ---- the other gate is closed
+
+-- a write below page 2 changes no page that was put
+pub puts_stay : (s t : State) (at m : ℕ) (was now : List ℕ) (puts : List Put) → Torn at m was now → at + m ≤ 2 * PAGE_BYTES → s.count ≤ t.count → ((page : ℕ) → t.uses page ≡ s.uses page) → ArePut s was puts → ArePut t now puts
+puts_stay s t at m was now puts torn low more same had = record { each = each_stays puts had.each; apart = had.apart }
+  where
+    each_stays : (puts : List Put) → AllByRecursion (IsPut s was) puts → AllByRecursion (IsPut t now) puts
+    each_stays [] each = tt
+    each_stays (put ∷ puts) each =
+        (put_stays at m was now torn s t put more (same put.0) (inr (let from = each.0.next.from_2 in omega arith)) each.0, each_stays puts each.1)
