@@ -1,10 +1,2 @@
-pub mod Both
-pub mod PartsLemmas
-pub mod Numerals
-pub mod NameTests
-pub mod Steps
-pub mod Found
-pub mod Again
-pub mod Lines
-pub mod Written
-pub mod Runs
+pub mod Ran
+pub mod Opened

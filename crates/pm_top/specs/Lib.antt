@@ -1,8 +1,3 @@
-pub mod Script
-pub mod Parts
-pub mod Reading
-pub mod Writing
-pub mod Events
-pub mod Running
 pub mod Words
 pub mod Ends
+pub mod Disks

@@ -14,3 +14,10 @@ is_run (command ∷ []) = false
 is_run (command ∷ file ∷ []) = false
 is_run (command ∷ file ∷ order ∷ []) = pointwise ◌==◌ command (codes "run") && is_file file && pointwise ◌==◌ order (codes "serial")
 is_run (command ∷ file ∷ order ∷ more ∷ words) = false
+
+-- `init FILE`
+abbrev pub is_init : List (List ℕ) → Bool
+is_init [] = false
+is_init (command ∷ []) = false
+is_init (command ∷ file ∷ []) = pointwise ◌==◌ command (codes "init") && is_file file
+is_init (command ∷ file ∷ more ∷ words) = false

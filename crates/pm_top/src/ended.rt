@@ -1,12 +1,15 @@
 ghost use Rattle.std.specs.Prelude.{◌≡◌};
+ghost use Rattle.pm_top.specs.Ends.{status_of};
 
+use pm_disk::Disk;
 use pm_io::{Sink, Source};
-use pm_types::Entry;
+use pm_types::{Entry, OpenFault};
 
-/// How a run ended.
+/// How the program ended.
 #[derive(Clone, Copy, Debug, PartialEq, Eq)]
 pub enum Detail {
-    /// The script was run to its end, and every reply was written and finished. Status 0.
+    /// All was done: a store was made; or the script was run to its end, and every reply was written and
+    /// finished. Status 0.
     Fine,
     /// The words are no command line. Status 1.
     Usage,
@@ -16,18 +19,26 @@ pub enum Detail {
     Reading { before: u64, after: u64 },
     /// The sink failed: its count of faults rose, from `before` to `after`. Status 4.
     Writing { before: u64, after: u64 },
+    /// The disk failed: its count of faults rose, from `before` to `after`. Status 5.
+    Device { before: u64, after: u64 },
+    /// No store was made, since the file holds this number of bytes, which is over 0. Status 6.
+    NotEmpty(u64),
+    /// The store was not opened, by the rule that its bytes fail. Status 6.
+    Refused(OpenFault),
     /// Memory ran out. Status 7.
     Memory,
 }
 
-/// What a run leaves: its status, how it ended, the journal of its events, and the source and the sink.
+/// What the program leaves: its status, how it ended, the journal of its events, and the disk, the source and the
+/// sink.
 #[derive(Drop)]
-pub struct Ended<S: Source, K: Sink> {
-    /// The status with which the program ends: 0 to 4, or 7.
+pub struct Ended<D: Disk, S: Source, K: Sink> {
+    /// The status with which the program ends: 0 to 7.
     pub status: u8,
     pub detail: Detail,
     /// One entry for each event, in their order.
     pub journal: Vec<Entry>,
+    pub disk: D,
     pub source: S,
     pub sink: K,
 }
@@ -44,7 +55,34 @@ impl Detail {
             Detail::Unread => 2,
             Detail::Reading { .. } => 3,
             Detail::Writing { .. } => 4,
+            Detail::Device { .. } => 5,
+            Detail::NotEmpty(_) | Detail::Refused(_) => 6,
             Detail::Memory => 7,
         }
+    }
+}
+
+/// The end of the program.
+pub(crate) fn end_with<D: Disk, S: Source, K: Sink>(
+    detail: Detail,
+    journal: Vec<Entry>,
+    disk: D,
+    source: S,
+    sink: K,
+) -> Ended<D, S, K>
+    ensures status { result.status ≡ status_of detail }
+    ensures detail { result.detail ≡ detail }
+    ensures journal { result.journal ≡ journal }
+    ensures disk { result.disk ≡ disk }
+    ensures source { result.source ≡ source }
+    ensures sink { result.sink ≡ sink }
+{
+    Ended {
+        status: detail.status(),
+        detail,
+        journal,
+        disk,
+        source,
+        sink,
     }
 }

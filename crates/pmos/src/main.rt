@@ -1,11 +1,12 @@
-//! `pmos`: runs a script over an object graph. It makes the real input and output, and leaves all else
-//! to `pm_top`.
+//! `pmos`: a store of objects that refer to one another, in one file. It makes the real file, input and output, and
+//! leaves all else to `pm_top`.
 #![tactic(auto)]
 
-ghost use Rattle.std.specs.Prelude.{◌≡◌, ◌↔◌, map, false, string_bytes, IfOk};
-ghost use Rattle.pm_top.specs.Words.{is_run};
+ghost use Rattle.std.specs.Prelude.{◌≡◌, ◌↔◌, ◌||◌, map, false, string_bytes, IfOk};
+ghost use Rattle.pm_top.specs.Words.{is_run, is_init};
 ghost use Rattle.pm_top.specs.Ends.{status_of};
 
+use pm_file::FileDisk;
 use pm_io::{StdSink, StdSource};
 use pm_top::{Detail, detail_text, pmos};
 use std::alloc::{AllocError, Global};
@@ -40,15 +41,26 @@ fn texts(alloc: Global, words: &[String]) -> Result<Vec<&str>, AllocError>
     Ok(texts)
 }
 
-// Runs the program over the real input and output, and answers its status and how it ended.
+// The file's name: the second word, or nothing where there is none.
+fn path_of<'a>(words: &[&'a str]) -> &'a str {
+    match words {
+        [_, file, ..] => *file,
+        _ => "",
+    }
+}
+
+// Runs the program over the real file, input and output, and answers its status and how it ended.
 fn run(rt: &HostRuntime, words: &[String]) -> Result<(u8, Detail), AllocError>
     ensures status { IfOk result (λ ended. ended.0 ≡ status_of ended.1) }
-    ensures usage { IfOk result (λ ended. (ended.1 ≡ Detail.Usage) ↔ (is_run (map string_bytes words.now) ≡ false)) }
+    ensures usage { IfOk result (λ ended. (ended.1 ≡ Detail.Usage) ↔ ((is_run (map string_bytes words.now) || is_init (map string_bytes words.now)) ≡ false)) }
 {
     let texts = texts(rt.alloc(), words)?;
+    let Ok(disk) = FileDisk::at(*rt, rt.alloc(), path_of(&texts)) else {
+        return Err(AllocError);
+    };
     let source = StdSource::new(rt.reader());
     let sink = StdSink::new(io::writer(rt));
-    let ended = pmos(rt, texts.as_slice(), source, sink);
+    let ended = pmos(rt, texts.as_slice(), disk, source, sink);
     Ok((ended.status, ended.detail))
 }
 

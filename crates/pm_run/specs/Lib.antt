@@ -1,0 +1,5 @@
+pub mod Writing
+pub mod Events
+pub mod Running
+pub mod Images
+pub mod Storing

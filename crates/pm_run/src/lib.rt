@@ -1,0 +1,10 @@
+//! A run of lines over the graph in memory and the pages of a store: each is answered, its entry goes into the
+//! journal, and its reply is written.
+#![tactic(auto)]
+
+mod event;
+mod output;
+mod run;
+mod settling;
+
+pub use run::{Stop, run_lines};

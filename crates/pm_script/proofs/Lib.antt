@@ -1,0 +1,9 @@
+pub mod Both
+pub mod PartsLemmas
+pub mod Numerals
+pub mod NameTests
+pub mod Steps
+pub mod Hexes
+pub mod Found
+pub mod Again
+pub mod Lines
