@@ -1,21 +1,35 @@
 #!/usr/bin/env bash
-# Builds the program (it is proved first) and runs the first script on it.
+# Builds the program (it is proved first), makes a store, runs the first script on it and then the second, and
+# runs the second on a copy of the file that was taken before the first: it holds the copy of then.
 set -euo pipefail
 cd "$(dirname "$0")/.."
 
-script=examples/first.script
-log=$(mktemp)
-trap 'rm -f "$log"' EXIT
+work=$(mktemp -d)
+trap 'rm -rf "$work"' EXIT
 
 echo "Proving and building pmos; the first time takes some minutes."
-if ! (cd crates/pmos && rt run -- run store.pmos serial) <"$script" >"$log" 2>&1; then
-    cat "$log"
+# Run without words the program says how it is used, and ends with 1.
+(cd crates/pmos && rt run) >"$work/log" 2>&1 || true
+pmos=crates/pmos/out/pmos
+if ! [ -x "$pmos" ]; then
+    cat "$work/log"
     exit 1
 fi
 
+show() {
+    echo
+    echo "The script, $1:"
+    sed 's/^/    /' "$1"
+    echo "The replies of 'pmos run $2 serial':"
+    "$pmos" run "$work/$2" serial <"$1" | sed 's/^/    /'
+}
+
+"$pmos" init "$work/store.pmos"
 echo
-echo "The script, $script:"
-sed 's/^/    /' "$script"
+echo "'pmos init store.pmos' made a store of $(wc -c <"$work/store.pmos") bytes."
+cp "$work/store.pmos" "$work/before.pmos"
+show examples/first.script store.pmos
+show examples/second.script store.pmos
 echo
-echo "The replies of 'pmos run store.pmos serial':"
-crates/pmos/out/pmos run store.pmos serial <"$script" | sed 's/^/    /'
+echo "On the copy of the file that was taken before the settle:"
+show examples/second.script before.pmos
