@@ -1,0 +1,5 @@
+//! Tests of names, registers, room and copies.
+#![tactic(auto)]
+
+#[cfg(test)]
+mod tests;
