@@ -1,3 +1,4 @@
 pub mod Names
 pub mod NameFaults
+pub mod Orders
 pub mod Counts
