@@ -1,21 +1,15 @@
 -- What the map of the registers answers, from their list.
 use Rattle.std.proofs.Common.{◌≡◌, ℕ, ◌+◌, ◌-◌, ◌*◌, ◌/◌, ◌%◌, ◌<◌, ◌≤◌, true, false, cond, List, [], ◌∷◌, length, get_or, set, replicate, zero, suc, Option, Some, None, refl, sym, ap, ◌∙◌, arith, ⊎_elim}
 use Rattle.std.proofs.Math.Logic.{⊎_swap}
-use Rattle.std.specs.Ordering.{nat_cmp, eq_by_cmp}
-use Rattle.std.specs.Cmp.{IsTotalOrder, nat_cmp_total, then_total, on_total}
-use Rattle.std.specs.FinMap.{IsAntisymmetric, find, from_entries, get, empty, get-from_entries, get-insert, get-remove, same_map, nat_cmp-IsAntisymmetric}
-use Rattle.std.proofs.lemmas.Map.Lookups.{exact_pairs}
+use Rattle.std.specs.Ordering.{eq_by_cmp}
+use Rattle.std.specs.FinMap.{find, from_entries, get, empty, get-from_entries, get-insert, get-remove, same_map}
 use Rattle.std.proofs.lemmas.Bool.{cases_eq, cases_lt}
 use Rattle.std.proofs.lemmas.Bool.Decides.{nat_tests}
 use Rattle.std.proofs.lemmas.List.{get_or-set_same, get_or-set_other, get_or_default}
 use Rattle.pm_types.specs.declared.address.Addr.{Addr}
-use Rattle.pm_handles.specs.Handles.{place_cmp, Registers, with_register, held_from}
-
-places_total : IsTotalOrder place_cmp
-places_total = then_total (on_total (λ (p : ℕ × ℕ). p.0) nat_cmp_total) (on_total (λ (p : ℕ × ℕ). p.1) nat_cmp_total)
-
-places_antisymmetric : IsAntisymmetric place_cmp
-places_antisymmetric = exact_pairs nat_cmp nat_cmp nat_cmp-IsAntisymmetric nat_cmp-IsAntisymmetric
+use Rattle.pm_types.specs.Orders.{place_cmp}
+use Rattle.pm_types.proofs.Orders.{places_total, places_antisymmetric}
+use Rattle.pm_handles.specs.Handles.{Registers, with_register, held_from}
 
 -- two places tie where both numbers are the same
 same_place : (c r d s : ℕ) → c ≡ d → r ≡ s → eq_by_cmp place_cmp (c, r) (d, s) ≡ true

@@ -1,13 +1,8 @@
 -- The registers of all clients as a finite map.
 use Rattle.std.specs.Prelude.{ℕ, ◌+◌, ◌/◌, ◌%◌, List, [], ◌∷◌, Option, Some, None}
-use Rattle.std.specs.declared.cmp.Ordering.{Ordering}
-use Rattle.std.specs.Ordering.{nat_cmp, ordering_then}
 use Rattle.std.specs.FinMap.{FinMap, insert, remove}
 use Rattle.pm_types.specs.declared.address.Addr.{Addr}
-
--- places of registers are ordered by the client, and then by the register
-abbrev pub place_cmp : ℕ × ℕ → ℕ × ℕ → Ordering
-place_cmp a b = ordering_then (nat_cmp a.0 b.0) (nat_cmp a.1 b.1)
+use Rattle.pm_types.specs.Orders.{place_cmp}
 
 -- the address that each register holds, at (client, register); an empty register has none
 abbrev pub Registers : Type 0

@@ -25,7 +25,8 @@ impl Model for Handles {
     ghost use Rattle.std.specs.Coded.{coded_ℕ, coded×};
     ghost use Rattle.pm_types.specs.contracts.address.Addr as address;
     ghost use Rattle.pm_types.specs.declared.address.Addr.{Addr};
-    ghost use Rattle.pm_handles.specs.Handles.{place_cmp, held_from};
+    ghost use Rattle.pm_types.specs.Orders.{place_cmp};
+    ghost use Rattle.pm_handles.specs.Handles.{held_from};
 
     ghost Value = { map.FinMap place_cmp Addr };
 

@@ -8,9 +8,11 @@ use Rattle.std.specs.FinMap.Entries.{find, put, is_sorted, where_key, find-put, 
 use Rattle.std.proofs.lemmas.Bool.Decides.{nat_tests}
 use Rattle.std.proofs.lemmas.Grind.{common_steps}
 use Rattle.pm_types.specs.declared.address.Addr.{Addr}
-use Rattle.pm_roots.specs.Bindings.{name_cmp, Bindings, address_at, with_address}
+use Rattle.pm_types.specs.Orders.{name_cmp}
+use Rattle.pm_roots.specs.Bindings.{Bindings, address_at, with_address}
 use Rattle.pm_roots.specs.Kept.{Numbered, shown, IsKept, Changes}
-use Rattle.pm_roots.proofs.Views.{names_total, names_antisymmetric, with_its_address, decide, ties, get_shown, at_shown}
+use Rattle.pm_types.proofs.Orders.{names_total, names_antisymmetric}
+use Rattle.pm_roots.proofs.Views.{with_its_address, decide, ties, get_shown, at_shown}
 
 decide_number : (m n : ℕ) → (m ≡ n) ⊎ (m ≢ n)
 decide_number m n = elim (m == n) as (λ b. (m == n) ≡ b → (m ≡ n) ⊎ (m ≢ n)) [

@@ -7,10 +7,10 @@ use Rattle.std.specs.FinMap.{is_sorted, find}
 use Rattle.std.specs.FinMap.Entries.{put, where_key}
 use Rattle.std.specs.List.{insert, remove}
 use Rattle.std.proofs.lemmas.Bool.{cases_lt}
-use Rattle.pm_roots.specs.Bindings.{name_cmp}
+use Rattle.pm_types.specs.Orders.{name_cmp}
 use Rattle.pm_roots.specs.Kept.{Numbered, IsAt, IsGap}
 use Rattle.pm_roots.proofs.Sorted.{searchable, find_apart, find_at, insert_in_gap, remove_at}
-use Rattle.pm_roots.proofs.Views.{names_total, names_antisymmetric}
+use Rattle.pm_types.proofs.Orders.{names_total, names_antisymmetric}
 
 module _ (es : Numbered) (sorted : T (is_sorted name_cmp es)) (k : List ℕ) where
   pub searched : (r : Result ℕ ℕ) → IsSearchInRange r (length es) → IsBinarySearchResult (λ e. name_cmp e.0 k) es r → record { found : IfOk r (IsAt es k); absent : IfErr r (IsGap es k) }

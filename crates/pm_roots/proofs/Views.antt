@@ -2,9 +2,8 @@
 use Rattle.std.proofs.Common.{◌≡◌, ℕ, zero, suc, ◌<◌, Bool, true, false, cond, ◌&&◌, T, List, [], ◌∷◌, length, ◌⊎◌, inl, inr, Option, Some, None, IsSome, IfSome, IfNone, get_or, slice_get, Result, Ok, Err, refl, sym, ap, subst, ◌∙◌, arith}
 use Rattle.std.specs.Ordering.{is_lt, is_eq, eq_by_cmp}
 use Rattle.std.specs.Option.{option_map, unwrap_or}
-use Rattle.std.specs.Cmp.{IsTotalOrder, tied_itself}
-use Rattle.std.specs.Cmp.Lexicographic.{nat_list_cmp_total}
-use Rattle.std.specs.FinMap.{IsAntisymmetric, get, len, entries, get-from_sorted, entries-from_sorted, len-entries, nat_cmp-IsAntisymmetric, slice_cmp-IsAntisymmetric}
+use Rattle.std.specs.Cmp.{tied_itself}
+use Rattle.std.specs.FinMap.{get, len, entries, get-from_sorted, entries-from_sorted, len-entries}
 use Rattle.std.specs.FinMap.Entries.{find, below_all, is_sorted}
 use Rattle.std.proofs.lemmas.Bool.Decides.{nat_tests}
 use Rattle.std.proofs.lemmas.Map.Views.{tells_apart}
@@ -12,15 +11,11 @@ use Rattle.std.proofs.lemmas.Grind.{common_steps}
 use Rattle.pm_types.specs.declared.address.Addr.{Addr}
 use Rattle.pm_roots.specs.declared.fault.BindFault.{BindFault}
 use Rattle.pm_roots.specs.declared.fault.BindFault.TheVariants.{TooMany, Memory}
-use Rattle.pm_roots.specs.Bindings.{name_cmp, Bindings, address_in, address_at, IsBound, IsFree, AllNumbersDiffer}
+use Rattle.pm_types.specs.Orders.{name_cmp}
+use Rattle.pm_types.proofs.Orders.{names_total, names_antisymmetric}
+use Rattle.pm_roots.specs.Bindings.{Bindings, address_in, address_at, IsBound, IsFree, AllNumbersDiffer}
 use Rattle.pm_roots.specs.Kept.{Numbered, address_of, rows, shown, IsKept}
 use Rattle.pm_roots.proofs.Sorted.{first, second, find_below, find_first}
-
-pub names_total : IsTotalOrder name_cmp
-names_total = nat_list_cmp_total
-
-pub names_antisymmetric : IsAntisymmetric name_cmp
-names_antisymmetric = slice_cmp-IsAntisymmetric nat_cmp-IsAntisymmetric
 
 -- a number with its address
 abbrev pub with_its_address : (ℕ → Option Addr) → ℕ → ℕ × Addr

@@ -1,14 +1,8 @@
 -- Names, each bound to a number of its own and to an address.
 use Rattle.std.specs.Prelude.{◌≡◌, ℕ, ◌==◌, cond, List, [], ◌∷◌, Option, Some, None}
-use Rattle.std.specs.declared.cmp.Ordering.{Ordering}
-use Rattle.std.specs.Ordering.{nat_cmp}
-use Rattle.std.specs.Cmp.Lexicographic.{slice_cmp}
 use Rattle.std.specs.FinMap.{FinMap, get, entries}
 use Rattle.pm_types.specs.declared.address.Addr.{Addr}
-
--- names are ordered by their bytes
-abbrev pub name_cmp : List ℕ → List ℕ → Ordering
-name_cmp = slice_cmp nat_cmp
+use Rattle.pm_types.specs.Orders.{name_cmp}
 
 -- the number and the address of each bound name
 abbrev pub Bindings : Type 0

@@ -4,7 +4,8 @@ use Rattle.std.specs.declared.cmp.Ordering.TheVariants.{Less, Greater}
 use Rattle.std.specs.Option.{unwrap_or}
 use Rattle.std.specs.FinMap.{find, is_sorted, from_sorted}
 use Rattle.pm_types.specs.declared.address.Addr.{Addr}
-use Rattle.pm_roots.specs.Bindings.{name_cmp, Bindings}
+use Rattle.pm_types.specs.Orders.{name_cmp}
+use Rattle.pm_roots.specs.Bindings.{Bindings}
 
 -- names with their numbers
 abbrev pub Numbered : Type 0

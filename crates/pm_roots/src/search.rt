@@ -1,6 +1,6 @@
 ghost use Rattle.std.specs.Prelude.{◌≡◌, IfOk, IfErr, T};
 ghost use Rattle.std.specs.FinMap.{is_sorted};
-ghost use Rattle.pm_roots.specs.Bindings.{name_cmp};
+ghost use Rattle.pm_types.specs.Orders.{name_cmp};
 ghost use Rattle.pm_roots.specs.Kept.{IsAt, IsGap};
 
 use pm_types::Name;

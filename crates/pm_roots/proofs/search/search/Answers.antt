@@ -1,5 +1,5 @@
 use Rattle.std.proofs.Common.{◌≡◌, ◌∙◌, refl, ap}
-use Rattle.pm_roots.specs.Bindings.{name_cmp}
+use Rattle.pm_types.specs.Orders.{name_cmp}
 use Rattle.pm_roots.proofs.Calls.{answers_each}
 use Rattle.pm_roots.proofs.Places.{searched}
 use Rattle.pm_roots.proofs.search.search.Goals as goal

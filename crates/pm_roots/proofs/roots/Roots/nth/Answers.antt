@@ -1,7 +1,8 @@
 use Rattle.std.proofs.Common.{ℕ, List, ◌∙◌, sym, ap, arith, slice_get, Some}
 use Rattle.std.specs.FinMap.{len, entries}
 use Rattle.slab.specs.Slab as slab
-use Rattle.pm_roots.proofs.Views.{names_total, len_shown, entries_shown, row_at}
+use Rattle.pm_types.proofs.Orders.{names_total}
+use Rattle.pm_roots.proofs.Views.{len_shown, entries_shown, row_at}
 use Rattle.pm_roots.proofs.Sorted.{find_at}
 use Rattle.pm_roots.proofs.roots.Roots.nth.Goals as goal
 
