@@ -1,3 +1,4 @@
 pub mod Names
 pub mod NameFaults
 pub mod Counts
+pub mod Fields

@@ -13,6 +13,7 @@ mod object;
 mod register;
 mod reply;
 mod size;
+mod source;
 
 pub use address::Addr;
 pub use bytes::Bytes;
@@ -29,6 +30,7 @@ pub use object::{Fields, Object, Slot};
 pub use register::Reg;
 pub use reply::Reply;
 pub use size::room;
+pub use source::{Change, RefSource};
 
 /// The identity of an object: 1 to 4,294,967,295, given in order of creation and never given again.
 pub type Id = u32;
