@@ -1,140 +1,197 @@
--- What holds of every answer.
-use Rattle.std.proofs.Common.{◌≡◌, ℕ, Bool, true, false, cond, List, [], ◌∷◌, Option, Some, None, refl, ap, sym, subst, ◌∙◌, if◌then◌else◌}
+-- What holds of every answer: each law is one of the effects that answers have.
+use Rattle.std.proofs.Common.{◌≡◌, ℕ, ◌+◌, Bool, true, false, cond, not, nat_eq, List, [], ◌∷◌, Option, Some, None, refl, ap, sym, subst, ◌∙◌, if◌then◌else◌, arith}
 use Rattle.std.specs.Option.{IsSome, IsSomeAnd}
-use Rattle.std.specs.Ordering.{nat_cmp, eq_by_cmp}
-use Rattle.std.specs.Cmp.{nat_cmp_total, eq_by_cmp_equiv}
-use Rattle.std.specs.FinMap.{get, insert, get-insert}
+use Rattle.std.specs.Ordering.{nat_cmp}
+use Rattle.std.specs.Cmp.{nat_cmp_total}
+use Rattle.std.specs.FinMap.{get, nat_cmp-IsAntisymmetric}
+use Rattle.std.proofs.lemmas.Bool.Decides.{nat_tests}
 use Rattle.pm_types.specs.declared.command.Cmd.{Cmd}
-use Rattle.pm_types.specs.declared.command.Cmd.TheVariants.{New, Show, IdOf, Bind, Find, Save, Settle}
-use Rattle.pm_types.specs.declared.reply.Reply.TheVariants.{Done, Ident, Begun, TooLarge, IdsSpent, TooManyRoots, SavesSpent}
+use Rattle.pm_types.specs.declared.command.Cmd.TheVariants.{Bind, Unbind, Find}
+use Rattle.pm_types.specs.declared.reply.Reply.{Reply}
+use Rattle.pm_types.specs.declared.reply.Reply.TheVariants.{Done, Ident, TooManyRoots, NoRoot}
 use Rattle.pm_types.specs.declared.entry.Entry.{Entry}
-use Rattle.pm_model.specs.Heap.{Object, Heap}
-use Rattle.pm_model.specs.World.{World, Roots, Copy, name_cmp, held, holding, with_object, naming, beginning}
-use Rattle.pm_model.specs.Copying.{copy}
-use Rattle.pm_model.specs.Answer.{answer, answer_data, answer_id, answer_root, answer_find, answer_save, answer_settle, refused, fresh, has_no_room, is_refusal}
+use Rattle.pm_types.proofs.Orders.{names_total, names_antisymmetric, places_total, places_antisymmetric}
+use Rattle.pm_model.specs.World.{World, held, naming, unbinding}
+use Rattle.pm_model.specs.Answer.{answer, answer_root, answer_unroot, answer_find, refused, has_no_room, is_refusal}
 use Rattle.pm_model.specs.Journal.{after}
-use Rattle.pm_model.proofs.Orders.{names_total}
+use Rattle.pm_model.specs.Frames.{makes_object, changed_object, changed_name, sets_register, saves, sets_watch, MayChange}
+use Rattle.pm_model.specs.Closed.{IsClosed}
+use Rattle.pm_model.proofs.Maps.{insert_here, insert_other, remove_here, remove_other, insert_stays, retain_get}
+use Rattle.pm_model.proofs.Effects.{Effect, Nothing, Makes, Holds, Sets, Puts, Names, Closes, Begins, Settles, Drops, Watches, effected, IsOf, does}
 
-refused_new : (large spent : Bool) (world made : World) (id : ℕ)
-    → is_refusal (if large then refused world TooLarge else if spent then refused world IdsSpent else (Ident id, made)).0 ≡ true
-    → (if large then refused world TooLarge else if spent then refused world IdsSpent else (Ident id, made)).1 ≡ world
-refused_new true spent world made id is = refl
-refused_new false true world made id is = refl
-refused_new false false world made id is = cc
-
-refused_root : (full : Bool) (world named : World) → is_refusal (if full then refused world TooManyRoots else (Done, named)).0 ≡ true → (if full then refused world TooManyRoots else (Done, named)).1 ≡ world
-refused_root true world named is = refl
-refused_root false world named is = cc
-
-root_refused : (world : World) (name : List ℕ) (held_id : Option ℕ) → is_refusal (answer_root world name held_id).0 ≡ true → (answer_root world name held_id).1 ≡ world
-root_refused world name None is = refl
-root_refused world name (Some id) is = refused_root (has_no_room world name) world (naming world name id) is
-
-id_refused : (world : World) (held_id : Option ℕ) → (answer_id world held_id).1 ≡ world
-id_refused world None = refl
-id_refused world (Some id) = refl
-
-find_refused : (world : World) (client to : ℕ) (found : Option ℕ) → is_refusal (answer_find world client to found).0 ≡ true → (answer_find world client to found).1 ≡ world
-find_refused world client to None is = refl
-find_refused world client to (Some id) is = cc
-
--- the bytes of an object are told, and nothing else
-data_same : (world : World) (held_id : Option ℕ) → (answer_data world held_id).1 ≡ world
-data_same world None = refl
-data_same world (Some id) = refl
-
-refused_save : (more : Bool) (number : ℕ) (world begun : World) → is_refusal (if more then (Begun number, begun) else refused world SavesSpent).0 ≡ true
-    → (if more then (Begun number, begun) else refused world SavesSpent).1 ≡ world
-refused_save true number world begun is = cc
-refused_save false number world begun is = refl
-
-save_refused : (world : World) (saving : Option (ℕ × Copy)) → is_refusal (answer_save world saving).0 ≡ true → (answer_save world saving).1 ≡ world
-save_refused world None is = refused_save _ _ world (beginning world _ _) is
-save_refused world (Some begun) is = refl
-
-settle_refused : (world : World) (saving : Option (ℕ × Copy)) → is_refusal (answer_settle world saving).0 ≡ true → (answer_settle world saving).1 ≡ world
-settle_refused world None is = refl
-settle_refused world (Some begun) is = cc
+refused_same : (world : World) (client : ℕ) (cmd : Cmd) (reply : Reply) (effect : Effect) → IsOf world client cmd reply effect → is_refusal cmd reply ≡ true → effected world client effect ≡ world
+refused_same world client cmd reply Nothing of is = refl
+refused_same world client cmd reply (Makes reg object) of is = cc
+refused_same world client cmd reply (Holds reg to) of is = cc
+refused_same world client cmd reply (Sets id object index value) of is = cc
+refused_same world client cmd reply (Puts id object at bytes) of is = cc
+refused_same world client cmd reply (Names name to) of is = cc
+refused_same world client cmd reply Closes of is = cc (of.0.accepted)
+refused_same world client cmd reply (Begins number) of is = cc
+refused_same world client cmd reply (Settles number copy) of is = cc
+refused_same world client cmd reply Drops of is = cc (of.0.accepted)
+refused_same world client cmd reply Watches of is = cc
 
 -- a refusal gives the same world back
-pub refusal_keeps : (world : World) (client : ℕ) (cmd : Cmd) → is_refusal (answer world client cmd).0 ≡ true → (answer world client cmd).1 ≡ world
-unfolding answer
-refusal_keeps world client (New reg count bytes) is = refused_new _ _ world (holding (with_object world (fresh count bytes)) client reg world.next) world.next is
-refusal_keeps world client (Show reg) is = data_same world (held world client reg)
-refusal_keeps world client (IdOf reg) is = id_refused world (held world client reg)
-refusal_keeps world client (Bind name reg) is = root_refused world name (held world client reg) is
-refusal_keeps world client (Find to name) is = find_refused world client to (get world.roots name) is
-refusal_keeps world client Save is = save_refused world world.saving is
-refusal_keeps world client Settle is = settle_refused world world.saving is
+pub refusal_keeps : (world : World) (client : ℕ) (cmd : Cmd) → is_refusal cmd (answer world client cmd).0 ≡ true → (answer world client cmd).1 ≡ world
+refusal_keeps world client cmd is = let d = does world client cmd in d.is ∙ refused_same world client cmd _ d.effect d.allowed is
 
-some_cond : {X : Type 0} (b : Bool) (x : X) (o : Option X) → IsSome o → IsSome (cond b (Some x) o)
-some_cond true x o is = refl
-some_cond false x o is = is
+-- ---- what each command leaves as it is
 
-stays_inserted : (heap : Heap) (next : ℕ) (object : Object) (id : ℕ) → IsSome (get heap id) → IsSome (get (insert heap next object) id)
-stays_inserted heap next object id is = subst IsSome (sym (get-insert nat_cmp_total heap next object id)) (some_cond (eq_by_cmp nat_cmp id next) object (get heap id) is)
+object_stays : (world : World) (client : ℕ) (cmd : Cmd) (reply : Reply) (effect : Effect) (id : ℕ) → IsOf world client cmd reply effect → (id ≡ world.next → ⊥) → (MayChange world client cmd id → ⊥)
+    → get (effected world client effect).heap id ≡ get world.heap id
+object_stays world client cmd reply Nothing id of new other = refl
+object_stays world client cmd reply (Makes reg object) id of new other = insert_other nat_cmp_total nat_cmp-IsAntisymmetric world.heap world.next object id new
+object_stays world client cmd reply (Holds reg None) id of new other = refl
+object_stays world client cmd reply (Holds reg (Some to)) id of new other = refl
+object_stays world client cmd reply (Sets at object index value) id of new other =
+    insert_other nat_cmp_total nat_cmp-IsAntisymmetric world.heap at _ id (λ same.
+    other (subst (λ changed. IsSomeAnd changed (λ reg. held world client reg ≡ Some id)) (sym of.changes) (of.aims ∙ ap Some (sym same))))
+object_stays world client cmd reply (Puts at object from bytes) id of new other =
+    insert_other nat_cmp_total nat_cmp-IsAntisymmetric world.heap at _ id (λ same.
+    other (subst (λ changed. IsSomeAnd changed (λ reg. held world client reg ≡ Some id)) (sym of.changes) (of.aims ∙ ap Some (sym same))))
+object_stays world client cmd reply (Names name None) id of new other = refl
+object_stays world client cmd reply (Names name (Some to)) id of new other = refl
+object_stays world client cmd reply Closes id of new other = refl
+object_stays world client cmd reply (Begins number) id of new other = refl
+object_stays world client cmd reply (Settles number copy) id of new other = refl
+object_stays world client cmd reply Drops id of new other = refl
+object_stays world client cmd reply Watches id of new other = refl
 
-stays_new : (large spent : Bool) (world made : World) (reply : ℕ) (id : ℕ) → IsSome (get world.heap id) → IsSome (get made.heap id)
-    → IsSome (get (if large then refused world TooLarge else if spent then refused world IdsSpent else (Ident reply, made)).1.heap id)
-stays_new true spent world made reply id before after = before
-stays_new false true world made reply id before after = before
-stays_new false false world made reply id before after = after
+next_stays : (world : World) (client : ℕ) (cmd : Cmd) (reply : Reply) (effect : Effect) → IsOf world client cmd reply effect → makes_object cmd ≡ false → (effected world client effect).next ≡ world.next
+next_stays world client cmd reply Nothing of is = refl
+next_stays world client cmd reply (Makes reg object) of is = cc
+next_stays world client cmd reply (Holds reg None) of is = refl
+next_stays world client cmd reply (Holds reg (Some to)) of is = refl
+next_stays world client cmd reply (Sets at object index value) of is = refl
+next_stays world client cmd reply (Puts at object from bytes) of is = refl
+next_stays world client cmd reply (Names name None) of is = refl
+next_stays world client cmd reply (Names name (Some to)) of is = refl
+next_stays world client cmd reply Closes of is = refl
+next_stays world client cmd reply (Begins number) of is = refl
+next_stays world client cmd reply (Settles number copy) of is = refl
+next_stays world client cmd reply Drops of is = refl
+next_stays world client cmd reply Watches of is = refl
 
-stays_root : (full : Bool) (world : World) (name : List ℕ) (bound id : ℕ) → IsSome (get world.heap id) → IsSome (get (if full then refused world TooManyRoots else (Done, naming world name bound)).1.heap id)
-stays_root true world name bound id is = is
-stays_root false world name bound id is = is
+name_stays : (world : World) (client : ℕ) (cmd : Cmd) (reply : Reply) (effect : Effect) (name : List ℕ) → IsOf world client cmd reply effect → (changed_name cmd ≡ Some name → ⊥)
+    → get (effected world client effect).roots name ≡ get world.roots name
+name_stays world client cmd reply Nothing name of other = refl
+name_stays world client cmd reply (Makes reg object) name of other = refl
+name_stays world client cmd reply (Holds reg None) name of other = refl
+name_stays world client cmd reply (Holds reg (Some to)) name of other = refl
+name_stays world client cmd reply (Sets at object index value) name of other = refl
+name_stays world client cmd reply (Puts at object from bytes) name of other = refl
+name_stays world client cmd reply (Names bound None) name of other = remove_other names_total names_antisymmetric world.roots bound name (λ same. other (of.names ∙ ap Some (sym same)))
+name_stays world client cmd reply (Names bound (Some to)) name of other = insert_other names_total names_antisymmetric world.roots bound to name (λ same. other (of.names ∙ ap Some (sym same)))
+name_stays world client cmd reply Closes name of other = refl
+name_stays world client cmd reply (Begins number) name of other = refl
+name_stays world client cmd reply (Settles number copy) name of other = refl
+name_stays world client cmd reply Drops name of other = refl
+name_stays world client cmd reply Watches name of other = refl
 
-root_stays : (world : World) (name : List ℕ) (held_id : Option ℕ) (id : ℕ) → IsSome (get world.heap id) → IsSome (get (answer_root world name held_id).1.heap id)
-root_stays world name None id is = is
-root_stays world name (Some bound) id is = stays_root (has_no_room world name) world name bound id is
+-- a place that is another client's, or another register that the command does not set
+IsOther : ℕ → Cmd → ℕ → ℕ → Type 0
+IsOther client cmd other register = (other ≡ client → sets_register cmd register ≡ false)
 
-find_stays : (world : World) (client to : ℕ) (found : Option ℕ) (id : ℕ) → IsSome (get world.heap id) → IsSome (get (answer_find world client to found).1.heap id)
-find_stays world client to None id is = is
-find_stays world client to (Some bound) id is = is
+another_place : (client reg other register : ℕ) (cmd : Cmd) → sets_register cmd reg ≡ true → IsOther client cmd other register → ◌≡◌ {A = ℕ × ℕ} (other, register) (client, reg) → ⊥
+unfolding IsOther
+another_place client reg other register cmd sets is same =
+    let one : other ≡ client = ap (λ (p : ℕ × ℕ). p.0) same in
+    let two : register ≡ reg = ap (λ (p : ℕ × ℕ). p.1) same in
+    let not = is one in
+    let now = ap (sets_register cmd) two in
+    cc (sets, not, now)
 
-cond_heap : (more : Bool) (number : ℕ) (world : World) → (if more then (Begun number, beginning world number (copy world)) else refused world SavesSpent).1.heap ≡ world.heap
-cond_heap true number world = refl
-cond_heap false number world = refl
+kept_open : (client other : ℕ) (held : Option ℕ) → (other ≡ client → ⊥) → cond (not (nat_eq other client)) held None ≡ held
+kept_open client other held is = grind (arith, nat_tests)
 
--- to begin and to settle a copy change no object
-save_heap : (world : World) (saving : Option (ℕ × Copy)) → (answer_save world saving).1.heap ≡ world.heap
-save_heap world None = cond_heap _ _ world
-save_heap world (Some begun) = refl
+register_stays : (world : World) (client : ℕ) (cmd : Cmd) (reply : Reply) (effect : Effect) (other register : ℕ) → IsOf world client cmd reply effect → IsOther client cmd other register
+    → held (effected world client effect) other register ≡ held world other register
+unfolding IsOther
+register_stays world client cmd reply Nothing other register of is = refl
+register_stays world client cmd reply (Makes reg object) other register of is =
+    insert_other places_total places_antisymmetric world.registers (client, reg) world.next (other, register) (another_place client reg other register cmd of.sets is)
+register_stays world client cmd reply (Holds reg None) other register of is = remove_other places_total places_antisymmetric world.registers (client, reg) (other, register) (another_place client reg other register cmd of.sets is)
+register_stays world client cmd reply (Holds reg (Some to)) other register of is =
+    insert_other places_total places_antisymmetric world.registers (client, reg) to (other, register) (another_place client reg other register cmd of.sets is)
+register_stays world client cmd reply (Sets at object index value) other register of is = refl
+register_stays world client cmd reply (Puts at object from bytes) other register of is = refl
+register_stays world client cmd reply (Names name None) other register of is = refl
+register_stays world client cmd reply (Names name (Some to)) other register of is = refl
+register_stays world client cmd reply Closes other register of is =
+    retain_get places_total places_antisymmetric world.registers (λ place. not (nat_eq place.0 client)) (other, register)
+    ∙ kept_open client other (held world other register) (λ same. let set = of.1 register in let no = is same in cc)
+register_stays world client cmd reply (Begins number) other register of is = refl
+register_stays world client cmd reply (Settles number copy) other register of is = refl
+register_stays world client cmd reply Drops other register of is = refl
+register_stays world client cmd reply Watches other register of is = refl
 
-settle_heap : (world : World) (saving : Option (ℕ × Copy)) → (answer_settle world saving).1.heap ≡ world.heap
-settle_heap world None = refl
-settle_heap world (Some begun) = refl
+saving_stays : (world : World) (client : ℕ) (cmd : Cmd) (reply : Reply) (effect : Effect) → IsOf world client cmd reply effect → saves cmd ≡ false
+    → ((effected world client effect).saving ≡ world.saving) × ((effected world client effect).settled ≡ world.settled) × ((effected world client effect).settled_copy ≡ world.settled_copy)
+saving_stays world client cmd reply Nothing of is = (refl, refl, refl)
+saving_stays world client cmd reply (Makes reg object) of is = (refl, refl, refl)
+saving_stays world client cmd reply (Holds reg None) of is = (refl, refl, refl)
+saving_stays world client cmd reply (Holds reg (Some to)) of is = (refl, refl, refl)
+saving_stays world client cmd reply (Sets at object index value) of is = (refl, refl, refl)
+saving_stays world client cmd reply (Puts at object from bytes) of is = (refl, refl, refl)
+saving_stays world client cmd reply (Names name None) of is = (refl, refl, refl)
+saving_stays world client cmd reply (Names name (Some to)) of is = (refl, refl, refl)
+saving_stays world client cmd reply Closes of is = (refl, refl, refl)
+saving_stays world client cmd reply (Begins number) of is = absurd (cc (of.saves))
+saving_stays world client cmd reply (Settles number copy) of is = absurd (cc (of.saves))
+saving_stays world client cmd reply Drops of is = absurd (cc (of.1))
+saving_stays world client cmd reply Watches of is = (refl, refl, refl)
 
-stays : (world : World) (client : ℕ) (cmd : Cmd) (id : ℕ) → IsSome (get world.heap id) → IsSome (get (answer world client cmd).1.heap id)
-unfolding answer
-stays world client (New reg count bytes) id is =
-    stays_new _ _ world (holding (with_object world (fresh count bytes)) client reg world.next) world.next id is (stays_inserted world.heap world.next (fresh count bytes) id is)
-stays world client (Show reg) id is = subst (λ (w : World). IsSome (get w.heap id)) (sym (data_same world (held world client reg))) is
-stays world client (IdOf reg) id is = subst (λ (w : World). IsSome (get w.heap id)) (sym (id_refused world (held world client reg))) is
-stays world client (Bind name reg) id is = root_stays world name (held world client reg) id is
-stays world client (Find to name) id is = find_stays world client to (get world.roots name) id is
-stays world client Save id is = subst (λ heap. IsSome (get heap id)) (sym (save_heap world world.saving)) is
-stays world client Settle id is = subst (λ heap. IsSome (get heap id)) (sym (settle_heap world world.saving)) is
+watches_stay : (world : World) (client : ℕ) (cmd : Cmd) (reply : Reply) (effect : Effect) → IsOf world client cmd reply effect → sets_watch cmd ≡ false → (effected world client effect).watches ≡ world.watches
+watches_stay world client cmd reply Nothing of is = refl
+watches_stay world client cmd reply (Makes reg object) of is = refl
+watches_stay world client cmd reply (Holds reg None) of is = refl
+watches_stay world client cmd reply (Holds reg (Some to)) of is = refl
+watches_stay world client cmd reply (Sets at object index value) of is = refl
+watches_stay world client cmd reply (Puts at object from bytes) of is = refl
+watches_stay world client cmd reply (Names name None) of is = refl
+watches_stay world client cmd reply (Names name (Some to)) of is = refl
+watches_stay world client cmd reply Closes of is = refl
+watches_stay world client cmd reply (Begins number) of is = refl
+watches_stay world client cmd reply (Settles number copy) of is = refl
+watches_stay world client cmd reply Drops of is = refl
+watches_stay world client cmd reply Watches of is = cc
 
--- no object is taken away, whatever is asked
-pub stays_after : (world : World) (journal : List Entry) (id : ℕ) → IsSome (get world.heap id) → IsSome (get (after world journal).heap id)
-stays_after world [] id is = is
-stays_after world (entry ∷ journal) id is = stays_after (answer world entry.client entry.cmd).1 journal id (stays world entry.client entry.cmd id is)
+pub leaves_object : (world : World) (client : ℕ) (cmd : Cmd) (id : ℕ) → (id ≡ world.next → ⊥) → (MayChange world client cmd id → ⊥) → get (answer world client cmd).1.heap id ≡ get world.heap id
+leaves_object world client cmd id new other = let d = does world client cmd in ap (λ (w : World). get w.heap id) d.is ∙ object_stays world client cmd _ d.effect id d.allowed new other
 
-cond_same : {X : Type 0} (b : Bool) (x : X) (o : Option X) → b ≡ true → cond b (Some x) o ≡ Some x
-cond_same true x o is = refl
-cond_same false x o is = cc
+pub leaves_next : (world : World) (client : ℕ) (cmd : Cmd) → makes_object cmd ≡ false → (answer world client cmd).1.next ≡ world.next
+leaves_next world client cmd is = let d = does world client cmd in ap (λ (w : World). w.next) d.is ∙ next_stays world client cmd _ d.effect d.allowed is
 
-found_named : (roots : Roots) (name : List ℕ) (id : ℕ) → get (insert roots name id) name ≡ Some id
-found_named roots name id = get-insert names_total roots name id name ∙ cond_same (eq_by_cmp name_cmp name name) id (get roots name) ((eq_by_cmp_equiv names_total).refl name)
+pub leaves_name : (world : World) (client : ℕ) (cmd : Cmd) (name : List ℕ) → (changed_name cmd ≡ Some name → ⊥) → get (answer world client cmd).1.roots name ≡ get world.roots name
+leaves_name world client cmd name other = let d = does world client cmd in ap (λ (w : World). get w.roots name) d.is ∙ name_stays world client cmd _ d.effect name d.allowed other
+
+pub leaves_register : (world : World) (client : ℕ) (cmd : Cmd) (other register : ℕ) → (other ≡ client → sets_register cmd register ≡ false) → held (answer world client cmd).1 other register ≡ held world other register
+unfolding IsOther
+leaves_register world client cmd other register is =
+    let d = does world client cmd in ap (λ (w : World). held w other register) d.is ∙ register_stays world client cmd _ d.effect other register d.allowed is
+
+pub leaves_saving : (world : World) (client : ℕ) (cmd : Cmd) → saves cmd ≡ false → (answer world client cmd).1.saving ≡ world.saving
+leaves_saving world client cmd is = let d = does world client cmd in ap (λ (w : World). w.saving) d.is ∙ (saving_stays world client cmd _ d.effect d.allowed is).0
+
+pub leaves_settled : (world : World) (client : ℕ) (cmd : Cmd) → saves cmd ≡ false → ((answer world client cmd).1.settled ≡ world.settled) × ((answer world client cmd).1.settled_copy ≡ world.settled_copy)
+leaves_settled world client cmd is =
+    let d = does world client cmd in
+    let stays = saving_stays world client cmd _ d.effect d.allowed is in
+    (ap (λ (w : World). w.settled) d.is ∙ stays.1, ap (λ (w : World). w.settled_copy) d.is ∙ stays.2)
+
+pub leaves_watches : (world : World) (client : ℕ) (cmd : Cmd) → sets_watch cmd ≡ false → (answer world client cmd).1.watches ≡ world.watches
+leaves_watches world client cmd is = let d = does world client cmd in ap (λ (w : World). w.watches) d.is ∙ watches_stay world client cmd _ d.effect d.allowed is
+
+-- ---- names
 
 found_after : (full : Bool) (world : World) (name : List ℕ) (id other to : ℕ) → (if full then refused world TooManyRoots else (Done, naming world name id)).0 ≡ Done
     → (answer_find (if full then refused world TooManyRoots else (Done, naming world name id)).1 other to (get (if full then refused world TooManyRoots else (Done, naming world name id)).1.roots name)).0 ≡ Ident id
 found_after true world name id other to is = cc
-found_after false world name id other to is = ap (λ (found : Option ℕ). (answer_find (naming world name id) other to found).0) (found_named world.roots name id)
+found_after false world name id other to is = ap (λ (found : Option ℕ). (answer_find (naming world name id) other to found).0) (insert_here names_total names_antisymmetric world.roots name id)
 
-bound_found : (world : World) (name : List ℕ) (held_id : Option ℕ) (other to : ℕ) → (answer_root world name held_id).0 ≡ Done
-    → IsSomeAnd held_id (λ id. (answer_find (answer_root world name held_id).1 other to (get (answer_root world name held_id).1.roots name)).0 ≡ Ident id)
+bound_found : (world : World) (name : List ℕ) (from : Option ℕ) (other to : ℕ) → (answer_root world name from).0 ≡ Done
+    → IsSomeAnd from (λ id. (answer_find (answer_root world name from).1 other to (get (answer_root world name from).1.roots name)).0 ≡ Ident id)
 bound_found world name None other to is = cc
 bound_found world name (Some id) other to is = found_after (has_no_room world name) world name id other to is
 
@@ -143,3 +200,12 @@ pub bound_is_found : (world : World) (client reg other to : ℕ) (name : List �
     → IsSomeAnd (held world client reg) (λ id. (answer (answer world client (Bind name reg)).1 other (Find to name)).0 ≡ Ident id)
 unfolding answer
 bound_is_found world client reg other to name is = bound_found world name (held world client reg) other to is
+
+not_found : (world : World) (name : List ℕ) (bound : Option ℕ) (other to : ℕ) → get world.roots name ≡ bound → (answer_find (answer_unroot world name bound).1 other to (get (answer_unroot world name bound).1.roots name)).0 ≡ NoRoot
+not_found world name None other to is = ap (λ (found : Option ℕ). (answer_find world other to found).0) is
+not_found world name (Some id) other to is = ap (λ (found : Option ℕ). (answer_find (unbinding world name) other to found).0) (remove_here names_total names_antisymmetric world.roots name)
+
+-- what was unbound, or was not bound, is not found
+pub unbound_is_not_found : (world : World) (client other to : ℕ) (name : List ℕ) → (answer (answer world client (Unbind name)).1 other (Find to name)).0 ≡ NoRoot
+unfolding answer
+unbound_is_not_found world client other to name = not_found world name (get world.roots name) other to refl

@@ -1,74 +1,42 @@
 -- Journals that grow, and the copies that settle along them.
-use Rattle.std.proofs.Common.{◌≡◌, ◌≤◌, ℕ, ◌+◌, Bool, true, false, List, [], ◌∷◌, ◌++◌, Option, Some, None, refl, ap, sym, ◌∙◌, if◌then◌else◌, arith, ltb}
+use Rattle.std.proofs.Common.{◌≡◌, ◌≤◌, ℕ, ◌+◌, Bool, true, false, List, [], ◌∷◌, ◌++◌, Option, Some, None, refl, ap, sym, subst, ◌∙◌, if◌then◌else◌, arith}
 use Rattle.std.specs.List.{last_or}
-use Rattle.pm_types.specs.declared.command.Cmd.{Cmd}
-use Rattle.pm_types.specs.declared.command.Cmd.TheVariants.{New, Show, IdOf, Bind, Find, Save, Settle}
-use Rattle.pm_types.specs.declared.reply.Reply.{Reply}
-use Rattle.pm_types.specs.declared.reply.Reply.TheVariants.{Done, Ident, Begun, Saved, TooLarge, IdsSpent, TooManyRoots, SavesSpent}
-use Rattle.pm_types.specs.declared.entry.Entry.{Entry}
-use Rattle.pm_model.specs.World.{World, Copy, held, holding, with_object, naming, beginning, IsNumbered}
 use Rattle.std.specs.Option.{IfSome}
-use Rattle.std.proofs.lemmas.Bool.{ltb-true}
-use Rattle.std.specs.FinMap.{get}
 use Rattle.pm_types.specs.declared.limits.TheConstants.{LAST_COPY}
-use Rattle.pm_model.specs.Copying.{copy}
-use Rattle.pm_model.specs.Answer.{answer, answer_data, answer_id, answer_root, answer_find, answer_save, answer_settle, refused, fresh, has_no_room}
+use Rattle.pm_types.specs.declared.command.Cmd.{Cmd}
+use Rattle.pm_types.specs.declared.reply.Reply.{Reply}
+use Rattle.pm_types.specs.declared.reply.Reply.TheVariants.{Saved}
+use Rattle.pm_types.specs.declared.entry.Entry.{Entry}
+use Rattle.pm_model.specs.World.{World, Copy, IsNumbered}
+use Rattle.pm_model.specs.Answer.{answer}
 use Rattle.pm_model.specs.Journal.{IsLegal, after, chain, settled_in, settled_along, says_saved}
+use Rattle.pm_model.proofs.Effects.{Effect, Nothing, Makes, Holds, Sets, Puts, Names, Closes, Begins, Settles, Drops, Watches, effected, IsOf, does}
 
 -- what an answer does to the copies: nothing, or what was in progress has settled
-abbrev Settles : World → Reply × World → Type 0
-Settles world given = (says_saved given.0 ≡ true → (world.saving ≡ Some (settled_in given.1)) × (given.0 ≡ Saved given.1.settled) × (given.1.saving ≡ None)) × (says_saved given.0 ≡ false → settled_in given.1 ≡ settled_in world)
+abbrev Settled : World → Reply → World → Type 0
+Settled world reply next =
+    (says_saved reply ≡ true → (world.saving ≡ Some (settled_in next)) × (reply ≡ Saved next.settled) × (next.saving ≡ None)) × (says_saved reply ≡ false → settled_in next ≡ settled_in world)
 
-nothing : (world after : World) (reply : Reply) → says_saved reply ≡ false → settled_in after ≡ settled_in world → Settles world (reply, after)
-nothing world after reply other same = (λ is. cc, λ is. same)
+nothing_settled : (world : World) (client : ℕ) (reply : Reply) (effect : Effect) → says_saved reply ≡ false → settled_in (effected world client effect) ≡ settled_in world → Settled world reply (effected world client effect)
+nothing_settled world client reply effect other same = (λ is. cc, λ is. same)
 
-new_settles : (large spent : Bool) (world made : World) (id : ℕ) → settled_in made ≡ settled_in world
-    → Settles world (if large then refused world TooLarge else if spent then refused world IdsSpent else (Ident id, made))
-new_settles true spent world made id same = nothing world world TooLarge refl refl
-new_settles false true world made id same = nothing world world IdsSpent refl refl
-new_settles false false world made id same = nothing world made (Ident id) refl same
+settled : (world : World) (client : ℕ) (cmd : Cmd) (reply : Reply) (effect : Effect) → IsOf world client cmd reply effect → Settled world reply (effected world client effect)
+settled world client cmd reply Nothing of = nothing_settled world client reply Nothing of refl
+settled world client cmd reply (Makes reg object) of = nothing_settled world client reply (Makes reg object) of.fine.unsaved refl
+settled world client cmd reply (Holds reg None) of = nothing_settled world client reply (Holds reg None) of.fine.unsaved refl
+settled world client cmd reply (Holds reg (Some to)) of = nothing_settled world client reply (Holds reg (Some to)) of.fine.unsaved refl
+settled world client cmd reply (Sets id object index value) of = nothing_settled world client reply (Sets id object index value) of.fine.unsaved refl
+settled world client cmd reply (Puts id object at bytes) of = nothing_settled world client reply (Puts id object at bytes) of.fine.unsaved refl
+settled world client cmd reply (Names name None) of = nothing_settled world client reply (Names name None) of.fine.unsaved refl
+settled world client cmd reply (Names name (Some to)) of = nothing_settled world client reply (Names name (Some to)) of.fine.unsaved refl
+settled world client cmd reply Closes of = nothing_settled world client reply Closes of.0.unsaved refl
+settled world client cmd reply (Begins number) of = nothing_settled world client reply (Begins number) of.fine.unsaved refl
+settled world client cmd reply (Settles number copy) of = (λ is. (of.was, of.said, refl), λ other. let said = ap says_saved of.said in cc)
+settled world client cmd reply Drops of = nothing_settled world client reply Drops of.0.unsaved refl
+settled world client cmd reply Watches of = nothing_settled world client reply Watches of.fine.unsaved refl
 
-data_settles : (world : World) (held_id : Option ℕ) → Settles world (answer_data world held_id)
-data_settles world None = nothing world world _ refl refl
-data_settles world (Some id) = nothing world world _ refl refl
-
-id_settles : (world : World) (held_id : Option ℕ) → Settles world (answer_id world held_id)
-id_settles world None = nothing world world _ refl refl
-id_settles world (Some id) = nothing world world _ refl refl
-
-named_settles : (full : Bool) (world named : World) → settled_in named ≡ settled_in world → Settles world (if full then refused world TooManyRoots else (Done, named))
-named_settles true world named same = nothing world world _ refl refl
-named_settles false world named same = nothing world named _ refl same
-
-root_settles : (world : World) (name : List ℕ) (held_id : Option ℕ) → Settles world (answer_root world name held_id)
-root_settles world name None = nothing world world _ refl refl
-root_settles world name (Some id) = named_settles (has_no_room world name) world (naming world name id) refl
-
-find_settles : (world : World) (client to : ℕ) (found : Option ℕ) → Settles world (answer_find world client to found)
-find_settles world client to None = nothing world world _ refl refl
-find_settles world client to (Some id) = nothing world (holding world client to id) _ refl refl
-
-begun_settles : (more : Bool) (number : ℕ) (world begun : World) → settled_in begun ≡ settled_in world → Settles world (if more then (Begun number, begun) else refused world SavesSpent)
-begun_settles true number world begun same = nothing world begun _ refl same
-begun_settles false number world begun same = nothing world world _ refl refl
-
-save_settles : (world : World) (saving : Option (ℕ × Copy)) → Settles world (answer_save world saving)
-save_settles world None = begun_settles _ _ world (beginning world _ _) refl
-save_settles world (Some begun) = nothing world world _ refl refl
-
-settle_settles : (world : World) (saving : Option (ℕ × Copy)) → world.saving ≡ saving → Settles world (answer_settle world saving)
-settle_settles world None is = nothing world world _ refl refl
-settle_settles world (Some begun) is = (λ _. (is, refl, refl), λ other. cc)
-
-settles : (world : World) (client : ℕ) (cmd : Cmd) → Settles world (answer world client cmd)
-unfolding answer
-settles world client (New reg count bytes) = new_settles _ _ world (holding (with_object world (fresh count bytes)) client reg world.next) world.next refl
-settles world client (Show reg) = data_settles world (held world client reg)
-settles world client (IdOf reg) = id_settles world (held world client reg)
-settles world client (Bind name reg) = root_settles world name (held world client reg)
-settles world client (Find to name) = find_settles world client to (get world.roots name)
-settles world client Save = save_settles world world.saving
-settles world client Settle = settle_settles world world.saving refl
+settles : (world : World) (client : ℕ) (cmd : Cmd) → Settled world (answer world client cmd).0 (answer world client cmd).1
+settles world client cmd = let d = does world client cmd in subst (λ (next : World). Settled world (answer world client cmd).0 next) (sym d.is) (settled world client cmd _ d.effect d.allowed)
 
 number_of : Reply → ℕ → ℕ
 number_of (Saved number) other = number
@@ -131,53 +99,25 @@ chain_ends world (entry ∷ journal) legal =
     ∙ chain_ends next journal legal.1
 
 -- what keeps the numbers, whatever it does besides
-new_numbered : (large spent : Bool) (world made : World) (id : ℕ) → IsNumbered world → IsNumbered made → IsNumbered (if large then refused world TooLarge else if spent then refused world IdsSpent else (Ident id, made)).1
-new_numbered true spent world made id is later = is
-new_numbered false true world made id is later = is
-new_numbered false false world made id is later = later
-
-data_numbered : (world : World) (held_id : Option ℕ) → IsNumbered world → IsNumbered (answer_data world held_id).1
-data_numbered world None is = is
-data_numbered world (Some id) is = is
-
-id_numbered : (world : World) (held_id : Option ℕ) → IsNumbered world → IsNumbered (answer_id world held_id).1
-id_numbered world None is = is
-id_numbered world (Some id) is = is
-
-named_numbered : (full : Bool) (world named : World) → IsNumbered world → IsNumbered named → IsNumbered (if full then refused world TooManyRoots else (Done, named)).1
-named_numbered true world named is later = is
-named_numbered false world named is later = later
-
-root_numbered : (world : World) (name : List ℕ) (held_id : Option ℕ) → IsNumbered world → IsNumbered (answer_root world name held_id).1
-root_numbered world name None is = is
-root_numbered world name (Some id) is = named_numbered (has_no_room world name) world (naming world name id) is is
-
-find_numbered : (world : World) (client to : ℕ) (found : Option ℕ) → IsNumbered world → IsNumbered (answer_find world client to found).1
-find_numbered world client to None is = is
-find_numbered world client to (Some id) is = is
-
-begun_numbered : (more : Bool) (world : World) → (more ≡ true → world.settled + 1 ≤ LAST_COPY) → IsNumbered world
-    → IsNumbered (if more then (Begun (world.settled + 1), beginning world (world.settled + 1) (copy world)) else refused world SavesSpent).1
-begun_numbered true world below is = (is.0, (refl, below refl))
-begun_numbered false world below is = is
-
-save_numbered : (world : World) (saving : Option (ℕ × Copy)) → IsNumbered world → IsNumbered (answer_save world saving).1
-save_numbered world None is = begun_numbered (ltb world.settled LAST_COPY) world (λ less. let below = ltb-true world.settled LAST_COPY less in omega (arith, below)) is
-save_numbered world (Some begun) is = is
-
-settle_numbered : (world : World) (saving : Option (ℕ × Copy)) → IfSome saving (λ begun. (begun.0 ≡ world.settled + 1) × (begun.0 ≤ LAST_COPY)) → IsNumbered world → IsNumbered (answer_settle world saving).1
-settle_numbered world None next is = is
-settle_numbered world (Some begun) next is = (next.1, tt)
+effect_numbered : (world : World) (client : ℕ) (cmd : Cmd) (reply : Reply) (effect : Effect) → IsOf world client cmd reply effect → IsNumbered world → IsNumbered (effected world client effect)
+effect_numbered world client cmd reply Nothing of is = is
+effect_numbered world client cmd reply (Makes reg object) of is = is
+effect_numbered world client cmd reply (Holds reg None) of is = is
+effect_numbered world client cmd reply (Holds reg (Some to)) of is = is
+effect_numbered world client cmd reply (Sets id object index value) of is = is
+effect_numbered world client cmd reply (Puts id object at bytes) of is = is
+effect_numbered world client cmd reply (Names name None) of is = is
+effect_numbered world client cmd reply (Names name (Some to)) of is = is
+effect_numbered world client cmd reply Closes of is = is
+effect_numbered world client cmd reply (Begins number) of is = (is.0, (of.next, (let below = of.below in let next = of.next in omega arith)))
+effect_numbered world client cmd reply (Settles number copy) of is =
+    let begun : (number ≡ world.settled + 1) × (number ≤ LAST_COPY) = subst (λ saving. IfSome saving (λ (begun : ℕ × Copy). (begun.0 ≡ world.settled + 1) × (begun.0 ≤ LAST_COPY))) of.was is.1 in
+    (begun.1, tt)
+effect_numbered world client cmd reply Drops of is = (is.0, tt)
+effect_numbered world client cmd reply Watches of is = is
 
 numbered : (world : World) (client : ℕ) (cmd : Cmd) → IsNumbered world → IsNumbered (answer world client cmd).1
-unfolding answer
-numbered world client (New reg count bytes) is = new_numbered _ _ world (holding (with_object world (fresh count bytes)) client reg world.next) world.next is is
-numbered world client (Show reg) is = data_numbered world (held world client reg) is
-numbered world client (IdOf reg) is = id_numbered world (held world client reg) is
-numbered world client (Bind name reg) is = root_numbered world name (held world client reg) is
-numbered world client (Find to name) is = find_numbered world client to (get world.roots name) is
-numbered world client Save is = save_numbered world world.saving is
-numbered world client Settle is = settle_numbered world world.saving is.1 is
+numbered world client cmd is = let d = does world client cmd in subst IsNumbered (sym d.is) (effect_numbered world client cmd _ d.effect d.allowed is)
 
 pub numbered_after : (world : World) (journal : List Entry) → IsNumbered world → IsNumbered (after world journal)
 numbered_after world [] is = is

@@ -1,9 +1,12 @@
 pub mod Shown
-pub mod Orders
 pub mod Members
 pub mod Reaching
 pub mod Unused
 pub mod Reached
 pub mod Worklist
+pub mod Maps
+pub mod Retained
+pub mod Effects
 pub mod AnswerLaws
+pub mod ClosedLaws
 pub mod ChainLaws

@@ -13,7 +13,7 @@ use Rattle.pm_model.specs.World.{Roots}
 use Rattle.pm_model.specs.Reachability.{Leads, IsReachable}
 use Rattle.pm_model.specs.Copying.{field_id, held_ids, with_object_or, reached, copied, IsRoot}
 use Rattle.pm_model.proofs.Members.{at_first, in_rest, in_none, first_or_rest, is_value, at_key}
-use Rattle.pm_model.proofs.Orders.{names_total}
+use Rattle.pm_types.proofs.Orders.{names_total}
 use Rattle.pm_model.proofs.Reaching.{reachable_next}
 use Rattle.pm_model.proofs.Unused.{tied_nat}
 

@@ -30,6 +30,9 @@ cond_other false x y is = refl
 not_tied : (q next : ℕ) → next + 1 ≤ q → eq_by_cmp nat_cmp q next ≡ false
 not_tied q next above = tied_nat q next ∙ grind (arith, nat_tests)
 
+other : (q id : ℕ) → (q ≡ id → ⊥) → (q == id) ≡ false
+other q id not = grind (arith, nat_tests)
+
 -- the heap with one more object, and the next identity raised, is sound
 pub sound_insert : (heap : Heap) (next : ℕ) (object : Object) → IsSound heap next → next ≤ 4294967295 → IsSound (insert heap next object) (next + 1)
 sound_insert heap next object sound small =
@@ -42,3 +45,14 @@ sound_insert heap next object sound small =
 -- the empty heap is sound
 pub sound_empty : IsSound empty 1
 sound_empty = record { first = omega arith; last = lit≤ tt; unused = λ id above. get-empty nat_cmp id }
+
+-- an identity that has an object is not an unused one, so the heap stays sound when that object is another
+pub sound_changed : (heap : Heap) (next id : ℕ) (old new : Object) → IsSound heap next → get heap id ≡ Some old → IsSound (insert heap id new) next
+sound_changed heap next id old new sound there =
+    record {
+      first = sound.first;
+      last = sound.last;
+      unused = λ q above.
+      get-insert nat_cmp_total heap id new q
+      ∙ cond_other _ (Some new) (get heap q) (tied_nat q id ∙ other q id (λ same. let none = sound.unused q above in let some = ap (get heap) same ∙ there in cc)) ∙ sound.unused q above;
+    }

@@ -8,3 +8,6 @@ pub mod Journal
 pub mod Text
 pub mod Oracles
 pub mod Plain
+pub mod Frames
+pub mod Closed
+pub mod Lasting

@@ -4,7 +4,7 @@ use Rattle.std.specs.List.{flat_map}
 use Rattle.hex.specs.Hex.{encode_lower}
 use Rattle.pm_types.specs.declared.entry.Entry.{Entry}
 use Rattle.pm_types.specs.declared.reply.Reply.{Reply}
-use Rattle.pm_types.specs.declared.reply.Reply.TheVariants.{Done, Ident, Shown, Begun, Saved, TooLarge, IdsSpent, NoHandle, TooManyRoots, NoRoot, Busy, SavesSpent, Idle}
+use Rattle.pm_types.specs.declared.reply.Reply.TheVariants.{Done, Ident, Null, Shown, Begun, Saved, Watching, TooLarge, IdsSpent, NoHandle, NoField, OutOfRange, TooManyRoots, NoRoot, Busy, SavesSpent, Idle, TooManyWatches, Dropped, Held}
 
 -- bytes as pairs of lower-case hexadecimal digits, or a dash for none
 abbrev pub pairs : List ℕ → List ℕ
@@ -15,17 +15,24 @@ pairs (byte ∷ bytes) = encode_lower (byte ∷ bytes)
 abbrev pub reply_words : Reply → List ℕ
 reply_words Done = codes "ok"
 reply_words (Ident id) = codes "ok " ++ decimal id
+reply_words Null = codes "null"
 reply_words (Shown bytes) = pairs bytes
 reply_words (Begun number) = codes "begun " ++ decimal number
 reply_words (Saved number) = codes "saved " ++ decimal number
+reply_words (Watching number) = codes "watching " ++ decimal number
 reply_words TooLarge = codes "too-large"
 reply_words IdsSpent = codes "ids-spent"
 reply_words NoHandle = codes "no-handle"
+reply_words NoField = codes "no-field"
+reply_words OutOfRange = codes "out-of-range"
 reply_words TooManyRoots = codes "too-many-roots"
 reply_words NoRoot = codes "no-root"
 reply_words (Busy number) = codes "busy " ++ decimal number
 reply_words SavesSpent = codes "saves-spent"
 reply_words Idle = codes "idle"
+reply_words TooManyWatches = codes "too-many-watches"
+reply_words (Dropped number) = codes "dropped " ++ decimal number
+reply_words (Held id) = codes "held " ++ decimal id
 
 -- the line of an entry: the client, a space, the reply, a newline
 abbrev pub reply_line : Entry → List ℕ

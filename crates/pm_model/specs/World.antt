@@ -1,24 +1,14 @@
 -- The world that clients see: an object graph, its names and registers, and what was saved of it.
-use Rattle.std.specs.Prelude.{◌≡◌, ◌≤◌, ℕ, ◌+◌, List, Option, Some, None, IfSome, refl}
-use Rattle.std.specs.declared.cmp.Ordering.{Ordering}
-use Rattle.std.specs.Ordering.{nat_cmp, ordering_then}
-use Rattle.std.specs.Cmp.Lexicographic.{slice_cmp}
-use Rattle.std.specs.FinMap.{FinMap, get, insert, empty, code}
+use Rattle.std.specs.Prelude.{◌≡◌, ◌≤◌, ℕ, ◌+◌, List, Option, Some, None, IfSome, nat_eq, not, refl}
+use Rattle.std.specs.FinMap.{FinMap, get, insert, remove, retain_keys, empty, code}
 use Rattle.std.specs.Coded.{Coded, code_by, coded×, coded_ℕ, coded_list, coded_option}
 use Rattle.pm_types.specs.declared.limits.TheConstants.{LAST_COPY}
+use Rattle.pm_types.specs.Orders.{name_cmp, place_cmp}
 use Rattle.pm_model.specs.Heap.{Object, Heap, object_code}
-
--- names are ordered by their bytes
-abbrev pub name_cmp : List ℕ → List ℕ → Ordering
-name_cmp = slice_cmp nat_cmp
 
 -- the identity that each bound name stands for
 abbrev pub Roots : Type 0
 Roots = FinMap name_cmp ℕ
-
--- places of registers are ordered by the client, and then by the register
-abbrev pub place_cmp : ℕ × ℕ → ℕ × ℕ → Ordering
-place_cmp a b = ordering_then (nat_cmp a.0 b.0) (nat_cmp a.1 b.1)
 
 -- the identity that each register holds, at (client, register); an empty register has none
 abbrev pub Registers : Type 0
@@ -29,6 +19,10 @@ pub record Copy : Type 0 where
   pub heap : Heap
   pub roots : Roots
   pub next : ℕ
+
+-- a copy with its number, or none
+abbrev pub Saving : Type 0
+Saving = Option (ℕ × Copy)
 
 -- a copy is stored as the tuple of its parts
 abbrev pub copy_code : Coded Copy
@@ -49,7 +43,7 @@ pub record World : Type 0 where
   pub next : ℕ
   pub settled : ℕ
   pub settled_copy : Copy
-  pub saving : Option (ℕ × Copy)
+  pub saving : Saving
   pub watches : ℕ
 
 -- a world is stored as the tuple of its parts
@@ -79,13 +73,29 @@ held world client reg = get world.registers (client, reg)
 abbrev pub holding : World → ℕ → ℕ → ℕ → World
 holding world client reg id = record world { registers = insert world.registers (client, reg) id }
 
+-- the world in which a register of a client is empty, and all else is the same
+abbrev pub emptying : World → ℕ → ℕ → World
+emptying world client reg = record world { registers = remove world.registers (client, reg) }
+
+-- the world in which all registers of a client are empty, and all else is the same
+abbrev pub closing : World → ℕ → World
+closing world client = record world { registers = retain_keys world.registers (λ place. not (nat_eq place.0 client)) }
+
 -- the world in which this object has the next identity, and all else is the same
 abbrev pub with_object : World → Object → World
 with_object world object = record world { heap = insert world.heap world.next object; next = world.next + 1 }
 
+-- the world in which this identity has another object, and all else is the same
+abbrev pub changing : World → ℕ → Object → World
+changing world id object = record world { heap = insert world.heap id object }
+
 -- the world in which the name stands for this identity, and all else is the same
 abbrev pub naming : World → List ℕ → ℕ → World
 naming world name id = record world { roots = insert world.roots name id }
+
+-- the world in which the name stands for nothing, and all else is the same
+abbrev pub unbinding : World → List ℕ → World
+unbinding world name = record world { roots = remove world.roots name }
 
 -- the world in which this copy was begun under this number, and all else is the same
 abbrev pub beginning : World → ℕ → Copy → World
@@ -94,6 +104,14 @@ beginning world number copy = record world { saving = Some (number, copy) }
 -- the world in which this copy settled under this number, none is begun, and all else is the same
 abbrev pub settling : World → ℕ → Copy → World
 settling world number copy = record world { settled = number; settled_copy = copy; saving = None }
+
+-- the world in which no copy is in progress, and all else is the same
+abbrev pub dropping : World → World
+dropping world = record world { saving = None }
+
+-- the world in which one more watch is set, and all else is the same
+abbrev pub watching : World → World
+watching world = record world { watches = world.watches + 1 }
 
 -- no number of a copy is over the last one, and the copy in progress has the number after the one that settled last
 abbrev pub IsNumbered : World → Type 0

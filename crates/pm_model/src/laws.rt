@@ -27,7 +27,7 @@ pub fn reachable_is_least_closed()
 
 /// A law of answers: a refusal gives the same world back.
 pub fn refusals_keep_the_world()
-    ensures { (world : World) (client : ℕ) (cmd : Cmd) → is_refusal (answer world client cmd).0 ≡ true → (answer world client cmd).1 ≡ world }
+    ensures { (world : World) (client : ℕ) (cmd : Cmd) → is_refusal cmd (answer world client cmd).0 ≡ true → (answer world client cmd).1 ≡ world }
 {}
 
 /// A law of worlds: whatever is asked, no object is ever taken away.

@@ -1,6 +1,7 @@
-ghost use Rattle.std.specs.Prelude.{◌≡◌, ◌++◌, OnOk, OnErr, IfOk};
+ghost use Rattle.std.specs.Prelude.{◌≡◌, ◌+◌, ◌<◌, ◌≤◌, ◌++◌, length, OnOk, OnErr, IfOk};
 ghost use Rattle.std.specs.Option.{option_map};
 ghost use Rattle.std.specs.FinMap as map;
+ghost use Rattle.pm_model.specs.Heap.{with_field, with_bytes};
 ghost use Rattle.pm_model.specs.Answer.{fresh};
 ghost use Rattle.pm_model.specs.Copying.{held_ids};
 
@@ -65,6 +66,36 @@ impl Node {
         let fields = self.fields.as_slice().to_vec(alloc)?;
         let bytes = self.bytes.copy(alloc)?;
         Ok(Node { fields, bytes })
+    }
+
+    /// The same object again, but with this in the field.
+    pub fn with_field(
+        &self,
+        alloc: Global,
+        index: usize,
+        value: Option<Id>,
+    ) -> Result<Node, NoMemory>
+        requires { index < length self.now.fields }
+        ensures { IfOk result (λ node. node ≡ with_field self.now index value) }
+    {
+        let mut fields = self.fields.as_slice().to_vec(alloc)?;
+        fields[index] = value;
+        let bytes = self.bytes.copy(alloc)?;
+        Ok(Node { fields, bytes })
+    }
+
+    /// The same object again, but with these bytes from this place on.
+    pub fn with_bytes(&self, alloc: Global, at: usize, from: &[u8]) -> Result<Node, NoMemory>
+        requires { at + length from.now ≤ length self.now.bytes }
+        ensures { IfOk result (λ node. node ≡ with_bytes self.now at from.now) }
+    {
+        let fields = self.fields.as_slice().to_vec(alloc)?;
+        let mut bytes = self.bytes.as_slice().to_vec(alloc)?;
+        bytes[at..at + from.len()].copy_from_slice(from);
+        Ok(Node {
+            fields,
+            bytes: Bytes::from_vec(bytes),
+        })
     }
 
     /// Puts the identities that the fields hold behind those of the list, in the order of the fields.

@@ -1,4 +1,4 @@
-ghost use Rattle.std.specs.Prelude.{◌≡◌, OnOk, OnErr};
+ghost use Rattle.std.specs.Prelude.{◌≡◌, OnOk, OnErr, not, nat_eq};
 ghost use Rattle.std.specs.FinMap as map;
 
 use pm_types::{Id, NoMemory};
@@ -17,7 +17,7 @@ impl Model for Registers {
     ghost use Rattle.std.specs.Prelude.{ℕ};
     ghost use Rattle.std.specs.FinMap as map;
     ghost use Rattle.std.specs.Coded.{coded_ℕ, coded×};
-    ghost use Rattle.pm_model.specs.World.{place_cmp};
+    ghost use Rattle.pm_types.specs.Orders.{place_cmp};
 
     ghost Value = { map.FinMap place_cmp ℕ };
 
@@ -50,5 +50,19 @@ impl Registers {
     {
         self.held.insert((client, register), id)?;
         Ok(())
+    }
+
+    /// Lets this register of this client be empty. It takes no memory.
+    pub fn forget(&mut self, client: u32, register: u32)
+        ensures { self.new ≡ map.remove self.old (client, register) }
+    {
+        self.held.remove(&(client, register));
+    }
+
+    /// Lets all registers of this client be empty. It takes no memory.
+    pub fn close(&mut self, client: u32)
+        ensures { self.new ≡ map.retain_keys self.old (λ place. not (nat_eq place.0 client)) }
+    {
+        self.held.retain(|place, _id| place.0 != client);
     }
 }

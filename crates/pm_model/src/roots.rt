@@ -16,7 +16,7 @@ impl Model for Roots {
     ghost use Rattle.std.specs.Prelude.{ℕ};
     ghost use Rattle.std.specs.FinMap as map;
     ghost use Rattle.std.specs.Coded.{coded_ℕ, coded_list};
-    ghost use Rattle.pm_model.specs.World.{name_cmp};
+    ghost use Rattle.pm_types.specs.Orders.{name_cmp};
 
     ghost Value = { map.FinMap name_cmp ℕ };
 
@@ -81,5 +81,12 @@ impl Roots {
     {
         self.bound.insert(name, id)?;
         Ok(())
+    }
+
+    /// Lets the name be bound to nothing. It takes no memory.
+    pub fn unbind(&mut self, name: &Name)
+        ensures { self.new ≡ map.remove self.old name.now }
+    {
+        self.bound.remove(name);
     }
 }

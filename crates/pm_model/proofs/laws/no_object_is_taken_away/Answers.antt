@@ -1,4 +1,4 @@
-use Rattle.pm_model.proofs.AnswerLaws.{stays_after}
+use Rattle.pm_model.proofs.ClosedLaws.{stays_after}
 use Rattle.pm_model.proofs.laws.no_object_is_taken_away.Goals as goal
 
 pub returns : goal.returns

@@ -18,8 +18,8 @@ returns-in-Err-clause-err c =
     let back : c.remove.new.self ≡ c.self.inside.objects =
     c.remove.ensures ∙ ap (λ (heap : Heap). remove heap c.self.inside.next) c.in_ok-insert.ensures.ok
     ∙ taken_back c.self.inside.objects c.self.inside.next c.in_ok-node.node (c.self.invariant.unused c.self.inside.next (omega arith)) in
-    ap (λ (heap : Heap). world_of heap c.self.inside.roots c.set.new.self c.self.inside.next c.self.inside.settled c.self.inside.settled_copy c.self.inside.saving) back
-    ∙ ap (λ (registers : Registers). world_of c.self.inside.objects c.self.inside.roots registers c.self.inside.next c.self.inside.settled c.self.inside.settled_copy c.self.inside.saving) c.in-Err.ensures.err
+    ap (λ (heap : Heap). world_of heap c.self.inside.roots c.set.new.self c.self.inside.next c.self.inside.settled c.self.inside.settled_copy c.self.inside.saving c.self.inside.watches) back
+    ∙ ap (λ (registers : Registers). world_of c.self.inside.objects c.self.inside.roots registers c.self.inside.next c.self.inside.settled c.self.inside.settled_copy c.self.inside.saving c.self.inside.watches) c.in-Err.ensures.err
     ∙ c.self.view_is
 
 pub invariant_of-self-2 : goal.invariant_of-self-2
