@@ -1,7 +1,6 @@
 -- What holds of every answer: each law is one of the effects that answers have.
-use Rattle.std.proofs.Common.{◌≡◌, ℕ, ◌+◌, Bool, true, false, cond, not, nat_eq, List, [], ◌∷◌, Option, Some, None, refl, ap, sym, subst, ◌∙◌, if◌then◌else◌, arith}
-use Rattle.std.specs.Option.{IsSome, IsSomeAnd}
-use Rattle.std.specs.Ordering.{nat_cmp}
+use Rattle.std.proofs.Common.{◌≡◌, ℕ, Bool, true, false, cond, not, nat_eq, List, Option, Some, None, refl, ap, sym, subst, ◌∙◌, if◌then◌else◌, arith}
+use Rattle.std.specs.Option.{IsSomeAnd}
 use Rattle.std.specs.Cmp.{nat_cmp_total}
 use Rattle.std.specs.FinMap.{get, nat_cmp-IsAntisymmetric}
 use Rattle.std.proofs.lemmas.Bool.Decides.{nat_tests}
@@ -9,14 +8,11 @@ use Rattle.pm_types.specs.declared.command.Cmd.{Cmd}
 use Rattle.pm_types.specs.declared.command.Cmd.TheVariants.{Bind, Unbind, Find}
 use Rattle.pm_types.specs.declared.reply.Reply.{Reply}
 use Rattle.pm_types.specs.declared.reply.Reply.TheVariants.{Done, Ident, TooManyRoots, NoRoot}
-use Rattle.pm_types.specs.declared.entry.Entry.{Entry}
 use Rattle.pm_types.proofs.Orders.{names_total, names_antisymmetric, places_total, places_antisymmetric}
 use Rattle.pm_model.specs.World.{World, held, naming, unbinding}
 use Rattle.pm_model.specs.Answer.{answer, answer_root, answer_unroot, answer_find, refused, has_no_room, is_refusal}
-use Rattle.pm_model.specs.Journal.{after}
-use Rattle.pm_model.specs.Frames.{makes_object, changed_object, changed_name, sets_register, saves, sets_watch, MayChange}
-use Rattle.pm_model.specs.Closed.{IsClosed}
-use Rattle.pm_model.proofs.Maps.{insert_here, insert_other, remove_here, remove_other, insert_stays, retain_get}
+use Rattle.pm_model.specs.Frames.{makes_object, changed_name, sets_register, saves, sets_watch, Makes as MakesAt, MayChange}
+use Rattle.pm_model.proofs.Maps.{insert_here, insert_other, remove_here, remove_other, retain_get}
 use Rattle.pm_model.proofs.Effects.{Effect, Nothing, Makes, Holds, Sets, Puts, Names, Closes, Begins, Settles, Drops, Watches, effected, IsOf, does}
 
 refused_same : (world : World) (client : ℕ) (cmd : Cmd) (reply : Reply) (effect : Effect) → IsOf world client cmd reply effect → is_refusal cmd reply ≡ true → effected world client effect ≡ world
@@ -38,10 +34,10 @@ refusal_keeps world client cmd is = let d = does world client cmd in d.is ∙ re
 
 -- ---- what each command leaves as it is
 
-object_stays : (world : World) (client : ℕ) (cmd : Cmd) (reply : Reply) (effect : Effect) (id : ℕ) → IsOf world client cmd reply effect → (id ≡ world.next → ⊥) → (MayChange world client cmd id → ⊥)
+object_stays : (world : World) (client : ℕ) (cmd : Cmd) (reply : Reply) (effect : Effect) (id : ℕ) → IsOf world client cmd reply effect → (MakesAt world cmd id → ⊥) → (MayChange world client cmd id → ⊥)
     → get (effected world client effect).heap id ≡ get world.heap id
 object_stays world client cmd reply Nothing id of new other = refl
-object_stays world client cmd reply (Makes reg object) id of new other = insert_other nat_cmp_total nat_cmp-IsAntisymmetric world.heap world.next object id new
+object_stays world client cmd reply (Makes reg object) id of new other = insert_other nat_cmp_total nat_cmp-IsAntisymmetric world.heap world.next object id (λ same. new (of.makes, same))
 object_stays world client cmd reply (Holds reg None) id of new other = refl
 object_stays world client cmd reply (Holds reg (Some to)) id of new other = refl
 object_stays world client cmd reply (Sets at object index value) id of new other =
@@ -157,7 +153,7 @@ watches_stay world client cmd reply (Settles number copy) of is = refl
 watches_stay world client cmd reply Drops of is = refl
 watches_stay world client cmd reply Watches of is = cc
 
-pub leaves_object : (world : World) (client : ℕ) (cmd : Cmd) (id : ℕ) → (id ≡ world.next → ⊥) → (MayChange world client cmd id → ⊥) → get (answer world client cmd).1.heap id ≡ get world.heap id
+pub leaves_object : (world : World) (client : ℕ) (cmd : Cmd) (id : ℕ) → (MakesAt world cmd id → ⊥) → (MayChange world client cmd id → ⊥) → get (answer world client cmd).1.heap id ≡ get world.heap id
 leaves_object world client cmd id new other = let d = does world client cmd in ap (λ (w : World). get w.heap id) d.is ∙ object_stays world client cmd _ d.effect id d.allowed new other
 
 pub leaves_next : (world : World) (client : ℕ) (cmd : Cmd) → makes_object cmd ≡ false → (answer world client cmd).1.next ≡ world.next

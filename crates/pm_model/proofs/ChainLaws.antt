@@ -1,14 +1,17 @@
 -- Journals that grow, and the copies that settle along them.
-use Rattle.std.proofs.Common.{◌≡◌, ◌≤◌, ℕ, ◌+◌, Bool, true, false, List, [], ◌∷◌, ◌++◌, Option, Some, None, refl, ap, sym, subst, ◌∙◌, if◌then◌else◌, arith}
+use Rattle.std.proofs.Common.{◌≡◌, ◌≤◌, ◌<◌, ℕ, ◌+◌, Bool, true, false, List, [], ◌∷◌, ◌++◌, Some, None, refl, ap, sym, subst, ◌∙◌, if◌then◌else◌, arith, append-nil}
 use Rattle.std.specs.List.{last_or}
-use Rattle.std.specs.Option.{IfSome}
+use Rattle.std.specs.Option.{IfSome, IsSomeAnd}
 use Rattle.pm_types.specs.declared.limits.TheConstants.{LAST_COPY}
+use Rattle.std.proofs.lemmas.Bool.{lt-ltb}
 use Rattle.pm_types.specs.declared.command.Cmd.{Cmd}
+use Rattle.pm_types.specs.declared.command.Cmd.TheVariants.{Save, Unsave}
 use Rattle.pm_types.specs.declared.reply.Reply.{Reply}
-use Rattle.pm_types.specs.declared.reply.Reply.TheVariants.{Saved}
+use Rattle.pm_types.specs.declared.reply.Reply.TheVariants.{Saved, Begun, SavesSpent, Dropped}
 use Rattle.pm_types.specs.declared.entry.Entry.{Entry}
-use Rattle.pm_model.specs.World.{World, Copy, IsNumbered}
-use Rattle.pm_model.specs.Answer.{answer}
+use Rattle.pm_model.specs.World.{World, Copy, Saving, beginning, IsNumbered}
+use Rattle.pm_model.specs.Copying.{copy}
+use Rattle.pm_model.specs.Answer.{answer, refused, answer_save, answer_unsave}
 use Rattle.pm_model.specs.Journal.{IsLegal, after, chain, settled_in, settled_along, says_saved}
 use Rattle.pm_model.proofs.Effects.{Effect, Nothing, Makes, Holds, Sets, Puts, Names, Closes, Begins, Settles, Drops, Watches, effected, IsOf, does}
 
@@ -89,6 +92,11 @@ last_step : {X : Type 0} (b : Bool) (old new : X) (rest : List X) → (b ≡ fal
 last_step true old new rest is = refl
 last_step false old new rest is = ap (λ x. last_or (Some x) rest) (sym (is refl))
 
+-- an entry that settles nothing adds nothing to the chain
+pub chain_same : (world : World) (journal : List Entry) (entry : Entry) → says_saved entry.reply ≡ false → chain world (journal ++ entry ∷ []) ≡ chain world journal
+chain_same world journal entry is =
+    chain_more world journal entry ∙ ap (λ b. chain world journal ++ (if b then settled_in (after world (journal ++ entry ∷ [])) ∷ [] else [])) is ∙ append-nil (chain world journal)
+
 -- the chain of a legal journal ends with what has settled
 pub chain_ends : (world : World) (journal : List Entry) → IsLegal world journal → last_or None (chain world journal) ≡ Some (settled_in (after world journal))
 chain_ends world [] legal = refl
@@ -122,3 +130,42 @@ numbered world client cmd is = let d = does world client cmd in subst IsNumbered
 pub numbered_after : (world : World) (journal : List Entry) → IsNumbered world → IsNumbered (after world journal)
 numbered_after world [] is = is
 numbered_after world (entry ∷ journal) is = numbered_after (answer world entry.client entry.cmd).1 journal (numbered world entry.client entry.cmd is)
+
+-- ---- copies that are dropped
+
+dropped_number : Reply → ℕ → ℕ
+dropped_number (Dropped number) other = number
+dropped_number reply other = other
+
+dropped_was : (world : World) (saving : Saving) (number : ℕ) → (answer_unsave world saving).0 ≡ Dropped number
+    → IsSomeAnd saving (λ begun. begun.0 ≡ number) × ((answer_unsave world saving).1.saving ≡ None) × (settled_in (answer_unsave world saving).1 ≡ settled_in world)
+unfolding dropped_number
+dropped_was world None number is = cc
+dropped_was world (Some begun) number is = (ap (λ (reply : Reply). dropped_number reply 0) is, refl, refl)
+
+-- what is dropped was in progress, and is none from then on
+pub dropped : (world : World) (client number : ℕ) → (answer world client Unsave).0 ≡ Dropped number
+    → IsSomeAnd world.saving (λ begun. begun.0 ≡ number) × ((answer world client Unsave).1.saving ≡ None) × (settled_in (answer world client Unsave).1 ≡ settled_in world)
+unfolding answer
+dropped world client number is = dropped_was world world.saving number is
+
+save_less : (world : World) → world.settled < LAST_COPY → (answer_save world None).0 ≡ Begun (world.settled + 1)
+save_less world less = ap (λ more. (if more then (Begun (world.settled + 1), beginning world (world.settled + 1) (copy world)) else refused world SavesSpent).0) (lt-ltb world.settled LAST_COPY less)
+
+numbered_as : (saving : Saving) (settled number : ℕ) → IfSome saving (λ begun. (begun.0 ≡ settled + 1) × (begun.0 ≤ LAST_COPY)) → IsSomeAnd saving (λ begun. begun.0 ≡ number) → (number ≡ settled + 1) × (settled < LAST_COPY)
+numbered_as None settled number is same = absurd same
+numbered_as (Some begun) settled number is same = let one = is.0 in let two = is.1 in (omega arith, omega arith)
+
+save_none : (world : World) (other : ℕ) → world.saving ≡ None → (answer world other Save).0 ≡ (answer_save world None).0
+unfolding answer
+save_none world other is = ap (λ saving. (answer_save world saving).0) is
+
+-- the number of a copy that was dropped begins again
+pub dropped_again : (world : World) (client other number : ℕ) → IsNumbered world → (answer world client Unsave).0 ≡ Dropped number → (answer (answer world client Unsave).1 other Save).0 ≡ Begun number
+dropped_again world client other number numbered is =
+    let was = dropped world client number is in
+    let next = (answer world client Unsave).1 in
+    let counts = numbered_as world.saving world.settled number numbered.1 was.0 in
+    let settled : next.settled ≡ world.settled = ap (λ (s : ℕ × Copy). s.0) was.2 in
+    let less : next.settled < LAST_COPY = let small = counts.1 in omega (arith, settled) in
+    save_none next other was.1 ∙ save_less next less ∙ ap Begun (let one = counts.0 in omega (arith, settled))

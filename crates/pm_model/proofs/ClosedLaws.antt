@@ -1,24 +1,23 @@
 -- Worlds in which whatever is named is an object stay so, objects keep their shapes, and the limits are kept.
-use Rattle.std.proofs.Common.{◌≡◌, ◌≤◌, ◌<◌, ℕ, zero, suc, ◌+◌, ◌-◌, Bool, true, false, cond, not, ◌&&◌, leb, nat_eq, List, [], ◌∷◌, ◌++◌, length, take, drop, set, slice_get, ◌⊎◌, inl, inr, Option, Some, None, refl, ap, sym, subst, ◌∙◌, arith, length-append, length-take, length-drop}
+use Rattle.std.proofs.Common.{◌≡◌, ◌≤◌, ℕ, zero, suc, ◌+◌, ◌-◌, Bool, true, false, cond, not, ◌&&◌, leb, nat_eq, List, [], ◌∷◌, ◌++◌, length, take, drop, set, slice_get, ◌⊎◌, inl, inr, Option, Some, None, refl, ap, sym, subst, ◌∙◌, arith, length-append, length-take, length-drop, lit≤}
 use Rattle.std.specs.List.{Contains}
 use Rattle.std.specs.Option.{IsSome, IsSomeAnd, IfSome, is_some}
 use Rattle.std.specs.Ordering.{nat_cmp}
 use Rattle.std.specs.Cmp.{nat_cmp_total}
-use Rattle.std.specs.FinMap.{get, insert, remove, empty, get-empty, len, len-insert, len-remove, contains_key, nat_cmp-IsAntisymmetric}
-use Rattle.std.proofs.lemmas.Bool.{cases_eq}
-use Rattle.std.proofs.lemmas.Bool.Decides.{nat_tests}
+use Rattle.std.specs.FinMap.{get, insert, empty, get-empty, len, len-insert, len-remove, len-empty, contains_key, nat_cmp-IsAntisymmetric}
+use Rattle.std.proofs.lemmas.Bool.{cases_eq, leb-false}
 use Rattle.std.proofs.lemmas.List.{length-set}
 use Rattle.std.proofs.lemmas.Option.{slice_get_within, get_or_from_slice_get}
-use Rattle.pm_types.specs.declared.limits.TheConstants.{LAST_ID, OBJECT_BYTES, FIELDS, ROOTS}
+use Rattle.pm_types.specs.declared.limits.TheConstants.{OBJECT_BYTES, FIELDS, ROOTS}
 use Rattle.pm_types.specs.declared.command.Cmd.{Cmd}
 use Rattle.pm_types.specs.declared.reply.Reply.{Reply}
 use Rattle.pm_types.specs.declared.entry.Entry.{Entry}
-use Rattle.pm_types.specs.Orders.{place_cmp}
+use Rattle.pm_types.specs.Orders.{name_cmp, place_cmp}
 use Rattle.pm_types.proofs.Orders.{names_total, names_antisymmetric, places_total, places_antisymmetric}
 use Rattle.pm_model.specs.Heap.{Object, Heap, Holds, field_of, with_field, with_bytes}
-use Rattle.pm_model.specs.World.{World, Roots, Registers, Copy, held, begin, changing}
+use Rattle.pm_model.specs.World.{World, Roots, Registers, Copy, begin, empty_world, empty_copy, changing}
 use Rattle.pm_model.specs.Copying.{copied, copy, IsRoot}
-use Rattle.pm_model.specs.Answer.{answer, has_no_room}
+use Rattle.pm_model.specs.Answer.{answer}
 use Rattle.pm_model.specs.Journal.{after}
 use Rattle.pm_model.specs.Closed.{IsClosedGraph, IsClosedCopy, IsClosed, IsAlike, IsWithinLimits}
 use Rattle.pm_model.proofs.Maps.{insert_here, insert_other, insert_cases, insert_stays, remove_cases, retain_cases}
@@ -78,14 +77,14 @@ copied_closed heap roots next closed =
       last = closed.last;
       given = λ id object is. closed.given id object (copied_kept heap roots next id object is).0;
       fields = λ from index to is.
-      let holder = field_cases (get (copied heap roots next).heap from) index (Some to) is in
-      let kept = copied_kept heap roots next from holder.0 holder.1 in
-      let target = some_is (get heap to) (closed.fields from index to (ap (λ found. field_of found index) kept.0 ∙ holder.2)) in
-      let reached = reachable_next heap (IsRoot roots) from to kept.1 (holds_it heap from index to holder.0 kept.0 holder.2) in
-      is_some_of _ target.0 (copied_reached heap roots next to target.0 reached target.1);
+          let holder = field_cases (get (copied heap roots next).heap from) index (Some to) is in
+          let kept = copied_kept heap roots next from holder.0 holder.1 in
+          let target = some_is (get heap to) (closed.fields from index to (ap (λ found. field_of found index) kept.0 ∙ holder.2)) in
+          let reached = reachable_next heap (IsRoot roots) from to kept.1 (holds_it heap from index to holder.0 kept.0 holder.2) in
+          is_some_of _ target.0 (copied_reached heap roots next to target.0 reached target.1);
       named = λ name id is.
-      let target = some_is (get heap id) (closed.named name id is) in
-      is_some_of _ target.0 (copied_reached heap roots next id target.0 (id, [], (name, is), refl) target.1);
+          let target = some_is (get heap id) (closed.named name id is) in
+          is_some_of _ target.0 (copied_reached heap roots next id target.0 (id, [], (name, is), refl) target.1);
     }
 
 -- ---- worlds
@@ -98,10 +97,10 @@ changed_closed world at old new closed there known =
         first = closed.graph.first;
         last = closed.graph.last;
         given = λ id object is.
-        elim (heap_cases world.heap at new id object is) [
-          | inl here ↦ closed.graph.given id old (ap (get world.heap) here.0 ∙ there)
-          | inr other ↦ closed.graph.given id object other.1
-        ];
+            elim (heap_cases world.heap at new id object is) [
+              | inl here ↦ closed.graph.given id old (ap (get world.heap) here.0 ∙ there)
+              | inr other ↦ closed.graph.given id object other.1
+            ];
         fields = fields_stay world.heap at new closed.graph.fields known;
         named = λ name id is. heap_stays world.heap at new id (closed.graph.named name id is);
       };
@@ -141,18 +140,18 @@ effect_closed world client cmd reply (Makes reg object) of closed =
         first = omega arith;
         last = omega arith;
         given = λ id found is.
-        elim (heap_cases world.heap world.next object id found is) [
-          | inl new ↦ let same = new.0 in (omega arith, omega arith)
-          | inr old ↦ let given = closed.graph.given id found old.1 in (given.0, (let below = given.1 in omega arith))
-        ];
+            elim (heap_cases world.heap world.next object id found is) [
+              | inl new ↦ let same = new.0 in (omega arith, omega arith)
+              | inr old ↦ let given = closed.graph.given id found old.1 in (given.0, (let below = given.1 in omega arith))
+            ];
         fields = fields_stay world.heap world.next object closed.graph.fields (λ index to is. absurd (of.null index to is));
         named = λ name id is. heap_stays world.heap world.next object id (closed.graph.named name id is);
       };
       registers = λ other register id is.
-      elim (insert_cases places_total places_antisymmetric world.registers (client, reg) world.next (other, register) id is) [
-        | inl new ↦ subst (λ id. IsSome (get (insert world.heap world.next object) id)) new.1 here
-        | inr old ↦ heap_stays world.heap world.next object id (closed.registers other register id old.1)
-      ];
+          elim (insert_cases places_total places_antisymmetric world.registers (client, reg) world.next (other, register) id is) [
+            | inl new ↦ subst (λ id. IsSome (get (insert world.heap world.next object) id)) new.1 here
+            | inr old ↦ heap_stays world.heap world.next object id (closed.registers other register id old.1)
+          ];
       settled = closed.settled;
       saving = closed.saving;
     }
@@ -204,7 +203,31 @@ no_register client reg id is = let none = get-empty {X = ℕ} place_cmp (client,
 pub begin_closed : (number : ℕ) (copy : Copy) → IsClosedCopy copy → IsClosed (begin number copy)
 begin_closed number copy closed = record { graph = closed; registers = λ client reg id is. absurd (no_register client reg id is); settled = closed; saving = tt }
 
+no_object : (id : ℕ) (object : Object) → get (empty {X = Object} {R = nat_cmp}) id ≡ Some object → ⊥
+no_object id object is = let none = get-empty {X = Object} nat_cmp id in cc
+
+no_name : (name : List ℕ) (id : ℕ) → get (empty {X = ℕ} {R = name_cmp}) name ≡ Some id → ⊥
+no_name name id is = let none = get-empty {X = ℕ} name_cmp name in cc
+
+no_field : (from index to : ℕ) → field_of (get (empty {X = Object} {R = nat_cmp}) from) index ≡ Some (Some to) → ⊥
+no_field from index to is = let holder = field_cases (get empty from) index (Some to) is in no_object from holder.0 holder.1
+
+pub empty_closed : IsClosed empty_world
+empty_closed =
+    begin_closed 0 empty_copy
+    (record {
+      first = lit≤ tt;
+      last = lit≤ tt;
+      given = λ id object is. absurd (no_object id object is);
+      fields = λ from index to is. absurd (no_field from index to is);
+      named = λ name id is. absurd (no_name name id is);
+    })
+
 -- ---- shapes and limits
+
+pub empty_within : IsWithinLimits empty_world
+empty_within =
+    record { fields = λ id object is. absurd (no_object id object is); bytes = λ id object is. absurd (no_object id object is); names = rw (len-empty name_cmp ℕ) (lit≤ tt); watches = lit≤ tt }
 
 alike_itself : (object : Object) → IsAlike object object
 alike_itself object = (refl, refl)
@@ -217,8 +240,8 @@ alike_insert : (heap : Heap) (at : ℕ) (old new : Object) (id : ℕ) (object : 
 alike_insert heap at old new id object there alike is =
     elim (cases_eq id at) [
       | inl same ↦
-      let old_is : old ≡ object = let one = ap (get heap) same in cc in
-      subst (λ found. IsSomeAnd found (IsAlike object)) (sym (ap (get (insert heap at new)) same ∙ insert_here nat_cmp_total nat_cmp-IsAntisymmetric heap at new)) (subst (λ o. IsAlike o new) old_is alike)
+          let old_is : old ≡ object = let one = ap (get heap) same in cc in
+          subst (λ found. IsSomeAnd found (IsAlike object)) (sym (ap (get (insert heap at new)) same ∙ insert_here nat_cmp_total nat_cmp-IsAntisymmetric heap at new)) (subst (λ o. IsAlike o new) old_is alike)
       | inr other ↦ subst (λ found. IsSomeAnd found (IsAlike object)) (sym (insert_other nat_cmp_total nat_cmp-IsAntisymmetric heap at new id other ∙ is)) (alike_itself object)
     ]
 
@@ -284,3 +307,70 @@ stays_after world [] id is = is
 stays_after world (entry ∷ journal) id is =
     let d = does world entry.client entry.cmd in
     stays_after (answer world entry.client entry.cmd).1 journal id (subst (λ (w : World). IsSome (get w.heap id)) (sym d.is) (effect_stays world entry.client entry.cmd (answer world entry.client entry.cmd).0 d.effect id is))
+
+-- the objects of a heap are small
+abbrev IsSmall : Heap → Type 0
+IsSmall heap = (id : ℕ) (object : Object) → get heap id ≡ Some object → (length object.fields ≤ FIELDS) × (length object.bytes ≤ OBJECT_BYTES)
+
+small_insert : (heap : Heap) (at : ℕ) (new : Object) → IsSmall heap → length new.fields ≤ FIELDS → length new.bytes ≤ OBJECT_BYTES → IsSmall (insert heap at new)
+small_insert heap at new small fields bytes id object is =
+    elim (heap_cases heap at new id object is) [
+      | inl here ↦ subst (λ (o : Object). (length o.fields ≤ FIELDS) × (length o.bytes ≤ OBJECT_BYTES)) here.1 (fields, bytes)
+      | inr other ↦ small id object other.1
+    ]
+
+-- the same world but with another heap of small objects
+heap_within : (world : World) (heap : Heap) → IsWithinLimits world → IsSmall heap → IsWithinLimits (record world { heap = heap })
+heap_within world heap within small = record { fields = λ id object is. (small id object is).0; bytes = λ id object is. (small id object is).1; names = within.names; watches = within.watches }
+
+small_of : (world : World) → IsWithinLimits world → IsSmall world.heap
+small_of world within id object is = (within.fields id object is, within.bytes id object is)
+
+-- one more name, where it was bound or there is room for it
+one_more : (bound full : Bool) (n : ℕ) → (not bound && full) ≡ false → full ≡ leb ROOTS n → n ≤ ROOTS → cond bound n (n + 1) ≤ ROOTS
+one_more true full n room is small = small
+one_more false full n room is small = let less = leb-false ROOTS n (sym is ∙ room) in omega arith
+
+one_less : (bound : Bool) (n : ℕ) → n ≤ ROOTS → cond bound (n - 1) n ≤ ROOTS
+one_less true n small = omega arith
+one_less false n small = small
+
+effect_within : (world : World) (client : ℕ) (cmd : Cmd) (reply : Reply) (effect : Effect) → IsOf world client cmd reply effect → IsWithinLimits world → IsWithinLimits (effected world client effect)
+effect_within world client cmd reply Nothing of within = within
+effect_within world client cmd reply (Makes reg object) of within =
+    let small = small_insert world.heap world.next object (small_of world within) of.fields of.bytes in
+    record { fields = λ id object is. (small id object is).0; bytes = λ id object is. (small id object is).1; names = within.names; watches = within.watches }
+effect_within world client cmd reply (HoldsIt reg None) of within = record { fields = within.fields; bytes = within.bytes; names = within.names; watches = within.watches }
+effect_within world client cmd reply (HoldsIt reg (Some to)) of within = record { fields = within.fields; bytes = within.bytes; names = within.names; watches = within.watches }
+effect_within world client cmd reply (Sets at object index value) of within =
+    heap_within world _ within
+    (small_insert world.heap at (with_field object index value) (small_of world within) (rw (length-set object.fields index value) (within.fields at object of.there)) (within.bytes at object of.there))
+effect_within world client cmd reply (Puts at object from bytes) of within =
+    heap_within world _ within
+    (small_insert world.heap at (with_bytes object from bytes) (small_of world within) (within.fields at object of.there) (rw (bytes_length object.bytes bytes from of.within) (within.bytes at object of.there)))
+effect_within world client cmd reply (Names name None) of within =
+    record {
+      fields = within.fields;
+      bytes = within.bytes;
+      names = rw (len-remove names_total world.roots name) (one_less (contains_key world.roots name) (len world.roots) within.names);
+      watches = within.watches;
+    }
+effect_within world client cmd reply (Names name (Some to)) of within =
+    record {
+      fields = within.fields;
+      bytes = within.bytes;
+      names = rw (len-insert names_total world.roots name to) (one_more (contains_key world.roots name) (leb ROOTS (len world.roots)) (len world.roots) of.room refl within.names);
+      watches = within.watches;
+    }
+effect_within world client cmd reply Closes of within = record { fields = within.fields; bytes = within.bytes; names = within.names; watches = within.watches }
+effect_within world client cmd reply (Begins number) of within = record { fields = within.fields; bytes = within.bytes; names = within.names; watches = within.watches }
+effect_within world client cmd reply (Settles number kept) of within = record { fields = within.fields; bytes = within.bytes; names = within.names; watches = within.watches }
+effect_within world client cmd reply Drops of within = record { fields = within.fields; bytes = within.bytes; names = within.names; watches = within.watches }
+effect_within world client cmd reply Watches of within = record { fields = within.fields; bytes = within.bytes; names = within.names; watches = (let below = of.below in omega arith) }
+
+-- the limits are kept, whatever is asked
+pub within_after : (world : World) (journal : List Entry) → IsWithinLimits world → IsWithinLimits (after world journal)
+within_after world [] within = within
+within_after world (entry ∷ journal) within =
+    let d = does world entry.client entry.cmd in
+    within_after (answer world entry.client entry.cmd).1 journal (subst IsWithinLimits (sym d.is) (effect_within world entry.client entry.cmd (answer world entry.client entry.cmd).0 d.effect d.allowed within))

@@ -10,11 +10,11 @@ use Rattle.pm_types.specs.declared.command.Cmd.{Cmd}
 use Rattle.pm_types.specs.declared.command.Cmd.TheVariants.{New, Load, Store, Clear, Show, Put, IdOf, Forget, Bind, Unbind, Find, Save, Settle, Watch, Close, Swap, Unsave}
 use Rattle.pm_types.specs.declared.command.Cmd.TheVariants as commands
 use Rattle.pm_types.specs.declared.reply.Reply.{Reply}
-use Rattle.pm_types.specs.declared.reply.Reply.TheVariants.{Done, Ident, Null, Shown, Begun, Saved, Watching, TooLarge, IdsSpent, NoHandle, NoField, OutOfRange, TooManyRoots, NoRoot, Busy, SavesSpent, Idle, TooManyWatches, Dropped, Held}
+use Rattle.pm_types.specs.declared.reply.Reply.TheVariants.{Done, Ident, Null, Shown, Saved, TooLarge, IdsSpent, NoHandle, NoField, OutOfRange, TooManyRoots, NoRoot, Busy, SavesSpent, Idle, TooManyWatches, Held}
 use Rattle.pm_model.specs.Heap.{Object, field_of, with_field, with_bytes}
 use Rattle.pm_model.specs.World.{World, Saving, Copy, held, holding, emptying, closing, with_object, changing, naming, unbinding, beginning, settling, dropping, watching}
 use Rattle.pm_model.specs.Copying.{copy}
-use Rattle.pm_model.specs.Answer.{answer, refused, fresh, has_no_room, is_refusal, answer_new, loading, answer_load, writing, answer_store, answer_clear, answer_data, putting, answer_put, answer_copy, answer_id, answer_drop, answer_root, answer_unroot, answer_find, answer_save, answer_settle, answer_watch, swapping, answer_swap, answer_unsave}
+use Rattle.pm_model.specs.Answer.{answer, fresh, has_no_room, is_refusal, answer_new, loading, answer_load, writing, answer_store, answer_clear, answer_data, putting, answer_put, answer_copy, answer_id, answer_drop, answer_root, answer_unroot, answer_find, answer_save, answer_settle, answer_watch, swapping, answer_swap, answer_unsave}
 use Rattle.pm_model.specs.Journal.{says_saved}
 use Rattle.pm_model.specs.Frames.{makes_object, changed_object, changed_field, changed_name, sets_register, saves, sets_watch}
 use Rattle.pm_model.specs.Closed.{IsClosed}
@@ -233,7 +233,7 @@ writing_does world client cmd reg index id value (Some object) there aims known 
       effect = Sets id object index value;
       is = refl;
       allowed =
-      record { fine = fine refl refl; there = there; within = ltb-true index (length object.fields) less; known = known; reg = reg; aims = aims.aims; changes = aims.changes; writes = aims.writes };
+          record { fine = fine refl refl; there = there; within = ltb-true index (length object.fields) less; known = known; reg = reg; aims = aims.aims; changes = aims.changes; writes = aims.writes };
     })
     (λ more. nothing world client cmd NoField refl)
 

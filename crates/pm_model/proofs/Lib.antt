@@ -8,5 +8,7 @@ pub mod Maps
 pub mod Retained
 pub mod Effects
 pub mod AnswerLaws
+pub mod JournalLaws
 pub mod ClosedLaws
+pub mod LastingLaws
 pub mod ChainLaws

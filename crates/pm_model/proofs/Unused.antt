@@ -53,6 +53,6 @@ sound_changed heap next id old new sound there =
       first = sound.first;
       last = sound.last;
       unused = λ q above.
-      get-insert nat_cmp_total heap id new q
-      ∙ cond_other _ (Some new) (get heap q) (tied_nat q id ∙ other q id (λ same. let none = sound.unused q above in let some = ap (get heap) same ∙ there in cc)) ∙ sound.unused q above;
+          get-insert nat_cmp_total heap id new q
+          ∙ cond_other _ (Some new) (get heap q) (tied_nat q id ∙ other q id (λ same. let none = sound.unused q above in let some = ap (get heap) same ∙ there in cc)) ∙ sound.unused q above;
     }

@@ -1,5 +1,5 @@
 -- Worlds and copies in which whatever is named is an object.
-use Rattle.std.specs.Prelude.{◌≡◌, ℕ, ◌<◌, ◌≤◌, List, length, Option, Some, IsSome, IfSome}
+use Rattle.std.specs.Prelude.{◌≡◌, ℕ, ◌<◌, ◌≤◌, List, length, Some, IsSome, IfSome}
 use Rattle.std.specs.FinMap.{get, len}
 use Rattle.pm_types.specs.declared.limits.TheConstants.{FIELDS, OBJECT_BYTES, ROOTS, WATCHES}
 use Rattle.pm_model.specs.Heap.{Object, Heap, field_of}

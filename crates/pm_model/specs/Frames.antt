@@ -1,7 +1,7 @@
 -- What each command may change. All else it leaves as it is.
 use Rattle.std.specs.Prelude.{◌≡◌, ℕ, Bool, true, false, nat_eq, List, Option, Some, None, IsSomeAnd}
 use Rattle.pm_types.specs.declared.command.Cmd.{Cmd}
-use Rattle.pm_types.specs.declared.command.Cmd.TheVariants.{New, Load, Store, Clear, Show, Put, Copy, IdOf, Forget, Bind, Unbind, Find, Save, Settle, Watch, Close, Swap, Unsave}
+use Rattle.pm_types.specs.declared.command.Cmd.TheVariants.{New, Load, Store, Clear, Put, Copy, Forget, Bind, Unbind, Find, Save, Settle, Watch, Close, Swap, Unsave}
 use Rattle.pm_model.specs.World.{World, held}
 
 -- the command makes an object
@@ -51,6 +51,10 @@ saves cmd = false
 abbrev pub sets_watch : Cmd → Bool
 sets_watch Watch = true
 sets_watch cmd = false
+
+-- the command may make an object under this identity, the next one
+abbrev pub Makes : World → Cmd → ℕ → Type 0
+Makes world cmd id = (makes_object cmd ≡ true) × (id ≡ world.next)
 
 -- the client's command may change this object
 abbrev pub MayChange : World → ℕ → Cmd → ℕ → Type 0

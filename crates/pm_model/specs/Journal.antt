@@ -34,6 +34,10 @@ part client journal = commands_of client (requests_of journal)
 abbrev pub Serves : List Entry → List Request → Type 0
 Serves journal asked = (client : ℕ) → part client journal ≡ commands_of client asked
 
+-- a list is another one's first part: something behind it makes it the other
+abbrev pub IsFirstPart : {X : Type 0} → List X → List X → Type 0
+IsFirstPart {X = X} first whole = (rest : List X) × (first ++ rest ≡ whole)
+
 -- the number and the copy that settled last in a world
 abbrev pub settled_in : World → ℕ × Copy
 settled_in world = (world.settled, world.settled_copy)

@@ -1,10 +1,10 @@
 -- The worlds and copies of this stage, in which every field is null.
-use Rattle.std.specs.Prelude.{◌≡◌, ℕ, ◌<◌, ◌≤◌, List, length, Option, Some, None, IsSome, IfSome}
+use Rattle.std.specs.Prelude.{◌≡◌, ℕ, ◌<◌, ◌≤◌, List, length, Option, Some, None, IsSome}
 use Rattle.std.specs.List.{AllByRecursion}
 use Rattle.std.specs.FinMap.{get, len}
 use Rattle.pm_types.specs.declared.limits.TheConstants.{FIELDS, OBJECT_BYTES, ROOTS, LAST_COPY}
 use Rattle.pm_model.specs.Heap.{Object, Heap}
-use Rattle.pm_model.specs.World.{Roots, Registers, Copy, World}
+use Rattle.pm_model.specs.World.{Roots, Registers, Copy}
 use Rattle.pm_model.specs.Copying.{copied}
 
 -- each field is null, and the object is within the limits

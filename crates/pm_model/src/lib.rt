@@ -3,6 +3,7 @@
 #![tactic(auto)]
 
 mod graph;
+mod lasting;
 mod laws;
 mod objects;
 mod oracle;
@@ -13,9 +14,11 @@ mod roots;
 mod tests;
 
 pub use graph::Graph;
+pub use lasting::{a_stored_field_is_loaded, commands_leave_the_rest, worlds_stay_closed};
 pub use laws::{
-    a_chain_ends_at_the_settled_copy, a_copy_keeps_what_the_roots_reach, an_entry_goes_at_the_end,
-    copies_are_numbered_in_order, no_object_is_taken_away, reachable_is_least_closed,
+    a_chain_ends_at_the_settled_copy, a_copy_keeps_what_the_roots_reach,
+    a_dropped_copy_is_in_no_chain, an_entry_goes_at_the_end, copies_are_numbered_in_order,
+    journals_go_one_behind_the_other, no_object_is_taken_away, reachable_is_least_closed,
     refusals_keep_the_world, what_is_bound_is_found, what_settles_was_in_progress,
 };
 pub use objects::{Node, Objects};

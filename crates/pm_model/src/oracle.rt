@@ -10,7 +10,8 @@ use crate::objects::{Node, Objects};
 use crate::registers::Registers;
 use crate::roots::Roots;
 use pm_types::{
-    Bytes, Cmd, FIELDS, Id, LAST_COPY, LAST_ID, Name, NoMemory, OBJECT_BYTES, ROOTS, Reg, Reply, WATCHES,
+    Bytes, Cmd, FIELDS, Id, LAST_COPY, LAST_ID, Name, NoMemory, OBJECT_BYTES, ROOTS, Reg, Reply,
+    WATCHES,
 };
 use std::alloc::Global;
 use std::marker::Model;
@@ -201,13 +202,7 @@ impl Oracle {
         self.write(alloc, id, index, Some(value))
     }
 
-    fn clear(
-        &mut self,
-        alloc: Global,
-        client: u32,
-        reg: Reg,
-        index: u32,
-    ) -> Result<Reply, NoMemory>
+    fn clear(&mut self, alloc: Global, client: u32, reg: Reg, index: u32) -> Result<Reply, NoMemory>
         ensures reply { IfOk result (λ reply. reply ≡ (answer_clear self.old index (held self.old client reg)).0) }
         ensures world { OnOk result (self.new ≡ (answer_clear self.old index (held self.old client reg)).1) }
         ensures err { OnErr result (self.new ≡ self.old) }

@@ -1,5 +1,4 @@
-use Rattle.std.proofs.Common.{◌≡◌, ℕ, nat_eq, not, rules}
-use Rattle.std.specs.List.{filter}
+use Rattle.std.proofs.Common.{ℕ, nat_eq, not, rules}
 use Rattle.std.proofs.lemmas.Map.Made.{filter_same_pairs}
 use Rattle.pm_types.proofs.Orders.{places_total, places_antisymmetric}
 use Rattle.pm_model.proofs.Retained.{retained}
