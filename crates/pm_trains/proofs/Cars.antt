@@ -65,7 +65,7 @@ among_other : (q car : ℕ) (cars : List ℕ) → (car == q) ≡ false → is_am
 among_other q car [] ne = rw ne refl
 among_other q car (c ∷ cs) ne = ap (λ b. (c == q) || b) (among_other q car cs ne)
 
-or_true : (b : Bool) → (b || true) ≡ true
+pub or_true : (b : Bool) → (b || true) ≡ true
 or_true true = refl
 or_true false = refl
 
