@@ -1,4 +1,5 @@
 ghost use Rattle.std.specs.Prelude.{◌≡◌, IfOk};
+ghost use Rattle.pm_types.specs.Fields.{same_fields, fields_equiv, fields_partly_equiv};
 
 use crate::{Addr, Bytes, Id, NoMemory};
 use std::alloc::Global;
@@ -51,8 +52,22 @@ impl Fields {
     }
 }
 
+impl PartialEq for Fields {
+    ghost eq = { same_fields };
+
+    ghost laws = { fields_partly_equiv };
+
+    fn eq(&self, other: &Fields) -> bool {
+        self.items.as_slice() == other.items.as_slice()
+    }
+}
+
+impl Eq for Fields {
+    ghost laws = { fields_equiv };
+}
+
 /// An object as a car holds it: its identity, its reference fields and its bytes.
-#[derive(Debug, Drop)]
+#[derive(Debug, PartialEq, Eq, Drop)]
 pub struct Object {
     pub id: Id,
     pub fields: Fields,
@@ -75,7 +90,7 @@ impl Object {
 }
 
 /// A slot of a car: an object, or the address to which its object went.
-#[derive(Debug, Drop)]
+#[derive(Debug, PartialEq, Eq, Drop)]
 pub enum Slot {
     Live(Object),
     Moved(Addr),
