@@ -1,6 +1,5 @@
-use Rattle.std.proofs.Common.{◌≡◌, ℕ, ◌-◌, List, length, Some, sym, ap, ◌∙◌}
+use Rattle.std.proofs.Common.{ℕ, ◌-◌, List, length, ap, ◌∙◌}
 use Rattle.std.specs.List.{slice_get}
-use Rattle.pm_trains.specs.Trains.{cars_at}
 use Rattle.pm_trains.proofs.Numbers.{cars_read}
 use Rattle.pm_trains.proofs.Found.{answer_has, answer_home}
 use Rattle.pm_trains.proofs.trains.Trains.tail.Goals as goal
