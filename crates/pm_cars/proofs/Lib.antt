@@ -2,3 +2,6 @@ pub mod Rooms
 pub mod Listed
 pub mod Places
 pub mod Kept
+pub mod Taken
+pub mod Counts
+pub mod Same

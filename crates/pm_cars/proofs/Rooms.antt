@@ -1,4 +1,4 @@
--- The room of all slots, after one slot was filled or emptied.
+-- What is summed over all slots, after one slot was filled or emptied.
 use Rattle.std.proofs.Common.{◌≡◌, ℕ, ◌+◌, ◌==◌, Bool, true, false, ◌&&◌, cond, refl, ap, sym, subst, ◌∙◌, arith, List, [], ◌∷◌, length, Option, Some, None, unwrap_or, option_map}
 use Rattle.std.specs.Prelude.{T}
 use Rattle.std.specs.declared.cmp.Ordering.{Ordering}
@@ -17,7 +17,7 @@ use Rattle.std.proofs.lemmas.Map.Entries.{sum_by-insert_entry}
 use Rattle.pm_types.specs.declared.object.Slot.{Slot}
 use Rattle.pm_types.specs.declared.object.Object.{Object}
 use Rattle.pm_types.specs.declared.object.Slot.TheVariants.{Live, Moved}
-use Rattle.pm_cars.specs.Cars.{Slots, slot_room, slots_room, object_of, object_room}
+use Rattle.pm_cars.specs.Cars.{Slots, total, object_of}
 
 both_of : (a b : Bool) → T (a && b) → T a × T b
 both_of true b h = (tt, h)
@@ -51,46 +51,9 @@ module _ {K X : Type 0} (R : K → K → Ordering) where
   find_is q [] = refl
   find_is q (e ∷ es) = ap (cond (is_eq (R q e.0)) (Some e.1)) (find_is q es)
 
--- the room of what may stand in a slot
-abbrev pub held_room : Option Slot → ℕ
-held_room None = 0
-held_room (Some content) = slot_room content
-
--- where an object stands, it is the object's
-pub live_room : (o : Option Slot) (object : Object) → object_of o ≡ Some object → held_room o ≡ object_room object
-live_room None object is = cc
-live_room (Some (Live it)) object is = ap some_room is
-  where
-    some_room : Option Object → ℕ
-    some_room None = 0
-    some_room (Some object) = object_room object
-live_room (Some (Moved to)) object is = cc
-
-held_room_is : (o : Option Slot) → unwrap_or (option_map slot_room o) 0 ≡ held_room o
-held_room_is None = refl
-held_room_is (Some content) = refl
-
 no_length : {A : Type 0} (xs : List A) → length xs ≡ 0 → xs ≡ []
 no_length [] is = refl
 no_length (x ∷ xs) is = absurd (omega arith)
-
--- a map of no slot takes no room
-pub empty_room : slots_room empty ≡ 0
-empty_room =
-    let none : entries (empty {X = Slot} {R = nat_cmp}) ≡ [] = no_length _ (sym (len-entries (empty {X = Slot} {R = nat_cmp})) ∙ len-empty nat_cmp Slot) in
-    ap (λ es. sum_by slot_room (values_of es)) none
-
--- what a slot is filled with adds its room, and what it held takes its room away
-pub insert_room : (slots : Slots) (k : ℕ) (content : Slot) → slots_room (insert slots k content) + held_room (get slots k) ≡ slots_room slots + slot_room content
-insert_room slots k content =
-    let es = entries slots in
-    let filled : entries (insert slots k content) ≡ insert_entry nat_cmp es k content = entries-insert nat_cmp_total slots k content ∙ put_is nat_cmp k content es in
-    let held : held_room (get slots k) ≡ unwrap_or (option_map slot_room (lookup (is_at (nat_cmp k)) es)) 0 =
-    sym (held_room_is (get slots k)) ∙ ap (λ (o : Option Slot). unwrap_or (option_map slot_room o) 0) (get-entries slots k ∙ find_is nat_cmp k es) in
-    (λ i. sum_by slot_room (values_of (filled i)) + held i) ∙ sum_by-insert_entry slot_room nat_cmp_total es k content (keys_sorted nat_cmp es (entries_sorted slots))
-
-pub at_insert : (slots : Slots) (k : ℕ) (content : Slot) (q : ℕ) → get (insert slots k content) q ≡ cond (eq_by_cmp nat_cmp q k) (Some content) (get slots q)
-at_insert slots k content q = get-insert nat_cmp_total slots k content q
 
 refilled : {X : Type 0} (b : Bool) (content : X) (old : Option X) → (b ≡ true → old ≡ Some content) → cond b (Some content) (cond b None old) ≡ old
 refilled true content old is = sym (is refl)
@@ -110,23 +73,58 @@ eqb_same k = grind (arith, nat_tests)
 gone_at_itself : (slots : Slots) (k : ℕ) → get (remove slots k) k ≡ None
 gone_at_itself slots k = get-remove nat_cmp_total slots k k ∙ ap (λ b. cond b None (get slots k)) (unsigned_tied k k ∙ eqb_same k)
 
-remove_room_of : (slots : Slots) (k : ℕ) (o : Option Slot) → get slots k ≡ o → slots_room (remove slots k) + held_room o ≡ slots_room slots
-remove_room_of slots k None is =
-    let stays : remove slots k ≡ slots =
-    same_map nat_cmp_total nat_cmp-IsAntisymmetric _ _ (λ q. get-remove nat_cmp_total slots k q ∙ emptied (eq_by_cmp nat_cmp q k) (get slots q) (λ tied. same_key slots q k tied ∙ is)) in
-    let same : slots_room (remove slots k) ≡ slots_room slots = ap slots_room stays in
-    omega arith
-remove_room_of slots k (Some content) is =
-    let rest = remove slots k in
-    let back : insert rest k content ≡ slots =
-    same_map nat_cmp_total nat_cmp-IsAntisymmetric _ _ (λ q.
-    get-insert nat_cmp_total rest k content q ∙ ap (cond (eq_by_cmp nat_cmp q k) (Some content)) (get-remove nat_cmp_total slots k q)
-    ∙ refilled (eq_by_cmp nat_cmp q k) content (get slots q) (λ tied. same_key slots q k tied ∙ is)) in
-    let same : slots_room (insert rest k content) ≡ slots_room slots = ap slots_room back in
-    let law : slots_room (insert rest k content) + 0 ≡ slots_room rest + slot_room content =
-    subst (λ (o : Option Slot). slots_room (insert rest k content) + held_room o ≡ slots_room rest + slot_room content) (gone_at_itself slots k) (insert_room rest k content) in
-    omega arith
+module _ (f : Slot → ℕ) where
+  -- what counts for what may stand in a slot
+  abbrev pub counted : Option Slot → ℕ
+  counted None = 0
+  counted (Some content) = f content
 
--- a slot that is emptied takes its room away
-pub remove_room : (slots : Slots) (k : ℕ) → slots_room (remove slots k) + held_room (get slots k) ≡ slots_room slots
-remove_room slots k = remove_room_of slots k (get slots k) refl
+  -- where an object stands, the object counts
+  pub counted_live : (o : Option Slot) (object : Object) → object_of o ≡ Some object → counted o ≡ f (Live object)
+  counted_live None object is = cc
+  counted_live (Some (Live it)) object is = ap some_counted is
+    where
+      some_counted : Option Object → ℕ
+      some_counted None = 0
+      some_counted (Some object) = f (Live object)
+  counted_live (Some (Moved to)) object is = cc
+
+  counted_is : (o : Option Slot) → unwrap_or (option_map f o) 0 ≡ counted o
+  counted_is None = refl
+  counted_is (Some content) = refl
+
+  -- over no slot the sum is nothing
+  pub total_empty : total f empty ≡ 0
+  total_empty =
+      let none : entries (empty {X = Slot} {R = nat_cmp}) ≡ [] = no_length _ (sym (len-entries (empty {X = Slot} {R = nat_cmp})) ∙ len-empty nat_cmp Slot) in
+      ap (λ es. sum_by f (values_of es)) none
+
+  -- what a slot is filled with is added, and what it held goes
+  pub total_insert : (slots : Slots) (k : ℕ) (content : Slot) → total f (insert slots k content) + counted (get slots k) ≡ total f slots + f content
+  total_insert slots k content =
+      let es = entries slots in
+      let filled : entries (insert slots k content) ≡ insert_entry nat_cmp es k content = entries-insert nat_cmp_total slots k content ∙ put_is nat_cmp k content es in
+      let held : counted (get slots k) ≡ unwrap_or (option_map f (lookup (is_at (nat_cmp k)) es)) 0 =
+      sym (counted_is (get slots k)) ∙ ap (λ (o : Option Slot). unwrap_or (option_map f o) 0) (get-entries slots k ∙ find_is nat_cmp k es) in
+      (λ i. sum_by f (values_of (filled i)) + held i) ∙ sum_by-insert_entry f nat_cmp_total es k content (keys_sorted nat_cmp es (entries_sorted slots))
+
+  total_remove_of : (slots : Slots) (k : ℕ) (o : Option Slot) → get slots k ≡ o → total f (remove slots k) + counted o ≡ total f slots
+  total_remove_of slots k None is =
+      let stays : remove slots k ≡ slots =
+      same_map nat_cmp_total nat_cmp-IsAntisymmetric _ _ (λ q. get-remove nat_cmp_total slots k q ∙ emptied (eq_by_cmp nat_cmp q k) (get slots q) (λ tied. same_key slots q k tied ∙ is)) in
+      let same : total f (remove slots k) ≡ total f slots = ap (total f) stays in
+      omega arith
+  total_remove_of slots k (Some content) is =
+      let rest = remove slots k in
+      let back : insert rest k content ≡ slots =
+      same_map nat_cmp_total nat_cmp-IsAntisymmetric _ _ (λ q.
+      get-insert nat_cmp_total rest k content q ∙ ap (cond (eq_by_cmp nat_cmp q k) (Some content)) (get-remove nat_cmp_total slots k q)
+      ∙ refilled (eq_by_cmp nat_cmp q k) content (get slots q) (λ tied. same_key slots q k tied ∙ is)) in
+      let same : total f (insert rest k content) ≡ total f slots = ap (total f) back in
+      let law : total f (insert rest k content) + 0 ≡ total f rest + f content =
+      subst (λ (o : Option Slot). total f (insert rest k content) + counted o ≡ total f rest + f content) (gone_at_itself slots k) (total_insert rest k content) in
+      omega arith
+
+  -- what a slot that is emptied held goes
+  pub total_remove : (slots : Slots) (k : ℕ) → total f (remove slots k) + counted (get slots k) ≡ total f slots
+  total_remove slots k = total_remove_of slots k (get slots k) refl

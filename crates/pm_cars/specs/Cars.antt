@@ -1,5 +1,6 @@
--- A car as its users see it: a number, what its slots hold, the next slot, and the room that was taken for births.
-use Rattle.std.specs.Prelude.{◌≡◌, ℕ, ◌+◌, ◌*◌, ◌-◌, ◌<◌, ◌≤◌, max, List, length, ◌++◌, take, drop, slice_set, Option, Some, None, IsSome, IsSomeAnd, refl}
+-- A car as its users see it: a number, what its slots hold, and the next slot; and beside it the births
+-- for which memory was taken.
+use Rattle.std.specs.Prelude.{◌≡◌, ℕ, ◌+◌, ◌*◌, ◌<◌, ◌≤◌, List, length, ◌++◌, take, drop, slice_set, Option, Some, None, IsSome, IsSomeAnd, refl}
 use Rattle.std.specs.List.{sum_by}
 use Rattle.std.specs.Ordering.{nat_cmp}
 use Rattle.std.specs.FinMap.{FinMap, get, insert, remove, empty, values, code}
@@ -16,20 +17,32 @@ use Rattle.pm_cars.specs.declared.look.Look.TheVariants as looks
 abbrev pub Slots : Type 0
 Slots = FinMap nat_cmp Slot
 
--- a car: its number, its slots, the next slot, and how many births no longer need memory
+-- a car: its number, its slots, and the next slot
 pub record Car : Type 0 where
   pub number : ℕ
   pub slots : Slots
   pub next : ℕ
+
+-- a car, and how many births in it no longer need memory
+pub record CarAndSpare : Type 0 where
+  pub car : Car
   pub spare : ℕ
 
 -- a car is stored as the tuple of its parts
 abbrev pub car_code : Coded Car
 car_code =
-    code_by (ℕ × (Slots × (ℕ × ℕ))) (coded× coded_ℕ (coded× (code coded_ℕ slot.the_row.coded) (coded× coded_ℕ coded_ℕ)))
-    (λ c. (c.number, (c.slots, (c.next, c.spare)))) (λ p. record { number = p.0; slots = p.1.0; next = p.1.1.0; spare = p.1.1.1 }) (λ _. refl)
+    code_by (ℕ × (Slots × ℕ)) (coded× coded_ℕ (coded× (code coded_ℕ slot.the_row.coded) coded_ℕ))
+    (λ c. (c.number, (c.slots, c.next))) (λ p. record { number = p.0; slots = p.1.0; next = p.1.1 }) (λ _. refl)
 
--- ---- room
+-- a car with its spare births is stored as the pair of both
+abbrev pub car_and_spare_code : Coded CarAndSpare
+car_and_spare_code = code_by (Car × ℕ) (coded× car_code coded_ℕ) (λ c. (c.car, c.spare)) (λ p. record { car = p.0; spare = p.1 }) (λ _. refl)
+
+-- ---- room and counts
+
+-- the sum, over all slots, of what each counts for
+abbrev pub total : (Slot → ℕ) → Slots → ℕ
+total f slots = sum_by f (values slots)
 
 -- the room of an object, in bytes: a head, each field, and the bytes
 abbrev pub object_room : Object → ℕ
@@ -40,13 +53,31 @@ abbrev pub slot_room : Slot → ℕ
 slot_room (Live object) = object_room object
 slot_room (Moved to) = 17
 
--- the room of all slots
-abbrev pub slots_room : Slots → ℕ
-slots_room slots = sum_by slot_room (values slots)
-
 -- the room that is used: the head of the car, and its slots
 abbrev pub used : Car → ℕ
-used car = 14 + slots_room car.slots
+used car = 14 + total slot_room car.slots
+
+-- one for a Live slot
+abbrev pub one_live : Slot → ℕ
+one_live (Live object) = 1
+one_live (Moved to) = 0
+
+-- one for a Moved slot
+abbrev pub one_moved : Slot → ℕ
+one_moved (Live object) = 0
+one_moved (Moved to) = 1
+
+-- how many slots are Live
+abbrev pub live_count : Car → ℕ
+live_count car = total one_live car.slots
+
+-- how many slots are Moved
+abbrev pub moved_count : Car → ℕ
+moved_count car = total one_moved car.slots
+
+-- an object of this room fits the car at this slot: its room is left, no slot is given twice, and there is such a slot
+abbrev pub FitsAt : Car → ℕ → ℕ → Type 0
+FitsAt car slot room = (used car + room ≤ 16384) × (car.next ≤ slot) × (slot ≤ 65535)
 
 -- an object of this room fits the car: its room is left, and a slot number is
 abbrev pub Fits : Car → ℕ → Type 0
@@ -97,15 +128,19 @@ IsLowestLive car (Some low) = IsLive car low × ((slot : ℕ) → IsLive car slo
 
 -- a car with no slot
 abbrev pub new_car : ℕ → Car
-new_car number = record { number = number; slots = empty; next = 0; spare = 0 }
+new_car number = record { number = number; slots = empty; next = 0 }
 
--- the car with room for one birth at least
-abbrev pub reserved : Car → Car
-reserved car = record car { spare = max 1 car.spare }
+-- the car with this object in this slot, after which the next slot comes
+abbrev pub placed : Car → ℕ → Object → Car
+placed car slot object = record car { slots = insert car.slots slot (Live object); next = slot + 1 }
 
--- the car after the birth of this object
+-- the car after the birth of this object, which takes the next slot
 abbrev pub with_birth : Car → Object → Car
-with_birth car object = record car { slots = insert car.slots car.next (Live object); next = car.next + 1; spare = car.spare - 1 }
+with_birth car object = placed car car.next object
+
+-- the car with this next slot
+abbrev pub with_next : Car → ℕ → Car
+with_next car slot = record car { next = slot }
 
 -- the car whose slot holds this, and every other slot what it held
 abbrev pub with_slot : Car → ℕ → Slot → Car

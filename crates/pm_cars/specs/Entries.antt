@@ -1,45 +1,46 @@
--- How a car keeps its slots: a list of entries, in the order of their slots.
+-- How a car keeps its slots: a list of them with what they hold, in their order.
 use Rattle.std.specs.Prelude.{◌≡◌, ℕ, ◌+◌, ◌<◌, ◌≤◌, ◌==◌, ◌≢◌, Bool, true, false, cond, List, [], ◌∷◌, length, map, slice_index, Option, Some, None}
 use Rattle.std.specs.List.{position_or_len}
-use Rattle.std.specs.FinMap.{insert, remove, empty}
+use Rattle.std.specs.FinMap.{from_entries}
 use Rattle.pm_types.specs.declared.object.Slot.{Slot}
 use Rattle.pm_types.specs.declared.object.Slot.TheVariants.{Live, Moved}
-use Rattle.pm_cars.specs.declared.entry.Entry.{Entry}
-use Rattle.pm_cars.specs.Cars.{Slots, slots_room}
+use Rattle.pm_cars.specs.Cars.{Slots, total, slot_room, one_live}
+
+-- a slot, and what it holds
+abbrev pub Entry : Type 0
+Entry = ℕ × Slot
 
 -- the slots of the entries, in their order
 abbrev pub numbers : List Entry → List ℕ
-numbers es = map (λ e. e.slot) es
+numbers es = map (λ e. e.0) es
 
 -- what the first entry of this slot holds
 abbrev pub content_at : List Entry → ℕ → Option Slot
 content_at [] q = None
-content_at (e ∷ es) q = cond (e.slot == q) e.content (content_at es q)
-
--- the slots with this one as said
-abbrev pub put_content : Slots → ℕ → Option Slot → Slots
-put_content slots k None = remove slots k
-put_content slots k (Some content) = insert slots k content
+content_at (e ∷ es) q = cond (e.0 == q) (Some e.1) (content_at es q)
 
 -- the entries as a map
 abbrev pub slots_of : List Entry → Slots
-slots_of [] = empty
-slots_of (e ∷ es) = put_content (slots_of es) e.slot e.content
+slots_of es = from_entries es
 
 -- the entries, with this in the first entry of the slot
-abbrev pub with_content : List Entry → ℕ → Option Slot → List Entry
+abbrev pub with_content : List Entry → ℕ → Slot → List Entry
 with_content [] k content = []
-with_content (e ∷ es) k content = cond (e.slot == k) (record { slot = k; content = content } ∷ es) (e ∷ with_content es k content)
+with_content (e ∷ es) k content = cond (e.0 == k) ((k, content) ∷ es) (e ∷ with_content es k content)
+
+-- the entries without the first of the slot
+abbrev pub without : List Entry → ℕ → List Entry
+without [] k = []
+without (e ∷ es) k = cond (e.0 == k) es (e ∷ without es k)
 
 -- a slot that holds this is Live
-abbrev pub holds_object : Option Slot → Bool
-holds_object None = false
-holds_object (Some (Live object)) = true
-holds_object (Some (Moved to)) = false
+abbrev pub holds_object : Slot → Bool
+holds_object (Live object) = true
+holds_object (Moved to) = false
 
 -- the entry's slot is Live
 abbrev pub is_live : Entry → Bool
-is_live e = holds_object e.content
+is_live e = holds_object e.1
 
 -- the place of the first Live entry, or the number of entries where there is none
 abbrev pub first_place : List Entry → ℕ
@@ -58,12 +59,14 @@ pub record IsAt (es : List Entry) (slot place : ℕ) : Type 0 where
 abbrev pub HasNone : List Entry → ℕ → Type 0
 HasNone es slot = (i : ℕ) → i < length es → slice_index (numbers es) i ≢ slot
 
--- what a car keeps: entries in order and below the next slot, their room, the first that is Live, and space for births
-pub record IsKept (es : List Entry) (next used first spare capacity : ℕ) : Type 0 where
+-- what a car keeps: entries in order and below the next slot, their room, how many are Live and which is the first, and
+-- space for births
+pub record IsKept (es : List Entry) (next used live first spare capacity : ℕ) : Type 0 where
   pub ascending : IsAscending (numbers es)
   pub below : (i : ℕ) → i < length (numbers es) → slice_index (numbers es) i < next
   pub last : next ≤ 65536
-  pub counted : used ≡ 14 + slots_room (slots_of es)
+  pub counted : used ≡ 14 + total slot_room (slots_of es)
   pub within : used ≤ 16384
+  pub lives : live ≡ total one_live (slots_of es)
   pub lowest : first ≡ first_place es
   pub space : length es + spare ≤ capacity

@@ -1,38 +1,19 @@
 ghost use Rattle.std.specs.Prelude.{◌≡◌, ◌+◌, ◌<◌, ◌≤◌, ◌^◌, length, Some, IsSome, IfSome, IfNone, IfOk, vec_capacity, option_copied};
 ghost use Rattle.pm_types.specs.declared.object.Slot.TheVariants.{Live};
 ghost use Rattle.pm_cars.specs.Cars.{object_of};
-ghost use Rattle.pm_cars.specs.Entries.{numbers, content_at, with_content, is_live, first_place, IsAscending, IsAt, HasNone};
+ghost use Rattle.pm_cars.specs.Entries.{numbers, content_at, with_content, without, holds_object, first_place, IsAscending, IsAt, HasNone};
 
 use pm_types::{NoMemory, Object, Slot};
 use std::alloc::Global;
 use std::mem;
 
-/// A slot and what it holds: nothing, once it is Gone.
-#[derive(Drop)]
-pub(crate) struct Entry {
-    pub slot: u32,
-    pub content: Option<Slot>,
-}
+/// A slot, and what it holds. A slot that is Gone has no entry.
+pub(crate) type Entry = (u32, Slot);
 
-impl Entry {
-    fn is_live(&self) -> bool
-        ensures { result ≡ is_live self.now }
-    {
-        matches!(&self.content, Some(Slot::Live(_)))
-    }
-
-    fn copy(&self, alloc: Global) -> Result<Entry, NoMemory>
-        ensures { IfOk result (λ copied. copied ≡ self.now) }
-    {
-        let content = match &self.content {
-            Some(content) => Some(content.copy(alloc)?),
-            None => None,
-        };
-        Ok(Entry {
-            slot: self.slot,
-            content,
-        })
-    }
+fn is_live(content: &Slot) -> bool
+    ensures { result ≡ holds_object content.now }
+{
+    matches!(content, Slot::Live(_))
 }
 
 // The place of the slot's entry.
@@ -41,7 +22,7 @@ fn place_of(entries: &[Entry], slot: u32) -> Option<usize>
     ensures found { IfSome result (IsAt entries.now slot) }
     ensures absent { IfNone result (HasNone entries.now slot) }
 {
-    entries.binary_search_by_key(&slot, |entry| entry.slot).ok()
+    entries.binary_search_by_key(&slot, |entry| entry.0).ok()
 }
 
 /// What the slot holds.
@@ -51,12 +32,12 @@ pub(crate) fn content_of(entries: &[Entry], slot: u32) -> Option<&Slot>
     ensures { option_copied result ≡ content_at entries.now slot }
 {
     let place = place_of(entries, slot)?;
-    entries[place].content.as_ref()
+    Some(&entries[place].1)
 }
 
 // Lets the slot hold this, where it has an entry, and hands back what it held.
 #[tactic(auto, using(crate::proofs::Listed::content_absent))]
-fn replace(entries: &mut Vec<Entry>, slot: u32, content: Option<Slot>) -> Option<Slot>
+fn replace(entries: &mut Vec<Entry>, slot: u32, content: Slot) -> Option<Slot>
     requires { IsAscending (numbers entries.old.items) }
     ensures held { result ≡ content_at entries.old.items slot }
     ensures items { entries.new.items ≡ with_content entries.old.items slot content }
@@ -64,11 +45,11 @@ fn replace(entries: &mut Vec<Entry>, slot: u32, content: Option<Slot>) -> Option
 {
     let place = place_of(entries, slot)?;
     let entry = &mut entries[place];
-    mem::replace(&mut entry.content, content)
+    Some(mem::replace(&mut entry.1, content))
 }
 
 /// Lets a Live slot hold this, and hands its object back.
-pub(crate) fn exchange(entries: &mut Vec<Entry>, slot: u32, content: Option<Slot>) -> Object
+pub(crate) fn exchange(entries: &mut Vec<Entry>, slot: u32, content: Slot) -> Object
     requires ascending { IsAscending (numbers entries.old.items) }
     requires live { IsSome (object_of (content_at entries.old.items slot)) }
     ensures object { content_at entries.old.items slot ≡ Some (Live result) }
@@ -81,13 +62,40 @@ pub(crate) fn exchange(entries: &mut Vec<Entry>, slot: u32, content: Option<Slot
     }
 }
 
-/// Lets the slot hold the object.
+/// Lets the slot, which has an entry, hold the object.
 pub(crate) fn put_back(entries: &mut Vec<Entry>, slot: u32, object: Object)
     requires ascending { IsAscending (numbers entries.old.items) }
-    ensures items { entries.new.items ≡ with_content entries.old.items slot (Some (Live object)) }
+    ensures items { entries.new.items ≡ with_content entries.old.items slot (Live object) }
     ensures capacity { vec_capacity entries.new ≡ vec_capacity entries.old }
 {
-    replace(entries, slot, Some(Slot::Live(object)));
+    replace(entries, slot, Slot::Live(object));
+}
+
+// Takes the slot's entry away, where it has one, and hands back what it held. The entries after it move up.
+#[tactic(auto, using(crate::proofs::Listed::content_absent))]
+fn take(entries: &mut Vec<Entry>, slot: u32) -> Option<Slot>
+    requires { IsAscending (numbers entries.old.items) }
+    ensures held { result ≡ content_at entries.old.items slot }
+    ensures items { entries.new.items ≡ without entries.old.items slot }
+    ensures capacity { vec_capacity entries.new ≡ vec_capacity entries.old }
+{
+    let place = place_of(entries, slot)?;
+    let entry = entries.remove(place);
+    Some(entry.1)
+}
+
+/// Lets a Live slot be Gone, and hands its object back.
+pub(crate) fn take_object(entries: &mut Vec<Entry>, slot: u32) -> Object
+    requires ascending { IsAscending (numbers entries.old.items) }
+    requires live { IsSome (object_of (content_at entries.old.items slot)) }
+    ensures object { content_at entries.old.items slot ≡ Some (Live result) }
+    ensures items { entries.new.items ≡ without entries.old.items slot }
+    ensures capacity { vec_capacity entries.new ≡ vec_capacity entries.old }
+{
+    match take(entries, slot) {
+        Some(Slot::Live(object)) => object,
+        _ => unreachable!(),
+    }
 }
 
 /// The place of the first Live entry, or the number of entries. None before `from` is Live.
@@ -96,7 +104,7 @@ pub(crate) fn first_live(entries: &[Entry], from: usize) -> usize
     ensures { result ≡ first_place entries.now }
 {
     let mut place = from;
-    while place < entries.len() && !entries[place].is_live() {
+    while place < entries.len() && !is_live(&entries[place].1) {
         place += 1;
     }
     place
@@ -113,8 +121,8 @@ pub(crate) fn copy_all(
     ensures space { IfOk result (λ copied. length entries.now + spare ≤ vec_capacity copied) }
 {
     let mut copied = Vec::with_capacity(alloc, entries.len() + spare)?;
-    for entry in entries {
-        copied.push_reserved(entry.copy(alloc)?);
+    for (slot, content) in entries {
+        copied.push_reserved((*slot, content.copy(alloc)?));
     }
     Ok(copied)
 }

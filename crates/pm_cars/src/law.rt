@@ -1,15 +1,16 @@
 ghost use Rattle.std.specs.Prelude.{◌≡◌, ◌+◌, ◌≤◌, ℕ, Some};
-ghost use Rattle.std.specs.FinMap.{get};
-ghost use Rattle.pm_types.specs.declared.address.Addr.{Addr};
+ghost use Rattle.std.specs.FinMap.{len};
 ghost use Rattle.pm_types.specs.declared.object.Object.{Object};
-ghost use Rattle.pm_types.specs.declared.object.Slot.TheVariants.{Live, Moved};
-ghost use Rattle.pm_cars.specs.Cars.{Car, IsSound, used, object_room, object_at, with_birth, with_slot, without_slot};
+ghost use Rattle.pm_types.specs.declared.object.Slot.{Slot};
+ghost use Rattle.pm_types.specs.declared.object.Slot.TheVariants.{Live};
+ghost use Rattle.pm_cars.specs.Cars.{Car, IsSound, total, live_count, moved_count, object_at, placed, with_slot, without_slot};
 
-/// A law of room: a birth adds the room of its object. An object that moves away leaves 17 bytes of
-/// its room, one that is dropped leaves none, and one that is set in place of another has its own.
-pub fn room_is_counted()
-    ensures birth { (car : Car) (object : Object) → IsSound car → used (with_birth car object) ≡ used car + object_room object }
-    ensures edit { (car : Car) (slot : ℕ) (one two : Object) → object_at car slot ≡ Some one → used (with_slot car slot (Live two)) + object_room one ≡ used car + object_room two }
-    ensures moved { (car : Car) (slot : ℕ) (object : Object) (to : Addr) → object_at car slot ≡ Some object → used (with_slot car slot (Moved to)) + object_room object ≡ used car + 17 }
-    ensures dropped { (car : Car) (slot : ℕ) (object : Object) → object_at car slot ≡ Some object → used (without_slot car slot) + object_room object ≡ used car }
+/// A law of what is summed over the slots of a car, as their room is, or how many are Live or Moved: an
+/// object that is placed adds what its slot counts for; a Live slot that is told something else counts
+/// for that, and one that is dropped for nothing. Every slot that is listed is Live or Moved.
+pub fn slots_are_counted()
+    ensures placed { (f : Slot → ℕ) (car : Car) (slot : ℕ) (object : Object) → IsSound car → car.next ≤ slot → total f (placed car slot object).slots ≡ total f car.slots + f (Live object) }
+    ensures told { (f : Slot → ℕ) (car : Car) (slot : ℕ) (object : Object) (content : Slot) → object_at car slot ≡ Some object → total f (with_slot car slot content).slots + f (Live object) ≡ total f car.slots + f content }
+    ensures dropped { (f : Slot → ℕ) (car : Car) (slot : ℕ) (object : Object) → object_at car slot ≡ Some object → total f (without_slot car slot).slots + f (Live object) ≡ total f car.slots }
+    ensures all { (car : Car) → live_count car + moved_count car ≡ len car.slots }
 {}

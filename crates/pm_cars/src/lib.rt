@@ -9,7 +9,7 @@ mod look;
 mod object;
 
 pub use car::Car;
-pub use law::room_is_counted;
+pub use law::slots_are_counted;
 pub use limits::{
     CAR_BYTES, CAR_HEAD_BYTES, FIELD_BYTES, LAST_SLOT, MOVED_BYTES, OBJECT_HEAD_BYTES,
 };

@@ -21,6 +21,8 @@ fn holds_962_least_objects(rt: HostRuntime) -> Result<(), Fail> {
     }
     assert!(rt; !car.fits(17));
     assert!(rt; car.fits(16));
+    assert_eq!(rt; car.live(), 962);
+    assert!(rt; car.copy(alloc)?.has_slots(car.slots()));
     Ok(())
 }
 
@@ -78,6 +80,9 @@ fn is_sample(rt: &impl Abort, car: &Car) {
         assert_eq!(rt; car.look(slot), look);
     }
     assert_eq!(rt; car.lowest_live(), Some(2));
+    assert_eq!(rt; car.live(), 1);
+    assert_eq!(rt; car.moved(), 1);
+    assert_eq!(rt; car.used(), 63);
     assert!(rt; car.fits(16_321));
     assert!(rt; !car.fits(16_322));
     assert_eq!(rt; car.look(2), Look::Live);
@@ -103,7 +108,40 @@ fn answers_of_live_moved_and_gone_slots(rt: HostRuntime) -> Result<(), Fail> {
     assert_eq!(rt; car.field(2, 0), Some(Addr { car: 7, slot: 2 }));
     is_sample(&rt, &car);
     is_sample(&rt, &car.copy(alloc)?);
+    assert_eq!(rt; car.look(2), Look::Live);
+    assert_eq!(rt; car.object(2).id, 3);
     assert_eq!(rt; car.drop_slot(2).id, 3);
     assert_eq!(rt; car.lowest_live(), None);
+    Ok(())
+}
+
+// An object comes to slot 40, and from then on no slot is left.
+#[test]
+fn slots_are_placed_walked_and_compared(rt: HostRuntime) -> Result<(), Fail> {
+    let alloc = rt.alloc();
+    let mut car = sample(&rt, alloc)?;
+    let before = car.copy(alloc)?;
+    car.reserve()?;
+    assert!(rt; car.fits(17));
+    assert!(rt; car.next_slot() <= 40);
+    let object = Object {
+        id: 4,
+        fields: Fields::from_vec(Vec::new(alloc)),
+        bytes: Bytes::from_vec(Vec::new(alloc)),
+    };
+    car.place(40, object);
+    assert_eq!(rt; car.next_slot(), 41);
+    car.set_next(65_536);
+    assert!(rt; !car.fits(17));
+    let mut numbers = Vec::new(alloc);
+    for (slot, _) in car.slots() {
+        numbers.push(*slot)?;
+    }
+    assert_eq!(rt; numbers.as_slice(), [0, 2, 40].as_slice());
+    assert!(rt; car.copy(alloc)?.has_slots(car.slots()));
+    assert!(rt; !before.has_slots(car.slots()));
+    assert_eq!(rt; car.look(40), Look::Live);
+    car.drop_slot(40);
+    assert!(rt; before.has_slots(car.slots()));
     Ok(())
 }

@@ -65,7 +65,7 @@ among_other : (q car : ℕ) (cars : List ℕ) → (car == q) ≡ false → is_am
 among_other q car [] ne = rw ne refl
 among_other q car (c ∷ cs) ne = ap (λ b. (c == q) || b) (among_other q car cs ne)
 
-or_true : (b : Bool) → (b || true) ≡ true
+pub or_true : (b : Bool) → (b || true) ≡ true
 or_true true = refl
 or_true false = refl
 
@@ -74,7 +74,7 @@ among_last car [] = rw (agree car car refl) refl
 among_last car (c ∷ cs) = rw (among_last car cs) (or_true (c == car))
 
 -- another car is found where it was
-home_kept : (q n car : ℕ) (ts : List Train) → (car == q) ≡ false → train_of (appended n car ts) q ≡ train_of ts q
+pub home_kept : (q n car : ℕ) (ts : List Train) → (car == q) ≡ false → train_of (appended n car ts) q ≡ train_of ts q
 home_kept q n car [] ne = refl
 home_kept q n car (t ∷ ts) ne =
     either (λ xs. train_of xs q ≡ train_of (t ∷ ts) q) (t.number == n) _ _ (λ _. ap (λ b. cond b (Some t.number) (train_of ts q)) (among_other q car t.cars ne))

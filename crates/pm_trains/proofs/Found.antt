@@ -1,14 +1,14 @@
 -- What the trains answer: the cars of a train after each change, and where a car is found.
-use Rattle.std.proofs.Common.{◌≡◌, ℕ, ◌<◌, ◌≤◌, ◌==◌, ◌&&◌, Bool, true, false, cond, List, [], ◌∷◌, ◌++◌, length, drop, get_or, nat_lt, Option, Some, None, IsSome, IsSomeAnd, IsTrue, refl, sym, ap, ◌∙◌, arith, ⊎_elim}
+use Rattle.std.proofs.Common.{◌≡◌, ℕ, ◌<◌, ◌≤◌, ◌==◌, ◌&&◌, Bool, true, false, cond, List, [], ◌∷◌, ◌++◌, length, drop, get_or, slice_get, nat_lt, zero, suc, Option, Some, None, IsSome, IsSomeAnd, IfSome, IsTrue, refl, sym, ap, ◌∙◌, arith, ⊎_elim}
 use Rattle.std.specs.Option.{option_map, option_and_then}
 use Rattle.std.proofs.lemmas.Bool.{eqb-true, cases_eq}
 use Rattle.std.proofs.lemmas.Bool.Decides.{nat_tests}
 use Rattle.std.proofs.lemmas.List.{get_or_default}
-use Rattle.pm_trains.specs.Trains.{Train, cars_at, HasCar, empty_train, is_among, train_of, oldest, youngest, last_number, with_cars, without_empty, without_first, left_standing}
+use Rattle.pm_trains.specs.Trains.{Train, cars_at, HasCar, empty_train, is_among, train_of, oldest, youngest, last_number, with_cars, appended, without_empty, without_first, left_standing}
 use Rattle.pm_trains.specs.Sound.{Rise, Filled, all_cars, places}
 use Rattle.pm_trains.proofs.Order.{agree, differ}
 use Rattle.pm_trains.proofs.Numbers.{either, cars_there, last_over}
-use Rattle.pm_trains.proofs.Cars.{places_cons, not_among}
+use Rattle.pm_trains.proofs.Cars.{places_cons, not_among, or_true, home_removed}
 use Rattle.pm_trains.proofs.Filling.{goes, same_emptied}
 
 -- what holds of each of two options holds of the one that is chosen
@@ -34,7 +34,7 @@ pub stands_over : (low n : ℕ) (cars : List ℕ) (ts : List Train) → Rise low
 stands_over low n cars ts rise is = let no_lower = over_step low n cars ts rise is in omega (arith, no_lower)
 
 -- the last number is not below the bound
-last_least : (low : ℕ) (ts : List Train) → Rise low ts → low ≤ last_number low ts
+pub last_least : (low : ℕ) (ts : List Train) → Rise low ts → low ≤ last_number low ts
 last_least low [] rise = omega arith
 last_least low (t ∷ ts) rise = let over = last_over low (t ∷ ts) rise (omega arith) in omega (arith, over)
 
@@ -230,3 +230,37 @@ parts_empty (x ∷ xs) ys is = cc
 pub none_oldest : (ts : List Train) → all_cars ts ≡ [] → oldest ts ≡ None
 none_oldest [] is = refl
 none_oldest (t ∷ ts) is = let parts = parts_empty t.cars (all_cars ts) is in rw (agree (length t.cars) 0 parts.0) (none_oldest ts parts.1)
+
+-- a car that a train answers at a place stands in that train, and the train has a car
+among_at : (cars : List ℕ) (i car : ℕ) → slice_get cars i ≡ Some car → is_among car cars ≡ true
+among_at [] i car is = cc
+among_at (c ∷ cs) zero car is = let same : c ≡ car = cc in rw (agree c car same) refl
+among_at (c ∷ cs) (suc i) car is = rw (among_at cs i car is) (or_true (c == car))
+
+some_at : (cars : List ℕ) (i car : ℕ) → slice_get cars i ≡ Some car → 0 < length cars
+some_at [] i car is = cc
+some_at (c ∷ cs) i car is = omega arith
+
+pub answer_has : (ts : List Train) (n : ℕ) (cars : List ℕ) (i : ℕ) (answer : Option ℕ) → cars_at ts n ≡ Some cars → answer ≡ slice_get cars i → IfSome answer (λ _. HasCar ts n)
+answer_has ts n cars i None at is = tt
+answer_has ts n cars i (Some car) at is = rw at (some_at cars i car (sym is))
+
+pub answer_home : (ts : List Train) (n : ℕ) (cars : List ℕ) (i : ℕ) (answer : Option ℕ) → ((q : ℕ) → places q ts ≤ 1) → cars_at ts n ≡ Some cars → answer ≡ slice_get cars i → IfSome answer (λ car. train_of ts car ≡ Some n)
+answer_home ts n cars i None single at is = tt
+answer_home ts n cars i (Some car) single at is = home_back car n ts (single car) (rw at (among_at cars i car (sym is)))
+
+-- a car at the end of a train that was pushed
+pub appended_last : (low n car : ℕ) (ts : List Train) → Rise low ts → last_number low ts < n → appended n car (ts ++ empty_train n ∷ []) ≡ ts ++ record { number = n; cars = car ∷ [] } ∷ []
+appended_last low n car [] rise over = rw (agree n n refl) refl
+appended_last low n car (t ∷ ts) rise over =
+    let least = last_least t.number ts rise.1 in
+    rw (differ t.number n (λ e. omega (arith, over, least, e))) (ap (λ (xs : List Train). t ∷ xs) (appended_last t.number n car ts rise.1 over))
+
+-- where each car is found once the first of a train was taken out
+first_is : (found : Option (List ℕ)) (car : ℕ) → option_and_then (λ cars. slice_get cars 0) found ≡ Some car → (rest : List ℕ) × (found ≡ Some (car ∷ rest))
+first_is None car is = cc
+first_is (Some []) car is = cc
+first_is (Some (c ∷ cs)) car is = let same : c ≡ car = cc in (cs, ap (λ x. Some (x ∷ cs)) same)
+
+pub home_first : (ts : List Train) (n car : ℕ) → places car ts ≤ 1 → option_and_then (λ cars. slice_get cars 0) (cars_at ts n) ≡ Some car → (q : ℕ) → train_of (without_first n ts) q ≡ cond (q == car) None (train_of ts q)
+home_first ts n car single is q = let at = first_is (cars_at ts n) car is in home_removed n car at.0 ts at.1 single q

@@ -4,8 +4,10 @@ use Rattle.std.specs.List.{remove}
 use Rattle.pm_trains.specs.Trains.{Train, Trains, cars_at, HasCar, train_of, youngest, appended, without_first, rotated, with_cars, empty_train}
 use Rattle.pm_trains.specs.Sound.{IsSound}
 use Rattle.pm_trains.specs.Places.{IsAt}
+use Rattle.pm_trains.proofs.Order.{agree}
 use Rattle.pm_trains.proofs.Numbers.{cars_read, written, rise_changed, rise_emptied, rise_pushed, length_changed}
 use Rattle.pm_trains.proofs.Cars.{single_appended, single_removed, places_rotated, home_appended, home_removed, home_rotated}
+use Rattle.pm_trains.proofs.Found.{appended_last, cars_rotated}
 use Rattle.pm_trains.proofs.Filling.{filled_appended, filled_emptied, some_emptied, filled_rotated, dropped}
 
 pub sound_appended : (t : Trains) (n car : ℕ) → IsSound t → train_of t.trains car ≡ None → IsSound (record t { trains = appended n car t.trains })
@@ -87,3 +89,23 @@ module _ (ts : List Train) (births number : ℕ) (new : Train) (after : List Tra
 
   pub rotated_housed : (now : ℕ → Option ℕ) → ((q : ℕ) → now q ≡ train_of ts q) → (q : ℕ) → now q ≡ train_of after q
   rotated_housed now housed q = housed q ∙ sym (home_rotated q (youngest ts + 1) ts) ∙ ap (λ (ts : List Train). train_of ts q) (sym rotated_there)
+
+-- A train with this car alone was pushed, whose number is one more than that of the youngest.
+module _ (ts : List Train) (births number car : ℕ) (new : Train) (after : List Train) (sound : IsSound (record { trains = ts; births = births })) (last : number ≡ youngest ts + 1) (is : new ≡ record { number = number; cars = car ∷ [] }) (pushed : after ≡ ts ++ new ∷ []) (none : train_of ts car ≡ None) where
+  pub opened_there : after ≡ appended (youngest ts + 1) car (rotated ts)
+  opened_there =
+      pushed ∙ ap (λ (t : Train). ts ++ t ∷ []) (is ∙ (λ i. record { number = last i; cars = car ∷ [] })) ∙ sym (appended_last 0 (youngest ts + 1) car ts sound.rising (omega arith))
+
+  still_none : train_of (rotated ts) car ≡ None
+  still_none = home_rotated car (youngest ts + 1) ts ∙ none
+
+  pub opened_sound : HasCar ts (youngest ts) → IsSound (record { trains = after; births = 0 })
+  opened_sound has =
+      rw opened_there (sound_appended (record { trains = rotated ts; births = 0 }) (youngest ts + 1) car (sound_rotated (record { trains = ts; births = births }) sound has) still_none)
+
+  opened_stands : IsSome (cars_at (rotated ts) (youngest ts + 1))
+  opened_stands = rw (cars_rotated 0 (youngest ts + 1) (youngest ts + 1) ts sound.rising (omega arith), agree (youngest ts + 1) (youngest ts + 1) refl) refl
+
+  pub opened_housed : (now next : ℕ → Option ℕ) → ((q : ℕ) → now q ≡ train_of ts q) → ((q : ℕ) → next q ≡ cond (q == car) (Some number) (now q)) → (q : ℕ) → next q ≡ train_of after q
+  opened_housed now next housed put q =
+      rw (opened_there, home_appended (youngest ts + 1) car (rotated ts) opened_stands still_none q, home_rotated q (youngest ts + 1) ts, ← housed q, ← last) (put q)

@@ -66,3 +66,36 @@ fn answers_about_three_trains(rt: HostRuntime) -> Result<(), Fail> {
     assert_eq!(rt; trains.train_of(3), 2);
     Ok(())
 }
+
+// Trains of seven cars each: car n stands in train (n + 6) / 7.
+fn filled(alloc: Global, count: u64) -> Result<Trains, Fail> {
+    let mut trains = Trains::new(alloc)?;
+    for car in 1..=count {
+        let open = trains.youngest();
+        let full = car % 7 == 1 && trains.tail(open).is_some();
+        if full && open < 1000 {
+            trains.append_new(alloc, car)?;
+        } else {
+            trains.append_car(open, car)?;
+        }
+    }
+    Ok(trains)
+}
+
+#[test]
+fn a_thousand_trains_are_filled_and_emptied(rt: HostRuntime) -> Result<(), Fail> {
+    let alloc = rt.alloc();
+    let mut trains = filled(alloc, 7000)?;
+    assert_eq!(rt; trains.len(), 1000);
+    for car in 1..=7000 {
+        let train = (car + 6) / 7;
+        assert_eq!(rt; trains.oldest(), Some(train));
+        assert_eq!(rt; trains.first_car(train), Some(car));
+        assert_eq!(rt; trains.tail(train), Some(train * 7));
+        assert_eq!(rt; trains.train_of(car), train);
+        trains.remove_first(train);
+    }
+    assert_eq!(rt; trains.len(), 1);
+    assert_eq!(rt; trains.oldest(), None);
+    Ok(())
+}

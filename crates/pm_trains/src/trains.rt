@@ -6,7 +6,7 @@ use crate::line::Line;
 use crate::place::{drop_empty, place_of};
 use pm_types::NoMemory;
 use std::alloc::Global;
-use std::collections::BTreeMap;
+use std::collections::{BTreeMap, VecDeque};
 use std::marker::Model;
 
 /// The most objects that are born in one train.
@@ -19,7 +19,7 @@ pub const BIRTHS: u32 = 1024;
 /// a car, and a car stands at one place of one train at most.
 #[derive(Drop)]
 pub struct Trains {
-    trains: Vec<Line>,
+    trains: VecDeque<Line>,
     /// For each car the number of its train.
     homes: BTreeMap<u64, u64>,
     births: u32,
@@ -50,8 +50,8 @@ impl Trains {
         ensures trains { IfOk result (λ trains. trains ≡ first_trains) }
         ensures sound { IfOk result (λ trains. IsSound trains) }
     {
-        let mut trains = Vec::new(alloc);
-        trains.push(Line::new(alloc, 1))?;
+        let mut trains = VecDeque::new(alloc);
+        trains.push_back(Line::new(alloc, 1))?;
         Ok(Trains {
             trains,
             homes: BTreeMap::new(alloc),
@@ -87,7 +87,7 @@ impl Trains {
         ensures train { result ≡ oldest self.now.trains }
         ensures car { IfSome result (λ train. HasCar self.now.trains train) }
     {
-        let line = self.trains.first()?;
+        let line = self.trains.front()?;
         if line.cars().is_empty() {
             None
         } else {
@@ -125,7 +125,9 @@ impl Trains {
 
     /// The first car of this train, or `None` where it has none or does not stand. It takes no memory.
     pub fn first_car(&self, train: u64) -> Option<u64>
-        ensures { result ≡ first_car self.now.trains train }
+        ensures car { result ≡ first_car self.now.trains train }
+        ensures has { IfSome result (λ _. HasCar self.now.trains train) }
+        ensures home { IfSome result (λ car. train_of self.now.trains car ≡ Some train) }
     {
         let place = place_of(&self.trains, train)?;
         self.trains[place].cars().first().copied()
@@ -133,7 +135,9 @@ impl Trains {
 
     /// The last car of this train, or `None` where it has none or does not stand. It takes no memory.
     pub fn tail(&self, train: u64) -> Option<u64>
-        ensures { result ≡ tail self.now.trains train }
+        ensures car { result ≡ tail self.now.trains train }
+        ensures has { IfSome result (λ _. HasCar self.now.trains train) }
+        ensures home { IfSome result (λ car. train_of self.now.trains car ≡ Some train) }
     {
         let place = place_of(&self.trains, train)?;
         self.trains[place].cars().last().copied()
@@ -171,7 +175,7 @@ impl Trains {
         ensures sound { IsSound self.new }
     {
         let number = self.youngest() + 1;
-        self.trains.push(Line::new(alloc, number))?;
+        self.trains.push_back(Line::new(alloc, number))?;
         self.births = 0;
         Ok(number)
     }
@@ -190,6 +194,26 @@ impl Trains {
         };
         self.trains[place].append(&mut self.homes, car)?;
         Ok(())
+    }
+
+    /// Opens a new train, which has this car, that stands in no train, and no births, and answers its
+    /// number: one more than that of the youngest. After `NoMemory` all is as it was.
+    pub fn append_new(&mut self, alloc: Global, car: u64) -> Result<u64, NoMemory>
+        requires youngest { HasCar self.old.trains (youngest self.old.trains) }
+        requires small { youngest self.old.trains < 2 ^ 62 }
+        requires car { train_of self.old.trains car ≡ None }
+        ensures number { IfOk result (λ number. number ≡ youngest self.old.trains + 1) }
+        ensures ok { OnOk result (self.new ≡ record { trains = appended (youngest self.old.trains + 1) car (rotated self.old.trains); births = 0 }) }
+        ensures err { OnErr result (self.new ≡ self.old) }
+        ensures sound { IsSound self.new }
+    {
+        let number = self.youngest() + 1;
+        self.trains.reserve(1)?;
+        let mut line = Line::new(alloc, number);
+        line.append(&mut self.homes, car)?;
+        self.trains.push_back_reserved(line);
+        self.births = 0;
+        Ok(number)
     }
 
     /// Takes the first car of this train, which has one, out of it. A train left empty goes unless it

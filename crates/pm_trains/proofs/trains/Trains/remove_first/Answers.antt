@@ -9,7 +9,7 @@ use Rattle.pm_trains.proofs.trains.Trains.remove_first.Goals as goal
 
 pub take_first-car-requires : goal.take_first-car-requires
 take_first-car-requires c =
-    let at = rw c.deref.ensures.value at c.in-Some.ensures in
+    let at = c.in-Some.ensures in
     let has = rw (← c.self.view_is) at c.requires in
     let has = rw (cars_read 0 c.self.inside.trains.items c.args.train c.in-Some.place c.index_mut.result.now c.self.invariant.sound.rising at c.index_mut.ensures.value) at has in
     has
@@ -20,7 +20,7 @@ tied car q = grind (arith, nat_tests)
 pub invariant_of-self : goal.invariant_of-self
 invariant_of-self c =
     let it = c.self.inside in
-    let at = rw c.deref.ensures.value at c.in-Some.ensures in
+    let at = c.in-Some.ensures in
     let old = c.index_mut.result.now in
     let taken = c.take_first-car in
     let sound = c.self.invariant.sound in
@@ -34,7 +34,7 @@ invariant_of-self c =
 pub returns-clause-after : goal.returns-clause-after
 returns-clause-after c =
     let it = c.self.inside in
-    let at = rw c.deref.ensures.value at c.in-Some.ensures in
+    let at = c.in-Some.ensures in
     let taken = c.take_first-car in
     let is = c.drop_empty.ensures ∙ removed_there it.trains.items it.births c.args.train taken.result c.in-Some.place c.index_mut.result.now taken.new.self c.self.invariant.sound at c.index_mut.ensures.value taken.ensures.first taken.ensures.number in
     (λ i. record { trains = is i; births = it.births }) ∙ ap (λ (v : Trains). record v { trains = without_first c.args.train v.trains }) c.self.view_is
@@ -42,7 +42,7 @@ returns-clause-after c =
 pub returns-clause-sound : goal.returns-clause-sound
 returns-clause-sound c =
     let it = c.self.inside in
-    let at = rw c.deref.ensures.value at c.in-Some.ensures in
+    let at = c.in-Some.ensures in
     let taken = c.take_first-car in
     let is = c.drop_empty.ensures ∙ removed_there it.trains.items it.births c.args.train taken.result c.in-Some.place c.index_mut.result.now taken.new.self c.self.invariant.sound at c.index_mut.ensures.value taken.ensures.first taken.ensures.number in
     removed_sound it.trains.items it.births c.args.train taken.result c.in-Some.place c.index_mut.result.now taken.new.self c.self.invariant.sound at c.index_mut.ensures.value taken.ensures.first taken.ensures.number c.drop_empty.new.trains.items is

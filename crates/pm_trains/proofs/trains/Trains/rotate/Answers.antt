@@ -9,8 +9,8 @@ invariant_of-self-2 c =
     let car = rw (← c.self.view_is) at c.requires.car in
     let it = c.self.inside in
     record {
-      sound = rotated_sound it.trains.items it.births c.youngest-number.result c.new.result c.push.new.self.items c.self.invariant.sound last c.new.ensures c.in_ok-push.ensures.items car;
-      housed = rotated_housed it.trains.items it.births c.youngest-number.result c.new.result c.push.new.self.items c.self.invariant.sound last c.new.ensures c.in_ok-push.ensures.items (tree.get nat_cmp it.homes) c.self.invariant.housed;
+      sound = rotated_sound it.trains.items it.births c.youngest-number.result c.new.result c.push_back.new.self.items c.self.invariant.sound last c.new.ensures c.in_ok-push_back.ensures.items car;
+      housed = rotated_housed it.trains.items it.births c.youngest-number.result c.new.result c.push_back.new.self.items c.self.invariant.sound last c.new.ensures c.in_ok-push_back.ensures.items (tree.get nat_cmp it.homes) c.self.invariant.housed;
     }
 
 pub returns-clause-sound : goal.returns-clause-sound
@@ -18,4 +18,4 @@ returns-clause-sound c =
     let last = rw (← c.self.view_is) at c.youngest-number.ensures.train in
     let car = rw (← c.self.view_is) at c.requires.car in
     let it = c.self.inside in
-    rotated_sound it.trains.items it.births c.youngest-number.result c.new.result c.push.new.self.items c.self.invariant.sound last c.new.ensures c.in_ok-push.ensures.items car
+    rotated_sound it.trains.items it.births c.youngest-number.result c.new.result c.push_back.new.self.items c.self.invariant.sound last c.new.ensures c.in_ok-push_back.ensures.items car
