@@ -1,3 +1,4 @@
 pub mod Shown
-pub mod Copied
-pub mod Unused
+pub mod KeySets
+pub mod Tables
+pub mod Passed

@@ -1,14 +1,13 @@
 -- A tree that is seen as a finite map: what its calls ensure, said of the map.
-use Rattle.std.proofs.Common.{◌≡◌, ℕ, cond, refl, sym, ap, subst, IsSome, ◌∙◌, arith, List, [], ◌∷◌, Option, Some, None}
+use Rattle.std.proofs.Common.{◌≡◌, cond, refl, sym, ap, IsSome, ◌∙◌, arith, List, [], ◌∷◌, Option, Some, None}
 use Rattle.std.specs.declared.cmp.Ordering.{Ordering}
-use Rattle.std.specs.Cmp.{IsTotalOrder, eq_by_cmp_equiv, nat_cmp_total}
-use Rattle.std.specs.Ordering.{is_eq, nat_cmp}
+use Rattle.std.specs.Cmp.{IsTotalOrder, eq_by_cmp_equiv}
+use Rattle.std.specs.Ordering.{is_eq}
 use Rattle.std.specs.Map.{lookup}
-use Rattle.std.specs.FinMap.{FinMap, IsAntisymmetric, find, from_entries, get, insert, remove, get-from_entries, get-insert, get-remove, same_map}
+use Rattle.std.specs.FinMap.{IsAntisymmetric, find, from_entries, get, insert, remove, get-from_entries, get-insert, get-remove, same_map}
 use Rattle.std.specs.BTreeMap.{BTreeMap, is_at, UpdatesBy}
 use Rattle.std.specs.BTreeMap as tree
 use Rattle.std.proofs.lemmas.Grind.{common_steps}
-use Rattle.pm_snap.specs.Snapped.{Snapped}
 
 module _ {K X : Type 0} {R : K → K → Ordering} (o : IsTotalOrder R) where
   find-lookup : (q : K) (es : List (K × X)) → find R q es ≡ lookup (is_at (R q)) es
@@ -33,13 +32,6 @@ module _ {K X : Type 0} {R : K → K → Ordering} (o : IsTotalOrder R) where
   remove_shown same m n k u =
       same_map o same _ _ (λ q. get_shown n q ∙ u.0 q ∙ sym (get-remove o _ k q ∙ (λ i. cond ((eq_by_cmp_equiv o).symm q k i) None (get_shown m q i))))
 
--- a key that the map has, the tree has
-pub used_in : {X : Type 0} (m : BTreeMap ℕ X) (v : FinMap nat_cmp X) → from_entries {R = nat_cmp} m.entries ≡ v → (key : ℕ) → IsSome (get v key) → IsSome (tree.get nat_cmp m key)
-used_in m v seen key used = subst IsSome (ap (λ v. get v key) (sym seen) ∙ get_shown nat_cmp_total m key) used
-
+-- what is none is not there
 pub none_is_not_some : {A : Type 0} (found : Option A) → found ≡ None → IsSome found → ⊥
 none_is_not_some found none there = grind (arith, common_steps)
-
--- tables whose values now are alike
-pub with_current : {X : Type 0} (m n : FinMap nat_cmp X) (frozen : Option (FinMap nat_cmp X)) → m ≡ n → ◌≡◌ {A = Snapped X} (record { current = m; frozen = frozen }) (record { current = n; frozen = frozen })
-with_current m n frozen same = λ i. record { current = same i; frozen = frozen }

@@ -1,35 +1,85 @@
--- How the unused keys are kept. No public clause cites this module.
-use Rattle.std.specs.Prelude.{◌≡◌, ℕ, ◌<◌, ◌≤◌, ◌⊎◌, true, Option, Some, None, IsSome}
+-- How a table keeps its values, what they were when it was frozen, and the keys that are not used. No
+-- public clause cites this module.
+use Rattle.std.specs.Prelude.{◌≡◌, ◌≢◌, ℕ, ◌<◌, ◌≤◌, true, is_some, List, [], ◌∷◌, Option, Some, None}
 use Rattle.std.specs.Ordering.{nat_cmp}
-use Rattle.std.specs.FinMap.{FinMap, from_entries}
-use Rattle.std.specs.BTreeMap.{BTreeMap}
+use Rattle.std.specs.FinMap.{FinMap, from_entries, insert, remove}
+use Rattle.std.specs.FinSet.{FinSet}
+use Rattle.std.specs.FinSet as set
+use Rattle.std.specs.BTreeMap.{BTreeMap, keys, btree_map_len}
 use Rattle.std.specs.BTreeMap as tree
-use Rattle.std.specs.BTreeSet.{BTreeSet}
-use Rattle.std.specs.BTreeSet as sorted
+use Rattle.pm_snap.specs.Freed.{FreedKeys}
+use Rattle.pm_snap.specs.Snapped.{Snapped}
 
 module _ {T : Type 0} where
+  -- the map where the key has a value, or none
+  abbrev pub put : FinMap nat_cmp T → ℕ → Option T → FinMap nat_cmp T
+  put values key None = remove values key
+  put values key (Some value) = insert values key value
+
+  -- the values where those of the entries stand in place of their own
+  abbrev pub overlay : FinMap nat_cmp T → List (ℕ × Option T) → FinMap nat_cmp T
+  overlay values [] = values
+  overlay values (e ∷ es) = put (overlay values es) e.0 e.1
+
   -- what a tree is seen as
   abbrev pub seen : BTreeMap ℕ T → FinMap nat_cmp T
   seen m = from_entries m.entries
 
-  abbrev pub seen_option : Option (BTreeMap ℕ T) → Option (FinMap nat_cmp T)
-  seen_option None = None
-  seen_option (Some m) = Some (seen m)
+  -- what was frozen: the values now, with the old ones where one is kept
+  abbrev pub seen_frozen : BTreeMap ℕ T → Option (BTreeMap ℕ (Option T)) → Option (FinMap nat_cmp T)
+  seen_frozen values None = None
+  seen_frozen values (Some kept) = Some (overlay (seen values) kept.entries)
 
-  -- every key from 1 to below the next one is either used or among the unused; no other key is either
-  pub record IsKept (values : BTreeMap ℕ T) (unused : BTreeSet ℕ) (next : ℕ) : Type 0 where
+  -- the keys for which an old value is kept
+  abbrev pub seen_changed : Option (BTreeMap ℕ (Option T)) → FinSet nat_cmp
+  seen_changed None = set.empty
+  seen_changed (Some kept) = set.from_list (keys kept)
+
+  -- what a table is seen as
+  abbrev pub table_of : BTreeMap ℕ T → Option (BTreeMap ℕ (Option T)) → Snapped T
+  table_of values kept = record { current = seen values; frozen = seen_frozen values kept; changed = seen_changed kept }
+
+  -- the old value that is kept for a key
+  abbrev pub noted : Option (BTreeMap ℕ (Option T)) → ℕ → Option (Option T)
+  noted None key = None
+  noted (Some kept) key = tree.get nat_cmp kept key
+
+  -- the old value where one is kept, and else the one now
+  abbrev pub or_now : Option (Option T) → Option T → Option T
+  or_now None now = now
+  or_now (Some old) now = old
+
+  -- the old values are the same
+  pub record KeepsNotes (old new : Option (BTreeMap ℕ (Option T))) : Type 0 where
+    pub frozen : is_some new ≡ is_some old
+    pub same : (k : ℕ) → noted new k ≡ noted old k
+
+  -- where the table is frozen, this value is kept for the key unless one was, and for another key what was
+  pub record Notes (old new : Option (BTreeMap ℕ (Option T))) (key : ℕ) (value : Option T) : Type 0 where
+    pub frozen : is_some new ≡ is_some old
+    pub here : is_some old ≡ true → noted new key ≡ Some (or_now (noted old key) value)
+    pub others : (k : ℕ) → k ≢ key → noted new k ≡ noted old k
+
+  -- Keys from 1 to below the next one are used or freed, no other key is freed, the next one is not used,
+  -- and there is room to free every key that is used.
+  pub record IsKept (values : BTreeMap ℕ T) (freed : FreedKeys) (next : ℕ) : Type 0 where
     pub from_one : 0 < next
-    pub used_below : (k : ℕ) → IsSome (tree.get nat_cmp values k) → (0 < k) × (k < next)
-    pub unused_below : (k : ℕ) → sorted.contains nat_cmp unused k ≡ true → (0 < k) × (k < next)
-    pub unused_is_free : (k : ℕ) → sorted.contains nat_cmp unused k ≡ true → tree.get nat_cmp values k ≡ None
-    pub free_is_unused : (k : ℕ) → 0 < k → k < next → tree.get nat_cmp values k ≡ None → sorted.contains nat_cmp unused k ≡ true
+    pub zero_unused : tree.get nat_cmp values 0 ≡ None
+    pub next_unused : tree.get nat_cmp values next ≡ None
+    pub passed : (k : ℕ) → 0 < k → k < next → tree.get nat_cmp values k ≡ None → set.contains freed.keys k ≡ true
+    pub freed_unused : (k : ℕ) → set.contains freed.keys k ≡ true → tree.get nat_cmp values k ≡ None
+    pub freed_from_one : (k : ℕ) → set.contains freed.keys k ≡ true → 0 < k
+    pub freed_below : (k : ℕ) → set.contains freed.keys k ≡ true → k < next
+    pub room : btree_map_len values ≤ freed.room
 
--- the key is the least of the unused, or the next one where there is none
-pub record IsLeast (unused : BTreeSet ℕ) (next key : ℕ) : Type 0 where
-  pub either : (sorted.contains nat_cmp unused key ≡ true) ⊎ (key ≡ next)
-  pub least : (k : ℕ) → sorted.contains nat_cmp unused k ≡ true → key ≤ k
+  -- the key is the next one once this key is used: it is another one and not used, and those between are
+  pub record IsNext (values : BTreeMap ℕ T) (next key after : ℕ) : Type 0 where
+    pub other : after ≢ key
+    pub unused : tree.get nat_cmp values after ≡ None
+    pub rises : next ≤ after
+    pub passed : (k : ℕ) → next ≤ k → k < after → k ≢ key → is_some (tree.get nat_cmp values k) ≡ true
 
--- the first of two that is there
-abbrev pub or_found : {T : Type 0} → Option T → Option T → Option T
-or_found None other = other
-or_found (Some value) other = Some value
+  -- the keys are kept so, and no old value is kept for the key 0
+  pub record IsWhole (values : BTreeMap ℕ T) (freed : FreedKeys) (next : ℕ) (kept : Option (BTreeMap ℕ (Option T))) : Type 0 where
+    pub keys : IsKept values freed next
+    pub zero_unnoted : noted kept 0 ≡ None

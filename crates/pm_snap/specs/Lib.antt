@@ -1,3 +1,4 @@
 pub mod Snapped
+pub mod Freed
 pub mod Kept
 pub mod Lending

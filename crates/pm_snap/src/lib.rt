@@ -1,12 +1,18 @@
 //! A table of values by key that can be frozen: what it held at that moment can be read until it is
-//! thawed, whatever happens to the table meanwhile.
+//! thawed, whatever happens to the table meanwhile. To freeze copies nothing: an old value is kept when
+//! its key is first changed.
 #![tactic(auto)]
 
-mod copying;
+mod freed;
 mod keep;
+mod law;
+mod notes;
 mod table;
 #[cfg(test)]
 mod tests;
+mod use_of_change;
 
 pub use keep::Keep;
+pub use law::one_key_is_the_lowest;
 pub use table::Table;
+pub use use_of_change::put;

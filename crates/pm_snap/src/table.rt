@@ -1,54 +1,78 @@
-ghost use Rattle.std.specs.Prelude.{◌≡◌, ℕ, ◌<◌, true, Some, None, IsSome, IsNone, IfOk, IfErr, OnOk, OnErr};
+ghost use Rattle.std.specs.Prelude.{◌≡◌, ℕ, ◌<◌, ◌≤◌, true, Some, None, IsSome, IsNone, IfOk, IfSome, IfErr, IsOk, OnOk, OnErr};
 ghost use Rattle.std.specs.Borrow.{sem};
-ghost use Rattle.std.specs.BTreeSet as sorted;
 ghost use Rattle.std.specs.FinMap as map;
+ghost use Rattle.std.specs.FinSet as set;
+ghost use Rattle.std.specs.BTreeMap as tree;
 ghost use Rattle.std.specs.Option.{option_copied};
 ghost use Rattle.std.specs.Ordering.{nat_cmp};
-ghost use Rattle.pm_snap.specs.Snapped.{at_key, with_value, without, IsLowestUnused};
-ghost use Rattle.pm_snap.specs.Kept.{IsLeast};
+ghost use Rattle.pm_snap.specs.Snapped.{at_key, is_ready, with_value, without, IsLowestUnused, IsSound};
+ghost use Rattle.pm_snap.specs.Kept.{IsNext};
 ghost use Rattle.pm_snap.specs.Lending.{lends_value};
 
 use crate::Keep;
-use crate::copying::copy_of;
+use crate::freed::Freed;
+use crate::notes::{note, save};
 use pm_types::NoMemory;
 use std::alloc::Global;
-use std::collections::{BTreeMap, BTreeSet};
+use std::collections::BTreeMap;
 use std::marker::Model;
 
-/// A table of values by key, seen as two finite maps: the values now, and the values of the moment when
-/// the table was frozen, where it is frozen. Keys run from 1.
+/// A table of values by key, seen as two finite maps, the values now and the values of the moment when
+/// the table was frozen, where it is frozen, and beside them the set of the keys that were changed, added
+/// or taken since that moment. Keys run from 1.
+///
+/// A key is ready where the table is not frozen, or where the key was changed, added or taken since: to
+/// change or to take its value then succeeds. Only `freeze` ends that.
 #[derive(Drop)]
 pub struct Table<T> {
     values: BTreeMap<u64, T>,
     // The keys from 1 to below `next` that are not used.
-    unused: BTreeSet<u64>,
-    // No key from here on is used.
+    freed: Freed,
+    // The least key that was never passed. It is not used; a key above it may be.
     next: u64,
-    kept: Option<BTreeMap<u64, T>>,
+    // Where the table is frozen: for each key that was changed since, what it held.
+    kept: Option<BTreeMap<u64, Option<T>>>,
     alloc: Global,
 }
 
 impl<T> Model for Table<T> {
     ghost use Rattle.pm_snap.specs.Snapped.{Snapped, snapped_code};
-    ghost use Rattle.pm_snap.specs.Kept.{IsKept, seen, seen_option};
+    ghost use Rattle.pm_snap.specs.Kept.{IsWhole, table_of};
 
     ghost Value = { Snapped T };
 
     ghost coded = { snapped_code T.code };
 
-    ghost view = { λ it. record { current = seen it.values; frozen = seen_option it.kept } };
+    ghost view = { λ it. table_of it.values it.kept };
 
-    ghost invariant = { λ it. IsKept it.values it.unused it.next };
+    ghost invariant = { λ it. IsWhole it.values it.freed it.next it.kept };
 }
 
-// The least of the unused keys, or the next one where there is none.
-fn least_unused(unused: &BTreeSet<u64>, next: u64) -> u64
-    requires { (key : ℕ) → sorted.contains nat_cmp unused.now key ≡ true → key < next }
-    ensures { IsLeast unused.now next result }
+// The next key once `key` is used: `next` itself where that is another one, and else the least key above it
+// that is not used. `None` where there is none.
+fn next_after<T>(values: &BTreeMap<u64, T>, next: u64, key: u64) -> Option<u64>
+    requires { tree.get nat_cmp values.now next ≡ None }
+    ensures { IfSome result (IsNext values.now next key) }
 {
-    match unused.first() {
-        Some(key) => *key,
-        None => next,
+    if key != next {
+        return Some(next);
+    }
+    for below in next..u64::MAX {
+        if !values.contains_key(&(below + 1)) {
+            return Some(below + 1);
+        }
+    }
+    None
+}
+
+// Takes a key that is used from now on out of the freed ones.
+fn use_freed(freed: &mut Freed, next: u64, key: u64)
+    requires { set.contains freed.old.keys key ≡ true → key < next }
+    ensures keys { freed.new.keys ≡ set.remove freed.old.keys key }
+    ensures room { freed.old.room ≤ freed.new.room }
+{
+    if key < next {
+        freed.take(key);
     }
 }
 
@@ -57,14 +81,22 @@ impl<T: Keep + Drop> Table<T> {
     pub fn new(alloc: Global) -> Self
         ensures current { result.current ≡ map.empty }
         ensures frozen { result.frozen ≡ None }
+        ensures changed { result.changed ≡ set.empty }
     {
         Table {
             values: BTreeMap::new(alloc),
-            unused: BTreeSet::new(alloc),
+            freed: Freed::new(alloc),
             next: 1,
             kept: None,
             alloc,
         }
+    }
+
+    /// What holds of a table at every moment: keys are at least 1. It does nothing, and takes no memory.
+    pub fn sound(&self)
+        ensures { IsSound self.now }
+    {
+        let _next = self.next;
     }
 
     /// The value that the key has now. It takes no memory.
@@ -79,81 +111,122 @@ impl<T: Keep + Drop> Table<T> {
     pub fn frozen(&self, key: u64) -> Option<&T>
         ensures { option_copied result ≡ at_key self.now.frozen key }
     {
-        match &self.kept {
-            Some(kept) => kept.get(&key),
-            None => None,
+        let Some(kept) = &self.kept else {
+            return None;
+        };
+        match kept.get(&key) {
+            Some(old) => old.as_ref(),
+            None => self.values.get(&key),
         }
     }
 
-    /// Gives the value the lowest key from 1 on that is not used now, and answers that key. What is frozen
-    /// stays. After want of memory the value comes back, and all is as it was.
+    /// The lowest key from 1 on that is not used now, which `add` gives. It takes no memory.
+    pub fn vacant(&self) -> u64
+        ensures { IsLowestUnused self.now.current result }
+    {
+        match self.freed.least() {
+            Some(key) => key,
+            None => self.next,
+        }
+    }
+
+    /// Gives the value the lowest key from 1 on that is not used now, and answers that key, which is ready
+    /// then. What is frozen stays. After want of memory the value comes back, and all is as it was.
     pub fn add(&mut self, value: T) -> Result<u64, (T, NoMemory)>
         ensures lowest { IfOk result (IsLowestUnused self.old.current) }
         ensures ok { IfOk result (λ key. self.new ≡ with_value self.old key value) }
         ensures err { OnErr result (self.new ≡ self.old) }
         ensures given_back { IfErr result (λ back. back.0 ≡ value) }
     {
-        let key = least_unused(&self.unused, self.next);
-        if key == u64::MAX {
+        let key = self.vacant();
+        match self.add_at(key, value) {
+            Ok(()) => Ok(key),
+            Err(back) => Err(back),
+        }
+    }
+
+    /// Gives the value this key, which is not used now and is ready then. Keys may be far from each other:
+    /// the memory that is taken does not grow with the key. What is frozen stays. After want of memory the
+    /// value comes back, and all is as it was.
+    pub fn add_at(&mut self, key: u64, value: T) -> Result<(), (T, NoMemory)>
+        requires from_one { 0 < key }
+        requires unused { map.get self.old.current key ≡ None }
+        ensures ok { OnOk result (self.new ≡ with_value self.old key value) }
+        ensures err { OnErr result (self.new ≡ self.old) }
+        ensures given_back { IfErr result (λ back. back.0 ≡ value) }
+    {
+        let Some(after) = next_after(&self.values, self.next, key) else {
             return Err((value, NoMemory));
+        };
+        if let Err(fault) = self.freed.reserve(self.values.len() + 1) {
+            return Err((value, fault));
         }
         if let Err(failed) = self.values.insert(key, value) {
             let (_, value) = failed.value;
             return Err((value, NoMemory));
         }
-        if key == self.next {
-            self.next += 1;
-            return Ok(key);
+        if let Err(fault) = note(&mut self.kept, key, None) {
+            let Some(value) = self.values.remove(&key) else {
+                unreachable!()
+            };
+            return Err((value, fault));
         }
-        self.unused.remove(&key);
-        Ok(key)
+        use_freed(&mut self.freed, self.next, key);
+        self.next = after;
+        Ok(())
     }
 
-    /// The value of a key that is used now, to be changed. What is frozen stays. After want of memory all
-    /// is as it was.
+    /// The value of a key that is used now, to be changed; the key is ready then. What is frozen stays. At
+    /// a ready key it succeeds and takes no memory; after want of memory all is as it was.
     pub fn change(&mut self, key: u64) -> Result<&mut T, NoMemory>
         requires { IsSome (map.get self.old.current key) }
         ensures* writes_back { sem 𝓛 (lends_value T.row self.entry key result) }
         ensures value { IfOk result (λ lent. map.get self.old.current key ≡ Some lent.now) }
+        ensures succeeds { is_ready self.old key ≡ true → IsOk result }
     {
+        save(&self.values, &mut self.kept, self.alloc, key)?;
         match self.values.get_mut(&key) {
             Some(value) => Ok(value),
             None => Err(NoMemory),
         }
     }
 
-    /// Takes the value of a key that is used now, which is then not used. What is frozen stays. After want
-    /// of memory all is as it was.
+    /// Takes the value of a key that is used now, which is then not used, and is ready. What is frozen
+    /// stays. At a ready key it succeeds and takes no memory; after want of memory all is as it was.
     pub fn remove(&mut self, key: u64) -> Result<T, NoMemory>
         requires { IsSome (map.get self.old.current key) }
         ensures value { IfOk result (λ value. map.get self.old.current key ≡ Some value) }
         ensures ok { OnOk result (self.new ≡ without self.old key) }
         ensures err { OnErr result (self.new ≡ self.old) }
+        ensures succeeds { is_ready self.old key ≡ true → IsOk result }
     {
-        self.unused.insert(key)?;
+        save(&self.values, &mut self.kept, self.alloc, key)?;
         let Some(value) = self.values.remove(&key) else {
             unreachable!()
         };
+        if key < self.next {
+            self.freed.put(key);
+        }
         Ok(value)
     }
 
     /// Freezes a table that is not frozen: the values of this moment can be read until it is thawed. The
-    /// values now stay. After want of memory all is as it was.
-    pub fn freeze(&mut self) -> Result<(), NoMemory>
+    /// values now stay, and no key is ready. It takes no memory and no time that grows with the table.
+    pub fn freeze(&mut self)
         requires { IsNone self.old.frozen }
         ensures current { self.new.current ≡ self.old.current }
-        ensures ok { OnOk result (self.new.frozen ≡ Some self.old.current) }
-        ensures err { OnErr result (self.new.frozen ≡ self.old.frozen) }
+        ensures frozen { self.new.frozen ≡ Some self.old.current }
+        ensures changed { self.new.changed ≡ set.empty }
     {
-        let kept = copy_of(self.alloc, &self.values)?;
-        self.kept = Some(kept);
-        Ok(())
+        self.kept = Some(BTreeMap::new(self.alloc));
     }
 
-    /// Lets the frozen values go. The values now stay. It takes no memory.
+    /// Lets the frozen values go. The values now stay, and every key is ready. It takes no memory, and time
+    /// for the keys that were changed.
     pub fn thaw(&mut self)
         ensures current { self.new.current ≡ self.old.current }
         ensures frozen { self.new.frozen ≡ None }
+        ensures changed { self.new.changed ≡ set.empty }
     {
         self.kept = None;
     }

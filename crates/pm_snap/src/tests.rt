@@ -1,11 +1,13 @@
-use crate::{Keep, Table};
+use crate::{Keep, Table, put};
 use pm_types::NoMemory;
 use std::alloc::Global;
+use std::collections::BTreeMap;
+use std::process::Abort;
 use std::test::Fail;
 
 #[derive(Debug, PartialEq, Drop)]
 struct Held {
-    number: u32,
+    number: u64,
 }
 
 impl Keep for Held {
@@ -16,11 +18,11 @@ impl Keep for Held {
     }
 }
 
-fn add(table: &mut Table<Held>, number: u32) -> Option<u64> {
+fn add(table: &mut Table<Held>, number: u64) -> Option<u64> {
     table.add(Held { number }).ok()
 }
 
-fn remove(table: &mut Table<Held>, key: u64) -> Option<u32> {
+fn remove(table: &mut Table<Held>, key: u64) -> Option<u64> {
     if table.get(key).is_none() {
         return None;
     }
@@ -30,46 +32,50 @@ fn remove(table: &mut Table<Held>, key: u64) -> Option<u32> {
     }
 }
 
-fn change(table: &mut Table<Held>, key: u64, number: u32) -> Result<(), NoMemory> {
+fn change(table: &mut Table<Held>, key: u64, number: u64) -> Result<(), NoMemory> {
     if table.get(key).is_none() {
         return Ok(());
     }
-    let held = table.change(key)?;
-    held.number = number;
-    Ok(())
+    put(table, key, Held { number })
 }
 
-// A table with this value at key 1, which was then frozen.
-fn frozen_with(alloc: Global, number: u32) -> Result<Table<Held>, NoMemory> {
-    let mut table = Table::new(alloc);
-    if let Err((_, fault)) = table.add(Held { number }) {
-        return Err(fault);
+fn add_at(table: &mut Table<Held>, key: u64, number: u64) -> bool {
+    if key == 0 || table.get(key).is_some() {
+        return false;
     }
-    table.freeze()?;
-    Ok(table)
+    table.add_at(key, Held { number }).is_ok()
+}
+
+fn freeze(table: &mut Table<Held>) {
+    table.thaw();
+    table.freeze();
+}
+
+// What the table has now and what is frozen, at each key up to 2,100, against two plain maps.
+fn agrees(
+    rt: &impl Abort,
+    table: &Table<Held>,
+    current: &BTreeMap<u64, u64>,
+    frozen: &BTreeMap<u64, u64>,
+) {
+    for key in 0..2100 {
+        let now = table.get(key).map(|held| held.number);
+        assert_eq!(rt; now, current.get(&key).copied());
+        let then = table.frozen(key).map(|held| held.number);
+        assert_eq!(rt; then, frozen.get(&key).copied());
+    }
 }
 
 #[test]
-fn a_key_that_is_used_again_keeps_its_frozen_value(rt: HostRuntime) -> Result<(), Fail> {
-    let mut table = frozen_with(rt.alloc(), 10)?;
+fn a_key_that_is_used_again_keeps_its_frozen_value(rt: HostRuntime) {
+    let mut table = Table::new(rt.alloc());
+    assert_eq!(rt; add(&mut table, 10), Some(1));
+    freeze(&mut table);
     assert_eq!(rt; remove(&mut table, 1), Some(10));
     assert_eq!(rt; table.get(1), None);
     assert_eq!(rt; add(&mut table, 20), Some(1));
     assert_eq!(rt; table.get(1), Some(&Held { number: 20 }));
     assert_eq!(rt; table.frozen(1), Some(&Held { number: 10 }));
-    Ok(())
-}
-
-#[test]
-fn a_change_leaves_the_frozen_value(rt: HostRuntime) -> Result<(), Fail> {
-    let mut table = frozen_with(rt.alloc(), 10)?;
-    change(&mut table, 1, 20)?;
-    assert_eq!(rt; table.get(1), Some(&Held { number: 20 }));
-    assert_eq!(rt; table.frozen(1), Some(&Held { number: 10 }));
-    table.thaw();
-    assert_eq!(rt; table.get(1), Some(&Held { number: 20 }));
-    assert_eq!(rt; table.frozen(1), None);
-    Ok(())
 }
 
 #[test]
@@ -82,6 +88,66 @@ fn the_lowest_key_is_given_first(rt: HostRuntime) {
         assert_eq!(rt; remove(&mut table, key), Some(number));
     }
     for key in [2, 3, 5] {
+        assert_eq!(rt; table.vacant(), key);
         assert_eq!(rt; add(&mut table, 9), Some(key));
     }
+}
+
+#[test]
+fn a_frozen_table_against_two_plain_maps(rt: HostRuntime) -> Result<(), Fail> {
+    let alloc = rt.alloc();
+    let mut table = Table::new(alloc);
+    let mut current = BTreeMap::new(alloc);
+    let mut frozen = BTreeMap::new(alloc);
+    for key in 1..2001 {
+        assert_eq!(rt; add(&mut table, 3 * key), Some(key));
+        current.insert(key, 3 * key)?;
+        frozen.insert(key, 3 * key)?;
+    }
+    freeze(&mut table);
+    for key in 1..2001 {
+        change(&mut table, key, 5 * key)?;
+        current.insert(key, 5 * key)?;
+    }
+    agrees(&rt, &table, &current, &frozen);
+    for step in 0..600 {
+        let key = 2000 - 3 * step;
+        assert_eq!(rt; remove(&mut table, key), Some(5 * key));
+        current.remove(&key);
+    }
+    agrees(&rt, &table, &current, &frozen);
+    for step in 0..650 {
+        let key = table.vacant();
+        assert_eq!(rt; add(&mut table, step), Some(key));
+        current.insert(key, step)?;
+    }
+    agrees(&rt, &table, &current, &frozen);
+    assert_eq!(rt; table.get(2050).is_some(), true);
+    table.thaw();
+    agrees(&rt, &table, &current, &BTreeMap::new(alloc));
+    Ok(())
+}
+
+#[test]
+fn keys_that_are_far_from_each_other(rt: HostRuntime) -> Result<(), Fail> {
+    let far = 1 << 40;
+    let mut table = Table::new(rt.alloc());
+    for key in [u64::MAX, far, 1, 3] {
+        assert_eq!(rt; add_at(&mut table, key, key), true);
+    }
+    assert_eq!(rt; add_at(&mut table, far, 7), false);
+    for key in [2, 4] {
+        assert_eq!(rt; table.vacant(), key);
+        assert_eq!(rt; add(&mut table, key), Some(key));
+    }
+    for key in [u64::MAX, far, 2] {
+        assert_eq!(rt; remove(&mut table, key), Some(key));
+        assert_eq!(rt; table.get(key), None);
+    }
+    assert_eq!(rt; table.get(3), Some(&Held { number: 3 }));
+    assert_eq!(rt; add_at(&mut table, 2, 8), true);
+    assert_eq!(rt; table.vacant(), 5);
+    assert_eq!(rt; add_at(&mut table, 5, 8), true);
+    assert_eq!(rt; add(&mut table, 8), Some(6));
+    Ok(())
 }

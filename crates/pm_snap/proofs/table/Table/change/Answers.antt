@@ -1,24 +1,44 @@
-use Rattle.std.proofs.Common.{refl, sym, ap, subst, ◌∙◌, IsSome}
-use Rattle.std.specs.Cmp.{nat_cmp_total}
-use Rattle.std.specs.FinMap.{get, nat_cmp-IsAntisymmetric}
-use Rattle.pm_snap.specs.Snapped.{with_value}
-use Rattle.pm_snap.specs.Kept.{seen_option}
-use Rattle.pm_snap.proofs.Shown.{get_shown, insert_shown, with_current}
+use Rattle.std.proofs.Common.{◌≡◌, refl, sym, ap, ◌∙◌, Some, rules, arith, true}
+use Rattle.std.specs.FinMap.{get}
+use Rattle.pm_snap.specs.Snapped.{with_value, is_ready}
+use Rattle.pm_snap.specs.Kept.{table_of}
+use Rattle.pm_snap.proofs.Tables.{get_seen, written, unwritten, used_part, ready_part}
 use Rattle.pm_snap.proofs.table.Table.change.Goals as goal
+
+pub save-requires : goal.save-requires
+save-requires g c = used_part c.self.inside.values c.self.inside.kept c.args.self.now c.args.key c.self.view_is c.requires
+
+pub returns-in_err-save : goal.returns-in_err-save
+returns-in_err-save g c =
+    let same : table_of c.self.inside.values c.save.new.kept ≡ c.args.self.now = unwritten c.self.inside.values c.self.inside.values c.self.inside.kept c.save.new.kept (λ q. refl) c.in_err-save.ensures.err ∙ c.self.view_is in
+    let unready : is_ready c.args.self.now c.args.key ≡ true → ⊥ = λ ready. (let ok = c.in_err-save.ensures.succeeds (ready_part c.self.inside.values c.self.inside.kept c.args.self.now c.args.key c.self.view_is ready) in grind (arith, ok)) in
+    search (rules, same, unready)
 
 pub returns-in-Some : goal.returns-in-Some
 returns-in-Some g c =
     let values = c.self.inside.values in
-    let used = subst IsSome c.in-Some.ensures.value refl in (
+    let used = used_part values c.self.inside.kept c.args.self.now c.args.key c.self.view_is c.requires in (
       (
         refl,
-        (λ w _.
-            with_current _ _ (seen_option c.self.inside.kept) (insert_shown nat_cmp_total nat_cmp-IsAntisymmetric values (c.get_mut.follows.lender w) c.args.key w ((c.get_mut.follows.holds w).3 used))
+        (λ w _. written values (c.get_mut.follows.lender w) c.self.inside.kept c.save.new.kept c.args.key (Some w) c.in_ok-save.ensures.ok ((c.get_mut.follows.holds w).3 used)
             ∙ ap (λ s. with_value s c.args.key w) c.self.view_is),
         tt,
       ),
       record {
         writes_back = tt;
-        value = ap (λ s. get s.current c.args.key) (sym c.self.view_is) ∙ get_shown nat_cmp_total values c.args.key ∙ sym c.in-Some.ensures.value;
+        value = ap (λ s. get s.current c.args.key) (sym c.self.view_is) ∙ get_seen values c.args.key ∙ sym c.in-Some.ensures.value;
+        succeeds = λ _. refl;
       },
     )
+
+pub invariant_of-self-in-None : goal.invariant_of-self-in-None
+invariant_of-self-in-None g c =
+    let used = used_part c.self.inside.values c.self.inside.kept c.args.self.now c.args.key c.self.view_is c.requires in
+    let none = c.in-None.ensures.value in
+    absurd (grind (arith, used, none))
+
+pub returns-in-None : goal.returns-in-None
+returns-in-None g c =
+    let used = used_part c.self.inside.values c.self.inside.kept c.args.self.now c.args.key c.self.view_is c.requires in
+    let none = c.in-None.ensures.value in
+    absurd (grind (arith, used, none))

@@ -1,20 +1,46 @@
-use Rattle.std.proofs.Common.{sym, ap, ◌∙◌}
-use Rattle.std.specs.Cmp.{nat_cmp_total}
-use Rattle.std.specs.FinMap.{get, nat_cmp-IsAntisymmetric}
+use Rattle.std.proofs.Common.{◌≡◌, refl, sym, ap, ◌∙◌, None, rules, arith}
+use Rattle.std.specs.FinMap.{get}
 use Rattle.pm_snap.specs.Snapped.{without}
-use Rattle.pm_snap.specs.Kept.{seen_option}
-use Rattle.pm_snap.proofs.Shown.{get_shown, remove_shown, used_in, none_is_not_some, with_current}
+use Rattle.pm_snap.specs.Kept.{table_of}
+use Rattle.pm_snap.proofs.Shown.{none_is_not_some}
+use Rattle.pm_snap.proofs.Tables.{get_seen, written, unwritten, used_part, ready_part, used_from_one, zero_stays}
+use Rattle.pm_snap.proofs.Passed.{kept_freed}
 use Rattle.pm_snap.proofs.table.Table.remove.Goals as goal
+use Rattle.pm_snap.proofs.table.Table.remove.Goals.{then-key-self, else-key-self}
+
+pub save-requires : goal.save-requires
+save-requires g c = used_part c.self.inside.values c.self.inside.kept c.args.self.now c.args.key c.self.view_is c.requires
+
+pub returns-in_err-save-clause-err : goal.returns-in_err-save-clause-err
+returns-in_err-save-clause-err g c =
+    let same : table_of c.self.inside.values c.save.new.kept ≡ c.args.self.now = unwritten c.self.inside.values c.self.inside.values c.self.inside.kept c.save.new.kept (λ q. refl) c.in_err-save.ensures.err ∙ c.self.view_is in
+    search (rules, same)
+
+pub returns-in_err-save-clause-succeeds : goal.returns-in_err-save-clause-succeeds
+returns-in_err-save-clause-succeeds g c = λ ready.
+    let ok = c.in_err-save.ensures.succeeds (ready_part c.self.inside.values c.self.inside.kept c.args.self.now c.args.key c.self.view_is ready) in
+    absurd (grind (arith, ok))
 
 pub unreachable-requires : goal.unreachable-requires
 unreachable-requires g c =
-    none_is_not_some _ (sym c.remove.ensures.value ∙ c.in_default.is) (used_in c.self.inside.values _ (ap (λ s. s.current) c.self.view_is) c.args.key c.requires)
+    none_is_not_some _ (sym c.remove.ensures.value ∙ c.in_default.is) (used_part c.self.inside.values c.self.inside.kept c.args.self.now c.args.key c.self.view_is c.requires)
+
+pub invariant_of-self-then-key-self : goal.invariant_of-self-then-key-self
+invariant_of-self-then-key-self g c =
+    let m = c.self.inside.values in
+    let used = used_part m c.self.inside.kept c.args.self.now c.args.key c.self.view_is c.requires in
+    record {
+      keys = kept_freed m c.self.inside.freed c.self.inside.next c.self.invariant.keys c.remove.new.self c.args.key used c.in-Some.ensures.updates c.in-Some.ensures.len
+          c.put.new.self c.if-key-self.true c.put.ensures.keys c.put.ensures.room;
+      zero_unnoted = zero_stays c.self.inside.kept c.save.new.kept c.args.key _ c.in_ok-save.ensures.ok (used_from_one m c.args.key c.self.invariant.keys.zero_unused used) c.self.invariant.zero_unnoted;
+    }
 
 pub returns-clause-value : goal.returns-clause-value
 returns-clause-value g c =
-    ap (λ s. get s.current c.args.key) (sym c.self.view_is) ∙ get_shown nat_cmp_total c.self.inside.values c.args.key ∙ sym c.in-Some.ensures.value
+    ap (λ s. get s.current c.args.key) (sym c.self.view_is) ∙ get_seen c.self.inside.values c.args.key ∙ sym c.in-Some.ensures.value
 
 pub returns-clause-ok : goal.returns-clause-ok
 returns-clause-ok g c =
-    with_current _ _ (seen_option c.self.inside.kept) (remove_shown nat_cmp_total nat_cmp-IsAntisymmetric c.self.inside.values c.remove.new.self c.args.key c.remove.ensures.updates)
-    ∙ ap (λ s. without s c.args.key) c.self.view_is
+    let view = written c.self.inside.values c.remove.new.self c.self.inside.kept c.save.new.kept c.args.key None c.in_ok-save.ensures.ok c.in-Some.ensures.updates
+    ∙ ap (λ s. without s c.args.key) c.self.view_is in
+    elim c.if-key-self.branch [ then-key-self w ↦ w.self-is ∙ view | else-key-self w ↦ w.self-is ∙ view ]
