@@ -8,18 +8,45 @@ use std::alloc::Global;
 pub enum Cmd {
     /// Make an object of `count` null fields and these bytes, and hold it in `reg`.
     New { reg: Reg, count: u32, bytes: Bytes },
+    /// Let `to` hold what field `index` of `reg`'s object holds. A null field leaves `to` empty.
+    Load { to: Reg, reg: Reg, index: u32 },
+    /// Let field `index` of `reg`'s object hold what `value` holds.
+    Store { reg: Reg, index: u32, value: Reg },
+    /// Let field `index` of `reg`'s object be null.
+    Clear { reg: Reg, index: u32 },
     /// Tell the bytes of the object that `reg` holds.
     Show { reg: Reg },
+    /// Put these bytes into the object that `reg` holds, from byte `at` on, counted from 0.
+    Put { reg: Reg, at: u32, bytes: Bytes },
+    /// Let `to` hold what `reg` holds.
+    Copy { to: Reg, reg: Reg },
     /// Tell the identity of what `reg` holds.
     IdOf { reg: Reg },
+    /// Let `reg` be empty.
+    Forget { reg: Reg },
     /// Bind the name to what `reg` holds, in place of an earlier binding.
     Bind { name: Name, reg: Reg },
+    /// Let the name be bound to nothing.
+    Unbind { name: Name },
     /// Let `to` hold what the name is bound to.
     Find { to: Reg, name: Name },
     /// Begin a copy of all that the names reach.
     Save,
-    /// Settle the copy that was begun last.
+    /// Settle the copy that is in progress.
     Settle,
+    /// Set a watch.
+    Watch,
+    /// Let all registers of the client be empty.
+    Close,
+    /// Let field `index` of `reg`'s object hold what `value` holds, where it holds what `old` holds.
+    Swap {
+        reg: Reg,
+        index: u32,
+        old: Reg,
+        value: Reg,
+    },
+    /// Give up the copy that is in progress.
+    Unsave,
 }
 
 impl Cmd {
@@ -36,11 +63,39 @@ impl Cmd {
                     bytes,
                 })
             }
+            Cmd::Load { to, reg, index } => Ok(Cmd::Load {
+                to: *to,
+                reg: *reg,
+                index: *index,
+            }),
+            Cmd::Store { reg, index, value } => Ok(Cmd::Store {
+                reg: *reg,
+                index: *index,
+                value: *value,
+            }),
+            Cmd::Clear { reg, index } => Ok(Cmd::Clear {
+                reg: *reg,
+                index: *index,
+            }),
             Cmd::Show { reg } => Ok(Cmd::Show { reg: *reg }),
+            Cmd::Put { reg, at, bytes } => {
+                let bytes = bytes.copy(alloc)?;
+                Ok(Cmd::Put {
+                    reg: *reg,
+                    at: *at,
+                    bytes,
+                })
+            }
+            Cmd::Copy { to, reg } => Ok(Cmd::Copy { to: *to, reg: *reg }),
             Cmd::IdOf { reg } => Ok(Cmd::IdOf { reg: *reg }),
+            Cmd::Forget { reg } => Ok(Cmd::Forget { reg: *reg }),
             Cmd::Bind { name, reg } => {
                 let name = name.copy(alloc)?;
                 Ok(Cmd::Bind { name, reg: *reg })
+            }
+            Cmd::Unbind { name } => {
+                let name = name.copy(alloc)?;
+                Ok(Cmd::Unbind { name })
             }
             Cmd::Find { to, name } => {
                 let name = name.copy(alloc)?;
@@ -48,6 +103,20 @@ impl Cmd {
             }
             Cmd::Save => Ok(Cmd::Save),
             Cmd::Settle => Ok(Cmd::Settle),
+            Cmd::Watch => Ok(Cmd::Watch),
+            Cmd::Close => Ok(Cmd::Close),
+            Cmd::Swap {
+                reg,
+                index,
+                old,
+                value,
+            } => Ok(Cmd::Swap {
+                reg: *reg,
+                index: *index,
+                old: *old,
+                value: *value,
+            }),
+            Cmd::Unsave => Ok(Cmd::Unsave),
         }
     }
 }

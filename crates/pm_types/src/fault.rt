@@ -1,4 +1,4 @@
-//! Why a store is not opened, and why none is made.
+//! Why a store is not opened, why none is made, and why a store in use does not answer.
 
 use thiserror::Error;
 
@@ -64,4 +64,26 @@ pub enum InitFault {
     /// Memory ran out.
     #[error("no memory")]
     Memory,
+}
+
+/// Why a store that is in use does not answer.
+#[derive(Clone, Copy, Debug, PartialEq, Eq, Error)]
+pub enum EngineFault {
+    /// Memory ran out. Everything is as it was.
+    #[error("no memory")]
+    Memory,
+    /// The disk failed: its count of failed calls rose. The store has to be opened again.
+    #[error("disk fault")]
+    Disk {
+        /// The count of failed calls before.
+        before: u64,
+        /// The count of failed calls after.
+        after: u64,
+    },
+    /// The disk failed at an earlier call, and the store has to be opened again.
+    #[error("the store has to be opened again")]
+    Reopen {
+        /// The count of failed calls now.
+        count: u64,
+    },
 }

@@ -5,7 +5,9 @@ mod address;
 mod bytes;
 mod command;
 mod entry;
+mod event;
 mod fault;
+mod law;
 mod limits;
 mod name;
 mod no_memory;
@@ -19,10 +21,15 @@ pub use address::Addr;
 pub use bytes::Bytes;
 pub use command::Cmd;
 pub use entry::Entry;
-pub use fault::{InitFault, OpenFault};
+pub use event::{Flushed, Step, Watch};
+pub use fault::{EngineFault, InitFault, OpenFault};
+pub use law::{
+    addresses_are_ordered, limits_of_clients, limits_of_stores, names_are_ordered,
+    places_are_ordered, sources_are_ordered,
+};
 pub use limits::{
     CLIENTS, FIELDS, LAST_COPY, LAST_ID, NAME_BYTES, OBJECT_BYTES, PAGE_BYTES, REGISTERS, ROOTS,
-    SCRIPT_LINES, SOURCE_BYTES,
+    SCRIPT_LINES, SOURCE_BYTES, WATCHES,
 };
 pub use name::{Name, NameFault};
 pub use no_memory::NoMemory;

@@ -30,3 +30,6 @@ pub const SOURCE_BYTES: usize = 268_435_456;
 
 /// The most lines of a script.
 pub const SCRIPT_LINES: usize = 65_536;
+
+/// The most watches that are set in one run.
+pub const WATCHES: u32 = 64;
