@@ -1,10 +1,8 @@
 -- What the index finds from a slot on, and what the map finds from a source on.
-use Rattle.std.proofs.Common.{◌≡◌, ℕ, ◌+◌, ◌<◌, ◌==◌, Bool, true, false, cond, refl, sym, ap, subst, ◌∙◌, arith, List, [], ◌∷◌, Option, Some, None}
-use Rattle.std.specs.declared.cmp.Ordering.{Ordering}
+use Rattle.std.proofs.Common.{◌≡◌, ℕ, ◌<◌, true, false, refl, sym, ap, subst, ◌∙◌, arith, List, [], ◌∷◌, Option, Some, None}
 use Rattle.std.specs.declared.cmp.Ordering.TheVariants.{Less, Equal, Greater}
 use Rattle.std.specs.declared.ops.Bound.TheVariants.{Included, Unbounded}
-use Rattle.std.specs.Ordering.{is_eq, is_gt, nat_cmp, ordering_then, ordering_reverse}
-use Rattle.std.specs.Cmp.{IsTotalOrder, tied_itself}
+use Rattle.std.specs.Ordering.{is_gt, nat_cmp, ordering_then, ordering_reverse}
 use Rattle.std.specs.List.{slice_get}
 use Rattle.std.specs.Option.{IfSome, IsSome}
 use Rattle.std.specs.FinMap.{FinMap, from_entries, get}
@@ -20,7 +18,7 @@ use Rattle.pm_types.specs.contracts.source.RefSourceOrd.TheImpl.{ghosts}
 use Rattle.pm_types.specs.Orders.{source_cmp}
 use Rattle.pm_types.proofs.Orders.{source_cmp_is, sources_total}
 use Rattle.pm_remset.specs.Indexed.{pair_cmp, is_slot, IsIndexed}
-use Rattle.pm_remset.specs.Remembered.{EachEntry, IsFirstEntry, FindsFirst, FindsLeastOf, FindsAtOrAfter}
+use Rattle.pm_remset.specs.Remembered.{EachEntry, FindsLeastOf, FindsAtOrAfter}
 use Rattle.pm_remset.proofs.Shown.{get_shown}
 use Rattle.pm_remset.proofs.Sources.{derived_is, get_seen}
 
@@ -32,20 +30,20 @@ slot_is : (slot : ℕ) → is_slot (Some slot) slot ≡ true
 slot_is slot = grind (arith, nat_tests)
 
 -- no source is below the first root
-first_root : (source : RefSource) → is_gt (source_cmp (Root 0) source) ≡ false
+pub first_root : (source : RefSource) → is_gt (source_cmp (Root 0) source) ≡ false
 first_root (Root n) = grind (arith, nat_tests)
 first_root (Handle c r) = refl
 first_root (Field a i) = refl
 
 -- pairs of one slot compare as their sources do
-same_slot : (slot : ℕ) (x y : RefSource) → pair_cmp (slot, x) (slot, y) ≡ source_cmp x y
+pub same_slot : (slot : ℕ) (x y : RefSource) → pair_cmp (slot, x) (slot, y) ≡ source_cmp x y
 same_slot slot x y = ap (λ o. ordering_then o (ghosts.cmp x y)) equal ∙ source_cmp_is x y
   where
     equal : nat_cmp slot slot ≡ Equal
     equal = grind (arith, nat_tests)
 
 -- a pair of a lower slot is below
-lower_slot : (s slot : ℕ) (x y : RefSource) → s < slot → is_gt (pair_cmp (slot, x) (s, y)) ≡ true
+pub lower_slot : (s slot : ℕ) (x y : RefSource) → s < slot → is_gt (pair_cmp (slot, x) (s, y)) ≡ true
 lower_slot s slot x y h = ap (λ o. is_gt (ordering_then o (ghosts.cmp x y))) above
   where
     above : nat_cmp slot s ≡ Greater

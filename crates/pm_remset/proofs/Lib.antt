@@ -3,3 +3,4 @@ pub mod Sources
 pub mod Puts
 pub mod Finds
 pub mod Nexts
+pub mod Slots

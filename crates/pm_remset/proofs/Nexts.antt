@@ -1,15 +1,13 @@
 -- A search through the entries in order: what was tried fails, and what is left is to be tried.
-use Rattle.std.proofs.Common.{◌≡◌, ℕ, ◌⊎◌, inl, inr, Bool, true, false, cond, refl, sym, ap, subst, ◌∙◌, List, [], ◌∷◌, Option, Some, None}
-use Rattle.std.specs.declared.cmp.Ordering.{Ordering}
-use Rattle.std.specs.declared.cmp.Ordering.TheVariants.{Less, Equal, Greater}
+use Rattle.std.proofs.Common.{◌≡◌, ℕ, ◌⊎◌, inl, inr, true, false, cond, refl, sym, ap, subst, ◌∙◌, List, [], ◌∷◌, Some, None}
+use Rattle.std.specs.declared.cmp.Ordering.TheVariants.{Less}
 use Rattle.std.specs.Ordering.{is_eq}
 use Rattle.std.specs.Cmp.{tied_itself, Equal-is}
 use Rattle.std.specs.List.{AllByRecursion}
 use Rattle.std.specs.List.Sorted.{IsStrictlySortedBy}
 use Rattle.std.specs.Map.{lookup, keys_of}
-use Rattle.std.specs.FinMap.{FinMap, from_entries, get}
+use Rattle.std.specs.FinMap.{from_entries, get}
 use Rattle.std.specs.BTreeMap.{BTreeMap, is_at, IsOrdered}
-use Rattle.std.specs.BTreeMap as tree
 use Rattle.std.proofs.lemmas.Bool.{cases_Bool}
 use Rattle.std.proofs.lemmas.Map.Keys.{sorted_head, sorted_tail}
 use Rattle.pm_types.specs.declared.source.RefSource.{RefSource}
@@ -74,11 +72,11 @@ module _ (set : Remembered) (fails : Fact) where
       others_failed = λ q at is. elim (searched.others_failed q at is) [
         | inl f ↦ inl f
         | inr look ↦ elim (cases_Bool (is_eq (source_cmp q e.0))) [
-            | inl tie ↦ (let found : Some e.1 ≡ Some at = sym (found_first q tie) ∙ ap (lookup (is_at (source_cmp q))) (sym begins) ∙ look in
-                let same : e.1 ≡ at = cc in
-                inl (subst (λ n. fails q n) same (subst (λ x. fails x e.1) (sym (at_first q tie)) failed)))
-            | inr apart ↦ inr (sym (found_later q apart) ∙ look)
-          ]
+          | inl tie ↦ (let found : Some e.1 ≡ Some at = sym (found_first q tie) ∙ ap (lookup (is_at (source_cmp q))) (sym begins) ∙ look in
+              let same : e.1 ≡ at = cc in
+              inl (subst (λ n. fails q n) same (subst (λ x. fails x e.1) (sym (at_first q tie)) failed)))
+          | inr apart ↦ inr (sym (found_later q apart) ∙ look)
+        ]
       ];
     }
 

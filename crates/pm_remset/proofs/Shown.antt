@@ -1,5 +1,5 @@
 -- A tree that is seen as a finite map: what its calls ensure, said of the map.
-use Rattle.std.proofs.Common.{◌≡◌, ◌+◌, cond, refl, sym, ap, ◌∙◌, arith, List, [], ◌∷◌, length, Option, Some, None}
+use Rattle.std.proofs.Common.{◌≡◌, ◌+◌, cond, refl, sym, ap, ◌∙◌, arith, List, [], ◌∷◌, length, Some, None}
 use Rattle.std.specs.declared.cmp.Ordering.{Ordering}
 use Rattle.std.specs.declared.cmp.Ordering.TheVariants.{Less}
 use Rattle.std.specs.Cmp.{IsTotalOrder, eq_by_cmp_equiv}

@@ -1,7 +1,5 @@
 -- The derived order of sources, and what a map answers that a tree in that order is seen as.
-use Rattle.std.proofs.Common.{◌≡◌, ℕ, ◌==◌, ◌&&◌, Bool, true, false, refl, sym, ap, ◌∙◌, arith, subst, length, Some, None}
-use Rattle.std.specs.declared.cmp.Ordering.{Ordering}
-use Rattle.std.specs.declared.cmp.Ordering.TheVariants.{Less, Equal, Greater}
+use Rattle.std.proofs.Common.{◌≡◌, ℕ, ◌==◌, ◌&&◌, true, sym, ap, ◌∙◌, arith, subst, length, Some, None}
 use Rattle.std.specs.Cmp.{tied_then, Equal-is}
 use Rattle.std.specs.Ordering.{is_eq, nat_cmp}
 use Rattle.std.specs.FinMap.{FinMap, from_entries, get, insert, remove, len}

@@ -106,7 +106,10 @@ impl Remset {
 
     /// The least source at which the test answers true, and the slot that it names, or `None` where it
     /// answers false at all. It takes no memory.
-    pub fn next_where<P: Fn(RefSource, u32) -> bool + Drop>(&self, pass: P) -> Option<(RefSource, u32)>
+    pub fn next_where<P: Fn(RefSource, u32) -> bool + Drop>(
+        &self,
+        pass: P,
+    ) -> Option<(RefSource, u32)>
         requires { P.IsAlwaysCallable pass }
         ensures { FindsPassing P.Fn pass self.now result }
     {

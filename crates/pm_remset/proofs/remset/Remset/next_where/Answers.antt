@@ -1,7 +1,6 @@
-use Rattle.std.proofs.Common.{◌≡◌, true, false, rules}
+use Rattle.std.proofs.Common.{true, false, rules}
 use Rattle.std.specs.Map.Iter.{deref_pair}
-use Rattle.std.proofs.lemmas.Map.Iter.{rest_more, rest_all}
-use Rattle.pm_types.specs.contracts.source.RefSourceOrd.TheImpl.{ghosts}
+use Rattle.std.proofs.lemmas.Map.Iter.{rest_all}
 use Rattle.pm_remset.proofs.Nexts.{search_begins, search_goes_on, search_finds, search_ends}
 use Rattle.pm_remset.proofs.remset.Remset.next_where.Goals as goal
 

@@ -1,7 +1,6 @@
-use Rattle.std.proofs.Common.{◌≡◌, OnOk, OnErr, ℕ, ◌+◌, ◌-◌, ◌*◌, ◌<◌, ◌≤◌, length}
-use Rattle.std.specs.FinMap as map
-use Rattle.pm_remset.specs.Remembered.{FindsLeastOf, FindsAtOrAfter, FindsPassing, AppendsSources}
+use Rattle.pm_remset.proofs.Slots.{Reading}
 use Rattle.pm_remset.proofs.remset.Remset.of_slot.Given as goal
 
+-- the sources so far were appended
 abbrev pub invariant-loop-found : goal.invariant-loop-found
-invariant-loop-found l = ?
+invariant-loop-found l = Reading l.slot l.fn.out.items l.out.items l.initial.found-iterator l.found-iterator
