@@ -1,0 +1,6 @@
+pub mod Shown
+pub mod Sources
+pub mod Puts
+pub mod Finds
+pub mod Nexts
+pub mod Slots
