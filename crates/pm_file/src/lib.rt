@@ -3,7 +3,10 @@
 
 mod calls;
 mod file_disk;
+mod opening;
+mod store_file;
 #[cfg(test)]
 mod tests;
 
 pub use file_disk::FileDisk;
+pub use store_file::StoreFile;
