@@ -2,6 +2,8 @@
 #![tactic(auto)]
 
 mod calls;
+#[cfg(test)]
+mod fake;
 mod file_disk;
 mod opening;
 mod store_file;
