@@ -1,80 +1,103 @@
 //! The calls of the operating system. No clause says what they do to a file.
-ghost use Rattle.std.specs.Prelude.{◌≡◌, is_ok};
+ghost use Rattle.std.specs.Prelude.{◌≡◌, ◌≢◌, ℕ, List, [], Some, None, is_ok};
+ghost use Rattle.std.specs.Path.{path_parent};
 ghost use Rattle.pm_disk.specs.Disk.{HasCause};
 
+use crate::StoreFile;
+use crate::opening::{Held, hold};
 use pm_disk::DiskFailed;
 use std::fs::{Files, OpenFile, OpenOptions};
-use std::io::{self, Read, Seek, SeekFrom, Write};
+use std::io;
+use std::os::unix::fs::FileExt;
+use std::path::Path;
 
-/// Opens the file for reading and writing, and makes it where it is missing, unless it is open.
-fn open<R: Files>(rt: &R, path: &str, file: &mut Option<R::File>) -> io::Result<()> {
+/// The folder in which the process runs.
+const HERE: &str = ".";
+
+// The file, which is opened unless it is open.
+fn held<'a, R: Files>(
+    rt: &R,
+    path: &str,
+    file: &'a mut Option<Held<R::File>>,
+) -> io::Result<&'a mut Held<R::File>>
+where
+    R::File: StoreFile,
+{
     if file.is_none() {
-        let opened = OpenOptions::new()
-            .read(true)
-            .write(true)
-            .create(true)
-            .open(rt, path)?;
-        *file = Some(opened);
+        *file = Some(hold(rt, path)?);
     }
-    Ok(())
-}
-
-fn missing() -> io::Error {
-    io::ErrorKind::NotFound.into()
+    match file {
+        Some(held) => Ok(held),
+        None => Err(io::ErrorKind::NotFound.into()),
+    }
 }
 
 /// The length in bytes.
-pub(crate) fn measure<R: Files>(rt: &R, path: &str, file: &mut Option<R::File>) -> io::Result<u64> {
-    open(rt, path, file)?;
-    match file {
-        Some(file) => Ok(file.metadata()?.len()),
-        None => Err(missing()),
-    }
+pub(crate) fn measure<R: Files>(
+    rt: &R,
+    path: &str,
+    file: &mut Option<Held<R::File>>,
+) -> io::Result<u64>
+where
+    R::File: StoreFile,
+{
+    Ok(held(rt, path, file)?.file.metadata()?.len())
 }
 
 /// Fills `into` with the bytes from `at` on.
 pub(crate) fn read<R: Files>(
     rt: &R,
     path: &str,
-    file: &mut Option<R::File>,
+    file: &mut Option<Held<R::File>>,
     at: u64,
     into: &mut [u8],
-) -> io::Result<()> {
-    open(rt, path, file)?;
-    match file {
-        Some(file) => {
-            file.seek(SeekFrom::Start(at))?;
-            file.read_exact(into)
-        }
-        None => Err(missing()),
-    }
+) -> io::Result<()>
+where
+    R::File: StoreFile,
+{
+    held(rt, path, file)?.file.read_exact_at(into, at)
 }
 
 /// Writes the bytes from `at` on.
 pub(crate) fn write<R: Files>(
     rt: &R,
     path: &str,
-    file: &mut Option<R::File>,
+    file: &mut Option<Held<R::File>>,
     at: u64,
     from: &[u8],
-) -> io::Result<()> {
-    open(rt, path, file)?;
-    match file {
-        Some(file) => {
-            file.seek(SeekFrom::Start(at))?;
-            file.write_all(from)
-        }
-        None => Err(missing()),
+) -> io::Result<()>
+where
+    R::File: StoreFile,
+{
+    held(rt, path, file)?.file.write_all_at(from, at)
+}
+
+// The folder in which the file of this path has its name.
+fn folder_of(path: &str) -> &str
+    ensures within { (folder : List ℕ) → path_parent path.now ≡ Some folder → folder ≢ [] → result.now ≡ folder }
+    ensures here { path_parent path.now ≡ Some [] → result.now ≡ HERE.now }
+    ensures top { path_parent path.now ≡ None → result.now ≡ path.now }
+{
+    match Path::new(path).parent() {
+        Some(folder) if folder.to_string_lossy().is_empty() => HERE,
+        Some(folder) => folder.to_string_lossy(),
+        None => path,
     }
 }
 
-/// Syncs data and length.
-pub(crate) fn sync<R: Files>(rt: &R, path: &str, file: &mut Option<R::File>) -> io::Result<()> {
-    open(rt, path, file)?;
-    match file {
-        Some(file) => file.sync_all(),
-        None => Err(missing()),
+/// Syncs data and length, and the name where a crash may still lose it.
+pub(crate) fn sync<R: Files>(rt: &R, path: &str, file: &mut Option<Held<R::File>>) -> io::Result<()>
+where
+    R::File: StoreFile,
+{
+    let held = held(rt, path, file)?;
+    held.file.sync_all()?;
+    if held.may_lose_name {
+        let folder = OpenOptions::new().read(true).open(rt, folder_of(path))?;
+        folder.sync_all()?;
+        held.may_lose_name = false;
     }
+    Ok(())
 }
 
 /// Counts a failure. At 2^64 - 1 the count stays.

@@ -1,4 +1,6 @@
+use crate::StoreFile;
 use crate::calls::{counted, measure, read, sync, write};
+use crate::opening::Held;
 use pm_disk::{Disk, DiskFailed, Moments};
 use pm_types::NoMemory;
 use std::alloc::Global;
@@ -6,21 +8,33 @@ use std::fs::Files;
 
 /// A file of the operating system as a disk. It tells nothing of its contents, so by its contract a
 /// crash may leave any bytes. The count of faults is kept.
+///
+/// While it is open no other process opens it as a disk, and none of the three standard streams has
+/// its descriptor: each of them that is closed is opened on the null device before, and stays so until
+/// the process ends. What reads there finds the end, and what writes there fails.
 #[derive(Drop)]
-pub struct FileDisk<R: Files> {
+pub struct FileDisk<R: Files>
+where
+    R::File: StoreFile,
+{
     rt: R,
     path: String,
-    file: Option<R::File>,
+    file: Option<Held<R::File>>,
     moments: Moments,
     faults: u64,
 }
 
-impl<R: Files + Drop> FileDisk<R> {
+impl<R: Files + Drop> FileDisk<R>
+where
+    R::File: StoreFile,
+{
     ghost use Rattle.std.specs.Prelude.{◌≡◌, IfOk};
 
-    /// The disk that the file of this path is. It touches nothing: the first call of the disk opens
-    /// the file for reading and writing, and makes it where it is missing. Where that cannot be had,
-    /// that call fails.
+    /// The disk that the file of this path is. It touches nothing: the first call of the disk fills the
+    /// standard streams, opens the file for reading and writing, makes it where it is missing, and
+    /// locks it. Where one of these cannot be had, that call fails, and the next one tries again.
+    ///
+    /// The first sync of a file that was empty when it was opened syncs its folder too.
     pub fn at(rt: R, alloc: Global, path: &str) -> Result<FileDisk<R>, NoMemory>
         ensures { IfOk result (λ disk. ⟦<FileDisk<R> as Disk>⟧.count disk ≡ 0) }
     {
@@ -34,7 +48,10 @@ impl<R: Files + Drop> FileDisk<R> {
     }
 }
 
-impl<R: Files + Drop> Disk for FileDisk<R> {
+impl<R: Files + Drop> Disk for FileDisk<R>
+where
+    R::File: StoreFile,
+{
     ghost use Rattle.std.specs.Prelude.{length};
     ghost use Rattle.pm_disk.specs.Images.{IsBytes};
     ghost use Rattle.pm_file.specs.Untold.{untold, not_told};

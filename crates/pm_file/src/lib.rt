@@ -2,8 +2,13 @@
 #![tactic(auto)]
 
 mod calls;
+#[cfg(test)]
+mod fake;
 mod file_disk;
+mod opening;
+mod store_file;
 #[cfg(test)]
 mod tests;
 
 pub use file_disk::FileDisk;
+pub use store_file::StoreFile;

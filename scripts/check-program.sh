@@ -1,0 +1,232 @@
+#!/usr/bin/env bash
+# Runs the program on real files and streams: closed streams, a full device, files that cannot be had, two runs at
+# once, a pipe that closes early, a script that is too long, and little memory. It prints a table of what was wanted and
+# what came, and ends with 0 where they are the same on every line. What the machine lacks is skipped, and its line says so.
+#
+# It takes the program that 'rt ci' or 'rt run' built, or the one that PMOS names; where there is neither, it builds one
+# without proof.
+set -uo pipefail
+cd "$(dirname "$0")/.." || exit 1
+
+work=$(mktemp -d) || exit 1
+started=()
+finish() {
+    for id in "${started[@]}"; do kill "$id" 2>/dev/null; done
+    wait 2>/dev/null
+    rm -rf "$work"
+}
+trap finish EXIT
+trap 'exit 1' INT TERM HUP
+chmod 755 "$work"
+
+failed=0
+row() {
+    local mark=ok
+    case $3 in
+    "$2") ;;
+    skipped*) mark=- ;;
+    *) mark=BAD failed=1 ;;
+    esac
+    printf '%-3s  %-34s  %-36s  %s\n' "$mark" "$1" "$2" "$3"
+}
+lacks() { ! command -v "$1" >/dev/null; }
+
+# Builds the program without proof, in a run of 'rt try' that reads a long script: the program lies there while it runs.
+try_build() {
+    local found
+    mkdir "$work/try"
+    python3 -c 'print("0 new 1 0 -\n" * 200000, end="")' >"$work/long.script"
+    (cd crates/pmos && TMPDIR=$work/try exec rt try -- run try.pmos serial <"$work/long.script") >/dev/null 2>&1 &
+    started+=($!)
+    for _ in $(seq 900); do
+        found=$(find "$work/try" -type f -name program -perm -u+x -size +0 2>/dev/null | head -n 1)
+        if [ -n "$found" ] && cp "$found" "$work/pmos" 2>/dev/null && "$work/pmos" init "$work/tried" 2>/dev/null; then
+            break
+        fi
+        sleep 0.1
+    done
+    rm -f "$work/tried"
+    kill "${started[0]}" 2>/dev/null
+    wait "${started[0]}" 2>/dev/null
+    started=()
+}
+
+if [ -n "${PMOS-}" ] && [ -x "$PMOS" ]; then
+    echo "The program is $PMOS."
+    cp "$PMOS" "$work/pmos"
+elif [ -x crates/pmos/out/pmos ]; then
+    echo "The program is crates/pmos/out/pmos, which rt proved and built."
+    cp crates/pmos/out/pmos "$work/pmos"
+elif lacks rt || lacks python3; then
+    echo "Skipped: there is no crates/pmos/out/pmos, and no rt with python3 to build one."
+    exit 0
+else
+    echo "The program is built without proof, since there is no crates/pmos/out/pmos."
+    try_build
+fi
+pmos=$work/pmos
+if ! [ -x "$pmos" ]; then
+    echo "There is no program to check."
+    exit 1
+fi
+
+# What an ordinary run makes.
+cat >"$work/settle.script" <<'SCRIPT'
+0 new 1 2 cafe
+0 root a 1
+0 save
+0 settle
+SCRIPT
+printf '0 find 1 a\n0 data 1\n' >"$work/find.script"
+"$pmos" init "$work/made" && cp "$work/made" "$work/settled" &&
+    "$pmos" run "$work/settled" serial <"$work/settle.script" >"$work/settle.replies" &&
+    cp "$work/settled" "$work/found" && "$pmos" run "$work/found" serial <"$work/find.script" >"$work/find.replies"
+came=$?
+row "an ordinary run" "0 ok 1,ok,begun 1,saved 1,ok 1,cafe" \
+    "$came $(cat "$work/settle.replies" "$work/find.replies" | cut -d' ' -f2- | paste -sd,)"
+
+# Tells which of the stores above a file is, byte for byte.
+is_which() {
+    if cmp -s "$1" "$work/made"; then
+        echo made
+    elif cmp -s "$1" "$work/settled"; then
+        echo settled
+    else
+        echo other
+    fi
+}
+
+# Runs the program with these streams closed.
+without() {
+    local closed=$1
+    shift
+    (
+        case $closed in *0*) exec 0<&- ;; esac
+        case $closed in *1*) exec 1>&- ;; esac
+        case $closed in *2*) exec 2>&- ;; esac
+        exec "$pmos" "$@"
+    )
+}
+
+for closed in none 0 1 2 01 02 12 012; do
+    store=$work/store.$closed
+    without "$closed" init "$store" </dev/null >"$work/out" 2>"$work/err"
+    came="init $?"
+    without "$closed" run "$store" serial <"$work/settle.script" >"$work/out" 2>"$work/err"
+    came+=", run $?"
+    without "$closed" run "$store" serial <"$work/find.script" >"$work/again" 2>"$work/err.again"
+    came+=", $? $(is_which "$store")"
+    case $closed in
+    *0*) wanted="init 0, run 3, 3 made" ;;
+    *1*) wanted="init 0, run 4, 4 settled" ;;
+    *) wanted="init 0, run 0, 0 settled" ;;
+    esac
+    row "streams closed: $closed" "$wanted" "$came"
+    case $closed in none | 2)
+        cmp -s "$work/out" "$work/settle.replies" && cmp -s "$work/again" "$work/find.replies"
+        row "  its replies" "the same" "$([ $? = 0 ] && echo the same || echo others)"
+        ;;
+    esac
+done
+
+# The text on standard error.
+without 1 run "$work/made" serial <"$work/find.script" 2>"$work/err"
+row "output closed: the text" "4 pmos: write fault" "$? $(cat "$work/err")"
+
+fresh() { rm -f "$work/store" && cp "$work/made" "$work/store"; }
+
+if [ -c /dev/full ]; then
+    fresh
+    "$pmos" run "$work/store" serial <"$work/settle.script" >/dev/full 2>/dev/null
+    row "output on a full device" "4 settled" "$? $(is_which "$work/store")"
+else
+    row "output on a full device" "4 settled" "skipped: no /dev/full"
+fi
+
+mkdir "$work/folder"
+"$pmos" init "$work/folder" 2>/dev/null
+came=$?
+"$pmos" run "$work/folder" serial <"$work/find.script" 2>/dev/null
+row "a folder as FILE" "5 5" "$came $?"
+"$pmos" init "$work/nowhere/store" 2>/dev/null
+row "FILE in a folder that is missing" "5" "$?"
+
+# A file that may only be read, also where this script runs as root.
+fresh
+chmod 444 "$work/store"
+if lacks python3; then
+    row "a FILE that may not be written" "5 made" "skipped: no python3"
+else
+    python3 - "$pmos" run "$work/store" serial <<'PYTHON' 2>/dev/null
+import os, subprocess, sys
+def leave_root():
+    if os.getuid() == 0:
+        os.setgroups([]); os.setgid(65534); os.setuid(65534)
+try:
+    ran = subprocess.run(sys.argv[1:], input=b"0 new 1 0 -\n", preexec_fn=leave_root)
+except (OSError, subprocess.SubprocessError):
+    sys.exit(99)
+sys.exit(ran.returncode if ran.returncode >= 0 else 128 - ran.returncode)
+PYTHON
+    came=$?
+    if [ "$came" = 99 ]; then
+        row "a FILE that may not be written" "5 made" "skipped: root cannot be left"
+    else
+        row "a FILE that may not be written" "5 made" "$came $(is_which "$work/store")"
+    fi
+fi
+
+# More replies than a pipe holds.
+{
+    cat "$work/settle.script"
+    printf '0 new 2 0 '
+    printf 'ab%.0s' {1..4000}
+    printf '\n'
+    printf '0 data 2\n%.0s' {1..100}
+} >"$work/long.script"
+
+# A run whose replies nobody reads yet keeps the store open: a second run has to leave it.
+if lacks mkfifo; then
+    row "two runs at once, and init" "0, 5 5, settled" "skipped: no mkfifo"
+else
+    fresh
+    mkfifo "$work/pipe"
+    "$pmos" run "$work/store" serial <"$work/long.script" >"$work/pipe" &
+    first=$!
+    started+=("$first")
+    exec 7<"$work/pipe"
+    IFS= read -r _ <&7
+    cp "$work/store" "$work/during"
+    "$pmos" run "$work/store" serial <"$work/settle.script" >"$work/out" 2>/dev/null
+    second=$?
+    cmp -s "$work/store" "$work/during" || second+=" changed"
+    "$pmos" init "$work/store" 2>/dev/null
+    second+=" $?"
+    [ -s "$work/out" ] && second+=" replies"
+    cat <&7 >/dev/null
+    exec 7<&-
+    wait "$first"
+    row "two runs at once, and init" "0, 5 5, settled" "$?, $second, $(is_which "$work/store")"
+    started=()
+fi
+
+fresh
+"$pmos" run "$work/store" serial <"$work/long.script" 2>/dev/null | true
+row "a pipe that closes early" "4 settled" "${PIPESTATUS[0]} $(is_which "$work/store")"
+
+fresh
+head -c 314572800 /dev/zero | tr '\0' '0' | "$pmos" run "$work/store" serial >"$work/out" 2>/dev/null
+row "a script of 300 MB" "2 made" "${PIPESTATUS[2]} $(is_which "$work/store")"
+
+# More and more memory: a run is whole, or ends for want of memory with a first part of the replies.
+fresh
+"$pmos" run "$work/store" serial <"$work/long.script" >"$work/whole"
+ends=() first_parts=0
+for kibibytes in $(seq 1000 200 20000); do
+    fresh
+    (ulimit -v "$kibibytes" && exec "$pmos" run "$work/store" serial <"$work/long.script" >"$work/out") 2>/dev/null
+    end=$?
+    echo "$kibibytes $end $(stat -c %s "$work/out") $(is_which "$work/store")"
+done
+
+exit "$failed"
