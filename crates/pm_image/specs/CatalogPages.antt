@@ -14,7 +14,8 @@ use Rattle.pm_model.specs.World.{name_cmp}
 use Rattle.pm_image.specs.declared.catalog.CatEntry.{CatEntry}
 use Rattle.pm_image.specs.declared.catalog.CatEntry.TheVariants.{Car, Root}
 use Rattle.pm_image.specs.declared.catalog.CatalogPage.{CatalogPage}
-use Rattle.pm_image.specs.Steps.{◌>>=◌, tested, magic_at, rest_at}
+use Rattle.pm_image.specs.Steps.{tested, magic_at, rest_at}
+use Rattle.pm_base.specs.Results.{◌>>=◌}
 use Rattle.pm_image.specs.CarPages.{Numbers}
 
 -- PCAT

@@ -1,4 +1,3 @@
-pub mod Shown
 pub mod Orders
 pub mod Members
 pub mod Reaching

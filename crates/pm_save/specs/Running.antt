@@ -1,6 +1,6 @@
 -- What calls that write the next copy beside the current one leave of the current one.
 use Rattle.std.specs.Prelude.{◌≡◌, ℕ, List, Option, Some, true, false, Result, MatchResult}
-use Rattle.pm_types.specs.Counts.{Rose}
+use Rattle.pm_base.specs.Counts.{Rose}
 use Rattle.pm_disk.specs.Disk.{LeavesOnly}
 use Rattle.pm_model.specs.World.{Copy}
 use Rattle.pm_shadow.specs.State.{State}

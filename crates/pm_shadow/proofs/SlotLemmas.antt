@@ -7,7 +7,7 @@ use Rattle.std.proofs.lemmas.List.{get_or-drop, get_or-take, ext_get_or}
 use Rattle.pm_types.specs.declared.limits.TheConstants.{PAGE_BYTES}
 use Rattle.pm_disk.specs.Writes.{written, Torn}
 use Rattle.pm_image.specs.Opening.{page_of, page_count, header_body_of, gate_place, open_gate, is_open, epoch_in, greater_slot, open_slot}
-use Rattle.pm_layout.specs.Steps.{◌>>=◌}
+use Rattle.pm_base.specs.Results.{◌>>=◌}
 use Rattle.pm_layout.specs.Reading.{number_from}
 use Rattle.pm_layout.specs.Headers.{header_at, magic_at, version_at, digest_kept, next_at}
 use Rattle.pm_layout.specs.declared.header.HeaderFault.{HeaderFault}

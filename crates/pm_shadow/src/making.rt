@@ -7,7 +7,7 @@ ghost use Rattle.pm_image.specs.CarPages.{padded};
 ghost use Rattle.pm_image.specs.Opening.{open_gate};
 ghost use Rattle.pm_image.specs.Blank.{blank_header, blank_catalog_page, blank_store};
 ghost use Rattle.pm_shadow.specs.Images.{place_of, with_gate};
-ghost use Rattle.pm_shadow.specs.Init.{IsInitFault, IsInitFaultOf, UnlessFailed};
+ghost use Rattle.pm_shadow.specs.Init.{IsInitFault, IsInitFaultOf, UnlessFailed, KeepsBytes};
 
 use crate::runs::write_and_sync;
 use crate::slots::{OPEN, gate_place};
@@ -99,7 +99,7 @@ fn make<D: Disk>(alloc: Global, disk: &mut D) -> Result<Result<(), DiskFailed>, 
 /// # Errors
 ///
 /// `NotEmpty` where the disk holds a byte, `Disk` where it failed, and `Memory` before anything is
-/// written. In the first case and in the last one nothing was written.
+/// written. In the first case and in the last one nothing was written, and never where the disk holds a byte.
 pub fn init<D: Disk>(alloc: Global, disk: &mut D) -> Result<(), InitFault>
     ensures blank { OnOk result (IfTold (D.contents disk.old) (λ bytes. D.contents disk.new ≡ Some blank_store)) }
     ensures empty { OnOk result (IfTold (D.contents disk.old) (λ bytes. length bytes ≡ 0)) }
@@ -107,6 +107,8 @@ pub fn init<D: Disk>(alloc: Global, disk: &mut D) -> Result<(), InitFault>
     ensures count { OnOk result (D.count disk.new ≡ D.count disk.old) }
     ensures fault { IfErr result (λ fault. IfTold (D.contents disk.old) (λ bytes. IsInitFaultOf bytes fault)) }
     ensures cause { IfErr result (IsInitFault (D.count disk.old) (D.count disk.new)) }
+    // Whatever it answers, a disk that told of some byte is as it was.
+    ensures kept { KeepsBytes (D.contents disk.old) (D.contents disk.new) (D.image disk.old) (D.image disk.new) }
     ensures still { IfErr result (λ fault. UnlessFailed fault (D.contents disk.new ≡ D.contents disk.old)) }
     ensures images { IfErr result (λ fault. UnlessFailed fault (SameImages (D.image disk.old) (D.image disk.new))) }
 {

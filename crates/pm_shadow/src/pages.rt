@@ -40,8 +40,9 @@ pub struct Pages<D: Disk> {
 }
 
 impl<D: Disk> Pages<D> {
-    ghost use Rattle.std.specs.Prelude.{◌≡◌, ◌⊎◌, ◌+◌, ◌*◌, ◌-◌, ◌^◌, ◌<◌, ◌≤◌, ℕ, List, All, Some, true, false, [], ◌∷◌, length, option_map, not, Ok, IfOk, IfErr, OnOk, OnErr};
+    ghost use Rattle.std.specs.Prelude.{◌≡◌, ◌⊎◌, ◌+◌, ◌*◌, ◌-◌, ◌^◌, ◌<◌, ◌≤◌, ℕ, List, All, Some, true, false, [], ◌∷◌, length, option_map, not, Ok, MatchResult, IfOk, IfErr, OnOk, OnErr};
     ghost use Rattle.pm_disk.specs.Writes.{written, TornIfTold};
+    ghost use Rattle.pm_disk.specs.Made.{with_sync, with_write};
     ghost use Rattle.pm_disk.specs.Disk.{IfTold, SameImages, LeavesOnly, HasCause};
     ghost use Rattle.pm_layout.specs.Headers.{HasHeaderSpelling};
     ghost use Rattle.pm_image.specs.Opening.{current, is_open, page_count, page_of, gate_place, open_gate};
@@ -74,6 +75,8 @@ impl<D: Disk> Pages<D> {
         ensures cause { IfErr result (λ e. IsAttachFault (D.count disk) (D.count e.0) e.1) }
         ensures told_err { IfErr result (λ e. D.contents e.0 ≡ D.contents disk) }
         ensures leaves_err { IfErr result (λ e. LeavesOnly D.moment D.since disk e.0 (D.image disk)) }
+        // One sync was made, no write, and no read past the end of what the disk told.
+        ensures made { MatchResult result (λ it. D.made (disk_of it) ≡ with_sync (D.made disk)) (λ e. D.made e.0 ≡ with_sync (D.made disk)) }
     {
         let mut disk = disk;
         match find(&mut disk) {
@@ -165,6 +168,8 @@ impl<D: Disk> Pages<D> {
         ensures read { OnOk result (IfTold (D.contents (disk_of self.old)) (λ bytes. into.new ≡ page_of bytes page)) }
         ensures state { state self.new ≡ state self.old }
         ensures looks { OnlyLooks D.contents D.image D.moment D.since (disk_of self.old) (disk_of self.new) }
+        // It is no read past the end of what the disk told.
+        ensures made { (state self.old).failed ≡ false → D.made (disk_of self.new) ≡ D.made (disk_of self.old) }
         ensures cause { HasCause (D.count (disk_of self.old)) (D.count (disk_of self.new)) result }
     {
         self.disk.read_at(PAGE_BYTES as u64 * page, into)

@@ -10,7 +10,7 @@ use Rattle.pm_model.specs.Journal.{IsLegal, after}
 use Rattle.pm_image.specs.Stands.{Stands}
 use Rattle.pm_image.specs.Opening.{current}
 use Rattle.pm_types.specs.declared.limits.TheConstants.{FIELDS}
-use Rattle.pm_image.specs.Steps.{◌>>=◌}
+use Rattle.pm_base.specs.Results.{◌>>=◌}
 use Rattle.pm_image.specs.Graphs.{graph_of, copy_of}
 use Rattle.pm_image.specs.Stands.{pages_of}
 use Rattle.pm_image.proofs.StandsLaws.{one_copy}

@@ -1,7 +1,7 @@
 -- How the program ends.
 use Rattle.std.specs.Prelude.{◌≡◌, ℕ, codes, decimal, List, [], ◌++◌}
 use Rattle.hex.specs.Hex.{encode_lower}
-use Rattle.pm_types.specs.Counts.{Rose}
+use Rattle.pm_base.specs.Counts.{ShowsRise}
 use Rattle.pm_types.specs.declared.entry.Entry.{Entry}
 use Rattle.pm_types.specs.declared.fault.OpenFault.{OpenFault}
 use Rattle.pm_types.specs.declared.fault.OpenFault.TheVariants.{NotAStore, Version, Damaged, Malformed, Broken, Disk, Memory as NoRoom}
@@ -47,10 +47,6 @@ detail_line (Device before after) = codes "pmos: disk fault\n"
 detail_line (NotEmpty bytes) = codes "pmos: not empty " ++ decimal bytes ++ codes "\n"
 detail_line (Refused fault) = refusal_line fault
 detail_line Memory = codes "pmos: no memory\n"
-
--- the counts of faults before and after, between which the count rose
-abbrev pub ShowsRise : ℕ → ℕ → ℕ → ℕ → Type 0
-ShowsRise before after count_before count_after = (before ≡ count_before) × (after ≡ count_after) × Rose before after
 
 -- a read fault shows the rise of the source's count
 abbrev pub ShowsReading : Detail → ℕ → ℕ → Type 0

@@ -1,6 +1,6 @@
 //! A run: the store is opened, and the lines are run over its copy.
 ghost use Rattle.std.specs.Prelude.{◌≡◌, ℕ, List, [], ◌++◌, length, Some};
-ghost use Rattle.pm_types.specs.Counts.{Rose};
+ghost use Rattle.pm_base.specs.Counts.{Rose};
 ghost use Rattle.pm_disk.specs.Disk.{IfTold};
 ghost use Rattle.pm_layout.specs.Headers.{HasHeaderSpelling};
 ghost use Rattle.pm_shadow.specs.State.{attached};

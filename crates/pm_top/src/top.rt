@@ -1,6 +1,6 @@
 //! All that the program does.
 ghost use Rattle.std.specs.Prelude.{◌≡◌, ◌≤◌, ◌↔◌, ◌||◌, List, ℕ, [], ◌++◌, length, map, true, false, Some};
-ghost use Rattle.pm_types.specs.Counts.{Rose};
+ghost use Rattle.pm_base.specs.Counts.{Rose};
 ghost use Rattle.pm_model.specs.declared.request.Request.{Request as Line};
 ghost use Rattle.pm_model.specs.World.{Copy, begin};
 ghost use Rattle.pm_model.specs.Journal.{IsLegal, after, requests_of, Serves};
