@@ -1,5 +1,5 @@
 -- What was taken from a source in one call after another.
-use Rattle.std.proofs.Common.{◌≡◌, ℕ, ◌≤◌, List, [], ◌++◌, length, take, drop, Option, Some, ap, arith, append_assoc, length-append, length-take, min}
+use Rattle.std.proofs.Common.{◌≡◌, ℕ, ◌+◌, ◌≤◌, List, [], ◌++◌, length, take, drop, Option, Some, ap, arith, append_assoc, length-append, length-take, min}
 use Rattle.std.proofs.lemmas.Grind.{common_steps}
 use Rattle.pm_io.specs.Streams.{TakesFront, LeavesEnd}
 

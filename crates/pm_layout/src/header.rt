@@ -111,16 +111,6 @@ pub fn write_header(header: &Header) -> [u8; 96]
     bytes
 }
 
-// The digest that stands at a place of a header.
-fn digest_at(bytes: &[u8; 96], place: usize) -> [u8; 32]
-    requires { place ≤ 64 }
-    ensures { result ≡ slice_range bytes.now place (place + 32) }
-{
-    let mut digest = [0; 32];
-    digest.copy_from_slice(&bytes[place..place + 32]);
-    digest
-}
-
 // The first eight bytes are the magic.
 #[tactic(auto, unfolding(crate::specs::Headers::magic_at))]
 fn check_magic(bytes: &[u8; 96]) -> Result<(), HeaderFault>

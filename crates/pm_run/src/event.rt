@@ -2,7 +2,7 @@
 ghost use Rattle.std.specs.Prelude.{◌≡◌, ◌⊎◌, ℕ, List, [], ◌∷◌, ◌++◌, None, OnOk, OnErr, IfOk};
 ghost use Rattle.pm_disk.specs.Disk.{LeavesOnly};
 ghost use Rattle.pm_model.specs.Answer.{answer};
-ghost use Rattle.pm_script.specs.Replies.{IsShortReply};
+ghost use Rattle.pm_types.specs.Replies.{IsShortReply};
 ghost use Rattle.pm_shadow.specs.Pages.{state, disk_of};
 ghost use Rattle.pm_run.specs.Events.{entry_of, is_settle};
 ghost use Rattle.pm_run.specs.Images.{IsSettled, IsInProgress};

@@ -67,7 +67,7 @@ fn step<D: Disk, K: Sink>(
     ensures still { world.old.saving ≡ None → disk_of pages.new ≡ disk_of pages.old }
     ensures pushed { OnOk result (journal.new.items ≡ journal.old.items ++ entry_of world.old request ∷ []) }
     ensures device_cause { IsErrOf result Stop.Device → Rose (D.count (disk_of pages.old)) (D.count (disk_of pages.new)) }
-    ensures device_count { OnOk result (D.count (disk_of pages.new) ≡ D.count (disk_of pages.old)) }
+    ensures device_count { (IsErrOf result Stop.Device → ⊥) → D.count (disk_of pages.new) ≡ D.count (disk_of pages.old) }
 
     ensures wrote { OnOk result ((before : List ℕ) → Wrote before (K.written sink.old) out.old.items (text journal.old.items)
         → Wrote before (K.written sink.new) out.new.items (text journal.new.items)) }
@@ -161,6 +161,7 @@ fn run_all<D: Disk, K: Sink>(
     ensures device { IsErrOf result Stop.Device → Stores D.contents D.image (state pages.old) (disk_of pages.old) world.old
         → (left : List ℕ) → D.image (disk_of pages.new) left → IsSettled world.new left ⊎ IsInProgress world.new left }
     ensures device_cause { IsErrOf result Stop.Device → Rose (D.count (disk_of pages.old)) (D.count (disk_of pages.new)) }
+    ensures device_count { (IsErrOf result Stop.Device → ⊥) → D.count (disk_of pages.new) ≡ D.count (disk_of pages.old) }
     ensures still { world.old.saving ≡ None → journal.new.items ≡ [] → disk_of pages.new ≡ disk_of pages.old }
 
     ensures wrote { OnOk result ((before : List ℕ) → K.written sink.old ≡ Some before
@@ -214,6 +215,7 @@ pub fn run_lines<D: Disk, K: Sink>(
     ensures device { IsErrOf result Stop.Device → Stores D.contents D.image (state pages.old) (disk_of pages.old) world.old
         → (left : List ℕ) → D.image (disk_of pages.new) left → IsSettled world.new left ⊎ IsInProgress world.new left }
     ensures device_cause { IsErrOf result Stop.Device → Rose (D.count (disk_of pages.old)) (D.count (disk_of pages.new)) }
+    ensures device_count { (IsErrOf result Stop.Device → ⊥) → D.count (disk_of pages.new) ≡ D.count (disk_of pages.old) }
     // Where no event was made the disk was not called.
     ensures still { world.old.saving ≡ None → journal.new.items ≡ [] → disk_of pages.new ≡ disk_of pages.old }
 

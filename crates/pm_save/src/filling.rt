@@ -14,16 +14,13 @@ use crate::SaveFault;
 use crate::places::Places;
 use crate::writing::put_car;
 use pm_disk::Disk;
-use pm_image::{CarImage, CatEntry, SlotList};
+use pm_image::{CarImage, CatEntry, RECORDS_AT, SlotList};
 use pm_layout::size;
 use pm_model::{Node, Objects};
 use pm_shadow::Pages;
 use pm_types::{Addr, Fields, Id, NoMemory, Object, PAGE_BYTES, Slot};
 use std::alloc::Global;
 use std::mem;
-
-/// How many bytes of a car's page are used where it has no slot.
-const EMPTY_CAR: usize = 14;
 
 /// The cars of a copy, of which all but the last were written.
 #[derive(Drop)]
@@ -61,7 +58,7 @@ impl Filling {
     {
         Filling {
             slots: Vec::new(alloc),
-            used: EMPTY_CAR,
+            used: RECORDS_AT,
             entries: Vec::new(alloc),
             places: Places::new(alloc),
         }
@@ -96,7 +93,7 @@ impl Filling {
         ensures places { self.new.places ≡ self.old.places }
     {
         let slots = mem::replace(&mut self.slots, Vec::new(alloc));
-        self.used = EMPTY_CAR;
+        self.used = RECORDS_AT;
         CarImage {
             number: self.entries.len() as u64 + 1,
             slots: SlotList::from_vec(slots),

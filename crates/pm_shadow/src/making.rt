@@ -12,12 +12,10 @@ ghost use Rattle.pm_shadow.specs.Init.{IsInitFault, IsInitFaultOf, UnlessFailed,
 use crate::runs::write_and_sync;
 use crate::slots::{OPEN, gate_place};
 use pm_disk::{Disk, DiskFailed};
+use pm_image::ENTRIES;
 use pm_layout::{Header, digest, write_header};
 use pm_types::{InitFault, NoMemory, PAGE_BYTES};
 use std::alloc::Global;
-
-/// How many bytes of a catalog page without entries are used.
-const BLANK_CATALOG: usize = 46;
 
 /// A page that begins with these bytes, and is zero behind them.
 fn padded_page(alloc: Global, used: &[u8]) -> Result<Vec<u8>, NoMemory>
@@ -35,7 +33,7 @@ fn catalog_page(alloc: Global) -> Result<Vec<u8>, NoMemory>
     ensures items { IfOk result (λ page. page.items ≡ blank_catalog_page) }
     ensures len { IfOk result (λ page. length page.items ≡ PAGE_BYTES) }
 {
-    let mut used = [0; BLANK_CATALOG];
+    let mut used = [0; ENTRIES];
     used[..4].copy_from_slice(b"PCAT");
     let page = padded_page(alloc, &used)?;
     Ok(page)

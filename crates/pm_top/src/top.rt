@@ -142,7 +142,8 @@ pub fn pmos<R: AllocGlobal, D: Disk, S: Source, K: Sink>(
 ) -> Ended<D, S, K>
     ensures status { result.status ≡ status_of result.detail }
 
-    // Each end has its cause. Want of memory alone may come at any time.
+    // Each end has its cause, which is the first: the other counts of faults stand still. Want of memory alone may
+    // come at any time.
     ensures usage { (result.detail ≡ Detail.Usage) ↔ ((is_run (map (λ word. word.now) words.now) || is_init (map (λ word. word.now) words.now)) ≡ false) }
     ensures unread { result.detail ≡ Detail.Unread → (bytes : List ℕ) → S.left source ≡ Some bytes
         → (lines : List Line) → IsScript bytes lines → ⊥ }

@@ -39,7 +39,7 @@ loop-request-preserved g c =
           c.args.world.now c.loop-request.world c.step.new.world c.loop-request.journal.items c.step.new.journal.items (entry_of c.loop-request.world c.in-Some.request)
           runs.legal on.legal c.in-Ok.ensures.pushed runs.world on.world (c.loop-request.invariant.leaves first) (c.in-Ok.ensures.settled (c.loop-request.invariant.stores first));
       still = λ none. absurd (no_end c.loop-request.journal.items (entry_of c.loop-request.world c.in-Some.request) (sym c.in-Ok.ensures.pushed ∙ none));
-      device_counted = c.in-Ok.ensures.device_count ∙ c.loop-request.invariant.device_counted;
+      device_counted = c.in-Ok.ensures.device_count (λ is. cc is) ∙ c.loop-request.invariant.device_counted;
       wrote = λ before told. c.in-Ok.ensures.wrote before (c.loop-request.invariant.wrote before told);
       room = c.step.ensures.capacity;
       counted = c.in-Ok.ensures.counted ∙ c.loop-request.invariant.counted;
@@ -69,3 +69,6 @@ returns-in-Err-clause-still g c idle none =
 
 pub returns-in-Err-clause-last : goal.returns-in-Err-clause-last
 returns-in-Err-clause-last g c other first left now = c.in-Err.ensures.last other (c.loop-request.invariant.stores first) left now
+
+pub returns-in-Err-clause-device_count : goal.returns-in-Err-clause-device_count
+returns-in-Err-clause-device_count g c other = c.in-Err.ensures.device_count other ∙ c.loop-request.invariant.device_counted
