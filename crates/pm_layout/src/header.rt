@@ -4,7 +4,7 @@ ghost use Rattle.byteorder.specs.Endian.{big_bytes};
 ghost use Rattle.pm_layout.specs.Headers.{HasHeaderSpelling, IsHeaderInRange, magic, header_numbers, header_body, header_spelling, magic_at, version_at, digest_kept, next_at, header_at};
 
 use crate::digest;
-use crate::number::{u32_at, u64_at};
+use crate::number::{digest_at, u32_at, u64_at};
 use byteorder::{BigEndian, ByteOrder};
 use thiserror::Error;
 

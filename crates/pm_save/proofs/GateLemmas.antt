@@ -15,12 +15,12 @@ use Rattle.pm_shadow.specs.State.{State, other, with_closed}
 use Rattle.pm_shadow.specs.Images.{Holds, Renews, with_gate}
 use Rattle.pm_shadow.proofs.RunLemmas.{joined}
 use Rattle.pm_shadow.proofs.SlotLemmas.{count_le}
+use Rattle.pm_shadow.proofs.PageLemmas.{page_stays}
 use Rattle.pm_plain.specs.Plain.{Opens}
 use Rattle.pm_plain.specs.Kept.{HasCopy, HasNextCopy}
 use Rattle.pm_plain.proofs.KeptLaws.{held_opens, renewed_opens}
 use Rattle.pm_save.specs.Running.{IsReady, IsTold, Spares, GoesOn}
 use Rattle.pm_save.specs.Saved.{AreStill}
-use Rattle.pm_save.proofs.PutLemmas.{page_stays}
 use Rattle.pm_save.proofs.SpareLemmas.{told_once, goes_by, goes_held}
 use Rattle.pm_save.proofs.StateLemmas.{keeps_same, keeps_closed, ready_closed}
 

@@ -5,7 +5,7 @@ pub mod NameTests
 pub mod Steps
 pub mod HexDigits
 pub mod Hexes
-pub mod Parts
+pub mod LineParts
 pub mod Found
 pub mod Again
 pub mod Lines

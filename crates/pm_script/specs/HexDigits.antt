@@ -6,11 +6,11 @@ abbrev pub IsDigitOf : ℕ → ℕ → Type 0
 IsDigitOf value digit = ((value ≤ 9) × (digit ≡ value + 48)) ⊎ ((10 ≤ value) × (value ≤ 15) × ((digit ≡ value + 87) ⊎ (digit ≡ value + 55)))
 
 -- a byte is 16 times the value of its first digit, and the value of its second
-pub record IsPairOf (byte high low : ℕ) : Type 0 where
+pub record IsPairOf (byte first second : ℕ) : Type 0 where
   pub sixteens : ℕ
   pub ones : ℕ
-  pub high : IsDigitOf sixteens high
-  pub low : IsDigitOf ones low
+  pub high : IsDigitOf sixteens first
+  pub low : IsDigitOf ones second
   pub sum : byte ≡ sixteens * 16 + ones
 
 -- the word has two digits for each of these bytes

@@ -119,9 +119,9 @@ part_of_same k n a b len same =
     let within : i < n = omega (arith, length-take n (drop k a)) in
     get_or-take n (drop k a) i 0 within ∙ get_or-drop k a i 0 ∙ same (k + i) (omega arith) (omega (arith, length-take n (drop k a), length-drop k a)) ∙ sym (get_or-drop k b i 0) ∙ sym (get_or-take n (drop k b) i 0 within))
 
--- what was written is read
-pub part_written : (at : ℕ) (new old : List ℕ) → at + length new ≤ length old → 0 < length new → take (length new) (drop at (written at new old)) ≡ new
-part_written at new old inside some =
+-- what was written is read, also behind the old end
+pub part_written : (at : ℕ) (new old : List ℕ) → 0 < length new → take (length new) (drop at (written at new old)) ≡ new
+part_written at new old some =
     let long = length-written at new old some in
     ext_get_or 0 (take (length new) (drop at (written at new old))) new
     (omega (arith, length-take (length new) (drop at (written at new old)), length-drop at (written at new old)))

@@ -5,7 +5,7 @@ use Rattle.std.proofs.lemmas.List.{append-nil}
 use Rattle.pm_image.specs.declared.catalog.CatalogPage.{CatalogPage}
 use Rattle.pm_image.specs.CatalogPages.{HasCatalogPage, nothing_met}
 use Rattle.sha2.specs.Sha256.{sha256}
-use Rattle.pm_shadow.specs.Pages.{state, disk_of}
+use Rattle.pm_shadow.specs.Pages.{state, disk_of, current_kept}
 use Rattle.pm_plain.specs.Laying.{catalog_page}
 use Rattle.pm_plain.proofs.ChainLaid.{all_first, all_second}
 use Rattle.pm_save.specs.Putting.{IsWritten}
@@ -25,7 +25,7 @@ loop-entries-init g c =
       link = λ none. refl;
       chained = λ puts put. none_chained (state it) (g.D.Disk.contents it.disk) puts _ refl refl put;
       goes = goes_still g.D.Disk.contents g.D.Disk.count (state it) it.disk c.requires.ready;
-      spares = spares_still g.D.Disk.contents g.D.Disk.moment g.D.Disk.since g.D.Disk.image (state it) it.disk (it.sound c.requires.ready.fine) (g.met.D.Disk.only_now it.disk);
+      spares = spares_still g.D.Disk.contents g.D.Disk.moment g.D.Disk.since g.D.Disk.image (state it) it.disk (current_kept it c.requires.ready.fine) (g.met.D.Disk.only_now it.disk);
     }
 
 pub put_page-requires-clause-has : goal.put_page-requires-clause-has

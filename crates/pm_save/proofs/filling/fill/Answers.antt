@@ -2,7 +2,7 @@ use Rattle.std.proofs.Common.{rules, ◌≡◌, ◌++◌, [], ◌∷◌, List, a
 use Rattle.std.specs.FinMap as map
 use Rattle.std.proofs.lemmas.List.{append-nil}
 use Rattle.pm_save.specs.Filling.{IsGoing}
-use Rattle.pm_shadow.specs.Pages.{state, disk_of}
+use Rattle.pm_shadow.specs.Pages.{state, disk_of, current_kept}
 use Rattle.pm_plain.specs.Laying.{Item}
 use Rattle.pm_plain.proofs.CarsLaid.{AreGiven, last_of, given_first, given_others}
 use Rattle.pm_save.proofs.ListLemmas.{moved}
@@ -18,7 +18,7 @@ loop-id-init g c =
       all = refl;
       filling = none_going (state it) (g.D.Disk.contents it.disk) c.new-filling.result c.new-filling.ensures.slots c.new-filling.ensures.used c.new-filling.ensures.entries c.new-filling.ensures.places;
       goes = goes_still g.D.Disk.contents g.D.Disk.count (state it) it.disk c.requires.ready;
-      spares = spares_still g.D.Disk.contents g.D.Disk.moment g.D.Disk.since g.D.Disk.image (state it) it.disk (it.sound c.requires.ready.fine) (g.met.D.Disk.only_now it.disk);
+      spares = spares_still g.D.Disk.contents g.D.Disk.moment g.D.Disk.since g.D.Disk.image (state it) it.disk (current_kept it c.requires.ready.fine) (g.met.D.Disk.only_now it.disk);
     }
 
 pub put_object-requires-clause-ready : goal.put_object-requires-clause-ready

@@ -5,7 +5,7 @@ use Rattle.pm_disk.specs.Writes.{written}
 use Rattle.pm_shadow.specs.declared.page_use.PageUse.TheVariants.{Claimed}
 use Rattle.pm_shadow.specs.State.{State}
 use Rattle.pm_shadow.specs.Images.{place_of}
-use Rattle.pm_shadow.specs.Pages.{state, disk_of}
+use Rattle.pm_shadow.specs.Pages.{state, disk_of, current_kept}
 use Rattle.pm_save.specs.Running.{Spares, GoesOn}
 use Rattle.pm_save.proofs.SpareLemmas.{spares_still, spares_held, goes_held}
 use Rattle.pm_save.proofs.StateLemmas.{keeps_claimed, keeps_written, ready_claimed, ready_written}
@@ -18,7 +18,7 @@ pub returns-in_err-page-clause-spares : goal.returns-in_err-page-clause-spares
 returns-in_err-page-clause-spares g c =
     let it = c.args.pages.now in
     subst (Spares g.D.Disk.contents g.D.Disk.moment g.D.Disk.since (state it) it.disk) (sym c.claim.ensures.still)
-    (spares_still g.D.Disk.contents g.D.Disk.moment g.D.Disk.since g.D.Disk.image (state it) it.disk (it.sound c.requires.ready.fine) (g.met.D.Disk.only_now it.disk))
+    (spares_still g.D.Disk.contents g.D.Disk.moment g.D.Disk.since g.D.Disk.image (state it) it.disk (current_kept it c.requires.ready.fine) (g.met.D.Disk.only_now it.disk))
 
 pub write_page-requires-clause-claimed : goal.write_page-requires-clause-claimed
 write_page-requires-clause-claimed g c =

@@ -1,11 +1,12 @@
 -- First parts of lines, behind what stood before.
-use Rattle.std.proofs.Common.{◌≡◌, ℕ, List, [], ◌++◌, refl, sym, ap, ◌∙◌, append_assoc}
-use Rattle.std.proofs.lemmas.List.{append-nil}
+use Rattle.std.proofs.Common.{◌≡◌, ℕ, List, ◌++◌, sym, ap, ◌∙◌, append_assoc}
+use Rattle.std.specs.Prelude.{OnErr, Result, Ok, Err}
 use Rattle.pm_script.specs.Replies.{StandsPart}
 
--- none of it
-pub none_stands : (before line now : List ℕ) → now ≡ before → StandsPart before line now
-none_stands before line now same = record { done = []; rest = line; split = refl; stands = same ∙ sym (append-nil before) }
+-- P holds after an error, where it holds at all
+pub on_err : {T E P : Type 0} (r : Result T E) → P → OnErr r P
+on_err (Ok x) p = tt
+on_err (Err e) p = p
 
 -- a first piece of it whole
 pub first_stands : (before first rest line now : List ℕ) → first ++ rest ≡ line → now ≡ before ++ first → StandsPart before line now
