@@ -17,7 +17,7 @@ mod tests;
 pub use failed::Failed;
 pub use mem_sink::MemSink;
 pub use mem_source::MemSource;
-pub use reading::{PIECE_BYTES, ReadAll, read_all};
+pub use reading::{ReadAll, read_all};
 pub use sink::Sink;
 pub use source::Source;
 pub use std_sink::StdSink;

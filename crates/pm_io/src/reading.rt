@@ -8,8 +8,8 @@ use std::alloc::{AllocError, Global};
 use std::error::Error;
 use std::fmt;
 
-/// How many bytes are asked of a source at a time, at most.
-pub const PIECE_BYTES: usize = 32_768;
+// How many bytes are asked for at a time.
+const PIECE_BYTES: usize = 32_768;
 
 /// Why a source was not read to its end.
 #[derive(Clone, Copy, Debug, PartialEq, Eq)]
@@ -94,7 +94,7 @@ pub fn read_all<S: Source>(alloc: Global, source: &mut S) -> Result<Vec<u8>, Rea
     ensures too_long { IsErrOf result ReadAll.TooLong → (bytes : List ℕ)
         → S.left source.old ≡ Some bytes → SOURCE_BYTES < length bytes }
     ensures rest { (bytes : List ℕ) → S.left source.old ≡ Some bytes
-        → LeavesEnd bytes (SOURCE_BYTES + PIECE_BYTES) (S.left source.new) }
+        → LeavesEnd bytes (SOURCE_BYTES + 32768) (S.left source.new) }
 {
     let mut all = Vec::new(alloc);
     let mut piece = [0; PIECE_BYTES];

@@ -47,6 +47,7 @@ fn answer_now<D: Disk>(
     ensures device { OnErr result (Stores D.contents D.image (state pages.old) (disk_of pages.old) world.old
         → LeavesOnly D.moment D.since (disk_of pages.old) (disk_of pages.new) (λ left. IsSettled world.old left ⊎ IsInProgress world.old left)) }
     ensures cause { HasCause (D.count (disk_of pages.old)) (D.count (disk_of pages.new)) result }
+    ensures unread { (D.made (disk_of pages.new)).past ≡ (D.made (disk_of pages.old)).past }
     ensures still { world.old.saving ≡ None → disk_of pages.new ≡ disk_of pages.old }
 {
     if is_settle(&request.cmd) {
@@ -84,6 +85,7 @@ pub(crate) fn make_event<D: Disk>(
     ensures device { OnErr result (Stores D.contents D.image (state pages.old) (disk_of pages.old) world.old
         → LeavesOnly D.moment D.since (disk_of pages.old) (disk_of pages.new) (λ left. IsSettled world.old left ⊎ IsInProgress world.old left)) }
     ensures cause { HasCause (D.count (disk_of pages.old)) (D.count (disk_of pages.new)) result }
+    ensures unread { (D.made (disk_of pages.new)).past ≡ (D.made (disk_of pages.old)).past }
     ensures still { world.old.saving ≡ None → disk_of pages.new ≡ disk_of pages.old }
 {
     if journal.reserve(1).is_err() {

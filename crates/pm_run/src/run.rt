@@ -68,6 +68,7 @@ fn step<D: Disk, K: Sink>(
     ensures pushed { OnOk result (journal.new.items ≡ journal.old.items ++ entry_of world.old request ∷ []) }
     ensures device_cause { IsErrOf result Stop.Device → Rose (D.count (disk_of pages.old)) (D.count (disk_of pages.new)) }
     ensures device_count { (IsErrOf result Stop.Device → ⊥) → D.count (disk_of pages.new) ≡ D.count (disk_of pages.old) }
+    ensures unread { (D.made (disk_of pages.new)).past ≡ (D.made (disk_of pages.old)).past }
 
     ensures wrote { OnOk result ((before : List ℕ) → Wrote before (K.written sink.old) out.old.items (text journal.old.items)
         → Wrote before (K.written sink.new) out.new.items (text journal.new.items)) }
@@ -162,6 +163,7 @@ fn run_all<D: Disk, K: Sink>(
         → (left : List ℕ) → D.image (disk_of pages.new) left → IsSettled world.new left ⊎ IsInProgress world.new left }
     ensures device_cause { IsErrOf result Stop.Device → Rose (D.count (disk_of pages.old)) (D.count (disk_of pages.new)) }
     ensures device_count { (IsErrOf result Stop.Device → ⊥) → D.count (disk_of pages.new) ≡ D.count (disk_of pages.old) }
+    ensures unread { (D.made (disk_of pages.new)).past ≡ (D.made (disk_of pages.old)).past }
     ensures still { world.old.saving ≡ None → journal.new.items ≡ [] → disk_of pages.new ≡ disk_of pages.old }
 
     ensures wrote { OnOk result ((before : List ℕ) → K.written sink.old ≡ Some before
@@ -216,6 +218,8 @@ pub fn run_lines<D: Disk, K: Sink>(
         → (left : List ℕ) → D.image (disk_of pages.new) left → IsSettled world.new left ⊎ IsInProgress world.new left }
     ensures device_cause { IsErrOf result Stop.Device → Rose (D.count (disk_of pages.old)) (D.count (disk_of pages.new)) }
     ensures device_count { (IsErrOf result Stop.Device → ⊥) → D.count (disk_of pages.new) ≡ D.count (disk_of pages.old) }
+    // No read reached past the end of what the disk told.
+    ensures unread { (D.made (disk_of pages.new)).past ≡ (D.made (disk_of pages.old)).past }
     // Where no event was made the disk was not called.
     ensures still { world.old.saving ≡ None → journal.new.items ≡ [] → disk_of pages.new ≡ disk_of pages.old }
 

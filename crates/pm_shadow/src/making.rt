@@ -69,6 +69,7 @@ fn write_pages<D: Disk>(
         (with_gate 0 open_gate (written (place_of 2) second.now (written (place_of 1) first.now (written 0 zeroth.now bytes)))))) }
     ensures only { OnOk result (IfTold (D.contents disk.new) (λ told. (left : List ℕ) → D.image disk.new left → left ≡ told)) }
     ensures cause { HasCause (D.count disk.old) (D.count disk.new) result }
+    ensures past { (D.made disk.new).past ≡ (D.made disk.old).past }
 {
     disk.write_at(0, zeroth)?;
     disk.write_at(PAGE_BYTES as u64, first)?;
@@ -82,6 +83,7 @@ fn make<D: Disk>(alloc: Global, disk: &mut D) -> Result<Result<(), DiskFailed>, 
     ensures blank { IfOk result (λ made. OnOk made (IfTold (D.contents disk.old) (λ bytes. length bytes ≡ 0 → D.contents disk.new ≡ Some blank_store))) }
     ensures only { IfOk result (λ made. OnOk made (IfTold (D.contents disk.new) (λ told. (left : List ℕ) → D.image disk.new left → left ≡ told))) }
     ensures cause { IfOk result (λ made. HasCause (D.count disk.old) (D.count disk.new) made) }
+    ensures past { (D.made disk.new).past ≡ (D.made disk.old).past }
     ensures still { OnErr result (disk.new ≡ disk.old) }
 {
     let second = catalog_page(alloc)?;
@@ -107,6 +109,7 @@ pub fn init<D: Disk>(alloc: Global, disk: &mut D) -> Result<(), InitFault>
     ensures cause { IfErr result (IsInitFault (D.count disk.old) (D.count disk.new)) }
     // Whatever it answers, a disk that told of some byte is as it was.
     ensures kept { KeepsBytes (D.contents disk.old) (D.contents disk.new) (D.image disk.old) (D.image disk.new) }
+    ensures past { (D.made disk.new).past ≡ (D.made disk.old).past }
     ensures still { IfErr result (λ fault. UnlessFailed fault (D.contents disk.new ≡ D.contents disk.old)) }
     ensures images { IfErr result (λ fault. UnlessFailed fault (SameImages (D.image disk.old) (D.image disk.new))) }
 {

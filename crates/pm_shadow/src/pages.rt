@@ -216,6 +216,7 @@ impl<D: Disk> Pages<D> {
         ensures torn { OnErr result (TornIfTold (gate_place (other (state self.old).slot)) 1 (D.contents (disk_of self.old)) (D.contents (disk_of self.new))) }
         ensures leaves { IfTold (D.contents (disk_of self.old)) (λ told. LeavesOnly D.moment D.since (disk_of self.old) (disk_of self.new) (Holds (state self.old) told)) }
         ensures cause { HasCause (D.count (disk_of self.old)) (D.count (disk_of self.new)) result }
+        ensures past { (D.made (disk_of self.new)).past ≡ (D.made (disk_of self.old)).past }
     {
         if self.closed {
             return Ok(());
@@ -242,6 +243,7 @@ impl<D: Disk> Pages<D> {
         ensures leaves { IfTold (D.contents (disk_of self.old)) (λ told. LeavesOnly D.moment D.since (disk_of self.old) (disk_of self.new)
             (λ image. Holds (state self.old) told image ⊎ Renews (state self.old) header.now told image)) }
         ensures cause { HasCause (D.count (disk_of self.old)) (D.count (disk_of self.new)) result }
+        ensures past { (D.made (disk_of self.new)).past ≡ (D.made (disk_of self.old)).past }
     {
         let slot = 1 - self.slot;
         self.failed = true;

@@ -50,6 +50,7 @@ fn run_bytes<D: Disk, S: Source, K: Sink>(
     ensures disk { LeavesDisk D.contents D.image D.moment D.since disk result.disk result.detail result.journal.items }
     ensures uncalled { IsBeforeDisk result.detail → result.disk ≡ disk }
     ensures device { ShowsDevice result.detail (D.count disk) (D.count result.disk) }
+    ensures unread { (D.made result.disk).past ≡ (D.made disk).past }
 
     ensures quiet { IsBeforeRun result.detail → result.sink ≡ sink }
     ensures written { result.detail ≡ Detail.Fine → (before : List ℕ) → K.written sink ≡ Some before
@@ -96,6 +97,7 @@ fn run_source<D: Disk, S: Source, K: Sink>(
     ensures disk { LeavesDisk D.contents D.image D.moment D.since disk result.disk result.detail result.journal.items }
     ensures uncalled { IsBeforeDisk result.detail → result.disk ≡ disk }
     ensures device { ShowsDevice result.detail (D.count disk) (D.count result.disk) }
+    ensures unread { (D.made result.disk).past ≡ (D.made disk).past }
 
     ensures quiet { IsBeforeRun result.detail → result.sink ≡ sink }
     ensures written { result.detail ≡ Detail.Fine → (before : List ℕ) → K.written sink ≡ Some before
@@ -150,6 +152,8 @@ pub fn pmos<R: AllocGlobal, D: Disk, S: Source, K: Sink>(
     ensures reading { ShowsReading result.detail (S.count source) (S.count result.source) }
     ensures writing { ShowsWriting result.detail (K.count sink) (K.count result.sink) }
     ensures device { ShowsDevice result.detail (D.count disk) (D.count result.disk) }
+    // Nobody asks for a read past the end of what the disk tells.
+    ensures unread { (D.made result.disk).past ≡ (D.made disk).past }
     // A store is refused by the rule that its bytes fail, and only where they fail one; where it was opened, they fail none.
     ensures refused { (bytes : List ℕ) → D.contents disk ≡ Some bytes → IsRefusedFor bytes result.detail }
     ensures rule { NamesRule result.detail }

@@ -7,12 +7,12 @@ use Rattle.pm_save.proofs.settling.close_gate.Goals as goal
 pub returns-in_err-close_gate-clause-spares : goal.returns-in_err-close_gate-clause-spares
 returns-in_err-close_gate-clause-spares g c =
     let it = c.args.pages.now in
-    spares_held g.D.Disk.contents g.D.Disk.moment g.D.Disk.since (state it) (state it) it.disk (disk_of c.close_gate.new.self) (keeps_same (state it)) c.close_gate.ensures.leaves
+    spares_held g.D.Disk.contents g.D.Disk.moment g.D.Disk.since g.D.Disk.made (state it) (state it) it.disk (disk_of c.close_gate.new.self) (keeps_same (state it)) c.close_gate.ensures.leaves c.close_gate.ensures.past
 
 pub returns-clause-spares : goal.returns-clause-spares
 returns-clause-spares g c =
     let it = c.args.pages.now in
-    spares_held g.D.Disk.contents g.D.Disk.moment g.D.Disk.since (state it) (state it) it.disk (disk_of c.close_gate.new.self) (keeps_same (state it)) c.close_gate.ensures.leaves
+    spares_held g.D.Disk.contents g.D.Disk.moment g.D.Disk.since g.D.Disk.made (state it) (state it) it.disk (disk_of c.close_gate.new.self) (keeps_same (state it)) c.close_gate.ensures.leaves c.close_gate.ensures.past
 
 pub returns-clause-next : goal.returns-clause-next
 returns-clause-next g c =
