@@ -6,4 +6,5 @@ pub mod Steps
 pub mod DiskSteps
 pub mod CrashLemmas
 pub mod RunLemmas
+pub mod MadeLemmas
 pub mod Crossing

@@ -16,6 +16,14 @@ module _ {D : Type 0} (moment : D → ℕ) (since : D → ℕ → List ℕ → T
     before = λ t image le left. ⊎_elim (so_far.before t image le) (λ now. inr (here image now)) (time.nothing_else t image (omega (arith, le, so_far.later)) left);
   }
 
+  -- one run behind another, with images of one kind
+  pub joined : (old mid new : D) (P : List ℕ → Type 0) → LeavesOnly moment since old mid P → LeavesOnly moment since mid new P → LeavesOnly moment since old new P
+  joined old mid new P one two = record {
+    later = omega (arith, one.later, two.later);
+    each = λ image left. ⊎_elim (one.each image) (λ p. p) (two.before (moment old) image one.later left);
+    before = λ t image le left. ⊎_elim (one.before t image le) (λ p. inr p) (two.before t image (omega (arith, le, one.later)) left);
+  }
+
   -- what has P has Q
   pub weaker : (old new : D) (P Q : List ℕ → Type 0) → LeavesOnly moment since old new P → ((image : List ℕ) → P image → Q image) → LeavesOnly moment since old new Q
   weaker old new P Q so_far goes = record {

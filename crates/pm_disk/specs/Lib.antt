@@ -2,6 +2,7 @@ pub mod Images
 pub mod Writes
 pub mod Disk
 pub mod Reads
+pub mod Made
 pub mod Replay
 pub mod History
 pub mod Sound

@@ -3,6 +3,7 @@ use Rattle.std.specs.Prelude.{◌≡◌, ◌⊎◌, ℕ, ◌+◌, Bool, true, fa
 use Rattle.pm_disk.specs.Disk.{IsCounted}
 use Rattle.pm_disk.specs.Images.{IsImage}
 use Rattle.pm_disk.specs.Replay.{Held, held_after, is_listed}
+use Rattle.pm_disk.specs.Made.{Made, made_in, numbers}
 use Rattle.pm_disk.specs.History.{LeftSince}
 use Rattle.pm_disk.specs.declared.call.DiskCall.{DiskCall}
 use Rattle.pm_disk.specs.declared.mem_disk.MemDisk.{MemDisk}
@@ -37,11 +38,15 @@ MayLeave disk = let held = held_of disk in IsImage held.synced held.ranges
 
 -- the number of its calls, of which those that were refused memory are some
 abbrev pub moment_of : MemDisk → ℕ
-moment_of disk = length disk.moments.marks
+moment_of disk = length (numbers disk.moments.marks)
 
 -- a crash at some moment from that one on may have left this
 abbrev pub MayHaveLeft : MemDisk → ℕ → List ℕ → Type 0
-MayHaveLeft disk = LeftSince (start_of disk) (fails_of disk) (calls_of disk) disk.moments.marks
+MayHaveLeft disk = LeftSince (start_of disk) (fails_of disk) (calls_of disk) (numbers disk.moments.marks)
+
+-- how many syncs, writes and reads past the end were made, whatever they answered
+abbrev pub made_of : MemDisk → Made
+made_of disk = made_in disk.moments.marks
 
 -- how many calls have failed
 abbrev pub count_of : MemDisk → ℕ

@@ -1,6 +1,7 @@
 ghost use Rattle.std.specs.Prelude.{◌≡◌, ◌+◌, ◌-◌, ◌^◌, ◌<◌, ◌≤◌, ℕ, List, Option, Some, length, take, drop, option_map, IfOk, OnOk, OnErr};
 ghost use Rattle.pm_disk.specs.Images.{IsBytes};
 ghost use Rattle.pm_disk.specs.Writes.{written, TornIfTold};
+ghost use Rattle.pm_disk.specs.Made.{Made, with_sync, with_write, with_read};
 ghost use Rattle.pm_disk.specs.Disk.{IfTold, SameImages, OnlyTorn, AllTorn, Elapses, HasCause};
 
 use std::error::Error;
@@ -35,6 +36,9 @@ pub trait Disk {
     /// How many calls have failed. At 2^64 - 1 it stays, and has risen all the same.
     ghost count: { Self → ℕ };
 
+    /// How many syncs, writes and reads past the end of what the disk told were made, whatever they answered.
+    ghost made: { Self → Made };
+
     /// The count of failed calls. It takes no memory.
     fn faults(&self) -> u64
         ensures { result ≡ count self.now };
@@ -45,7 +49,8 @@ pub trait Disk {
         ensures contents { contents self.new ≡ contents self.old }
         ensures images { SameImages (image self.old) (image self.new) }
         ensures time { Elapses (moment self.old) (moment self.new) (since self.old) (since self.new) (image self.new) }
-        ensures cause { HasCause (count self.old) (count self.new) result };
+        ensures cause { HasCause (count self.old) (count self.new) result }
+        ensures made { made self.new ≡ made self.old };
 
     /// Fills `into` with the bytes from place `at` on. A read past the end is a failure, after which
     /// `into` may hold any bytes.
@@ -55,7 +60,8 @@ pub trait Disk {
         ensures contents { contents self.new ≡ contents self.old }
         ensures images { SameImages (image self.old) (image self.new) }
         ensures time { Elapses (moment self.old) (moment self.new) (since self.old) (since self.new) (image self.new) }
-        ensures cause { HasCause (count self.old) (count self.new) result };
+        ensures cause { HasCause (count self.old) (count self.new) result }
+        ensures made { made self.new ≡ with_read (contents self.old) at (length into.old) (made self.old) };
 
     /// Writes over the bytes from place `at` on, and past the end; a gap before `at` reads as 0. A
     /// write of no bytes changes nothing. Until the next successful sync a crash may leave any bytes in
@@ -68,7 +74,8 @@ pub trait Disk {
         ensures all_torn { OnOk result (AllTorn at (length from.now) (image self.old) (image self.new)) }
         ensures none_lost { (bytes : List ℕ) → image self.old bytes → image self.new bytes }
         ensures time { Elapses (moment self.old) (moment self.new) (since self.old) (since self.new) (image self.new) }
-        ensures cause { HasCause (count self.old) (count self.new) result };
+        ensures cause { HasCause (count self.old) (count self.new) result }
+        ensures made { made self.new ≡ with_write (made self.old) };
 
     /// After Ok a crash leaves what a read answers, until the next write.
     fn sync(&mut self) -> Result<(), DiskFailed>
@@ -77,7 +84,8 @@ pub trait Disk {
         ensures no_more { (bytes : List ℕ) → image self.new bytes → image self.old bytes }
         ensures failed { OnErr result (SameImages (image self.old) (image self.new)) }
         ensures time { Elapses (moment self.old) (moment self.new) (since self.old) (since self.new) (image self.new) }
-        ensures cause { HasCause (count self.old) (count self.new) result };
+        ensures cause { HasCause (count self.old) (count self.new) result }
+        ensures made { made self.new ≡ with_sync (made self.old) };
 
     /// This moment is one of those since an earlier one.
     ghost counts_now: { (disk : Self) (t : ℕ) (bytes : List ℕ) → t ≤ moment disk → image disk bytes → since disk t bytes };

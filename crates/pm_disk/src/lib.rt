@@ -4,6 +4,7 @@
 mod call;
 mod crash;
 mod disk;
+mod mark;
 mod mem_disk;
 mod moments;
 mod noting;
@@ -15,6 +16,7 @@ mod tests;
 
 pub use call::DiskCall;
 pub use disk::{Disk, DiskFailed};
+pub use mark::{CallKind, Mark};
 pub use mem_disk::MemDisk;
 pub use moments::Moments;
 pub use ordered::write_in_order;

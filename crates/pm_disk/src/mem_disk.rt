@@ -1,12 +1,13 @@
 ghost use Rattle.std.specs.Prelude.{◌≡◌, length};
 ghost use Rattle.pm_disk.specs.Replay.{held_after};
+ghost use Rattle.pm_disk.specs.Made.{numbers};
 ghost use Rattle.pm_disk.specs.History.{IsMarked};
 ghost use Rattle.pm_disk.specs.Sound.{IsSound, ArePlaced, shown};
 
 use crate::crash::image_after;
 use crate::noting::{note, note_write, settle};
-use crate::reading::{copy_out, is_past};
-use crate::{Disk, DiskCall, DiskFailed, Moments};
+use crate::reading::{copy_out, is_past, kind_of};
+use crate::{CallKind, Disk, DiskCall, DiskFailed, Mark, Moments};
 use pm_types::NoMemory;
 use std::alloc::Global;
 
@@ -25,15 +26,16 @@ pub struct MemDisk {
     ghost shows: { shown start.items changed ≡ (held_after start.items fails.items calls.items).contents },
     ghost sound: { IsSound (held_after start.items fails.items calls.items) },
     ghost placed: { ArePlaced calls.items },
-    ghost marked: { IsMarked moments.marks (length calls.items) },
+    ghost marked: { IsMarked (numbers moments.marks) (length calls.items) },
 }
 
 impl MemDisk {
     ghost use Rattle.std.specs.Prelude.{◌≡◌, ◌+◌, ◌^◌, ◌<◌, ◌||◌, [], length, IfOk};
     ghost use Rattle.pm_disk.specs.Replay.{picked};
+    ghost use Rattle.pm_disk.specs.Made.{none_made, with_write, with_kind};
     ghost use Rattle.pm_disk.specs.Disk.{SameImages, Elapses, HasCause};
     ghost use Rattle.pm_disk.specs.Outcomes.{IsQuiet, IsLook};
-    ghost use Rattle.pm_disk.specs.MemDisk.{start_of, fails_of, calls_of, refused_of, held_of, contents_of, MayLeave, moment_of, MayHaveLeft, count_of, fails_next, Answers};
+    ghost use Rattle.pm_disk.specs.MemDisk.{start_of, fails_of, calls_of, refused_of, held_of, contents_of, MayLeave, moment_of, MayHaveLeft, count_of, made_of, fails_next, Answers};
 
     /// A disk that holds these bytes, all of them synced, and that fails the calls of these numbers.
     /// It takes no memory.
@@ -44,6 +46,7 @@ impl MemDisk {
         ensures moment { moment_of result ≡ 0 }
         ensures count { count_of result ≡ 0 }
         ensures refused { refused_of result ≡ 0 }
+        ensures made { made_of result ≡ none_made }
     {
         let alloc = *contents.allocator();
         MemDisk {
@@ -93,15 +96,16 @@ impl MemDisk {
     }
 
     /// Makes a call that writes nothing. `past` says that it fails in any case.
-    fn pass(&mut self, past: bool, call: DiskCall) -> Result<(), DiskFailed>
+    fn pass(&mut self, past: bool, kind: CallKind, call: DiskCall) -> Result<(), DiskFailed>
         requires { IsQuiet call }
         ensures exact { Answers (fails_next self.old || past) call self.old self.new result }
         ensures contents { contents_of self.new ≡ contents_of self.old }
         ensures looks { IsLook call → SameImages (MayLeave self.old) (MayLeave self.new) }
         ensures time { Elapses (moment_of self.old) (moment_of self.new) (MayHaveLeft self.old) (MayHaveLeft self.new) (MayLeave self.new) }
         ensures cause { HasCause (count_of self.old) (count_of self.new) result }
+        ensures made { made_of self.new ≡ with_kind kind (made_of self.old) }
     {
-        let mark = self.calls.len() as u64;
+        let mark = Mark { number: self.calls.len() as u64, kind };
         self.moments = self.moments.after(&mark);
         let outcome = note(&self.fails, past, &mut self.calls, call);
         settle(outcome, &mut self.faults, &mut self.refused)
@@ -113,8 +117,9 @@ impl MemDisk {
         ensures exact { Answers (fails_next self.old) (DiskCall.Write at from.now) self.old self.new result }
         ensures time { Elapses (moment_of self.old) (moment_of self.new) (MayHaveLeft self.old) (MayHaveLeft self.new) (MayLeave self.new) }
         ensures cause { HasCause (count_of self.old) (count_of self.new) result }
+        ensures made { made_of self.new ≡ with_write (made_of self.old) }
     {
-        let mark = self.calls.len() as u64;
+        let mark = Mark { number: self.calls.len() as u64, kind: CallKind::Write };
         self.moments = self.moments.after(&mark);
         let outcome = note_write(
             &self.start,
@@ -131,8 +136,9 @@ impl MemDisk {
 impl Disk for MemDisk {
     ghost use Rattle.std.specs.Prelude.{◌≡◌, ◌||◌, ◌+◌, ◌-◌, ◌^◌, ◌≤◌, ℕ, List, Some, false, length, take, drop, option_map, IfOk, OnOk, OnErr};
     ghost use Rattle.pm_disk.specs.Writes.{written, TornIfTold};
+    ghost use Rattle.pm_disk.specs.Made.{with_sync, with_write, with_read};
     ghost use Rattle.pm_disk.specs.Disk.{IfTold, SameImages, OnlyTorn, AllTorn, Elapses, HasCause};
-    ghost use Rattle.pm_disk.specs.MemDisk.{start_of, fails_of, calls_of, contents_of, MayLeave, moment_of, MayHaveLeft, count_of, fails_next, Answers};
+    ghost use Rattle.pm_disk.specs.MemDisk.{start_of, fails_of, calls_of, contents_of, MayLeave, moment_of, MayHaveLeft, count_of, made_of, fails_next, Answers};
     ghost use Rattle.pm_disk.specs.Reads.{reads_past};
     ghost use Rattle.pm_disk.specs.MemDiskLaws.{counts_now_of, only_now_of, earlier_of, contents_stay_of, leaves_bytes_of};
 
@@ -145,6 +151,8 @@ impl Disk for MemDisk {
     ghost since = { MayHaveLeft };
 
     ghost count = { count_of };
+
+    ghost made = { made_of };
 
     ghost counts_now = { counts_now_of };
 
@@ -166,9 +174,10 @@ impl Disk for MemDisk {
         ensures images { SameImages (MayLeave self.old) (MayLeave self.new) }
         ensures time { Elapses (moment_of self.old) (moment_of self.new) (MayHaveLeft self.old) (MayHaveLeft self.new) (MayLeave self.new) }
         ensures cause { HasCause (count_of self.old) (count_of self.new) result }
+        ensures made { made_of self.new ≡ made_of self.old }
         ensures exact { Answers (fails_next self.old) DiskCall.Len self.old self.new result }
     {
-        self.pass(false, DiskCall::Len)?;
+        self.pass(false, CallKind::Look, DiskCall::Len)?;
         Ok(self.contents().len() as u64)
     }
 
@@ -180,11 +189,13 @@ impl Disk for MemDisk {
         ensures images { SameImages (MayLeave self.old) (MayLeave self.new) }
         ensures time { Elapses (moment_of self.old) (moment_of self.new) (MayHaveLeft self.old) (MayHaveLeft self.new) (MayLeave self.new) }
         ensures cause { HasCause (count_of self.old) (count_of self.new) result }
+        ensures made { made_of self.new ≡ with_read (Some (contents_of self.old)) at (length into.old) (made_of self.old) }
         ensures exact { Answers (fails_next self.old || reads_past at (length into.old) (contents_of self.old)) (DiskCall.Read at (length into.old)) self.old self.new result }
     {
         let past = is_past(self.contents(), at, into);
         self.pass(
             past,
+            kind_of(past),
             DiskCall::Read {
                 at,
                 len: into.len() as u64,
@@ -204,6 +215,7 @@ impl Disk for MemDisk {
         ensures none_lost { (bytes : List ℕ) → MayLeave self.old bytes → MayLeave self.new bytes }
         ensures time { Elapses (moment_of self.old) (moment_of self.new) (MayHaveLeft self.old) (MayHaveLeft self.new) (MayLeave self.new) }
         ensures cause { HasCause (count_of self.old) (count_of self.new) result }
+        ensures made { made_of self.new ≡ with_write (made_of self.old) }
         ensures exact { Answers (fails_next self.old) (DiskCall.Write at from.now) self.old self.new result }
     {
         self.put(at, from)
@@ -216,8 +228,9 @@ impl Disk for MemDisk {
         ensures failed { OnErr result (SameImages (MayLeave self.old) (MayLeave self.new)) }
         ensures time { Elapses (moment_of self.old) (moment_of self.new) (MayHaveLeft self.old) (MayHaveLeft self.new) (MayLeave self.new) }
         ensures cause { HasCause (count_of self.old) (count_of self.new) result }
+        ensures made { made_of self.new ≡ with_sync (made_of self.old) }
         ensures exact { Answers (fails_next self.old) DiskCall.Sync self.old self.new result }
     {
-        self.pass(false, DiskCall::Sync)
+        self.pass(false, CallKind::Sync, DiskCall::Sync)
     }
 }

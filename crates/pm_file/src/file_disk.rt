@@ -1,7 +1,7 @@
 use crate::StoreFile;
 use crate::calls::{counted, measure, read, sync, write};
 use crate::opening::Held;
-use pm_disk::{Disk, DiskFailed, Moments};
+use pm_disk::{CallKind, Disk, DiskFailed, Mark, Moments};
 use pm_types::NoMemory;
 use std::alloc::Global;
 use std::fs::Files;
@@ -54,6 +54,7 @@ where
 {
     ghost use Rattle.std.specs.Prelude.{length};
     ghost use Rattle.pm_disk.specs.Images.{IsBytes};
+    ghost use Rattle.pm_disk.specs.Made.{made_in};
     ghost use Rattle.pm_file.specs.Untold.{untold, not_told};
 
     ghost contents = { λ _. untold };
@@ -65,6 +66,8 @@ where
     ghost since = { λ _ _. IsBytes };
 
     ghost count = { λ disk. disk.faults };
+
+    ghost made = { λ disk. made_in disk.moments.marks };
 
     ghost counts_now = { λ disk t bytes le is. is };
 
@@ -81,25 +84,25 @@ where
     }
 
     fn len(&mut self) -> Result<u64, DiskFailed> {
-        self.moments = self.moments.after(&0);
+        self.moments = self.moments.after(&Mark { number: 0, kind: CallKind::Look });
         let outcome = measure(&self.rt, &self.path, &mut self.file);
         counted(outcome, &mut self.faults)
     }
 
     fn read_at(&mut self, at: u64, into: &mut [u8]) -> Result<(), DiskFailed> {
-        self.moments = self.moments.after(&0);
+        self.moments = self.moments.after(&Mark { number: 0, kind: CallKind::Look });
         let outcome = read(&self.rt, &self.path, &mut self.file, at, into);
         counted(outcome, &mut self.faults)
     }
 
     fn write_at(&mut self, at: u64, from: &[u8]) -> Result<(), DiskFailed> {
-        self.moments = self.moments.after(&0);
+        self.moments = self.moments.after(&Mark { number: 0, kind: CallKind::Write });
         let outcome = write(&self.rt, &self.path, &mut self.file, at, from);
         counted(outcome, &mut self.faults)
     }
 
     fn sync(&mut self) -> Result<(), DiskFailed> {
-        self.moments = self.moments.after(&0);
+        self.moments = self.moments.after(&Mark { number: 0, kind: CallKind::Sync });
         let outcome = sync(&self.rt, &self.path, &mut self.file);
         counted(outcome, &mut self.faults)
     }

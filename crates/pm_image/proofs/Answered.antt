@@ -2,7 +2,7 @@
 use Rattle.std.proofs.Common.{◌≡◌, ℕ, Result, Ok, Err, refl, sym, subst, ap}
 use Rattle.pm_image.specs.declared.fault.PageFault.{PageFault}
 use Rattle.pm_image.specs.declared.fault.PageFault.TheVariants.{Malformed, Memory}
-use Rattle.pm_image.specs.Steps.{◌>>=◌}
+use Rattle.pm_base.specs.Results.{◌>>=◌}
 use Rattle.pm_image.specs.Answers.{answer, Gives}
 
 exact_gives : {X : Type 0} (read : Result X ℕ) → Gives (answer read) read
@@ -17,8 +17,3 @@ given answered read exact = subst (λ (r : Result _ PageFault). Gives r read) (s
 pub first_fault : {A B : Type 0} (fault : PageFault) (read : Result A ℕ) (f : A → Result B ℕ) → Gives (Err fault) read → Gives (Err fault) (read >>= f)
 first_fault (Malformed at) read f is = ap (λ (r : Result _ ℕ). r >>= f) is
 first_fault Memory read f is = tt
-
--- the value of a step that did not fail
-pub bind_ok : {A B E : Type 0} (read : Result A E) (f : A → Result B E) (y : B) → (read >>= f) ≡ Ok y → (x : A) × (read ≡ Ok x) × (f x ≡ Ok y)
-bind_ok (Ok x) f y e = (x, refl, e)
-bind_ok (Err at) f y e = absurd cc

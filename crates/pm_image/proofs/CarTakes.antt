@@ -10,14 +10,15 @@ use Rattle.pm_types.specs.declared.object.Slot.TheVariants.{Live, Moved}
 use Rattle.pm_layout.specs.declared.fault.LayoutFault.{LayoutFault}
 use Rattle.pm_layout.specs.Spelling.{spelling, HasSpelling, Stands}
 use Rattle.pm_layout.specs.Reading.{number_from, slot_at}
-use Rattle.pm_layout.proofs.Steps.{ok_is, guard_ok, neither}
+use Rattle.pm_layout.proofs.Steps.{neither}
+use Rattle.pm_base.proofs.Results.{ok_same, if_ok, bind_ok}
 use Rattle.pm_layout.proofs.Numbers.{IsBytes, wide_2, wide_4, wide_8}
 use Rattle.pm_layout.proofs.Texts.{Stands-then, Stands-end, number_stands}
 use Rattle.pm_layout.proofs.Slots.{slot_takes}
 use Rattle.pm_image.specs.declared.car.CarImage.{CarImage}
-use Rattle.pm_image.specs.Steps.{◌>>=◌, tested, magic_at, rest_at}
+use Rattle.pm_image.specs.Steps.{tested, magic_at, rest_at}
+use Rattle.pm_base.specs.Results.{◌>>=◌}
 use Rattle.pm_image.specs.CarPages.{CarScope, Numbers, HasCarPage, Ascend, AreFree, car_at, car_magic, car_spelling, is_named, is_short, is_taken, last_slot, numbered, padded, record_at, record_spelling, records_at, with_identity}
-use Rattle.pm_image.proofs.Answered.{bind_ok}
 use Rattle.pm_image.proofs.PageEnds.{tested_ok, magic_takes, rest_takes}
 use Rattle.pm_image.proofs.SlotIdents.{is_live_slot, ident_of, slot_front}
 use Rattle.pm_image.proofs.CarSizes.{records_length}
@@ -35,7 +36,7 @@ pub record IsRecord (scope : CarScope) (met : Numbers) (least : ℕ) (page : Lis
   pub has : HasSpelling scope.most slot
 
 numbered_ok : (place number : ℕ) (read : Result (Slot × ℕ) LayoutFault) (x : (ℕ × Slot) × ℕ) → numbered place number read ≡ Ok x → (y : Slot × ℕ) × (read ≡ Ok y) × (((number, y.0), y.1) ≡ x)
-numbered_ok place number (Ok (slot, end)) x e = ((slot, end), refl, ok_is ((number, slot), end) x e)
+numbered_ok place number (Ok (slot, end)) x e = ((slot, end), refl, ok_same ((number, slot), end) x e)
 numbered_ok place number (Err fault) x e = absurd cc
 
 -- the second of two tests did not hold where the first did
@@ -49,9 +50,9 @@ record_takes scope met least page place x fits is =
     let number = number_from 4 page place in
     let read = slot_at scope.most page (place + 4) in
     let id = number_from 8 page (place + 5) in
-    let g = guard_ok (is_short read || (ltb number least || ltb last_slot number)) place (cond (eqb (get_or page (place + 4) 0) 1 && is_taken scope.next met id) (Err (place + 5)) (numbered place number read)) x is in
+    let g = if_ok (is_short read || (ltb number least || ltb last_slot number)) place (cond (eqb (get_or page (place + 4) 0) 1 && is_taken scope.next met id) (Err (place + 5)) (numbered place number read)) x is in
     let range = neither (ltb number least) (ltb last_slot number) (neither (is_short read) (ltb number least || ltb last_slot number) g.0).1 in
-    let h = guard_ok (eqb (get_or page (place + 4) 0) 1 && is_taken scope.next met id) (place + 5) (numbered place number read) x g.1 in
+    let h = if_ok (eqb (get_or page (place + 4) 0) 1 && is_taken scope.next met id) (place + 5) (numbered place number read) x g.1 in
     let n = numbered_ok place number read x h.1 in
     let front = slot_front scope.most page (place + 4) n.0 n.1 in
     let spelled = slot_takes scope.most page (place + 4) n.0 fits n.1 in
@@ -100,14 +101,14 @@ records_take : (scope : CarScope) (page : List ℕ) (n : ℕ) (met : Numbers) (l
 unfolding records_at
 records_take scope page zero met least place x fits inside read =
     let none : List (ℕ × Slot) × ℕ = ([], place) in
-    subst (λ (y : List (ℕ × Slot) × ℕ). RecordsRead scope met least page place 0 y) {x = none} (ok_is none x read) (record { records = record { stands = record { inside = inside; parts = refl }; ascend = tt; free = tt; slots = tt }; counted = refl })
+    subst (λ (y : List (ℕ × Slot) × ℕ). RecordsRead scope met least page place 0 y) {x = none} (ok_same none x read) (record { records = record { stands = record { inside = inside; parts = refl }; ascend = tt; free = tt; slots = tt }; counted = refl })
 records_take scope page (suc n) met least place x fits inside read =
     let a = bind_ok (record_at scope met least page place) (λ first. records_at scope (with_identity met first.0.1) (first.0.0 + 1) page n first.1 >>= λ others. Ok (first.0 ∷ others.0, others.1)) x read in
     let b = bind_ok (records_at scope (with_identity met a.0.0.1) (a.0.0.0 + 1) page n a.0.1) (λ others. Ok (a.0.0 ∷ others.0, others.1)) x a.2 in
     let made : List (ℕ × Slot) × ℕ = (a.0.0 ∷ b.0.0, b.0.1) in
     let first = record_takes scope met least page place a.0 fits a.1 in
     let others = records_take scope page n (with_identity met a.0.0.1) (a.0.0.0 + 1) a.0.1 b.0 fits first.stands.inside b.1 in
-    subst (λ (y : List (ℕ × Slot) × ℕ). RecordsRead scope met least page place (suc n) y) {x = made} (ok_is made x b.2) (record_first scope met least page place n a.0.0.0 a.0.0.1 a.0.1 b.0.1 b.0.0 first others)
+    subst (λ (y : List (ℕ × Slot) × ℕ). RecordsRead scope met least page place (suc n) y) {x = made} (ok_same made x b.2) (record_first scope met least page place n a.0.0.0 a.0.0.1 a.0.1 b.0.1 b.0.0 first others)
 
 -- what a car is that was read
 pub record IsCar (scope : CarScope) (met : Numbers) (page : List ℕ) (car : CarImage) : Type 0 where
@@ -153,4 +154,4 @@ car_takes scope met page car len fits read =
       has = record { fits = omega (arith, records_length c.0.0); ascend = records.records.ascend; free = records.records.free; slots = records.records.slots };
       named = tested_ok (is_named scope.number number) 4 b.0 b.1;
     } in
-    subst (λ (k : CarImage). IsCar scope met page k) {x = made c.0.0} (ok_is (made c.0.0) car d.2) is
+    subst (λ (k : CarImage). IsCar scope met page k) {x = made c.0.0} (ok_same (made c.0.0) car d.2) is

@@ -10,7 +10,8 @@ use Rattle.pm_types.specs.declared.address.Addr.{Addr}
 use Rattle.pm_types.specs.declared.limits.TheConstants.{PAGE_BYTES, NAME_BYTES}
 use Rattle.pm_layout.specs.Spelling.{address, IsAddress, Stands}
 use Rattle.pm_layout.specs.Reading.{number_from, address_at}
-use Rattle.pm_layout.proofs.Steps.{ok_is, other_than_zero}
+use Rattle.pm_layout.proofs.Steps.{other_than_zero}
+use Rattle.pm_base.proofs.Results.{ok_same}
 use Rattle.pm_layout.proofs.Texts.{Stands-split, Stands-end, number_is, byte_is}
 use Rattle.pm_layout.proofs.Again.{address_again}
 use Rattle.pm_image.specs.declared.fault.PageFault.{PageFault}
@@ -18,7 +19,8 @@ use Rattle.pm_image.specs.Answers.{Gives}
 use Rattle.pm_image.specs.declared.catalog.CatEntry.{CatEntry}
 use Rattle.pm_image.specs.declared.catalog.CatEntry.TheVariants.{Car, Root}
 use Rattle.pm_image.specs.declared.catalog.CatalogPage.{CatalogPage}
-use Rattle.pm_image.specs.Steps.{◌>>=◌, tested, magic_at, rest_at}
+use Rattle.pm_image.specs.Steps.{tested, magic_at, rest_at}
+use Rattle.pm_base.specs.Results.{◌>>=◌}
 use Rattle.pm_image.specs.CarPages.{padded}
 use Rattle.pm_image.specs.CatalogPages.{Met, meeting, meeting_next, catalog_magic, entry_spelling, catalog_spelling, catalog_used, is_free_page, is_next_page, has_next_digest, is_next_name, has_root_left, bad_name_byte, name_bytes, car_entry_at, root_entry_at, entry_at, entries_at, catalog_at, IsNextCar, IsNextRoot, IsNextEntry, AreNext, HasCatalogPage, IsEntryInRange, IsCatalogInRange}
 use Rattle.pm_image.proofs.CatalogReads.{no_bad_byte}
@@ -209,7 +211,7 @@ catalog_again count met c has range =
 -- two pages that are spelled alike are one
 pub catalog_apart : (count : Option ℕ) (met : Met) (a b : CatalogPage) → HasCatalogPage count met a → IsCatalogInRange a → HasCatalogPage count met b → IsCatalogInRange b → padded (catalog_spelling a) ≡ padded (catalog_spelling b) → a ≡ b
 catalog_apart count met a b has_a range_a has_b range_b e =
-    ok_is a b (sym (catalog_again count met a has_a range_a) ∙ ap (λ (t : List ℕ). catalog_at count met t) e ∙ catalog_again count met b has_b range_b)
+    ok_same a b (sym (catalog_again count met a has_a range_a) ∙ ap (λ (t : List ℕ). catalog_at count met t) e ∙ catalog_again count met b has_b range_b)
 
 -- what is spelled is read, unless memory ran out
 pub only_read : (count : Option ℕ) (met : Met) (page : List ℕ) (answered : Result CatalogPage PageFault) → Gives answered (catalog_at count met page) → (c : CatalogPage) → HasCatalogPage count met c → IsCatalogInRange c → page ≡ padded (catalog_spelling c) → Gives answered (Ok c)

@@ -8,7 +8,8 @@ use Rattle.pm_layout.proofs.Numbers.{IsBytes}
 use Rattle.pm_image.specs.declared.fault.PageFault.{PageFault}
 use Rattle.pm_image.specs.declared.catalog.CatEntry.{CatEntry}
 use Rattle.pm_image.specs.declared.catalog.CatEntry.TheVariants.{Car, Root}
-use Rattle.pm_image.specs.Steps.{◌>>=◌}
+use Rattle.pm_base.specs.Results.{◌>>=◌}
+use Rattle.pm_base.proofs.Fronts.{with_front_of, regroup_of}
 use Rattle.pm_image.specs.Answers.{Gives}
 use Rattle.pm_image.specs.CatalogPages.{Met, meeting, meeting_all, entry_at, entries_at}
 use Rattle.pm_image.specs.CatalogReading.{HasRoomForRoots}
@@ -18,39 +19,31 @@ use Rattle.pm_image.proofs.CatalogTakes.{EntryTaken, entry_takes, entry_end}
 abbrev pub Read : Type 0
 Read = Result (List CatEntry × ℕ) ℕ
 
--- what was read before, and what is still read
-abbrev pub with_front : List CatEntry → Read → Read
-with_front front read = read >>= λ x. Ok (front ++ x.0, x.1)
-
-regroup : (front : List CatEntry) (e : CatEntry) (read : Read) → with_front front (read >>= λ x. Ok (e ∷ x.0, x.1)) ≡ with_front (front ++ e ∷ []) read
-regroup front e (Ok x) = ap (λ (es : List CatEntry). Ok (es, x.1)) (simp append_assoc)
-regroup front e (Err at) = refl
-
 -- one entry more was read
 pub goes_on : (count : Option ℕ) (met : Met) (page : List ℕ) (front : List CatEntry) (len i place next : ℕ) (e : CatEntry) (total : Read) → i < len → entry_at count met page place ≡ Ok (e, next)
-    → with_front front (entries_at count met page (len - i) place) ≡ total → with_front (front ++ e ∷ []) (entries_at count (meeting met e) page (len - (i + 1)) next) ≡ total
+    → with_front_of front (entries_at count met page (len - i) place) ≡ total → with_front_of (front ++ e ∷ []) (entries_at count (meeting met e) page (len - (i + 1)) next) ≡ total
 unfolding entries_at
 goes_on count met page front len i place next e total lt h so_far =
     let k : len - i ≡ suc (len - (i + 1)) = omega arith in
-    let one : with_front front (entries_at count met page (len - i) place) ≡ with_front (front ++ e ∷ []) (entries_at count (meeting met e) page (len - (i + 1)) next) = rw (k, h) (regroup front e (entries_at count (meeting met e) page (len - (i + 1)) next)) in
+    let one : with_front_of front (entries_at count met page (len - i) place) ≡ with_front_of (front ++ e ∷ []) (entries_at count (meeting met e) page (len - (i + 1)) next) = rw (k, h) (regroup_of front e (entries_at count (meeting met e) page (len - (i + 1)) next)) in
     sym one ∙ so_far
 
 -- a fault of one entry is that of all
 pub ends : (count : Option ℕ) (met : Met) (page : List ℕ) (fault : PageFault) (front : List CatEntry) (len i place : ℕ) (total : Read) → i < len → Gives {X = CatEntry × ℕ} (Err fault) (entry_at count met page place)
-    → with_front front (entries_at count met page (len - i) place) ≡ total → Gives {X = List CatEntry × ℕ} (Err fault) total
+    → with_front_of front (entries_at count met page (len - i) place) ≡ total → Gives {X = List CatEntry × ℕ} (Err fault) total
 unfolding entries_at
 ends count met page fault front len i place total lt h so_far =
     let k : len - i ≡ suc (len - (i + 1)) = omega arith in
     let others = λ (first : CatEntry × ℕ). entries_at count (meeting met first.0) page (len - (i + 1)) first.1 >>= λ x. Ok (first.0 ∷ x.0, x.1) in
-    let one : with_front front (entry_at count met page place >>= others) ≡ total = ap (λ (n : ℕ). with_front front (entries_at count met page n place)) (sym k) ∙ so_far in
+    let one : with_front_of front (entry_at count met page place >>= others) ≡ total = ap (λ (n : ℕ). with_front_of front (entries_at count met page n place)) (sym k) ∙ so_far in
     subst (λ (r : Read). Gives {X = List CatEntry × ℕ} (Err fault) r) one (fails_too fault (entry_at count met page place >>= others) (λ x. Ok (front ++ x.0, x.1)) (fails_too fault (entry_at count met page place) others h))
 
 -- all of the entries were read
-pub is_done : (count : Option ℕ) (met : Met) (page : List ℕ) (front : List CatEntry) (len i place : ℕ) (total : Read) → len ≤ i → with_front front (entries_at count met page (len - i) place) ≡ total → total ≡ Ok (front, place)
+pub is_done : (count : Option ℕ) (met : Met) (page : List ℕ) (front : List CatEntry) (len i place : ℕ) (total : Read) → len ≤ i → with_front_of front (entries_at count met page (len - i) place) ≡ total → total ≡ Ok (front, place)
 unfolding entries_at
 is_done count met page front len i place total le so_far =
     let k : len - i ≡ 0 = omega arith in
-    let one : with_front front (entries_at count met page (len - i) place) ≡ Ok (front, place) = rw k (ap (λ (es : List CatEntry). Ok (es, place)) (append-nil front)) in
+    let one : with_front_of front (entries_at count met page (len - i) place) ≡ Ok (front, place) = rw k (ap (λ (es : List CatEntry). Ok (es, place)) (append-nil front)) in
     sym so_far ∙ one
 
 -- one entry more was met

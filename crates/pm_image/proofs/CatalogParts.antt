@@ -5,7 +5,8 @@ use Rattle.pm_layout.specs.Reading.{number_from}
 use Rattle.pm_image.specs.declared.fault.PageFault.{PageFault}
 use Rattle.pm_image.specs.declared.catalog.CatEntry.{CatEntry}
 use Rattle.pm_image.specs.declared.catalog.CatalogPage.{CatalogPage}
-use Rattle.pm_image.specs.Steps.{◌>>=◌, tested, magic_at, rest_at}
+use Rattle.pm_image.specs.Steps.{tested, magic_at, rest_at}
+use Rattle.pm_base.specs.Results.{◌>>=◌}
 use Rattle.pm_image.specs.Answers.{answer, Gives}
 use Rattle.pm_image.specs.CatalogPages.{Met, meeting_next, catalog_magic, is_next_page, has_next_digest, entries_at, catalog_at}
 use Rattle.pm_image.specs.CatalogReading.{next_page_at, next_digest_at}

@@ -11,7 +11,8 @@ use Rattle.pm_types.specs.declared.limits.TheConstants.{PAGE_BYTES, NAME_BYTES}
 use Rattle.pm_types.proofs.NameLemmas.{name_from_bytes}
 use Rattle.pm_layout.specs.Spelling.{address, Stands}
 use Rattle.pm_layout.specs.Reading.{number_from, address_at}
-use Rattle.pm_layout.proofs.Steps.{bind_ok, ok_is, chosen, guard_ok, wanted_ok, neither, not_zero}
+use Rattle.pm_layout.proofs.Steps.{chosen, neither, not_zero}
+use Rattle.pm_base.proofs.Results.{bind_ok, ok_same, if_ok, wanted_ok}
 use Rattle.pm_layout.proofs.Numbers.{IsBytes, wide_2, wide_8}
 use Rattle.pm_layout.proofs.Texts.{Stands-then, Stands-end, number_stands, byte_stands, between_stands}
 use Rattle.pm_layout.proofs.Slots.{address_stands}
@@ -21,7 +22,8 @@ use Rattle.pm_image.specs.Answers.{Gives}
 use Rattle.pm_image.specs.declared.catalog.CatEntry.{CatEntry}
 use Rattle.pm_image.specs.declared.catalog.CatEntry.TheVariants.{Car, Root}
 use Rattle.pm_image.specs.declared.catalog.CatalogPage.{CatalogPage}
-use Rattle.pm_image.specs.Steps.{◌>>=◌, tested, magic_at, rest_at}
+use Rattle.pm_image.specs.Steps.{tested, magic_at, rest_at}
+use Rattle.pm_base.specs.Results.{◌>>=◌}
 use Rattle.pm_image.specs.CarPages.{padded}
 use Rattle.pm_image.specs.CatalogPages.{Met, meeting, meeting_next, catalog_magic, entry_spelling, entry_size, catalog_spelling, catalog_used, is_free_page, is_next_page, has_next_digest, is_next_name, has_root_left, bad_name_byte, name_bytes, car_entry_at, root_entry_at, entry_at, entries_at, catalog_at, IsNextEntry, AreNext, HasCatalogPage}
 use Rattle.pm_image.proofs.CatalogReads.{part_length}
@@ -76,16 +78,16 @@ car_takes count met page place x fits inside kind first read =
     let train = number_from 8 page (place + 9) in
     let at = number_from 8 page (place + 17) in
     let made : CatEntry × ℕ = (Car car train at (slice_range page (place + 25) (place + 57)), place + 57) in
-    let g = guard_ok (eqb car 0 || set.contains met.cars car) (place + 1) (cond (ltb train met.train) (Err (place + 9)) (cond (not (is_free_page count met.pages at)) (Err (place + 17)) (Ok made))) x read in
-    let h = guard_ok (ltb train met.train) (place + 9) (cond (not (is_free_page count met.pages at)) (Err (place + 17)) (Ok made)) x g.1 in
-    let k = guard_ok (not (is_free_page count met.pages at)) (place + 17) (Ok made) x h.1 in
+    let g = if_ok (eqb car 0 || set.contains met.cars car) (place + 1) (cond (ltb train met.train) (Err (place + 9)) (cond (not (is_free_page count met.pages at)) (Err (place + 17)) (Ok made))) x read in
+    let h = if_ok (ltb train met.train) (place + 9) (cond (not (is_free_page count met.pages at)) (Err (place + 17)) (Ok made)) x g.1 in
+    let k = if_ok (not (is_free_page count met.pages at)) (place + 17) (Ok made) x h.1 in
     let both = neither (eqb car 0) (set.contains met.cars car) g.0 in
     let taken : EntryTaken count met page place made.0 made.1 = record {
       stands = car_stands page place fits inside kind;
       fits = record { before_roots = first; numbered = not_zero car both.0; other = both.1; in_order = ltb-false train met.train h.0; free = not_false (is_free_page count met.pages at) k.0 };
       sized = car_size car train at (slice_range page (place + 25) (place + 57)) (omega (arith, length-take (place + 57 - (place + 25)) (drop (place + 25) page), length-drop (place + 25) page));
     } in
-    subst (λ (y : CatEntry × ℕ). EntryTaken count met page place y.0 y.1) (ok_is made x k.1) taken
+    subst (λ (y : CatEntry × ℕ). EntryTaken count met page place y.0 y.1) (ok_same made x k.1) taken
 
 root_stands : (page : List ℕ) (place : ℕ) → IsBytes page → place + 14 + get_or page (place + 1) 0 ≤ length page → get_or page place 0 ≡ 2
     → Stands page place (entry_spelling (Root (slice_range page (place + 2) (place + 2 + get_or page (place + 1) 0)) (address_at page (place + 2 + get_or page (place + 1) 0)))) (place + 14 + get_or page (place + 1) 0)
@@ -130,7 +132,7 @@ root_takes count met page place x fits inside kind read =
       fits = record { named = name_from_bytes name (omega arith) (omega arith) (no_fault (place + 2) (bad_name_byte name) b.0 b.1); in_order = order.0; left = order.1; has_car = ltb-true 0 at.car (tested_ok _ (place + 2 + len) e.0 e.1) };
       sized = root_size name at;
     } in
-    subst (λ (y : CatEntry × ℕ). EntryTaken count met page place y.0 y.1) (ok_is made x e.2) taken
+    subst (λ (y : CatEntry × ℕ). EntryTaken count met page place y.0 y.1) (ok_same made x e.2) taken
 
 -- an entry that was read is spelled there, and may come after what was met
 pub entry_takes : (count : Option ℕ) (met : Met) (page : List ℕ) (place : ℕ) (x : CatEntry × ℕ) → IsBytes page → entry_at count met page place ≡ Ok x → EntryTaken count met page place x.0 x.1
@@ -142,12 +144,12 @@ entry_takes count met page place x fits read =
     let way = chosen (eqb kind 1) as_car (cond (eqb kind 2) as_root (Err place)) (Ok x) read in
     elim way [
       | inl car ↦
-          let g = guard_ok (ltb (length page) (place + 57) || not (is_none met.name)) place (car_entry_at count met page place) x car.1 in
+          let g = if_ok (ltb (length page) (place + 57) || not (is_none met.name)) place (car_entry_at count met page place) x car.1 in
           let both = neither (ltb (length page) (place + 57)) (not (is_none met.name)) g.0 in
           car_takes count met page place x fits (ltb-false _ _ both.0) (eqb-true kind 1 car.0) (not_false (is_none met.name) both.1) g.1
       | inr other ↦
           let h = wanted_ok (eqb kind 2) place as_root x other.1 in
-          let g = guard_ok (ltb (length page) (place + 14 + get_or page (place + 1) 0)) place (root_entry_at count met page place) x h.1 in
+          let g = if_ok (ltb (length page) (place + 14 + get_or page (place + 1) 0)) place (root_entry_at count met page place) x h.1 in
           root_takes count met page place x fits (ltb-false _ _ g.0) (eqb-true kind 2 h.0) g.1
     ]
 
@@ -166,7 +168,7 @@ pub entries_take : (n : ℕ) (count : Option ℕ) (met : Met) (page : List ℕ) 
 unfolding entries_at
 entries_take zero count met page place x fits start read =
     let none : List CatEntry × ℕ = ([], place) in
-    subst (λ (y : List CatEntry × ℕ). EntriesTaken count met page place 0 y.0 y.1) {x = none} (ok_is none x read) (record { stands = record { inside = start; parts = refl }; fits = tt; counted = refl; sized = refl })
+    subst (λ (y : List CatEntry × ℕ). EntriesTaken count met page place 0 y.0 y.1) {x = none} (ok_same none x read) (record { stands = record { inside = start; parts = refl }; fits = tt; counted = refl; sized = refl })
 entries_take (suc n) count met page place x fits start read =
     let a = bind_ok (entry_at count met page place) (λ first. entries_at count (meeting met first.0) page n first.1 >>= λ others. Ok (first.0 ∷ others.0, others.1)) x read in
     let b = bind_ok (entries_at count (meeting met a.0.0) page n a.0.1) (λ others. Ok (a.0.0 ∷ others.0, others.1)) x a.2 in
@@ -179,7 +181,7 @@ entries_take (suc n) count met page place x fits start read =
       counted = ap suc others.counted;
       sized = omega (arith, length-append (entry_spelling a.0.0) (flat_map entry_spelling b.0.0), first.sized, others.sized);
     } in
-    subst (λ (y : List CatEntry × ℕ). EntriesTaken count met page place (suc n) y.0 y.1) {x = made} (ok_is made x b.2) taken
+    subst (λ (y : List CatEntry × ℕ). EntriesTaken count met page place (suc n) y.0 y.1) {x = made} (ok_same made x b.2) taken
 
 -- the parts of a page that was read stand one after the other
 page_stands : (page : List ℕ) (entries : List CatEntry) (end : ℕ) → IsBytes page → 46 ≤ length page → take 4 page ≡ catalog_magic → length entries ≡ number_from 2 page 44 → Stands page 46 (flat_map entry_spelling entries) end
@@ -233,7 +235,7 @@ catalog_takes count met page read whole fits is =
     let stands = page_stands page e.0.0 e.0.1 fits (omega arith) (magic_takes catalog_magic page a.0 a.1) taken.counted taken.stands in
     let spelled = is_padded page (catalog_spelling (made e.0.0)) e.0.1 whole stands (rest_takes page e.0.1 f.0 f.1) in
     let P : CatalogPage → Type 0 = λ c. HasCatalogPage count met c × (page ≡ padded (catalog_spelling c)) in
-    subst P {x = made e.0.0} (ok_is (made e.0.0) read f.2) (has, spelled)
+    subst P {x = made e.0.0} (ok_same (made e.0.0) read f.2) (has, spelled)
 
 -- what was answered is spelled so, and may come after what was met
 pub catalog_found : (count : Option ℕ) (met : Met) (page : List ℕ) (answered : Result CatalogPage PageFault) → length page ≡ 16384 → IsBytes page → Gives answered (catalog_at count met page) → IfOk answered (λ read. HasCatalogPage count met read × (page ≡ padded (catalog_spelling read)))

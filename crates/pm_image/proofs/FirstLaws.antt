@@ -12,9 +12,10 @@ use Rattle.sha2.specs.Sha256.{sha256}
 use Rattle.sha2.proofs.Facts256.{length-sha256}
 use Rattle.pm_types.specs.declared.limits.TheConstants.{FIELDS}
 use Rattle.pm_model.specs.Heap.{Object, Heap}
-use Rattle.pm_model.specs.World.{Roots, name_cmp}
+use Rattle.pm_model.specs.World.{Roots}
+use Rattle.pm_types.specs.Orders.{name_cmp}
 use Rattle.pm_model.specs.Copying.{reached}
-use Rattle.pm_model.proofs.Orders.{names_total}
+use Rattle.pm_types.proofs.Orders.{names_total}
 use Rattle.pm_model.proofs.Unused.{tied_nat}
 use Rattle.pm_model.proofs.Members.{is_value}
 use Rattle.pm_model.proofs.Reached.{IsFrom, reached_whole, same_count}
@@ -25,7 +26,7 @@ use Rattle.pm_image.specs.Opening.{current, page_of, page_count}
 use Rattle.pm_image.specs.Graphs.{Pages, Graph, on_page, catalog_from, catalog_of, cars_from, linked, graph_of, copy_of}
 use Rattle.pm_image.specs.Stands.{pages_of, Stands}
 use Rattle.pm_image.specs.First.{first_bytes, first_car, first_car_page, first_catalog, first_catalog_page, first_header, first_copy}
-use Rattle.pm_image.proofs.Results.{bound}
+use Rattle.pm_base.proofs.Results.{bound}
 use Rattle.pm_image.proofs.FrameLaws.{opened_as}
 use Rattle.pm_image.proofs.CarAgain.{car_again}
 use Rattle.pm_image.proofs.CatalogAgain.{catalog_again}

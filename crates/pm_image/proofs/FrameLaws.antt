@@ -18,7 +18,8 @@ use Rattle.pm_image.specs.Graphs.{Pages, Catalog, Graph, undamaged, on_page, cat
 use Rattle.pm_types.specs.declared.limits.TheConstants.{FIELDS}
 use Rattle.pm_image.specs.Opening.{Current, current}
 use Rattle.pm_image.specs.Stands.{SamePages, Opened, opened, pages_of, copy_in, Stands}
-use Rattle.pm_image.proofs.Results.{ok_same, bind_ok, bound, if_ok, if_not, tested_ok, passed, both_true, not_false, true_not}
+use Rattle.pm_image.proofs.Results.{tested_ok, passed, both_true, not_false, true_not}
+use Rattle.pm_base.proofs.Results.{ok_same, bind_ok, bound, if_ok, if_not}
 
 absurd_bool : {A : Type 0} → true ≡ false → A
 absurd_bool is = cc

@@ -6,7 +6,8 @@ use Rattle.pm_layout.specs.Reading.{slot_at, number_from}
 use Rattle.pm_layout.proofs.Laws.{nothing_left}
 use Rattle.pm_image.specs.declared.fault.PageFault.{PageFault}
 use Rattle.pm_image.specs.declared.fault.PageFault.TheVariants.{Malformed, Memory}
-use Rattle.pm_image.specs.Steps.{◌>>=◌}
+use Rattle.pm_base.specs.Results.{◌>>=◌}
+use Rattle.pm_base.proofs.Fronts.{with_front_of, regroup_of}
 use Rattle.pm_image.specs.Answers.{Gives}
 use Rattle.pm_image.specs.CarPages.{CarScope, Numbers, is_short, is_taken, numbered, last_slot, with_identity, record_at, records_at}
 use Rattle.pm_image.specs.CarAnswers.{a_car}
@@ -27,47 +28,39 @@ any_number : (most next : ℕ) (a b : Option ℕ) (met : Numbers) (least : ℕ) 
 unfolding record_at
 any_number most next a b met least page place = refl
 
--- what was read before, and what is still read
-abbrev pub with_front : List (ℕ × Slot) → Result (List (ℕ × Slot) × ℕ) ℕ → Result (List (ℕ × Slot) × ℕ) ℕ
-with_front front read = read >>= λ x. Ok (front ++ x.0, x.1)
-
-regroup : (front : List (ℕ × Slot)) (r : ℕ × Slot) (read : Result (List (ℕ × Slot) × ℕ) ℕ) → with_front front (read >>= λ x. Ok (r ∷ x.0, x.1)) ≡ with_front (front ++ r ∷ []) read
-regroup front r (Ok x) = ap (λ (rs : List (ℕ × Slot)). Ok (rs, x.1)) (sym (append_assoc front (r ∷ []) x.0))
-regroup front r (Err e) = refl
-
 module _ (scope : CarScope) (page : List ℕ) where
   -- one record more was read
   pub goes_on : (met : Numbers) (least place count i : ℕ) (front : List (ℕ × Slot)) (r : (ℕ × Slot) × ℕ) (total : Result (List (ℕ × Slot) × ℕ) ℕ) → i < count → record_at scope met least page place ≡ Ok r
-      → with_front front (records_at scope met least page (count - i) place) ≡ total → with_front (front ++ r.0 ∷ []) (records_at scope (with_identity met r.0.1) (r.0.0 + 1) page (count - (i + 1)) r.1) ≡ total
+      → with_front_of front (records_at scope met least page (count - i) place) ≡ total → with_front_of (front ++ r.0 ∷ []) (records_at scope (with_identity met r.0.1) (r.0.0 + 1) page (count - (i + 1)) r.1) ≡ total
   unfolding records_at
   goes_on met least place count i front r total lt read so_far =
       let k : count - i ≡ suc (count - (i + 1)) = omega arith in
-      let one : with_front front (records_at scope met least page (count - i) place) ≡ with_front (front ++ r.0 ∷ []) (records_at scope (with_identity met r.0.1) (r.0.0 + 1) page (count - (i + 1)) r.1) =
-      rw (k, read) (regroup front r.0 (records_at scope (with_identity met r.0.1) (r.0.0 + 1) page (count - (i + 1)) r.1)) in
+      let one : with_front_of front (records_at scope met least page (count - i) place) ≡ with_front_of (front ++ r.0 ∷ []) (records_at scope (with_identity met r.0.1) (r.0.0 + 1) page (count - (i + 1)) r.1) =
+      rw (k, read) (regroup_of front r.0 (records_at scope (with_identity met r.0.1) (r.0.0 + 1) page (count - (i + 1)) r.1)) in
       sym one ∙ so_far
 
   -- a fault of one record is that of all
   pub ends : (met : Numbers) (least place count i : ℕ) (front : List (ℕ × Slot)) (at : ℕ) (total : Result (List (ℕ × Slot) × ℕ) ℕ) → i < count → record_at scope met least page place ≡ Err at
-      → with_front front (records_at scope met least page (count - i) place) ≡ total → total ≡ Err at
+      → with_front_of front (records_at scope met least page (count - i) place) ≡ total → total ≡ Err at
   unfolding records_at
   ends met least place count i front at total lt read so_far =
       let k : count - i ≡ suc (count - (i + 1)) = omega arith in
-      let one : with_front front (records_at scope met least page (count - i) place) ≡ Err at = rw (k, read) refl in
+      let one : with_front_of front (records_at scope met least page (count - i) place) ≡ Err at = rw (k, read) refl in
       sym so_far ∙ one
 
   -- the same of what was answered
   pub stops : (met : Numbers) (least place count i : ℕ) (front : List (ℕ × Slot)) (fault : PageFault) (total : Result (List (ℕ × Slot) × ℕ) ℕ) → i < count → Gives (Err fault) (record_at scope met least page place)
-      → with_front front (records_at scope met least page (count - i) place) ≡ total → Gives (Err fault) total
+      → with_front_of front (records_at scope met least page (count - i) place) ≡ total → Gives (Err fault) total
   stops met least place count i front (Malformed at) total lt read so_far = ends met least place count i front at total lt read so_far
   stops met least place count i front Memory total lt read so_far = tt
 
   -- all records were read
   pub is_done : (met : Numbers) (least place count i : ℕ) (front : List (ℕ × Slot)) (total : Result (List (ℕ × Slot) × ℕ) ℕ) → count ≤ i
-      → with_front front (records_at scope met least page (count - i) place) ≡ total → total ≡ Ok (front, place)
+      → with_front_of front (records_at scope met least page (count - i) place) ≡ total → total ≡ Ok (front, place)
   unfolding records_at
   is_done met least place count i front total le so_far =
       let k : count - i ≡ 0 = omega arith in
-      let one : with_front front (records_at scope met least page (count - i) place) ≡ Ok (front, place) = rw k (ap (λ (rs : List (ℕ × Slot)). Ok (rs, place)) (append-nil front)) in
+      let one : with_front_of front (records_at scope met least page (count - i) place) ≡ Ok (front, place) = rw k (ap (λ (rs : List (ℕ × Slot)). Ok (rs, place)) (append-nil front)) in
       sym so_far ∙ one
 
 -- a record, and those that are read after it

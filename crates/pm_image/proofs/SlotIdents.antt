@@ -8,9 +8,10 @@ use Rattle.pm_types.specs.declared.object.Slot.{Slot}
 use Rattle.pm_types.specs.declared.object.Slot.TheVariants.{Live, Moved}
 use Rattle.pm_layout.specs.declared.fault.LayoutFault.{LayoutFault}
 use Rattle.pm_layout.specs.declared.fault.LayoutFault.TheVariants.{Short, Kind}
-use Rattle.pm_layout.specs.Steps.{◌>>=◌}
+use Rattle.pm_base.specs.Results.{◌>>=◌}
 use Rattle.pm_layout.specs.Reading.{number_from, end_at, ident_at, field_count_at, byte_count_at, fields_at, live_at, target_at, moved_at, slot_at}
-use Rattle.pm_layout.proofs.Steps.{bind_ok, ok_is, chosen, guard_ok, wanted_ok}
+use Rattle.pm_layout.proofs.Steps.{chosen}
+use Rattle.pm_base.proofs.Results.{bind_ok, ok_same, if_ok, wanted_ok}
 use Rattle.pm_layout.proofs.Slots.{ident_takes}
 
 -- the kind and the identity of a slot; a Moved one has no identity
@@ -29,7 +30,7 @@ is_live_slot (Moved to) = false
 live_made : (o : Object) (end : ℕ) (x : Slot × ℕ) → ◌≡◌ {A = Result (Slot × ℕ) LayoutFault} (Ok (Live o, end)) (Ok x) → (is_live_slot x.0 ≡ true) × (o.id ≡ ident_of x.0)
 live_made o end x e =
     let made : Slot × ℕ = (Live o, end) in
-    let is = ok_is made x e in
+    let is = ok_same made x e in
     (ap (λ (y : Slot × ℕ). is_live_slot y.0) (sym is), ap (λ (y : Slot × ℕ). ident_of y.0) is)
 
 live_front : (most : ℕ) (bytes : List ℕ) (at : ℕ) (x : Slot × ℕ) → live_at most bytes at ≡ Ok x → (is_live_slot x.0 ≡ true) × (number_from 8 bytes (at + 1) ≡ ident_of x.0)
@@ -49,9 +50,9 @@ moved_front : (bytes : List ℕ) (at : ℕ) (x : Slot × ℕ) → moved_at bytes
 unfolding moved_at
 moved_front bytes at x read =
     let made : Addr → Slot × ℕ = λ to. (Moved to, at + 13) in
-    let g = guard_ok (ltb (length bytes) (at + 13)) (Short at) (target_at bytes (at + 1) >>= λ to. Ok (made to)) x read in
+    let g = if_ok (ltb (length bytes) (at + 13)) (Short at) (target_at bytes (at + 1) >>= λ to. Ok (made to)) x read in
     let a = bind_ok (target_at bytes (at + 1)) (λ to. Ok (made to)) x g.1 in
-    ap (λ (y : Slot × ℕ). is_live_slot y.0) (sym (ok_is (made a.0) x a.2))
+    ap (λ (y : Slot × ℕ). is_live_slot y.0) (sym (ok_same (made a.0) x a.2))
 
 -- the kind that a slot was read by, and the identity that stands there if it is Live
 pub record Front (bytes : List ℕ) (at : ℕ) (slot : Slot) : Type 0 where
@@ -63,7 +64,7 @@ pub slot_front : (most : ℕ) (bytes : List ℕ) (at : ℕ) (x : Slot × ℕ) �
 unfolding slot_at
 slot_front most bytes at x read =
     let kind = get_or bytes at 0 in
-    let g = guard_ok (leb (length bytes) at) (Short at) (cond (eqb kind 1) (live_at most bytes at) (cond (eqb kind 2) (moved_at bytes at) (Err (Kind at kind)))) x read in
+    let g = if_ok (leb (length bytes) at) (Short at) (cond (eqb kind 1) (live_at most bytes at) (cond (eqb kind 2) (moved_at bytes at) (Err (Kind at kind)))) x read in
     let way = chosen (eqb kind 1) (live_at most bytes at) (cond (eqb kind 2) (moved_at bytes at) (Err (Kind at kind))) (Ok x) g.1 in
     elim way [
       | inl live ↦

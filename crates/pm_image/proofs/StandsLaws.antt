@@ -3,7 +3,7 @@ use Rattle.std.proofs.Common.{◌≡◌, ◌⊎◌, ℕ, List, Some, Result, Ok,
 use Rattle.pm_types.specs.declared.limits.TheConstants.{FIELDS}
 use Rattle.pm_types.specs.declared.fault.OpenFault.{OpenFault}
 use Rattle.pm_model.specs.World.{Copy}
-use Rattle.pm_image.proofs.Results.{ok_same}
+use Rattle.pm_base.proofs.Results.{ok_same}
 use Rattle.pm_image.specs.Stands.{Opened, opened, copy_in, Stands, fault_of, refusal}
 
 same_found : (bytes : List ℕ) (a b : Opened) → opened FIELDS bytes ≡ Ok a → opened FIELDS bytes ≡ Ok b → a ≡ b

@@ -13,7 +13,8 @@ use Rattle.pm_layout.specs.declared.fault.LayoutFault.TheVariants.{Short, Kind, 
 use Rattle.pm_layout.specs.Spelling.{spelling, slot_size, HasSpelling}
 use Rattle.pm_layout.specs.Reading.{number_from, slot_at}
 use Rattle.pm_image.specs.declared.car.CarImage.{CarImage}
-use Rattle.pm_image.specs.Steps.{◌>>=◌, tested, magic_at, rest_at}
+use Rattle.pm_image.specs.Steps.{tested, magic_at, rest_at}
+use Rattle.pm_base.specs.Results.{◌>>=◌}
 
 -- the greatest number of a slot
 abbrev pub last_slot : ℕ

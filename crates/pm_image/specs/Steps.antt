@@ -2,12 +2,6 @@
 use Rattle.std.specs.Prelude.{ℕ, ◌+◌, ◌==◌, not, position, List, drop, take, Option, Some, None, Result, Ok, Err, if◌then◌else◌, Bool}
 use Rattle.std.specs.Str.{bytes_eq}
 
--- the first step, and with its value the second; a fault ends both
-infixl 10 ◌>>=◌
-abbrev pub ◌>>=◌ : {A B E : Type 0} → Result A E → (A → Result B E) → Result B E
-(Ok x) >>= f = f x
-(Err e) >>= f = Err e
-
 -- a test that has to hold, or this is the fault
 abbrev pub tested : {E : Type 0} → Bool → E → Result (Unit {0}) E
 tested holds fault = if holds then Ok tt else Err fault

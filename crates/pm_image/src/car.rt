@@ -9,7 +9,7 @@ use std::marker::Model;
 pub(crate) const MAGIC: [u8; 4] = [0x50, 0x43, 0x41, 0x52];
 
 /// The place of the first record in a car's page.
-pub(crate) const RECORDS_AT: usize = 14;
+pub const RECORDS_AT: usize = 14;
 
 /// The greatest number of a slot that a page lists.
 pub(crate) const LAST_SLOT: u32 = 65_535;

@@ -12,20 +12,20 @@ pub(crate) const NEXT_DIGEST: usize = 12;
 /// Where the number of entries stands.
 pub(crate) const COUNT: usize = 44;
 
-/// Where the entries begin.
-pub(crate) const ENTRIES: usize = 46;
+/// Where the entries of a catalog page begin.
+pub const ENTRIES: usize = 46;
 
 /// The byte that the entry of a car begins with.
 pub(crate) const CAR: u8 = 1;
 
 /// How many bytes the entry of a car has.
-pub(crate) const CAR_BYTES: usize = 57;
+pub const CAR_BYTES: usize = 57;
 
 /// The byte that the entry of a root begins with.
 pub(crate) const ROOT: u8 = 2;
 
 /// How many bytes the entry of a root has beside its name.
-pub(crate) const ROOT_BYTES: usize = 14;
+pub const ROOT_BYTES: usize = 14;
 
 /// How many bytes an address has.
 pub(crate) const ADDRESS_BYTES: usize = 12;

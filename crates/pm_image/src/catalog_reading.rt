@@ -14,7 +14,7 @@ use crate::catalog_kind::{
 };
 use crate::steps::{check_magic, check_rest};
 use crate::{CatEntry, CatalogPage, EntryList, Met, PageFault};
-use pm_layout::{address_at, u16_at, u64_at};
+use pm_layout::{address_at, digest_at, u16_at, u64_at};
 use pm_types::{Name, NameFault};
 use std::alloc::Global;
 
@@ -23,15 +23,6 @@ fn byte_at(page: &[u8], place: usize) -> u8
     ensures { result ≡ slice_index page.now place }
 {
     page.get(place).copied().unwrap_or(0)
-}
-
-fn digest_at(page: &[u8], place: usize) -> [u8; 32]
-    requires { place + 32 ≤ length page.now }
-    ensures { result ≡ slice_range page.now place (place + 32) }
-{
-    let mut digest = [0; 32];
-    digest.copy_from_slice(&page[place..place + 32]);
-    digest
 }
 
 // The first byte of the field at fault.

@@ -17,11 +17,12 @@ mod number_set;
 mod settled;
 mod steps;
 
-pub use car::{CarImage, SlotList};
+pub use car::{CarImage, RECORDS_AT, SlotList};
 pub use car_law::car_pages_are_read_again;
 pub use car_reading::{read_car, read_car_in};
 pub use car_writing::write_car;
 pub use catalog::{CatEntry, CatalogPage, EntryList};
+pub use catalog_kind::{CAR_BYTES, ENTRIES, ROOT_BYTES};
 pub use catalog_law::catalog_pages_are_read_again;
 pub use catalog_reading::{read_catalog, read_catalog_in};
 pub use catalog_writing::write_catalog;

@@ -1,5 +1,5 @@
 -- What was taken from a source in one call after another.
-use Rattle.std.proofs.Common.{◌≡◌, ℕ, ◌≤◌, List, [], ◌++◌, length, take, drop, Option, Some, ap, arith, append_assoc, length-append}
+use Rattle.std.proofs.Common.{◌≡◌, ℕ, ◌+◌, ◌≤◌, List, [], ◌++◌, length, take, drop, Option, Some, ap, arith, append_assoc, length-append, length-take, min}
 use Rattle.std.proofs.lemmas.Grind.{common_steps}
 use Rattle.pm_io.specs.Streams.{TakesFront, LeavesEnd}
 
@@ -30,9 +30,16 @@ pub taken_within : (bytes taken : List ℕ) (left : Option (List ℕ)) → IsTak
 taken_within bytes taken left so_far = omega (arith, ap length so_far.split, length-append taken so_far.rest)
 
 -- what is left is an end of the bytes
-pub leaves_end : (bytes taken : List ℕ) (left : Option (List ℕ)) → IsTaken bytes taken left → LeavesEnd bytes left
-leaves_end bytes taken left so_far =
-    record { gone = length taken; rest = grind (arith, common_steps, so_far.split, so_far.told) }
+pub leaves_end : (bytes taken : List ℕ) (most : ℕ) (left : Option (List ℕ)) → length taken ≤ most → IsTaken bytes taken left → LeavesEnd bytes most left
+leaves_end bytes taken most left short so_far =
+    record { gone = length taken; within = short; rest = grind (arith, common_steps, so_far.split, so_far.told) }
+
+-- one call more takes no more than it asks for
+pub piece_within : (all piece : List ℕ) (n limit most : ℕ) → length all ≤ limit → n ≤ most → length (all ++ take n piece) ≤ limit + most
+piece_within all piece n limit most short few = omega (arith, length-append all (take n piece), min_within n (length piece) (length (take n piece)) (length-take n piece))
+  where
+    min_within : (n m l : ℕ) → l ≡ min n m → l ≤ n
+    min_within n m l is = omega arith
 
 -- a last call that finds the end leaves nothing
 pub end_left : (bytes taken piece : List ℕ) (n : ℕ) (before after : Option (List ℕ)) → IsTaken bytes taken before → ((rest : List ℕ) → before ≡ Some rest → TakesFront rest n piece after) → ((rest : List ℕ) → before ≡ Some rest → rest ≡ []) → after ≡ Some []

@@ -1,6 +1,6 @@
 -- What an answer of reading all says.
 use Rattle.std.specs.Prelude.{◌≡◌, ℕ, List, codes}
-use Rattle.pm_types.specs.Counts.{Rose}
+use Rattle.pm_base.specs.Counts.{Rose}
 use Rattle.pm_io.specs.declared.reading.ReadAll.{ReadAll}
 use Rattle.pm_io.specs.declared.reading.ReadAll.TheVariants.{Failed, TooLong, Memory}
 

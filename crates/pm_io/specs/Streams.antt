@@ -7,9 +7,10 @@ pub record TakesFront (bytes : List ℕ) (n : ℕ) (into : List ℕ) (left : Opt
   pub moved : take n into ≡ take n bytes
   pub rest : left ≡ Some (drop n bytes)
 
--- some of the bytes are gone from their front, and the others are left
-pub record LeavesEnd (bytes : List ℕ) (left : Option (List ℕ)) : Type 0 where
+-- some of the bytes are gone from their front, no more than so many, and the others are left
+pub record LeavesEnd (bytes : List ℕ) (most : ℕ) (left : Option (List ℕ)) : Type 0 where
   pub gone : ℕ
+  pub within : gone ≤ most
   pub rest : left ≡ Some (drop gone bytes)
 
 -- a first part of the piece, which may be none or all of it, was appended to what was written

@@ -1,5 +1,5 @@
 ghost use Rattle.std.specs.Prelude.{◌≡◌, is_err, IsErr, OnOk, OnErr, MatchResult};
-ghost use Rattle.pm_types.specs.Counts.{Rose};
+ghost use Rattle.pm_base.specs.Counts.{Rose};
 ghost use Rattle.pm_io.specs.Calls.{raised, is_listed};
 
 use crate::Failed;

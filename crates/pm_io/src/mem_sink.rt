@@ -1,5 +1,5 @@
 ghost use Rattle.std.specs.Prelude.{◌≡◌, [], ◌++◌, length, true, false, is_err, IsErr, OnOk, OnErr, Some};
-ghost use Rattle.pm_types.specs.Counts.{Rose};
+ghost use Rattle.pm_base.specs.Counts.{Rose};
 ghost use Rattle.pm_io.specs.Calls.{raised, is_listed};
 ghost use Rattle.pm_io.specs.Memory.{after_failed_call, after_refused_growth};
 

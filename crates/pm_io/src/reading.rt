@@ -78,7 +78,8 @@ fn append(all: &mut Vec<u8>, piece: &[u8]) -> Result<(), ReadAll>
 }
 
 /// Takes all bytes that are left in the source. It stops at the first failure that it meets, and asks
-/// for no memory for a piece that is too long. After a failure the source has lost what was taken.
+/// for no memory for a piece that is too long. However it ends, it has taken no more than 32,768 bytes past the
+/// limit. After a failure the source has lost what was taken.
 pub fn read_all<S: Source>(alloc: Global, source: &mut S) -> Result<Vec<u8>, ReadAll>
     // All that was left, and no more than the limit, whether the source tells or not.
     ensures all { IfOk result (λ v. (bytes : List ℕ) → S.left source.old ≡ Some bytes
@@ -93,7 +94,7 @@ pub fn read_all<S: Source>(alloc: Global, source: &mut S) -> Result<Vec<u8>, Rea
     ensures too_long { IsErrOf result ReadAll.TooLong → (bytes : List ℕ)
         → S.left source.old ≡ Some bytes → SOURCE_BYTES < length bytes }
     ensures rest { (bytes : List ℕ) → S.left source.old ≡ Some bytes
-        → LeavesEnd bytes (S.left source.new) }
+        → LeavesEnd bytes (SOURCE_BYTES + 32768) (S.left source.new) }
 {
     let mut all = Vec::new(alloc);
     let mut piece = [0; PIECE_BYTES];

@@ -13,10 +13,11 @@ use Rattle.pm_layout.specs.declared.header.Header.{Header}
 use Rattle.pm_layout.specs.declared.header.HeaderFault.{HeaderFault}
 use Rattle.pm_layout.specs.declared.header.HeaderFault.TheVariants.{Magic, Version, Digest, Next}
 use Rattle.pm_layout.specs.Spelling.{Stands}
-use Rattle.pm_layout.specs.Steps.{◌>>=◌}
+use Rattle.pm_base.specs.Results.{◌>>=◌}
 use Rattle.pm_layout.specs.Reading.{number_from}
 use Rattle.pm_layout.specs.Headers.{HasHeaderSpelling, IsHeaderInRange, magic, header_numbers, header_body, header_spelling, magic_at, version_at, digest_kept, next_at, header_at}
-use Rattle.pm_layout.proofs.Steps.{bind_ok, ok_is, guard_ok, wanted_ok, holds, passes, neither, not_zero, other_than_zero}
+use Rattle.pm_layout.proofs.Steps.{holds, passes, neither, not_zero, other_than_zero}
+use Rattle.pm_base.proofs.Results.{bind_ok, ok_same, if_ok, wanted_ok}
 use Rattle.pm_layout.proofs.Numbers.{IsBytes, wide_4, wide_8}
 use Rattle.pm_layout.proofs.Texts.{Stands-then, Stands-split, Stands-end, number_stands, number_is, between_stands}
 
@@ -34,7 +35,7 @@ version_takes bytes v read =
     let n = number_from 4 bytes 8 in
     let g = wanted_ok (eqb n 1) (Version n) (Ok n) v read in
     let P : ℕ → Type 0 = λ k. (n ≡ k) × (k ≡ 1) in
-    subst P (ok_is n v g.1) (refl, eqb-true n 1 g.0)
+    subst P (ok_same n v g.1) (refl, eqb-true n 1 g.0)
 
 digest_takes : (bytes : List ℕ) (u : Unit {0}) → digest_kept bytes ≡ Ok u → slice_range bytes 64 96 ≡ sha256 (take 64 bytes)
 unfolding digest_kept
@@ -48,10 +49,10 @@ next_takes : (bytes : List ℕ) (n : ℕ) → next_at bytes ≡ Ok n → (number
 unfolding next_at
 next_takes bytes n read =
     let m = number_from 8 bytes 16 in
-    let g = guard_ok (eqb m 0 || ltb 4294967296 m) Next (Ok m) n read in
+    let g = if_ok (eqb m 0 || ltb 4294967296 m) Next (Ok m) n read in
     let both = neither (eqb m 0) (ltb 4294967296 m) g.0 in
     let P : ℕ → Type 0 = λ k. (m ≡ k) × (0 < k) × (k ≤ 4294967296) in
-    subst P (ok_is m n g.1) (refl, not_zero m both.0, ltb-false 4294967296 m both.1)
+    subst P (ok_same m n g.1) (refl, not_zero m both.0, ltb-false 4294967296 m both.1)
 
 -- the header whose numbers and digest stand in the bytes
 abbrev header_of : List ℕ → ℕ → ℕ → Header
@@ -96,7 +97,7 @@ header_takes bytes h len fits read =
     let body = body_stands bytes b.0 d.0 len fits (magic_takes bytes a.0 a.1) version.0 next.0 in
     let whole = whole_spelling bytes (header_of bytes b.0 d.0) len body (digest_takes bytes c.0 c.1) in
     let P : Header → Type 0 = λ x. HasHeaderSpelling x × (bytes ≡ header_spelling x) in
-    subst P {x = header_of bytes b.0 d.0} (ok_is (header_of bytes b.0 d.0) h d.2) (record { version = version.1; some = next.1; last = next.2 }, whole)
+    subst P {x = header_of bytes b.0 d.0} (ok_same (header_of bytes b.0 d.0) h d.2) (record { version = version.1; some = next.1; last = next.2 }, whole)
 
 -- what was answered is spelled so
 pub header_found : (bytes : List ℕ) (r : Result Header HeaderFault) → length bytes ≡ 96 → IsBytes bytes → r ≡ header_at bytes → IfOk r (λ h. HasHeaderSpelling h × (bytes ≡ header_spelling h))

@@ -12,9 +12,10 @@ use Rattle.pm_types.specs.declared.object.Slot.TheVariants.{Live, Moved}
 use Rattle.pm_layout.specs.declared.fault.LayoutFault.{LayoutFault}
 use Rattle.pm_layout.specs.declared.fault.LayoutFault.TheVariants.{Short, Kind}
 use Rattle.pm_layout.specs.Spelling.{field, spelling, slot_size, IsInRange, HasSpelling, Stands}
-use Rattle.pm_layout.specs.Steps.{◌>>=◌}
+use Rattle.pm_base.specs.Results.{◌>>=◌}
 use Rattle.pm_layout.specs.Reading.{number_from, live_end, end_at, live_at, target_at, moved_at, slot_at}
-use Rattle.pm_layout.proofs.Steps.{ok_is, holds, passes}
+use Rattle.pm_layout.proofs.Steps.{holds, passes}
+use Rattle.pm_base.proofs.Results.{ok_same}
 use Rattle.pm_layout.proofs.Sizes.{spelling_length}
 use Rattle.pm_layout.proofs.Again.{slot_again}
 
@@ -41,7 +42,7 @@ apart most a b x y small fits_a range_a fits_b range_b e =
     let read_b = again most [] y b small fits_b range_b in
     let one : Slot × ℕ = (a, 0 + slot_size a) in
     let other : Slot × ℕ = (b, 0 + slot_size b) in
-    let same : a ≡ b = ap (λ (p : Slot × ℕ). p.0) (ok_is one other (sym read_a ∙ ap (λ (t : List ℕ). slot_at most t 0) e ∙ read_b)) in
+    let same : a ≡ b = ap (λ (p : Slot × ℕ). p.0) (ok_same one other (sym read_a ∙ ap (λ (t : List ℕ). slot_at most t 0) e ∙ read_b)) in
     (same, append_cancel_left (spelling a) x y (e ∙ ap (λ (s : Slot). spelling s ++ y) (sym same)))
 
 -- ---- spellings that are cut

@@ -4,16 +4,9 @@ use Rattle.std.proofs.lemmas.List.{append-nil}
 use Rattle.pm_types.specs.declared.address.Addr.{Addr}
 use Rattle.pm_layout.specs.declared.fault.LayoutFault.{LayoutFault}
 use Rattle.pm_layout.specs.declared.fault.LayoutFault.TheVariants.{Short, Kind, Fields, Count, Null, Ident, Memory}
-use Rattle.pm_layout.specs.Steps.{◌>>=◌}
+use Rattle.pm_base.specs.Results.{◌>>=◌}
+use Rattle.pm_base.proofs.Fronts.{with_front, regroup}
 use Rattle.pm_layout.specs.Reading.{CanRunOut, Fails, address_at, field_at, fields_at}
-
--- what was read before, and what is still read
-abbrev pub with_front : List (Option Addr) → Result (List (Option Addr)) LayoutFault → Result (List (Option Addr)) LayoutFault
-with_front front read = read >>= λ x. Ok (front ++ x)
-
-regroup : (front : List (Option Addr)) (f : Option Addr) (read : Result (List (Option Addr)) LayoutFault) → with_front front (read >>= λ x. Ok (f ∷ x)) ≡ with_front (front ++ f ∷ []) read
-regroup front f (Ok x) = ap (λ (fs : List (Option Addr)). Ok fs) (simp append_assoc)
-regroup front f (Err e) = refl
 
 -- one field more was read
 pub goes_on : (bytes : List ℕ) (front : List (Option Addr)) (count i place : ℕ) (f : Option Addr) (total : Result (List (Option Addr)) LayoutFault) → i < count → field_at bytes place ≡ Ok f

@@ -11,9 +11,10 @@ use Rattle.pm_types.specs.declared.object.Slot.TheVariants.{Live, Moved}
 use Rattle.pm_layout.specs.declared.fault.LayoutFault.{LayoutFault}
 use Rattle.pm_layout.specs.declared.fault.LayoutFault.TheVariants.{Short, Kind, Fields, Count, Null, Ident}
 use Rattle.pm_layout.specs.Spelling.{address, field, spelling, HasCar, Stands, IsSpelled}
-use Rattle.pm_layout.specs.Steps.{◌>>=◌}
+use Rattle.pm_base.specs.Results.{◌>>=◌}
 use Rattle.pm_layout.specs.Reading.{Gives, number_from, live_end, end_at, ident_at, field_count_at, byte_count_at, address_at, field_at, fields_at, live_at, target_at, moved_at, slot_at}
-use Rattle.pm_layout.proofs.Steps.{bind_ok, ok_is, chosen, guard_ok, wanted_ok, neither, not_positive, not_zero}
+use Rattle.pm_layout.proofs.Steps.{chosen, neither, not_positive, not_zero}
+use Rattle.pm_base.proofs.Results.{bind_ok, ok_same, if_ok, wanted_ok}
 use Rattle.pm_layout.proofs.Numbers.{IsBytes, wide_2, wide_4, wide_8}
 use Rattle.pm_layout.proofs.Texts.{Stands-then, number_stands, byte_stands, between_stands}
 
@@ -45,11 +46,11 @@ field_takes bytes p q f e inside fits read =
     elim way [
       | inl some ↦
           let P : Option Addr → Type 0 = λ g. Stands bytes p (field g) q × HasCar g in
-          subst P (ok_is (Some a) f some.1) (subst (λ (t : List ℕ). Stands bytes p t q) (sym (some_field a)) whole, ltb-true 0 a.car some.0)
+          subst P (ok_same (Some a) f some.1) (subst (λ (t : List ℕ). Stands bytes p t q) (sym (some_field a)) whole, ltb-true 0 a.car some.0)
       | inr none ↦
           let g = wanted_ok (eqb a.slot 0) (Null p) (Ok None) f none.1 in
           let P : Option Addr → Type 0 = λ g. Stands bytes p (field g) q × HasCar g in
-          subst P (ok_is None f g.1) (subst (λ (t : List ℕ). Stands bytes p t q) (null_address bytes p (not_positive a.car none.0) (eqb-true _ _ g.0)) whole, tt)
+          subst P (ok_same None f g.1) (subst (λ (t : List ℕ). Stands bytes p t q) (null_address bytes p (not_positive a.car none.0) (eqb-true _ _ g.0)) whole, tt)
     ]
 
 target_takes : (bytes : List ℕ) (p q : ℕ) (a : Addr) → p + 12 ≡ q → q ≤ length bytes → IsBytes bytes → target_at bytes p ≡ Ok a → Stands bytes p (address a) q × (0 < a.car)
@@ -58,7 +59,7 @@ target_takes bytes p q a e inside fits read =
     let b = address_at bytes p in
     let g = wanted_ok (ltb 0 b.car) (Null p) (Ok b) a read in
     let P : Addr → Type 0 = λ x. Stands bytes p (address x) q × (0 < x.car) in
-    subst P (ok_is b a g.1) (address_stands bytes p q e inside fits, ltb-true 0 b.car g.0)
+    subst P (ok_same b a g.1) (address_stands bytes p q e inside fits, ltb-true 0 b.car g.0)
 
 -- nothing stands between a place and itself
 nothing_stands : (bytes : List ℕ) (p q : ℕ) → p ≡ q → q ≤ length bytes → Stands bytes p [] q
@@ -73,13 +74,13 @@ record FieldsRead (bytes : List ℕ) (p n q : ℕ) (fs : List (Option Addr)) : T
 fields_take : (n : ℕ) (bytes : List ℕ) (p q : ℕ) (fs : List (Option Addr)) → p + 12 * n ≡ q → q ≤ length bytes → IsBytes bytes → fields_at bytes n p ≡ Ok fs → FieldsRead bytes p n q fs
 unfolding fields_at
 fields_take zero bytes p q fs e inside fits read =
-    subst (λ (x : List (Option Addr)). FieldsRead bytes p 0 q x) (ok_is [] fs read) (record { stands = nothing_stands bytes p q (omega arith) inside; counted = refl; cars = tt })
+    subst (λ (x : List (Option Addr)). FieldsRead bytes p 0 q x) (ok_same [] fs read) (record { stands = nothing_stands bytes p q (omega arith) inside; counted = refl; cars = tt })
 fields_take (suc n) bytes p q fs e inside fits read =
     let a = bind_ok (field_at bytes p) (λ first. fields_at bytes n (p + 12) >>= λ others. Ok (first ∷ others)) fs read in
     let b = bind_ok (fields_at bytes n (p + 12)) (λ others. Ok (a.0 ∷ others)) fs a.2 in
     let first = field_takes bytes p (p + 12) a.0 refl (omega arith) fits a.1 in
     let others = fields_take n bytes (p + 12) q b.0 (omega arith) inside fits b.1 in
-    subst (λ (x : List (Option Addr)). FieldsRead bytes p (suc n) q x) (ok_is (a.0 ∷ b.0) fs b.2) (record {
+    subst (λ (x : List (Option Addr)). FieldsRead bytes p (suc n) q x) (ok_same (a.0 ∷ b.0) fs b.2) (record {
       stands = Stands-then bytes (field a.0) (flat_map field b.0) p (p + 12) q first.0 others.stands;
       counted = ap suc others.counted;
       cars = (first.1, others.cars);
@@ -88,9 +89,9 @@ fields_take (suc n) bytes p q fs e inside fits read =
 pub end_takes : (bytes : List ℕ) (at end : ℕ) → end_at bytes at ≡ Ok end → (live_end bytes at ≡ end) × (end ≤ length bytes)
 unfolding end_at
 end_takes bytes at end read =
-    let g = guard_ok (ltb (length bytes) (at + 13)) (Short at) (cond (ltb (length bytes) (live_end bytes at)) (Err (Short at)) (Ok (live_end bytes at))) end read in
-    let h = guard_ok (ltb (length bytes) (live_end bytes at)) (Short at) (Ok (live_end bytes at)) end g.1 in
-    let e = ok_is (live_end bytes at) end h.1 in
+    let g = if_ok (ltb (length bytes) (at + 13)) (Short at) (cond (ltb (length bytes) (live_end bytes at)) (Err (Short at)) (Ok (live_end bytes at))) end read in
+    let h = if_ok (ltb (length bytes) (live_end bytes at)) (Short at) (Ok (live_end bytes at)) end g.1 in
+    let e = ok_same (live_end bytes at) end h.1 in
     let inside : live_end bytes at ≤ length bytes = ltb-false _ _ h.0 in
     (e, subst (λ (k : ℕ). k ≤ length bytes) e inside)
 
@@ -98,9 +99,9 @@ pub ident_takes : (bytes : List ℕ) (p id : ℕ) → ident_at bytes p ≡ Ok id
 unfolding ident_at
 ident_takes bytes p id read =
     let n = number_from 8 bytes p in
-    let g = guard_ok (eqb n 0 || ltb LAST_ID n) (Ident p) (Ok n) id read in
+    let g = if_ok (eqb n 0 || ltb LAST_ID n) (Ident p) (Ok n) id read in
     let both = neither (eqb n 0) (ltb LAST_ID n) g.0 in
-    let e = ok_is n id g.1 in
+    let e = ok_same n id g.1 in
     let P : ℕ → Type 0 = λ k. (n ≡ k) × (0 < k) × (k ≤ LAST_ID) in
     subst P e (refl, not_zero n both.0, ltb-false LAST_ID n both.1)
 
@@ -108,17 +109,17 @@ pub field_count_takes : (most : ℕ) (bytes : List ℕ) (p n : ℕ) → field_co
 unfolding field_count_at
 field_count_takes most bytes p n read =
     let m = number_from 2 bytes p in
-    let g = guard_ok (ltb most m) (Fields p m) (Ok m) n read in
+    let g = if_ok (ltb most m) (Fields p m) (Ok m) n read in
     let P : ℕ → Type 0 = λ k. (m ≡ k) × (k ≤ most) in
-    subst P (ok_is m n g.1) (refl, ltb-false most m g.0)
+    subst P (ok_same m n g.1) (refl, ltb-false most m g.0)
 
 byte_count_takes : (bytes : List ℕ) (p n : ℕ) → byte_count_at bytes p ≡ Ok n → (number_from 2 bytes p ≡ n) × (n ≤ OBJECT_BYTES)
 unfolding byte_count_at
 byte_count_takes bytes p n read =
     let m = number_from 2 bytes p in
-    let g = guard_ok (ltb OBJECT_BYTES m) (Count p m) (Ok m) n read in
+    let g = if_ok (ltb OBJECT_BYTES m) (Count p m) (Ok m) n read in
     let P : ℕ → Type 0 = λ k. (m ≡ k) × (k ≤ OBJECT_BYTES) in
-    subst P (ok_is m n g.1) (refl, ltb-false OBJECT_BYTES m g.0)
+    subst P (ok_same m n g.1) (refl, ltb-false OBJECT_BYTES m g.0)
 
 -- the last bytes before a place are as many as they are
 last_length : (bytes : List ℕ) (n end : ℕ) → n ≤ end → end ≤ length bytes → length (slice_range bytes (end - n) end) ≡ n
@@ -164,13 +165,13 @@ live_takes most bytes at x fits lt kind read =
       fits = record { within = (omega (arith, fs.counted, n.1), omega (arith, long, count.1)); numbered = (ident.1, fs.cars) };
       stands = live_stands bytes at b.0 c.0 d.0 a.0 f.0 fits inside whole kind ident.0 n.0 count.0 fs;
     } in
-    subst (λ (y : Slot × ℕ). IsSpelled most bytes at y.0 y.1) {x = made a.0 b.0 d.0 f.0} (ok_is (made a.0 b.0 d.0 f.0) x f.2) spelled
+    subst (λ (y : Slot × ℕ). IsSpelled most bytes at y.0 y.1) {x = made a.0 b.0 d.0 f.0} (ok_same (made a.0 b.0 d.0 f.0) x f.2) spelled
 
 moved_takes : (most : ℕ) (bytes : List ℕ) (at : ℕ) (x : Slot × ℕ) → IsBytes bytes → at < length bytes → get_or bytes at 0 ≡ 2 → moved_at bytes at ≡ Ok x → IsSpelled most bytes at x.0 x.1
 unfolding moved_at spelling
 moved_takes most bytes at x fits lt kind read =
     let made : Addr → Slot × ℕ = λ to. (Moved to, at + 13) in
-    let g = guard_ok (ltb (length bytes) (at + 13)) (Short at) (target_at bytes (at + 1) >>= λ to. Ok (made to)) x read in
+    let g = if_ok (ltb (length bytes) (at + 13)) (Short at) (target_at bytes (at + 1) >>= λ to. Ok (made to)) x read in
     let a = bind_ok (target_at bytes (at + 1)) (λ to. Ok (made to)) x g.1 in
     let inside : at + 13 ≤ length bytes = ltb-false _ _ g.0 in
     let to = target_takes bytes (at + 1) (at + 13) a.0 (omega arith) inside fits a.1 in
@@ -178,14 +179,14 @@ moved_takes most bytes at x fits lt kind read =
       fits = record { within = tt; numbered = to.1 };
       stands = Stands-then bytes (2 ∷ []) (address a.0) at (at + 1) (at + 13) (byte_stands bytes at 2 lt kind) to.0;
     } in
-    subst (λ (y : Slot × ℕ). IsSpelled most bytes at y.0 y.1) (ok_is (made a.0) x a.2) spelled
+    subst (λ (y : Slot × ℕ). IsSpelled most bytes at y.0 y.1) (ok_same (made a.0) x a.2) spelled
 
 -- what is read is spelled there
 pub slot_takes : (most : ℕ) (bytes : List ℕ) (at : ℕ) (x : Slot × ℕ) → IsBytes bytes → slot_at most bytes at ≡ Ok x → IsSpelled most bytes at x.0 x.1
 unfolding slot_at
 slot_takes most bytes at x fits read =
     let kind = get_or bytes at 0 in
-    let g = guard_ok (leb (length bytes) at) (Short at) (cond (eqb kind 1) (live_at most bytes at) (cond (eqb kind 2) (moved_at bytes at) (Err (Kind at kind)))) x read in
+    let g = if_ok (leb (length bytes) at) (Short at) (cond (eqb kind 1) (live_at most bytes at) (cond (eqb kind 2) (moved_at bytes at) (Err (Kind at kind)))) x read in
     let lt : at < length bytes = leb-false _ _ g.0 in
     let way = chosen (eqb kind 1) (live_at most bytes at) (cond (eqb kind 2) (moved_at bytes at) (Err (Kind at kind))) (Ok x) g.1 in
     elim way [

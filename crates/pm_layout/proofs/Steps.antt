@@ -2,31 +2,11 @@
 use Rattle.std.proofs.Common.{◌≡◌, ℕ, zero, suc, ◌<◌, Bool, true, false, cond, eqb, ltb, ◌||◌, Result, Ok, Err, refl, ap, ◌⊎◌, inl, inr, arith}
 use Rattle.std.proofs.lemmas.Bool.{ltb-false}
 use Rattle.std.proofs.Math.Dec.{eqb-suc-zero}
-use Rattle.pm_layout.specs.Steps.{◌>>=◌}
-
--- the value of a step that did not fail
-pub bind_ok : {A B E : Type 0} (r : Result A E) (f : A → Result B E) (y : B) → (r >>= f) ≡ Ok y → (x : A) × (r ≡ Ok x) × (f x ≡ Ok y)
-bind_ok (Ok x) f y e = (x, refl, e)
-bind_ok (Err d) f y e = absurd cc
-
--- two values that are Ok alike are one
-pub ok_is : {A E : Type 0} (x y : A) → ◌≡◌ {A = Result A E} (Ok x) (Ok y) → x ≡ y
-ok_is x y e = cc
 
 -- which way a test went
 pub chosen : {X : Type 0} (b : Bool) (x y z : X) → cond b x y ≡ z → ((b ≡ true) × (x ≡ z)) ⊎ ((b ≡ false) × (y ≡ z))
 chosen true x y z e = inl (refl, e)
 chosen false x y z e = inr (refl, e)
-
--- a test that must not hold did not
-pub guard_ok : {X E : Type 0} (b : Bool) (d : E) (x : Result X E) (y : X) → cond b (Err d) x ≡ Ok y → (b ≡ false) × (x ≡ Ok y)
-guard_ok true d x y e = absurd cc
-guard_ok false d x y e = (refl, e)
-
--- a test that must hold did
-pub wanted_ok : {X E : Type 0} (b : Bool) (d : E) (x : Result X E) (y : X) → cond b x (Err d) ≡ Ok y → (b ≡ true) × (x ≡ Ok y)
-wanted_ok true d x y e = (refl, e)
-wanted_ok false d x y e = absurd cc
 
 -- a test that holds takes the first
 pub holds : {X : Type 0} (b : Bool) (x y : X) → b ≡ true → cond b x y ≡ x

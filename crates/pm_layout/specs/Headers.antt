@@ -1,7 +1,7 @@
 -- How headers are spelled, which have a spelling, and what bytes say of one.
 use Rattle.std.specs.Prelude.{◌≡◌, ℕ, ◌<◌, ◌≤◌, ◌^◌, List, [], ◌∷◌, ◌++◌, length, take, slice_range, Result, Ok, Err, nat_lt, ◌==◌, ◌||◌, if◌then◌else◌}
 use Rattle.std.specs.Str.{bytes_eq}
-use Rattle.pm_layout.specs.Steps.{◌>>=◌}
+use Rattle.pm_base.specs.Results.{◌>>=◌}
 use Rattle.byteorder.specs.Endian.{big_bytes}
 use Rattle.sha2.specs.Sha256.{sha256}
 use Rattle.pm_layout.specs.declared.header.Header.{Header}

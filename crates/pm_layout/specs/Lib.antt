@@ -1,4 +1,3 @@
-pub mod Steps
 pub mod Spelling
 pub mod Reading
 pub mod Room

@@ -4,7 +4,7 @@ ghost use Rattle.byteorder.specs.Endian.{big_bytes};
 ghost use Rattle.pm_layout.specs.Headers.{HasHeaderSpelling, IsHeaderInRange, magic, header_numbers, header_body, header_spelling, magic_at, version_at, digest_kept, next_at, header_at};
 
 use crate::digest;
-use crate::number::{u32_at, u64_at};
+use crate::number::{digest_at, u32_at, u64_at};
 use byteorder::{BigEndian, ByteOrder};
 use thiserror::Error;
 
@@ -109,16 +109,6 @@ pub fn write_header(header: &Header) -> [u8; 96]
     put_body(body, header);
     kept.copy_from_slice(&digest(body));
     bytes
-}
-
-// The digest that stands at a place of a header.
-fn digest_at(bytes: &[u8; 96], place: usize) -> [u8; 32]
-    requires { place ≤ 64 }
-    ensures { result ≡ slice_range bytes.now place (place + 32) }
-{
-    let mut digest = [0; 32];
-    digest.copy_from_slice(&bytes[place..place + 32]);
-    digest
 }
 
 // The first eight bytes are the magic.

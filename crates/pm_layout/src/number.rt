@@ -1,6 +1,7 @@
 // Numbers in bytes, the highest byte first: read at a place, and appended.
 
 ghost use Rattle.std.specs.Prelude.{◌≡◌, ◌+◌, ◌≤◌, length};
+ghost use Rattle.std.specs.List.{slice_range};
 ghost use Rattle.byteorder.specs.Endian.{big_bytes};
 ghost use Rattle.pm_layout.specs.Reading.{number_from};
 ghost use Rattle.pm_layout.specs.Room.{HasRoom, Appends};
@@ -29,6 +30,16 @@ pub fn u64_at(bytes: &[u8], place: usize) -> u64
     ensures { result ≡ number_from 8 bytes.now place }
 {
     BigEndian::read_u64(&bytes[place..])
+}
+
+/// The digest in the 32 bytes from a place on, which are inside the bytes. It takes no memory.
+pub fn digest_at(bytes: &[u8], place: usize) -> [u8; 32]
+    requires { place + 32 ≤ length bytes.now }
+    ensures { result ≡ slice_range bytes.now place (place + 32) }
+{
+    let mut digest = [0; 32];
+    digest.copy_from_slice(&bytes[place..place + 32]);
+    digest
 }
 
 /// Appends bytes, which there is room for. It takes no memory.

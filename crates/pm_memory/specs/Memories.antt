@@ -1,8 +1,6 @@
 -- What the map in memory keeps, as a world.
-use Rattle.std.specs.Prelude.{ℕ, ◌≤◌, length, Option}
-use Rattle.pm_types.specs.declared.limits.TheConstants.{OBJECT_BYTES, LAST_COPY}
-use Rattle.pm_types.specs.declared.reply.Reply.{Reply}
-use Rattle.pm_types.specs.declared.reply.Reply.TheVariants.{Shown}
+use Rattle.std.specs.Prelude.{ℕ, ◌≤◌, Option}
+use Rattle.pm_types.specs.declared.limits.TheConstants.{LAST_COPY}
 use Rattle.pm_model.specs.Heap.{Heap}
 use Rattle.pm_model.specs.World.{World, Roots, Registers, Copy}
 use Rattle.pm_model.specs.Plain.{IsPlain, AreHeld, IsPlainSave}
@@ -18,8 +16,3 @@ pub record IsSound (heap : Heap) (roots : Roots) (registers : Registers) (next s
   pub held : AreHeld heap registers
   pub counted : settled ≤ LAST_COPY
   pub begun : IsPlainSave settled saving
-
--- the bytes that a reply shows are those of an object
-abbrev pub IsShort : Reply → Type 0
-IsShort (Shown bytes) = length bytes ≤ OBJECT_BYTES
-IsShort reply = Unit {0}

@@ -5,7 +5,7 @@ ghost use Rattle.pm_types.specs.declared.limits.TheConstants.{LAST_COPY};
 ghost use Rattle.pm_model.specs.World.{empty_world, begin, held};
 ghost use Rattle.pm_model.specs.Plain.{IsPlainCopy, IsPlainSave};
 ghost use Rattle.pm_model.specs.Answer.{answer, answer_new, bytes_of, answer_data, answer_id, answer_root, answer_find, answer_save, answer_settle};
-ghost use Rattle.pm_memory.specs.Memories.{IsShort};
+ghost use Rattle.pm_types.specs.Replies.{IsShortReply};
 
 use pm_model::{Graph, Node, Objects, Registers, Roots};
 use pm_types::{
@@ -85,7 +85,7 @@ impl Memory {
         ensures world { OnOk result (self.new ≡ (answer self.old client cmd.now).1) }
         ensures err { OnErr result (self.new ≡ self.old) }
         // Bytes that are shown are no more than an object's.
-        ensures short { IfOk result IsShort }
+        ensures short { IfOk result IsShortReply }
     {
         match cmd {
             Cmd::New { reg, count, bytes } => self.make(alloc, client, *reg, *count, bytes),
@@ -143,7 +143,7 @@ impl Memory {
 
     fn show(&self, alloc: Global, client: u32, reg: Reg) -> Result<Reply, NoMemory>
         ensures answer { IfOk result (λ reply. (reply, self.now) ≡ answer_data self.now (held self.now client reg)) }
-        ensures short { IfOk result IsShort }
+        ensures short { IfOk result IsShortReply }
     {
         let Some(id) = self.registers.get(client, reg.number()) else {
             return Ok(Reply::NoHandle);

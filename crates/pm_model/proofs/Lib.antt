@@ -1,4 +1,3 @@
-pub mod Shown
 pub mod Members
 pub mod Reaching
 pub mod Unused

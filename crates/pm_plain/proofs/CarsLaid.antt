@@ -24,7 +24,7 @@ use Rattle.pm_image.specs.declared.catalog.CatEntry.{CatEntry}
 use Rattle.pm_image.specs.declared.settled.KeptPage.{KeptPage}
 use Rattle.pm_image.specs.CarPages.{Numbers, CarScope, Ascend, AreFree, car_at, car_used, is_taken}
 use Rattle.pm_image.specs.Graphs.{Pages, on_page, cars_from, with_identities}
-use Rattle.pm_image.proofs.Results.{bound}
+use Rattle.pm_base.proofs.Results.{bound}
 use Rattle.pm_image.proofs.CarSizes.{few_slots}
 use Rattle.pm_image.proofs.CarAgain.{car_again}
 use Rattle.pm_image.proofs.BlankLaws.{kept_page}

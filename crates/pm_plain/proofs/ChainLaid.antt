@@ -12,7 +12,8 @@ use Rattle.pm_image.specs.declared.catalog.CatalogPage.{CatalogPage}
 use Rattle.pm_image.specs.CarPages.{Numbers}
 use Rattle.pm_image.specs.CatalogPages.{Met, catalog_at, catalog_used, is_free_page, meeting_next, meeting_all, meeting_page, AreNext, IsEntryInRange}
 use Rattle.pm_image.specs.Graphs.{Pages, on_page, catalog_from}
-use Rattle.pm_image.proofs.Results.{bound, both_true}
+use Rattle.pm_image.proofs.Results.{both_true}
+use Rattle.pm_base.proofs.Results.{bound}
 use Rattle.pm_image.proofs.CatalogAgain.{catalog_again}
 use Rattle.pm_image.proofs.BlankLaws.{kept_page}
 use Rattle.pm_plain.specs.Laying.{Listed, catalog_page, digest_of, linked_to, chain_of}

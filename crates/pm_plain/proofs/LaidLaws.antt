@@ -19,7 +19,7 @@ use Rattle.pm_image.specs.declared.settled.KeptPage.{KeptPage}
 use Rattle.pm_image.specs.CarPages.{Numbers}
 use Rattle.pm_image.specs.CatalogPages.{Met, is_free_page, AreNext, IsEntryInRange}
 use Rattle.pm_image.specs.Graphs.{Pages, entries_of, catalog_from, catalog_of, cars_from, linked, Site, sites_of, root_sites, most_pages, used_pages, graph_of}
-use Rattle.pm_image.proofs.Results.{bound}
+use Rattle.pm_base.proofs.Results.{bound}
 use Rattle.pm_plain.specs.Laying.{Item, Placed, Listed, kept_from, car_entry, chain_of}
 use Rattle.pm_plain.specs.Laid.{Plan, graph_of_plan, IsPlanOf, StandsOn, IsHeaderOf}
 use Rattle.pm_plain.proofs.CarsLaid.{AreGiven, heap_given, cars_laid}

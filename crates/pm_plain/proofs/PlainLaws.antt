@@ -8,7 +8,7 @@ use Rattle.pm_image.specs.Opening.{current}
 use Rattle.pm_image.specs.Graphs.{Graph, graph_of, copy_of}
 use Rattle.pm_image.specs.Stands.{pages_of, Opened, opened, copy_in, Stands}
 use Rattle.pm_image.specs.Blank.{blank_store}
-use Rattle.pm_image.proofs.Results.{ok_same, bind_ok, bound}
+use Rattle.pm_base.proofs.Results.{ok_same, bind_ok, bound}
 use Rattle.pm_image.proofs.StandsLaws.{one_copy}
 use Rattle.pm_image.proofs.FrameLaws.{found_of, opened_as}
 use Rattle.pm_image.proofs.BlankLaws.{blank_found, blank_stands}

@@ -8,7 +8,7 @@ use Rattle.pm_types.specs.declared.object.Slot.{Slot}
 use Rattle.pm_types.specs.declared.object.Slot.TheVariants.{Live, Moved}
 use Rattle.pm_model.specs.World.{Copy}
 use Rattle.pm_image.specs.declared.settled.KeptPage.{KeptPage}
-use Rattle.pm_image.specs.Steps.{◌>>=◌}
+use Rattle.pm_base.specs.Results.{◌>>=◌}
 use Rattle.pm_image.specs.Opening.{current}
 use Rattle.pm_image.specs.Graphs.{Graph, graph_of, copy_of}
 use Rattle.pm_image.specs.Stands.{pages_of, Stands}

@@ -10,28 +10,18 @@ use Rattle.pm_types.specs.declared.fault.OpenFault.TheVariants.{Broken}
 use Rattle.pm_image.specs.declared.catalog.CatEntry.{CatEntry}
 use Rattle.pm_image.specs.declared.catalog.CatEntry.TheVariants.{Car, Root}
 use Rattle.pm_image.specs.declared.catalog.CatalogPage.{CatalogPage}
-use Rattle.pm_image.specs.Steps.{◌>>=◌}
+use Rattle.pm_base.specs.Results.{◌>>=◌}
 use Rattle.pm_image.specs.CarPages.{Numbers}
 use Rattle.pm_image.specs.CatalogPages.{Met, meeting, meeting_next, meeting_all, meeting_page, is_free_page, HasCatalogPage, AreNext, catalog_at}
 use Rattle.pm_image.specs.Graphs.{Pages as Store, Catalog, undamaged, on_page, catalog_from, entries_of, most_pages}
-use Rattle.pm_image.proofs.Results.{bind_ok, bound, both_true}
+use Rattle.pm_image.proofs.Results.{both_true}
+use Rattle.pm_base.proofs.Fronts.{with_front, regroup}
+use Rattle.pm_base.proofs.Results.{bind_ok, bound}
 use Rattle.pm_reopen.specs.declared.fault.ReadFault.{ReadFault}
 use Rattle.pm_reopen.specs.declared.fault.ReadFault.TheVariants.{Refused, Failed, Memory}
 use Rattle.pm_reopen.specs.Reading.{IsRefused, Gives, link_at, IsThere, IsEntryThere, root_count, page_numbers, IsSound}
 use Rattle.pm_reopen.proofs.ReadLaws.{first_refused}
 use Rattle.pm_reopen.proofs.Lists.{all_both}
-
--- the pages of a front, and those of the rest
-abbrev pub with_pages : Catalog → Result Catalog OpenFault → Result Catalog OpenFault
-with_pages front read = read >>= λ others. Ok (front ++ others)
-
-pub no_front : (read : Result Catalog OpenFault) → with_pages [] read ≡ read
-no_front (Ok catalog) = refl
-no_front (Err fault) = refl
-
-regroup : (front : Catalog) (page : ℕ × CatalogPage) (read : Result Catalog OpenFault) → with_pages front (read >>= λ others. Ok (page ∷ others)) ≡ with_pages (front ++ page ∷ []) read
-regroup front page (Ok others) = ap Ok (sym (append_assoc front (page ∷ []) others))
-regroup front page (Err fault) = refl
 
 -- the pages behind the first
 abbrev others_of : ℕ → Store → Met → CatalogPage → Result Catalog OpenFault
@@ -39,11 +29,11 @@ others_of n store met first = if first.next == 0 then Ok [] else catalog_from n 
 
 -- a link that was read goes to the front
 step : (n : ℕ) (store : Store) (met : Met) (page : ℕ) (kept : List ℕ) (first : CatalogPage) (front : Catalog) → link_at store met page kept ≡ Ok first
-    → with_pages front (catalog_from (suc n) store met page kept) ≡ with_pages (front ++ (page, first) ∷ []) (others_of n store met first)
+    → with_front front (catalog_from (suc n) store met page kept) ≡ with_front (front ++ (page, first) ∷ []) (others_of n store met first)
 unfolding catalog_from link_at
 step n store met page kept first front is =
     let one = bind_ok (undamaged store page kept) _ first is in
-    ap (with_pages front) (bound (undamaged store page kept) _ one.0 _ one.1 (bound (on_page page (catalog_at (Some store.count) met (store.page page))) _ first _ one.2 refl))
+    ap (with_front front) (bound (undamaged store page kept) _ one.0 _ one.1 (bound (on_page page (catalog_at (Some store.count) met (store.page page))) _ first _ one.2 refl))
     ∙ regroup front (page, first) (others_of n store met first)
 
 zero_not : (n : ℕ) → (n ≡ 0 → ⊥) → (n == 0) ≡ false
@@ -62,44 +52,44 @@ unfolding catalog_from link_at
 link_fault n store met page kept fault is = fails_pair (undamaged store page kept) (on_page page (catalog_at (Some store.count) met (store.page page))) _ fault is
 
 link_refused : (n : ℕ) (store : Store) (met : Met) (page : ℕ) (kept : List ℕ) (front : Catalog) (fault : ReadFault) → Gives {X = CatalogPage} (Err fault) (link_at store met page kept)
-    → Gives {X = Catalog} (Err fault) (with_pages front (catalog_from (suc n) store met page kept))
+    → Gives {X = Catalog} (Err fault) (with_front front (catalog_from (suc n) store met page kept))
 link_refused n store met page kept front Refused is = first_refused Refused (catalog_from (suc n) store met page kept) _ (link_fault n store met page kept is.0 is.1)
 link_refused n store met page kept front Failed is = tt
 link_refused n store met page kept front Memory is = tt
 
 module _ (store : Store) (i : ℕ) (met : Met) (page : ℕ) (kept : List ℕ) (front : Catalog) (total : Result Catalog OpenFault) where
-  rest_of : i < most_pages → with_pages front (catalog_from (most_pages - i) store met page kept) ≡ total → with_pages front (catalog_from (suc (most_pages - (i + 1))) store met page kept) ≡ total
+  rest_of : i < most_pages → with_front front (catalog_from (most_pages - i) store met page kept) ≡ total → with_front front (catalog_from (suc (most_pages - (i + 1))) store met page kept) ≡ total
   rest_of lt so_far =
       let k : most_pages - i ≡ suc (most_pages - (i + 1)) = omega arith in
-      ap (λ (n : ℕ). with_pages front (catalog_from n store met page kept)) (sym k) ∙ so_far
+      ap (λ (n : ℕ). with_front front (catalog_from n store met page kept)) (sym k) ∙ so_far
 
   -- one page more was read
-  pub chain_on : (first : CatalogPage) → i < most_pages → link_at store met page kept ≡ Ok first → (first.next ≡ 0 → ⊥) → with_pages front (catalog_from (most_pages - i) store met page kept) ≡ total
-      → with_pages (front ++ (page, first) ∷ []) (catalog_from (most_pages - (i + 1)) store (meeting_page met first) first.next first.digest) ≡ total
+  pub chain_on : (first : CatalogPage) → i < most_pages → link_at store met page kept ≡ Ok first → (first.next ≡ 0 → ⊥) → with_front front (catalog_from (most_pages - i) store met page kept) ≡ total
+      → with_front (front ++ (page, first) ∷ []) (catalog_from (most_pages - (i + 1)) store (meeting_page met first) first.next first.digest) ≡ total
   chain_on first lt is some so_far =
-      ap (λ (b : Bool). with_pages (front ++ (page, first) ∷ []) (if b then Ok [] else catalog_from (most_pages - (i + 1)) store (meeting_page met first) first.next first.digest)) (sym (zero_not first.next some))
+      ap (λ (b : Bool). with_front (front ++ (page, first) ∷ []) (if b then Ok [] else catalog_from (most_pages - (i + 1)) store (meeting_page met first) first.next first.digest)) (sym (zero_not first.next some))
       ∙ sym (step (most_pages - (i + 1)) store met page kept first front is) ∙ rest_of lt so_far
 
   -- the last page was read
-  pub chain_done : (first : CatalogPage) → i < most_pages → link_at store met page kept ≡ Ok first → first.next ≡ 0 → with_pages front (catalog_from (most_pages - i) store met page kept) ≡ total
+  pub chain_done : (first : CatalogPage) → i < most_pages → link_at store met page kept ≡ Ok first → first.next ≡ 0 → with_front front (catalog_from (most_pages - i) store met page kept) ≡ total
       → total ≡ Ok (front ++ (page, first) ∷ [])
   chain_done first lt is none so_far =
       sym (rest_of lt so_far) ∙ step (most_pages - (i + 1)) store met page kept first front is
-      ∙ ap (λ (n : ℕ). with_pages (front ++ (page, first) ∷ []) (if n == 0 then Ok [] else catalog_from (most_pages - (i + 1)) store (meeting_page met first) first.next first.digest)) none
+      ∙ ap (λ (n : ℕ). with_front (front ++ (page, first) ∷ []) (if n == 0 then Ok [] else catalog_from (most_pages - (i + 1)) store (meeting_page met first) first.next first.digest)) none
       ∙ ap Ok (append-nil (front ++ (page, first) ∷ []))
 
   -- a page was refused
-  pub chain_ends : (fault : ReadFault) → i < most_pages → Gives {X = CatalogPage} (Err fault) (link_at store met page kept) → with_pages front (catalog_from (most_pages - i) store met page kept) ≡ total
+  pub chain_ends : (fault : ReadFault) → i < most_pages → Gives {X = CatalogPage} (Err fault) (link_at store met page kept) → with_front front (catalog_from (most_pages - i) store met page kept) ≡ total
       → Gives {X = Catalog} (Err fault) total
   chain_ends fault lt is so_far =
       subst (λ (r : Result Catalog OpenFault). Gives {X = Catalog} (Err fault) r) (rest_of lt so_far) (link_refused (most_pages - (i + 1)) store met page kept front fault is)
 
   -- there are more pages than any store has
-  pub chain_long : most_pages ≤ i → with_pages front (catalog_from (most_pages - i) store met page kept) ≡ total → IsRefused total
+  pub chain_long : most_pages ≤ i → with_front front (catalog_from (most_pages - i) store met page kept) ≡ total → IsRefused total
   unfolding catalog_from
   chain_long le so_far =
       let k : most_pages - i ≡ 0 = omega arith in
-      (Broken, sym so_far ∙ ap (λ (n : ℕ). with_pages front (catalog_from n store met page kept)) k)
+      (Broken, sym so_far ∙ ap (λ (n : ℕ). with_front front (catalog_from n store met page kept)) k)
 
 -- ---- what is known of the pages
 

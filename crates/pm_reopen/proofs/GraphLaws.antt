@@ -14,9 +14,10 @@ use Rattle.pm_image.specs.declared.catalog.CatEntry.{CatEntry}
 use Rattle.pm_image.specs.declared.catalog.CatEntry.TheVariants.{Car, Root}
 use Rattle.pm_image.specs.declared.catalog.CatalogPage.{CatalogPage}
 use Rattle.pm_image.specs.declared.settled.KeptPage.{KeptPage}
-use Rattle.pm_image.specs.Steps.{◌>>=◌}
+use Rattle.pm_base.specs.Results.{◌>>=◌}
 use Rattle.pm_image.specs.Graphs.{Pages as Store, Catalog, Graph, Site, slot_named, field_sites, record_sites, root_sites, sites_of, leads, linked, catalog_of, cars_from, entries_of, graph_of}
-use Rattle.pm_image.proofs.Results.{bound, both_true}
+use Rattle.pm_image.proofs.Results.{both_true}
+use Rattle.pm_base.proofs.Results.{bound}
 use Rattle.pm_plain.specs.Plain.{is_plain_car, readable}
 use Rattle.pm_reopen.specs.declared.fault.ReadFault.{ReadFault}
 use Rattle.pm_reopen.specs.declared.fault.ReadFault.TheVariants.{Refused}

@@ -1,8 +1,9 @@
 -- Runs of calls that only look at a store.
-use Rattle.std.proofs.Common.{List, ℕ, refl, ◌∙◌}
+use Rattle.std.proofs.Common.{List, ℕ, refl, ap, ◌∙◌}
 use Rattle.pm_disk.specs.declared.disk.Disk.{Ghosts}
 use Rattle.pm_disk.proofs.RunLemmas.{started}
 use Rattle.pm_shadow.specs.declared.pages.Pages.{Pages}
+use Rattle.pm_shadow.specs.State.{State}
 use Rattle.pm_shadow.specs.Pages.{disk_of}
 use Rattle.pm_shadow.proofs.RunLemmas.{looks_then}
 use Rattle.pm_reopen.specs.Reading.{Looked}
@@ -13,6 +14,7 @@ module _ {D : Type 0} {g : Ghosts D} where
   looked_none it now = record {
     same = refl;
     looks = record { told = refl; images = record { no_more = λ left is. is; no_fewer = λ left is. is }; leaves = started g.moment g.since (disk_of it) (g.image (disk_of it)) now };
+    made = λ fine. refl;
   }
 
   -- one run behind another
@@ -20,4 +22,5 @@ module _ {D : Type 0} {g : Ghosts D} where
   looked_then old mid new one two = record {
     same = two.same ∙ one.same;
     looks = looks_then g.contents g.image g.moment g.since (disk_of old) (disk_of mid) (disk_of new) one.looks two.looks;
+    made = λ fine. two.made (ap (λ (s : State). s.failed) one.same ∙ fine) ∙ one.made fine;
   }

@@ -11,7 +11,7 @@ use Rattle.pm_types.specs.declared.fault.OpenFault.TheVariants.{Broken, NotAStor
 use Rattle.pm_layout.specs.declared.header.HeaderFault.{HeaderFault}
 use Rattle.pm_layout.specs.Headers.{header_at}
 use Rattle.pm_model.proofs.Members.{at_first, in_rest, in_none, first_or_rest}
-use Rattle.pm_image.specs.Steps.{◌>>=◌}
+use Rattle.pm_base.specs.Results.{◌>>=◌}
 use Rattle.pm_image.specs.CatalogPages.{Met, catalog_at, meeting_page}
 use Rattle.pm_image.specs.Opening.{Current, current, page_count, page_of, is_placed, sound_header, header_in, header_body_of, open_slot}
 use Rattle.pm_image.specs.Stands.{pages_of}
@@ -31,7 +31,8 @@ use Rattle.pm_image.specs.declared.catalog.CatEntry.{CatEntry}
 use Rattle.pm_image.specs.declared.settled.KeptPage.{KeptPage}
 use Rattle.pm_image.specs.Graphs.{Pages as Store, Graph, Catalog, undamaged, on_page, catalog_from, catalog_of, most_pages, entries_of, cars_from, linked, sites_of, graph_of, used_pages, heap_of, roots_of, copy_of}
 use Rattle.pm_model.specs.Copying.{copied}
-use Rattle.pm_image.proofs.Results.{ok_same, bind_ok, bound, if_ok, both_true}
+use Rattle.pm_image.proofs.Results.{both_true}
+use Rattle.pm_base.proofs.Results.{ok_same, bind_ok, bound, if_ok}
 use Rattle.std.specs.List.{list_all}
 use Rattle.pm_plain.specs.Plain.{is_plain_car}
 use Rattle.pm_reopen.specs.Building.{IsBuilt, has_slot, is_readable}

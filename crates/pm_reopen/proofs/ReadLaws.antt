@@ -13,14 +13,15 @@ use Rattle.pm_image.specs.declared.car.CarImage.{CarImage}
 use Rattle.pm_image.specs.declared.catalog.CatalogPage.{CatalogPage}
 use Rattle.pm_image.specs.declared.settled.KeptPage.{KeptPage}
 use Rattle.pm_image.specs.Answers.{Gives as PageGives}
-use Rattle.pm_image.specs.Steps.{◌>>=◌}
+use Rattle.pm_base.specs.Results.{◌>>=◌}
 use Rattle.pm_image.specs.CarPages.{Numbers, car_at}
 use Rattle.pm_image.specs.CarAnswers.{a_car}
 use Rattle.pm_image.specs.CatalogPages.{Met, catalog_at}
 use Rattle.pm_image.specs.declared.catalog.CatEntry.{CatEntry}
 use Rattle.pm_image.specs.declared.catalog.CatEntry.TheVariants.{Car, Root}
 use Rattle.pm_image.specs.Graphs.{Pages as Store, undamaged, on_page, cars_from, with_identities}
-use Rattle.pm_image.proofs.Results.{ok_same, bind_ok, bound}
+use Rattle.pm_base.proofs.Fronts.{with_front, regroup}
+use Rattle.pm_base.proofs.Results.{ok_same, bind_ok, bound}
 use Rattle.pm_reopen.specs.declared.fault.ReadFault.{ReadFault}
 use Rattle.pm_reopen.specs.declared.fault.ReadFault.TheVariants.{Refused, Failed, Memory}
 use Rattle.pm_reopen.specs.Reading.{of_page, IsRefused, Gives, link_at, car_on, entry_car, with_car, car_list}
@@ -86,14 +87,6 @@ car_read next store met number page kept bytes u image is read given =
     (bound (on_page page (car_at (a_car FIELDS next (Some number)) met (store.page page))) _ image _ (ap (on_page page) (ap (λ (b : List ℕ). car_at (a_car FIELDS next (Some number)) met b) (sym read) ∙ given)) refl)
 
 -- ---- cars one after another
-
--- the cars of a front, and those of the rest
-abbrev pub with_front : List KeptPage → Result (List KeptPage) OpenFault → Result (List KeptPage) OpenFault
-with_front front read = read >>= λ cars. Ok (front ++ cars)
-
-regroup : (front : List KeptPage) (car : KeptPage) (read : Result (List KeptPage) OpenFault) → with_front front (read >>= λ cars. Ok (car ∷ cars)) ≡ with_front (front ++ car ∷ []) read
-regroup front car (Ok cars) = ap Ok (sym (append_assoc front (car ∷ []) cars))
-regroup front car (Err fault) = refl
 
 -- one of two steps failed
 fails_chain : {A B C D F : Type 0} (first : Result A OpenFault) (second : Result B OpenFault) (f : B → C) (g : C → D) (rest : B → Result F OpenFault) (fault : OpenFault)

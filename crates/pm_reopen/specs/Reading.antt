@@ -1,9 +1,9 @@
 -- What the readers of the pages of a store may answer, by what the definitions give.
 use Rattle.std.specs.Prelude.{◌≡◌, ℕ, ◌+◌, ◌<◌, ◌≤◌, List, [], ◌∷◌, map, Option, Some, None, Result, Ok, Err}
-use Rattle.std.specs.Prelude.{true}
+use Rattle.std.specs.Prelude.{true, false}
 use Rattle.std.specs.List.{AllByRecursion}
 use Rattle.std.specs.FinSet as set
-use Rattle.pm_types.specs.Counts.{Rose}
+use Rattle.pm_base.specs.Counts.{Rose}
 use Rattle.pm_types.specs.declared.limits.TheConstants.{FIELDS, ROOTS}
 use Rattle.pm_types.specs.declared.fault.OpenFault.{OpenFault}
 use Rattle.pm_disk.specs.declared.disk.Disk.{Ghosts}
@@ -16,7 +16,7 @@ use Rattle.pm_image.specs.declared.catalog.CatEntry.{CatEntry}
 use Rattle.pm_image.specs.declared.catalog.CatEntry.TheVariants.{Car, Root}
 use Rattle.pm_image.specs.declared.catalog.CatalogPage.{CatalogPage}
 use Rattle.pm_image.specs.declared.settled.KeptPage.{KeptPage}
-use Rattle.pm_image.specs.Steps.{◌>>=◌}
+use Rattle.pm_base.specs.Results.{◌>>=◌}
 use Rattle.pm_image.specs.CarPages.{Numbers, HasCarPage, car_at}
 use Rattle.pm_image.specs.CarAnswers.{a_car}
 use Rattle.pm_image.specs.CatalogPages.{Met, catalog_at}
@@ -63,6 +63,8 @@ IsNoFailure Memory = Unit {0}
 pub record Looked {D : Type 0} {g : Ghosts D} (old new : Pages D g) : Type 0 where
   pub same : state new ≡ state old
   pub looks : OnlyLooks g.contents g.image g.moment g.since (disk_of old) (disk_of new)
+  -- no sync, no write, and no read past the end of what the disk told
+  pub made : (state old).failed ≡ false → g.made (disk_of new) ≡ g.made (disk_of old)
 
 -- a store of so many pages, with these bytes
 abbrev pub store_of : ℕ → List ℕ → Store

@@ -1,6 +1,6 @@
 -- Why no copy is opened behind a header, and what stands where one is.
 use Rattle.std.specs.Prelude.{◌≡◌, ℕ, List, Ok, Err}
-use Rattle.pm_types.specs.Counts.{Rose}
+use Rattle.pm_base.specs.Counts.{ShowsRise}
 use Rattle.pm_types.specs.declared.fault.OpenFault.{OpenFault}
 use Rattle.pm_types.specs.declared.fault.OpenFault.TheVariants.{NotAStore, Version, Damaged, Malformed, Broken, Disk, Memory}
 use Rattle.pm_image.specs.Opening.{current, page_count}
@@ -15,7 +15,7 @@ IsReopenFault before after (Version version) = ⊥
 IsReopenFault before after (Damaged page kept found) = ⊥
 IsReopenFault before after (Malformed page at) = ⊥
 IsReopenFault before after Broken = after ≡ before
-IsReopenFault before after (Disk b a) = (b ≡ before) × (a ≡ after) × Rose before after
+IsReopenFault before after (Disk b a) = ShowsRise b a before after
 IsReopenFault before after Memory = after ≡ before
 
 -- these bytes are refused where the fault says so

@@ -134,6 +134,7 @@ fn open<D: Disk>(alloc: Global, pages: &mut Pages<D>) -> Result<Graph, ReadFault
     ensures refused { IfErr result (λ e. e ≡ Refused → IfTold (D.contents (disk_of pages.old)) (λ bytes. reopened bytes ≡ Err Broken)) }
     ensures counts { Counts (D.count (disk_of pages.old)) (D.count (disk_of pages.new)) result }
     ensures looks { OnlyLooks D.contents D.image D.moment D.since (disk_of pages.old) (disk_of pages.new) }
+    ensures made { D.made (disk_of pages.new) ≡ D.made (disk_of pages.old) }
 {
     if !is_there(pages.header().first, pages.page_count()) {
         return Err(ReadFault::Refused);
@@ -170,6 +171,8 @@ pub fn open_copy<D: Disk>(alloc: Global, pages: &mut Pages<D>) -> Result<Graph, 
     ensures cause { IfErr result (IsReopenFault (D.count (disk_of pages.old)) (D.count (disk_of pages.new))) }
     ensures count { OnOk result (D.count (disk_of pages.new) ≡ D.count (disk_of pages.old)) }
     ensures looks { OnlyLooks D.contents D.image D.moment D.since (disk_of pages.old) (disk_of pages.new) }
+    // Not even a sync, and no read past the end of what the disk told.
+    ensures made { D.made (disk_of pages.new) ≡ D.made (disk_of pages.old) }
 {
     let before = pages.faults();
     match open(alloc, pages) {

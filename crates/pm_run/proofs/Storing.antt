@@ -3,8 +3,7 @@ use Rattle.std.proofs.Common.{◌≡◌, ◌⊎◌, inl, inr, ⊎_elim, ℕ, Boo
 use Rattle.pm_types.specs.declared.command.Cmd.{Cmd}
 use Rattle.pm_types.specs.declared.command.Cmd.TheVariants.{New, Show, IdOf, Bind, Find, Save, Settle}
 use Rattle.pm_disk.specs.Disk.{LeavesOnly}
-use Rattle.pm_disk.proofs.RunLemmas.{started, weaker}
-use Rattle.pm_shadow.proofs.RunLemmas.{joined}
+use Rattle.pm_disk.proofs.RunLemmas.{started, weaker, joined}
 use Rattle.std.specs.List.{last_or, Contains}
 use Rattle.std.proofs.lemmas.Option.{same_Some, none-some}
 use Rattle.std.proofs.lemmas.List.Elements.{Contains-append_left}

@@ -2,7 +2,7 @@
 ghost use Rattle.std.specs.Prelude.{◌≡◌, ◌⊎◌, ℕ, List, [], ◌∷◌, ◌++◌, None, OnOk, OnErr, IfOk};
 ghost use Rattle.pm_disk.specs.Disk.{LeavesOnly};
 ghost use Rattle.pm_model.specs.Answer.{answer};
-ghost use Rattle.pm_script.specs.Replies.{IsShortReply};
+ghost use Rattle.pm_types.specs.Replies.{IsShortReply};
 ghost use Rattle.pm_shadow.specs.Pages.{state, disk_of};
 ghost use Rattle.pm_run.specs.Events.{entry_of, is_settle};
 ghost use Rattle.pm_run.specs.Images.{IsSettled, IsInProgress};
@@ -47,6 +47,7 @@ fn answer_now<D: Disk>(
     ensures device { OnErr result (Stores D.contents D.image (state pages.old) (disk_of pages.old) world.old
         → LeavesOnly D.moment D.since (disk_of pages.old) (disk_of pages.new) (λ left. IsSettled world.old left ⊎ IsInProgress world.old left)) }
     ensures cause { HasCause (D.count (disk_of pages.old)) (D.count (disk_of pages.new)) result }
+    ensures unread { (D.made (disk_of pages.new)).past ≡ (D.made (disk_of pages.old)).past }
     ensures still { world.old.saving ≡ None → disk_of pages.new ≡ disk_of pages.old }
 {
     if is_settle(&request.cmd) {
@@ -84,6 +85,7 @@ pub(crate) fn make_event<D: Disk>(
     ensures device { OnErr result (Stores D.contents D.image (state pages.old) (disk_of pages.old) world.old
         → LeavesOnly D.moment D.since (disk_of pages.old) (disk_of pages.new) (λ left. IsSettled world.old left ⊎ IsInProgress world.old left)) }
     ensures cause { HasCause (D.count (disk_of pages.old)) (D.count (disk_of pages.new)) result }
+    ensures unread { (D.made (disk_of pages.new)).past ≡ (D.made (disk_of pages.old)).past }
     ensures still { world.old.saving ≡ None → disk_of pages.new ≡ disk_of pages.old }
 {
     if journal.reserve(1).is_err() {

@@ -1,7 +1,7 @@
 ghost use Rattle.std.specs.Prelude.{◌≡◌, List, ℕ, [], ◌+◌, ◌≤◌, ◌++◌, vec_len, vec_capacity, OnOk, OnErr};
-ghost use Rattle.pm_types.specs.Counts.{Rose};
+ghost use Rattle.pm_base.specs.Counts.{Rose};
 ghost use Rattle.pm_model.specs.Text.{reply_line};
-ghost use Rattle.pm_script.specs.Replies.{IsShortReply};
+ghost use Rattle.pm_types.specs.Replies.{IsShortReply};
 ghost use Rattle.pm_run.specs.Writing.{Wrote, WrotePart};
 
 use pm_io::{Failed, Sink};

@@ -1,6 +1,6 @@
 //! The lines of a script, one after another.
 ghost use Rattle.std.specs.Prelude.{◌≡◌, ◌⊎◌, ◌≤◌, List, ℕ, [], ◌∷◌, ◌++◌, length, vec_capacity, Some, None, OnOk, OnErr, IsErrOf};
-ghost use Rattle.pm_types.specs.Counts.{Rose};
+ghost use Rattle.pm_base.specs.Counts.{Rose};
 ghost use Rattle.pm_disk.specs.Disk.{LeavesOnly};
 ghost use Rattle.pm_model.specs.World.{World};
 ghost use Rattle.pm_model.specs.Journal.{requests_of};
@@ -67,7 +67,8 @@ fn step<D: Disk, K: Sink>(
     ensures still { world.old.saving ≡ None → disk_of pages.new ≡ disk_of pages.old }
     ensures pushed { OnOk result (journal.new.items ≡ journal.old.items ++ entry_of world.old request ∷ []) }
     ensures device_cause { IsErrOf result Stop.Device → Rose (D.count (disk_of pages.old)) (D.count (disk_of pages.new)) }
-    ensures device_count { OnOk result (D.count (disk_of pages.new) ≡ D.count (disk_of pages.old)) }
+    ensures device_count { (IsErrOf result Stop.Device → ⊥) → D.count (disk_of pages.new) ≡ D.count (disk_of pages.old) }
+    ensures unread { (D.made (disk_of pages.new)).past ≡ (D.made (disk_of pages.old)).past }
 
     ensures wrote { OnOk result ((before : List ℕ) → Wrote before (K.written sink.old) out.old.items (text journal.old.items)
         → Wrote before (K.written sink.new) out.new.items (text journal.new.items)) }
@@ -161,6 +162,8 @@ fn run_all<D: Disk, K: Sink>(
     ensures device { IsErrOf result Stop.Device → Stores D.contents D.image (state pages.old) (disk_of pages.old) world.old
         → (left : List ℕ) → D.image (disk_of pages.new) left → IsSettled world.new left ⊎ IsInProgress world.new left }
     ensures device_cause { IsErrOf result Stop.Device → Rose (D.count (disk_of pages.old)) (D.count (disk_of pages.new)) }
+    ensures device_count { (IsErrOf result Stop.Device → ⊥) → D.count (disk_of pages.new) ≡ D.count (disk_of pages.old) }
+    ensures unread { (D.made (disk_of pages.new)).past ≡ (D.made (disk_of pages.old)).past }
     ensures still { world.old.saving ≡ None → journal.new.items ≡ [] → disk_of pages.new ≡ disk_of pages.old }
 
     ensures wrote { OnOk result ((before : List ℕ) → K.written sink.old ≡ Some before
@@ -214,6 +217,9 @@ pub fn run_lines<D: Disk, K: Sink>(
     ensures device { IsErrOf result Stop.Device → Stores D.contents D.image (state pages.old) (disk_of pages.old) world.old
         → (left : List ℕ) → D.image (disk_of pages.new) left → IsSettled world.new left ⊎ IsInProgress world.new left }
     ensures device_cause { IsErrOf result Stop.Device → Rose (D.count (disk_of pages.old)) (D.count (disk_of pages.new)) }
+    ensures device_count { (IsErrOf result Stop.Device → ⊥) → D.count (disk_of pages.new) ≡ D.count (disk_of pages.old) }
+    // No read reached past the end of what the disk told.
+    ensures unread { (D.made (disk_of pages.new)).past ≡ (D.made (disk_of pages.old)).past }
     // Where no event was made the disk was not called.
     ensures still { world.old.saving ≡ None → journal.new.items ≡ [] → disk_of pages.new ≡ disk_of pages.old }
 

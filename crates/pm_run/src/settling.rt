@@ -31,6 +31,7 @@ fn write_begun<D: Disk>(
     ensures device { OnErr result (Stores D.contents D.image (state pages.old) (disk_of pages.old) world.now
         → LeavesOnly D.moment D.since (disk_of pages.old) (disk_of pages.new) (λ left. IsSettled world.now left ⊎ IsInProgress world.now left)) }
     ensures cause { HasCause (D.count (disk_of pages.old)) (D.count (disk_of pages.new)) result }
+    ensures unread { (D.made (disk_of pages.new)).past ≡ (D.made (disk_of pages.old)).past }
     ensures still { world.now.saving ≡ None → disk_of pages.new ≡ disk_of pages.old }
 {
     match world.in_progress() {
@@ -62,6 +63,7 @@ pub(crate) fn settle_now<D: Disk>(
     ensures device { OnErr result (Stores D.contents D.image (state pages.old) (disk_of pages.old) world.old
         → LeavesOnly D.moment D.since (disk_of pages.old) (disk_of pages.new) (λ left. IsSettled world.old left ⊎ IsInProgress world.old left)) }
     ensures cause { HasCause (D.count (disk_of pages.old)) (D.count (disk_of pages.new)) result }
+    ensures unread { (D.made (disk_of pages.new)).past ≡ (D.made (disk_of pages.old)).past }
     // Where no copy is in progress the disk is not called.
     ensures still { world.old.saving ≡ None → disk_of pages.new ≡ disk_of pages.old }
 {

@@ -4,23 +4,23 @@ use Rattle.std.specs.Prelude.{option_map}
 use Rattle.pm_types.specs.declared.limits.TheConstants.{FIELDS, PAGE_BYTES}
 use Rattle.pm_layout.specs.declared.header.Header.{Header}
 use Rattle.pm_disk.specs.Writes.{Torn}
+use Rattle.pm_disk.specs.Made.{Made}
 use Rattle.pm_disk.specs.Disk.{LeavesOnly}
 use Rattle.pm_disk.proofs.WriteLemmas.{torn_written, torn_refl}
-use Rattle.pm_disk.proofs.RunLemmas.{weaker}
+use Rattle.pm_disk.proofs.RunLemmas.{weaker, joined}
 use Rattle.pm_model.specs.World.{Copy}
 use Rattle.pm_image.specs.Opening.{page_of, page_count, gate_place}
 use Rattle.pm_image.specs.Stands.{pages_of}
 use Rattle.pm_image.proofs.FrameLaws.{graph_too}
 use Rattle.pm_shadow.specs.State.{State, other, with_closed}
 use Rattle.pm_shadow.specs.Images.{Holds, Renews, with_gate}
-use Rattle.pm_shadow.proofs.RunLemmas.{joined}
 use Rattle.pm_shadow.proofs.SlotLemmas.{count_le}
+use Rattle.pm_shadow.proofs.PageLemmas.{page_stays}
 use Rattle.pm_plain.specs.Plain.{Opens}
 use Rattle.pm_plain.specs.Kept.{HasCopy, HasNextCopy}
 use Rattle.pm_plain.proofs.KeptLaws.{held_opens, renewed_opens}
 use Rattle.pm_save.specs.Running.{IsReady, IsTold, Spares, GoesOn}
 use Rattle.pm_save.specs.Saved.{AreStill}
-use Rattle.pm_save.proofs.PutLemmas.{page_stays}
 use Rattle.pm_save.proofs.SpareLemmas.{told_once, goes_by, goes_held}
 use Rattle.pm_save.proofs.StateLemmas.{keeps_same, keeps_closed, ready_closed}
 
@@ -97,8 +97,8 @@ told_after f old new was is told = (f was, is ∙ ap (option_map f) told)
 
 module _ {D : Type 0} (contents : D → Option (List ℕ)) (moment : D → ℕ) (since : D → ℕ → List ℕ → Type 0) (s t : State) (header : Header) (old mid new : D) where
   -- what the two runs leave
-  pub published_leaves : (count : D → ℕ) (before copy : Copy) (bytes : List ℕ) → contents old ≡ Some bytes → HasCopy s bytes before → HasNextCopy s bytes header copy
-      → Spares contents moment since s old mid → GoesOn contents count s t old mid → ((now : List ℕ) → contents mid ≡ Some now → HasNextCopy t now header copy)
+  pub published_leaves : {made : D → Made} → (count : D → ℕ) (before copy : Copy) (bytes : List ℕ) → contents old ≡ Some bytes → HasCopy s bytes before → HasNextCopy s bytes header copy
+      → Spares contents moment since made s old mid → GoesOn contents count s t old mid → ((now : List ℕ) → contents mid ≡ Some now → HasNextCopy t now header copy)
       → ((now : List ℕ) → contents mid ≡ Some now → LeavesOnly moment since mid new (λ image. Holds t now image ⊎ Renews t header now image))
       → LeavesOnly moment since old new (λ image. Opens image s.header.epoch before ⊎ Opens image header.epoch copy)
   published_leaves count before copy bytes told has next spares goes stays leaves =

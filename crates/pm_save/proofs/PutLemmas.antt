@@ -17,44 +17,14 @@ use Rattle.pm_shadow.specs.Uses.{with_use}
 use Rattle.pm_shadow.specs.State.{State, with_claimed, with_page}
 use Rattle.pm_shadow.specs.Images.{place_of}
 use Rattle.pm_shadow.proofs.RunLemmas.{told_before}
-use Rattle.pm_shadow.proofs.SlotLemmas.{part_torn, page_inside, count_le}
+use Rattle.pm_shadow.proofs.SlotLemmas.{count_le}
+use Rattle.pm_shadow.proofs.PageLemmas.{page_reads, page_there, torn_page, aside, page_stays}
 use Rattle.pm_plain.specs.Laid.{AreApart}
 use Rattle.pm_save.specs.Putting.{Put, IsPut, ArePut, ArePutIfTold, IsWritten}
-
--- ---- what stands on a page that was written
-
--- what was written is read, also behind the old end
-part_written : (at : ℕ) (new old : List ℕ) → 0 < length new → take (length new) (drop at (written at new old)) ≡ new
-part_written at new old some =
-    let long = length-written at new old some in
-    ext_get_or 0 (take (length new) (drop at (written at new old))) new
-    (omega (arith, length-take (length new) (drop at (written at new old)), length-drop at (written at new old)))
-    (λ i lt.
-    let within : i < length new = omega (arith, length-take (length new) (drop at (written at new old))) in
-    get_or-take (length new) (drop at (written at new old)) i 0 within ∙ get_or-drop at (written at new old) i 0
-    ∙ written_inside at new old (at + i) (omega arith) (omega arith) ∙ ap (λ (n : ℕ). get_or new n 0) (let back : at + i - at ≡ i = omega arith in back))
-
-page_written : (page : ℕ) (new old : List ℕ) → length new ≡ PAGE_BYTES → page_of (written (place_of page) new old) page ≡ new
-page_written page new old len =
-    ap (λ (n : ℕ). take n (drop (place_of page) (written (place_of page) new old))) (sym len) ∙ part_written (place_of page) new old (omega arith)
-
-page_there : (page : ℕ) (new old : List ℕ) → length new ≡ PAGE_BYTES → page < page_count (written (place_of page) new old)
-page_there page new old len = let long = length-written (place_of page) new old (omega arith) in omega arith
-
-torn_page : (page : ℕ) (new old : List ℕ) → length new ≡ PAGE_BYTES → Torn (place_of page) PAGE_BYTES old (written (place_of page) new old)
-torn_page page new old len = subst (λ (n : ℕ). Torn (place_of page) n old (written (place_of page) new old)) len (torn_written (place_of page) new old)
-
--- two pages lie apart
-aside : (page other : ℕ) → (other ≡ page → ⊥) → (PAGE_BYTES * other + PAGE_BYTES ≤ place_of page) ⊎ (place_of page + PAGE_BYTES ≤ PAGE_BYTES * other)
-aside page other apart =
-    ⊎_elim (λ (lt : other < page). inl (omega arith)) (λ (le : page ≤ other). ⊎_elim (λ (same : other ≡ page). absurd (apart same)) (λ (differ : other ≡ page → ⊥). inr (omega (arith, differ))) (cases_eq other page)) (cases_lt other page)
 
 -- ---- what stays through a write cut short
 
 module _ (at m : ℕ) (was image : List ℕ) (torn : Torn at m was image) where
-  pub page_stays : (page : ℕ) → page < page_count was → (PAGE_BYTES * page + PAGE_BYTES ≤ at) ⊎ (at + m ≤ PAGE_BYTES * page) → page_of image page ≡ page_of was page
-  page_stays page there apart = part_torn at m was image torn (PAGE_BYTES * page) PAGE_BYTES (page_inside page was there) apart
-
   -- a page that was put is put still, where no other use was made of it
   put_stays : (s t : State) (put : Put) → s.count ≤ t.count → t.uses put.0 ≡ s.uses put.0 → (PAGE_BYTES * put.0 + PAGE_BYTES ≤ at) ⊎ (at + m ≤ PAGE_BYTES * put.0) → IsPut s was put → IsPut t image put
   put_stays s t put more same apart is =
@@ -64,7 +34,7 @@ module _ (at m : ℕ) (was image : List ℕ) (torn : Torn at m was image) where
       let counted = is.next.counted in
       record {
         next = record { from_2 = low; there = (let le = count_le was image no_shorter in omega arith); counted = omega arith; claimed = same ∙ is.next.claimed };
-        page = page_stays put.0 there apart ∙ is.page;
+        page = page_stays at m was image torn put.0 there apart ∙ is.page;
       }
 
 -- ---- one page more
@@ -108,7 +78,7 @@ module _ (s t : State) (old new : Option (List ℕ)) (page : ℕ) (bytes : List 
         (subst (λ (b : List ℕ). IsPut (with_page (with_claimed s page) page) b (page, bytes)) (sym now_is)
         (record {
           next = record { from_2 = is.from_2; there = page_there page bytes was is.whole; counted = omega arith; claimed = own_use s.uses page };
-          page = page_written page bytes was is.whole;
+          page = page_reads page bytes was is.whole;
         }))
 
   -- a page more before those that were put

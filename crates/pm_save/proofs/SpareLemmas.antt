@@ -2,12 +2,13 @@
 use Rattle.std.proofs.Common.{◌≡◌, ℕ, ◌≤◌, List, Option, Some, refl, sym, ◌∙◌, ap, subst}
 use Rattle.std.specs.Prelude.{option_map}
 use Rattle.pm_layout.specs.declared.header.Header.{Header}
+use Rattle.pm_disk.specs.Made.{Made}
 use Rattle.pm_disk.specs.Disk.{LeavesOnly}
-use Rattle.pm_disk.proofs.RunLemmas.{started, weaker}
+use Rattle.pm_disk.proofs.RunLemmas.{started, weaker, joined}
 use Rattle.pm_shadow.specs.State.{State}
 use Rattle.pm_shadow.specs.Images.{Holds, IsSound}
 use Rattle.pm_shadow.specs.Copies.{KeepsNoFewer}
-use Rattle.pm_shadow.proofs.RunLemmas.{joined, told_before}
+use Rattle.pm_shadow.proofs.RunLemmas.{told_before}
 use Rattle.pm_plain.specs.Plain.{Opens}
 use Rattle.pm_plain.specs.Kept.{HasCopy}
 use Rattle.pm_plain.proofs.KeptLaws.{held_opens, held_has, fewer_has}
@@ -17,28 +18,31 @@ use Rattle.pm_save.specs.Running.{IsReady, Spares, GoesOn}
 pub told_once : (contents : Option (List ℕ)) (a b : List ℕ) → contents ≡ Some a → contents ≡ Some b → a ≡ b
 told_once contents a b one two = cc
 
-module _ {D : Type 0} (contents : D → Option (List ℕ)) (moment : D → ℕ) (since : D → ℕ → List ℕ → Type 0) where
+module _ {D : Type 0} (contents : D → Option (List ℕ)) (moment : D → ℕ) (since : D → ℕ → List ℕ → Type 0) (made : D → Made) where
   -- before the first call
-  pub spares_still : (image : D → List ℕ → Type 0) (s : State) (d : D) → ((bytes : List ℕ) → contents d ≡ Some bytes → IsSound s bytes (image d)) → ((left : List ℕ) → since d (moment d) left → image d left) → Spares contents moment since s d d
+  pub spares_still : (image : D → List ℕ → Type 0) (s : State) (d : D) → ((bytes : List ℕ) → contents d ≡ Some bytes → IsSound s bytes (image d)) → ((left : List ℕ) → since d (moment d) left → image d left) → Spares contents moment since made s d d
   spares_still image s d sound now = record {
     leaves = λ copy bytes told has. started moment since d (λ left. Opens left s.header.epoch copy) (λ left was. held_opens s bytes left copy has ((sound bytes told).each left (now left was)));
+    unread = refl;
   }
 
   -- a run in which the current header and its pages stand spares their copy
-  pub spares_held : (s t : State) (old new : D) → KeepsNoFewer s t → ((bytes : List ℕ) → contents old ≡ Some bytes → LeavesOnly moment since old new (Holds t bytes)) → Spares contents moment since s old new
-  spares_held s t old new same holds = record {
+  pub spares_held : (s t : State) (old new : D) → KeepsNoFewer s t → ((bytes : List ℕ) → contents old ≡ Some bytes → LeavesOnly moment since old new (Holds t bytes)) → (made new).past ≡ (made old).past → Spares contents moment since made s old new
+  spares_held s t old new same holds unread = record {
     leaves = λ copy bytes told has.
         weaker moment since old new (Holds t bytes) (λ left. Opens left s.header.epoch copy) (holds bytes told)
         (λ left held. subst (λ (header : Header). Opens left header.epoch copy) same.header (held_opens t bytes left copy (fewer_has s t bytes copy same has) held));
+    unread = unread;
   }
 
   -- one run behind another
-  pub spares_then : (count : D → ℕ) (s t : State) (old mid new : D) → Spares contents moment since s old mid → GoesOn contents count s t old mid → Spares contents moment since t mid new → Spares contents moment since s old new
+  pub spares_then : (count : D → ℕ) (s t : State) (old mid new : D) → Spares contents moment since made s old mid → GoesOn contents count s t old mid → Spares contents moment since made t mid new → Spares contents moment since made s old new
   spares_then count s t old mid new one goes two = record {
     leaves = λ copy bytes told has.
         let now = goes.told (bytes, told) in
         joined moment since old mid new (λ left. Opens left s.header.epoch copy) (one.leaves copy bytes told has)
         (subst (λ (header : Header). LeavesOnly moment since mid new (λ left. Opens left header.epoch copy)) goes.header (two.leaves copy now.0 now.1 (goes.has copy bytes now.0 told now.1 has)));
+    unread = two.unread ∙ one.unread;
   }
 
 module _ {D : Type 0} (contents : D → Option (List ℕ)) (count : D → ℕ) where

@@ -1,6 +1,7 @@
 -- What calls that write the next copy beside the current one leave of the current one.
 use Rattle.std.specs.Prelude.{◌≡◌, ℕ, List, Option, Some, true, false, Result, MatchResult}
-use Rattle.pm_types.specs.Counts.{Rose}
+use Rattle.pm_base.specs.Counts.{Rose}
+use Rattle.pm_disk.specs.Made.{Made}
 use Rattle.pm_disk.specs.Disk.{LeavesOnly}
 use Rattle.pm_model.specs.World.{Copy}
 use Rattle.pm_shadow.specs.State.{State}
@@ -18,9 +19,11 @@ pub record IsReady (s : State) : Type 0 where
 abbrev pub IsTold : Option (List ℕ) → Type 0
 IsTold contents = (bytes : List ℕ) × (contents ≡ Some bytes)
 
--- a crash at any moment of a run of calls leaves the copy that was current before it
-pub record Spares {D : Type 0} (contents : D → Option (List ℕ)) (moment : D → ℕ) (since : D → ℕ → List ℕ → Type 0) (s : State) (old new : D) : Type 0 where
+-- A crash at any moment of a run of calls leaves the copy that was current before it.
+pub record Spares {D : Type 0} (contents : D → Option (List ℕ)) (moment : D → ℕ) (since : D → ℕ → List ℕ → Type 0) (made : D → Made) (s : State) (old new : D) : Type 0 where
   pub leaves : (copy : Copy) (bytes : List ℕ) → contents old ≡ Some bytes → HasCopy s bytes copy → LeavesOnly moment since old new (λ image. Opens image s.header.epoch copy)
+  -- no read reached past the end of what the disk told
+  pub unread : (made new).past ≡ (made old).past
 
 -- After a run of calls the same copy is current, and the disk did not fail.
 pub record GoesOn {D : Type 0} (contents : D → Option (List ℕ)) (count : D → ℕ) (s t : State) (old new : D) : Type 0 where

@@ -28,7 +28,7 @@ fn put_page<D: Disk>(
     ensures written { IfOk result (λ new. IsWritten (state pages.old) (state pages.new) (D.contents (disk_of pages.old)) (D.contents (disk_of pages.new)) new.page (catalog_page page.now)) }
     ensures digest { IfOk result (λ new. new.digest ≡ sha256 (catalog_page page.now)) }
     ensures goes { OnOk result (GoesOn D.contents D.count (state pages.old) (state pages.new) (disk_of pages.old) (disk_of pages.new)) }
-    ensures spares { Spares D.contents D.moment D.since (state pages.old) (disk_of pages.old) (disk_of pages.new) }
+    ensures spares { Spares D.contents D.moment D.since D.made (state pages.old) (disk_of pages.old) (disk_of pages.new) }
     ensures cause { HasCause (D.count (disk_of pages.old)) (D.count (disk_of pages.new)) result }
 {
     let bytes = write_catalog(alloc, page)?;
@@ -58,7 +58,7 @@ pub(crate) fn write_parts<D: Disk>(
     requires parts { AllByRecursion IsPart parts.items }
     ensures chained { IfOk result (λ first. (puts : List Put) → ArePutIfTold (state pages.old) (D.contents (disk_of pages.old)) puts → IsChained (state pages.new) (D.contents (disk_of pages.new)) puts parts.items first) }
     ensures goes { OnOk result (GoesOn D.contents D.count (state pages.old) (state pages.new) (disk_of pages.old) (disk_of pages.new)) }
-    ensures spares { Spares D.contents D.moment D.since (state pages.old) (disk_of pages.old) (disk_of pages.new) }
+    ensures spares { Spares D.contents D.moment D.since D.made (state pages.old) (disk_of pages.old) (disk_of pages.new) }
     ensures cause { HasCause (D.count (disk_of pages.old)) (D.count (disk_of pages.new)) result }
 {
     let mut rest = parts;

@@ -5,19 +5,10 @@ ghost use Rattle.pm_image.specs.CatalogPages.{entry_size};
 ghost use Rattle.pm_save.specs.Cutting.{joined, AllFit, IsCutting, IsRoomyFor};
 ghost use Rattle.pm_save.specs.Filled.{AreFull, IsPageFull};
 
-use pm_image::{CatEntry, EntryList};
+use pm_image::{CAR_BYTES, CatEntry, ENTRIES, EntryList, ROOT_BYTES};
 use pm_types::{NoMemory, PAGE_BYTES};
 use std::alloc::Global;
 use std::mem;
-
-/// How many bytes of a catalog page are used where it has no entry.
-const EMPTY_PAGE: usize = 46;
-
-/// How many bytes the entry of a car is spelled in.
-const CAR_ENTRY: usize = 57;
-
-/// How many bytes the entry of a root is spelled in, beside its name.
-const ROOT_ENTRY: usize = 14;
 
 /// The entries of catalog pages, of which all but the last are full.
 #[derive(Drop)]
@@ -36,8 +27,8 @@ fn entry_size(entry: &CatEntry) -> usize
     ensures small { result ≤ 78 }
 {
     match entry {
-        CatEntry::Car { .. } => CAR_ENTRY,
-        CatEntry::Root { name, .. } => ROOT_ENTRY + name.as_slice().len(),
+        CatEntry::Car { .. } => CAR_BYTES,
+        CatEntry::Root { name, .. } => ROOT_BYTES + name.as_slice().len(),
     }
 }
 
@@ -49,7 +40,7 @@ impl Cutting {
         Cutting {
             parts: Vec::new(alloc),
             part: Vec::new(alloc),
-            used: EMPTY_PAGE,
+            used: ENTRIES,
         }
     }
 
@@ -60,7 +51,7 @@ impl Cutting {
     {
         let part = mem::replace(&mut self.part, Vec::new(alloc));
         self.parts.push(EntryList::from_vec(part))?;
-        self.used = EMPTY_PAGE;
+        self.used = ENTRIES;
         Ok(())
     }
 

@@ -14,16 +14,13 @@ use crate::SaveFault;
 use crate::places::Places;
 use crate::writing::put_car;
 use pm_disk::Disk;
-use pm_image::{CarImage, CatEntry, SlotList};
+use pm_image::{CarImage, CatEntry, RECORDS_AT, SlotList};
 use pm_layout::size;
 use pm_model::{Node, Objects};
 use pm_shadow::Pages;
 use pm_types::{Addr, Fields, Id, NoMemory, Object, PAGE_BYTES, Slot};
 use std::alloc::Global;
 use std::mem;
-
-/// How many bytes of a car's page are used where it has no slot.
-const EMPTY_CAR: usize = 14;
 
 /// The cars of a copy, of which all but the last were written.
 #[derive(Drop)]
@@ -61,7 +58,7 @@ impl Filling {
     {
         Filling {
             slots: Vec::new(alloc),
-            used: EMPTY_CAR,
+            used: RECORDS_AT,
             entries: Vec::new(alloc),
             places: Places::new(alloc),
         }
@@ -96,7 +93,7 @@ impl Filling {
         ensures places { self.new.places ≡ self.old.places }
     {
         let slots = mem::replace(&mut self.slots, Vec::new(alloc));
-        self.used = EMPTY_CAR;
+        self.used = RECORDS_AT;
         CarImage {
             number: self.entries.len() as u64 + 1,
             slots: SlotList::from_vec(slots),
@@ -118,7 +115,7 @@ fn end_car<D: Disk>(
     ensures slots { OnOk result (filling.new.slots.items ≡ []) }
     ensures used { OnOk result (filling.new.used ≡ 14) }
     ensures goes { OnOk result (GoesOn D.contents D.count (state pages.old) (state pages.new) (disk_of pages.old) (disk_of pages.new)) }
-    ensures spares { Spares D.contents D.moment D.since (state pages.old) (disk_of pages.old) (disk_of pages.new) }
+    ensures spares { Spares D.contents D.moment D.since D.made (state pages.old) (disk_of pages.old) (disk_of pages.new) }
     ensures cause { HasCause (D.count (disk_of pages.old)) (D.count (disk_of pages.new)) result }
 {
     let car = filling.take_car(alloc);
@@ -148,7 +145,7 @@ fn make_room<D: Disk>(
     ensures room { OnOk result (filling.new.used + size ≤ PAGE_BYTES) }
     ensures few { OnOk result (length filling.new.slots.items < 2 ^ 32) }
     ensures goes { OnOk result (GoesOn D.contents D.count (state pages.old) (state pages.new) (disk_of pages.old) (disk_of pages.new)) }
-    ensures spares { Spares D.contents D.moment D.since (state pages.old) (disk_of pages.old) (disk_of pages.new) }
+    ensures spares { Spares D.contents D.moment D.since D.made (state pages.old) (disk_of pages.old) (disk_of pages.new) }
     ensures cause { HasCause (D.count (disk_of pages.old)) (D.count (disk_of pages.new)) result }
 {
     if filling.used + size > PAGE_BYTES {
@@ -171,7 +168,7 @@ fn put_object<D: Disk>(
     requires plain { IsPlainObject node.now }
     ensures filling { OnOk result ((seen : List Item) → IsGoing (state pages.old) (D.contents (disk_of pages.old)) seen filling.old → IsGoing (state pages.new) (D.contents (disk_of pages.new)) (seen ++ (id, node.now) ∷ []) filling.new) }
     ensures goes { OnOk result (GoesOn D.contents D.count (state pages.old) (state pages.new) (disk_of pages.old) (disk_of pages.new)) }
-    ensures spares { Spares D.contents D.moment D.since (state pages.old) (disk_of pages.old) (disk_of pages.new) }
+    ensures spares { Spares D.contents D.moment D.since D.made (state pages.old) (disk_of pages.old) (disk_of pages.new) }
     ensures cause { HasCause (D.count (disk_of pages.old)) (D.count (disk_of pages.new)) result }
 {
     let slot = plain_slot(alloc, id, node)?;
@@ -191,7 +188,7 @@ fn fill<D: Disk>(
     requires given { (next : ℕ) × (next ≤ 4294967296) × AreGiven next 0 (map.entries objects.now) }
     ensures filling { IfOk result (λ filling. IsGoing (state pages.new) (D.contents (disk_of pages.new)) (map.entries objects.now) filling) }
     ensures goes { OnOk result (GoesOn D.contents D.count (state pages.old) (state pages.new) (disk_of pages.old) (disk_of pages.new)) }
-    ensures spares { Spares D.contents D.moment D.since (state pages.old) (disk_of pages.old) (disk_of pages.new) }
+    ensures spares { Spares D.contents D.moment D.since D.made (state pages.old) (disk_of pages.old) (disk_of pages.new) }
     ensures cause { HasCause (D.count (disk_of pages.old)) (D.count (disk_of pages.new)) result }
 {
     let mut filling = Filling::new(alloc);
@@ -211,7 +208,7 @@ fn end_last<D: Disk>(
     requires fits { HavePage filling.old.slots.items }
     ensures filling { OnOk result ((seen : List Item) → IsGoing (state pages.old) (D.contents (disk_of pages.old)) seen filling.old → IsEnded (state pages.new) (D.contents (disk_of pages.new)) seen filling.new) }
     ensures goes { OnOk result (GoesOn D.contents D.count (state pages.old) (state pages.new) (disk_of pages.old) (disk_of pages.new)) }
-    ensures spares { Spares D.contents D.moment D.since (state pages.old) (disk_of pages.old) (disk_of pages.new) }
+    ensures spares { Spares D.contents D.moment D.since D.made (state pages.old) (disk_of pages.old) (disk_of pages.new) }
     ensures cause { HasCause (D.count (disk_of pages.old)) (D.count (disk_of pages.new)) result }
 {
     if !filling.slots.is_empty() {
@@ -230,7 +227,7 @@ pub(crate) fn lay_cars<D: Disk>(
     requires given { (next : ℕ) × (next ≤ 4294967296) × AreGiven next 0 (map.entries objects.now) }
     ensures filling { IfOk result (λ filling. IsEnded (state pages.new) (D.contents (disk_of pages.new)) (map.entries objects.now) filling) }
     ensures goes { OnOk result (GoesOn D.contents D.count (state pages.old) (state pages.new) (disk_of pages.old) (disk_of pages.new)) }
-    ensures spares { Spares D.contents D.moment D.since (state pages.old) (disk_of pages.old) (disk_of pages.new) }
+    ensures spares { Spares D.contents D.moment D.since D.made (state pages.old) (disk_of pages.old) (disk_of pages.new) }
     ensures cause { HasCause (D.count (disk_of pages.old)) (D.count (disk_of pages.new)) result }
 {
     let mut filling = fill(alloc, pages, objects)?;

@@ -63,7 +63,7 @@ fn write_copy<D: Disk>(
     requires plain { IsPlainCopy copy.now }
     ensures laid { IfOk result (λ first. IfTold (D.contents (disk_of pages.new)) (λ bytes. IsLaid (state pages.new) bytes copy.now first)) }
     ensures goes { OnOk result (GoesOn D.contents D.count (state pages.old) (state pages.new) (disk_of pages.old) (disk_of pages.new)) }
-    ensures spares { Spares D.contents D.moment D.since (state pages.old) (disk_of pages.old) (disk_of pages.new) }
+    ensures spares { Spares D.contents D.moment D.since D.made (state pages.old) (disk_of pages.old) (disk_of pages.new) }
     ensures cause { HasCause (D.count (disk_of pages.old)) (D.count (disk_of pages.new)) result }
 {
     let filling = lay_cars(alloc, pages, copy.objects())?;
@@ -80,7 +80,7 @@ fn close_gate<D: Disk>(pages: &mut Pages<D>) -> Result<(), SaveFault>
         → HasNextCopy (state pages.old) was header copy → HasNextCopy (state pages.new) bytes header copy) }
     ensures pages { OnOk result ((was bytes : List ℕ) → D.contents (disk_of pages.old) ≡ Some was → D.contents (disk_of pages.new) ≡ Some bytes → AreStill (state pages.old).count was bytes) }
     ensures goes { OnOk result (GoesOn D.contents D.count (state pages.old) (state pages.new) (disk_of pages.old) (disk_of pages.new)) }
-    ensures spares { Spares D.contents D.moment D.since (state pages.old) (disk_of pages.old) (disk_of pages.new) }
+    ensures spares { Spares D.contents D.moment D.since D.made (state pages.old) (disk_of pages.old) (disk_of pages.new) }
     ensures cause { HasCause (D.count (disk_of pages.old)) (D.count (disk_of pages.new)) result }
     ensures memory { OnMemory result ⊥ }
 {
@@ -104,6 +104,7 @@ fn publish<D: Disk>(pages: &mut Pages<D>, header: &Header) -> Result<(), SaveFau
     ensures leaves { (old copy : Copy) (bytes : List ℕ) → D.contents (disk_of pages.old) ≡ Some bytes → HasCopy (state pages.old) bytes old → HasNextCopy (state pages.old) bytes header.now copy
         → LeavesOnly D.moment D.since (disk_of pages.old) (disk_of pages.new) (λ image. Opens image (state pages.old).header.epoch old ⊎ Opens image header.now.epoch copy) }
     ensures cause { HasCause (D.count (disk_of pages.old)) (D.count (disk_of pages.new)) result }
+    ensures unread { (D.made (disk_of pages.new)).past ≡ (D.made (disk_of pages.old)).past }
     ensures memory { OnMemory result ⊥ }
 {
     close_gate(pages)?;
@@ -148,6 +149,8 @@ pub fn settle<D: Disk>(
     ensures memory { OnMemory result ((old : Copy) (bytes : List ℕ) → D.contents (disk_of pages.old) ≡ Some bytes → HasCopy (state pages.old) bytes old
         → LeavesOnly D.moment D.since (disk_of pages.old) (disk_of pages.new) (λ image. Opens image (state pages.old).header.epoch old)) }
     ensures cause { HasCause (D.count (disk_of pages.old)) (D.count (disk_of pages.new)) result }
+    // No read reached past the end of what the disk told.
+    ensures unread { (D.made (disk_of pages.new)).past ≡ (D.made (disk_of pages.old)).past }
 {
     let first = write_copy(alloc, pages, copy)?;
     let digest = first.digest;

@@ -31,7 +31,7 @@ pub(crate) fn write_page<D: Disk>(pages: &mut Pages<D>, bytes: &[u8]) -> Result<
     ensures written { IfOk result (λ new. IsWritten (state pages.old) (state pages.new) (D.contents (disk_of pages.old)) (D.contents (disk_of pages.new)) new.page bytes.now) }
     ensures digest { IfOk result (λ new. new.digest ≡ sha256 bytes.now) }
     ensures goes { OnOk result (GoesOn D.contents D.count (state pages.old) (state pages.new) (disk_of pages.old) (disk_of pages.new)) }
-    ensures spares { Spares D.contents D.moment D.since (state pages.old) (disk_of pages.old) (disk_of pages.new) }
+    ensures spares { Spares D.contents D.moment D.since D.made (state pages.old) (disk_of pages.old) (disk_of pages.new) }
     ensures cause { HasCause (D.count (disk_of pages.old)) (D.count (disk_of pages.new)) result }
 {
     let page = pages.claim()?;
@@ -53,7 +53,7 @@ pub(crate) fn put_car<D: Disk>(
     ensures written { IfOk result (λ new. IsWritten (state pages.old) (state pages.new) (D.contents (disk_of pages.old)) (D.contents (disk_of pages.new)) new.page (car_page car.now)) }
     ensures digest { IfOk result (λ new. new.digest ≡ sha256 (car_page car.now)) }
     ensures goes { OnOk result (GoesOn D.contents D.count (state pages.old) (state pages.new) (disk_of pages.old) (disk_of pages.new)) }
-    ensures spares { Spares D.contents D.moment D.since (state pages.old) (disk_of pages.old) (disk_of pages.new) }
+    ensures spares { Spares D.contents D.moment D.since D.made (state pages.old) (disk_of pages.old) (disk_of pages.new) }
     ensures cause { HasCause (D.count (disk_of pages.old)) (D.count (disk_of pages.new)) result }
 {
     let bytes = write_car(alloc, car)?;

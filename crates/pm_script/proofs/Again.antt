@@ -6,7 +6,8 @@ use Rattle.pm_types.specs.declared.command.Cmd.{Cmd}
 use Rattle.pm_types.specs.declared.command.Cmd.TheVariants.{New, Show, IdOf, Bind, Find, Save, Settle}
 use Rattle.pm_model.specs.declared.request.Request.{Request}
 use Rattle.pm_script.specs.Script.{IsHexWord, Spells}
-use Rattle.pm_script.specs.Reading.{◌>>=◌, Words, is_name, number_at, client_at, register_at, name_at, hex_at, new_at, data_at, id_at, root_at, find_at, object_command_at, command_at, request_at}
+use Rattle.pm_base.specs.Options.{◌>>=◌}
+use Rattle.pm_script.specs.Reading.{Words, is_name, number_at, client_at, register_at, name_at, hex_at, new_at, data_at, id_at, root_at, find_at, object_command_at, command_at, request_at}
 use Rattle.pm_script.proofs.Steps.{passed}
 use Rattle.pm_script.proofs.Hexes.{hex_read}
 use Rattle.pm_script.proofs.Numerals.{number_of_decimal}

@@ -10,11 +10,12 @@ use Rattle.hex.specs.declared.error.FromHexError.TheVariants.{OddLength}
 use Rattle.hex.proofs.HexLemmas.{decode_of-ok}
 use Rattle.pm_script.specs.Script.{IsHexWord}
 use Rattle.pm_script.specs.Reading.{some_bytes, hex_of}
+use Rattle.pm_script.proofs.HexDigits.{spelled_by_digits, decoded_by_digits}
 use Rattle.pm_script.proofs.NameTests.{each_passes}
 
 decoded : (word bytes : List ℕ) (read : Result (List ℕ) FromHexError) → decode_of word ≡ read → some_bytes read ≡ Some bytes → IsHexWord word bytes
 decoded word bytes (Ok []) is some = cc some
-decoded word bytes (Ok (b ∷ others)) is some = let same : b ∷ others ≡ bytes = cc some in subst (IsHexWord word) same is
+decoded word bytes (Ok (b ∷ others)) is some = let same : b ∷ others ≡ bytes = cc some in subst (IsHexWord word) same (spelled_by_digits word (b ∷ others) is)
 decoded word bytes (Err fault) is some = cc some
 
 chosen : (word bytes : List ℕ) (test : Bool) → pointwise ◌==◌ word (codes "-") ≡ test → (if test then Some [] else some_bytes (decode_of word)) ≡ Some bytes → IsHexWord word bytes
@@ -37,7 +38,7 @@ apart word byte bytes false dash is = ap some_bytes is
 -- what a word spells is read of it
 pub hex_read : (word bytes : List ℕ) → IsHexWord word bytes → hex_of word ≡ Some bytes
 hex_read word [] dash = ap hex_of dash
-hex_read word (byte ∷ bytes) is = apart word byte bytes (pointwise ◌==◌ word (codes "-")) refl is
+hex_read word (byte ∷ bytes) is = apart word byte bytes (pointwise ◌==◌ word (codes "-")) refl (decoded_by_digits word (byte ∷ bytes) is)
 
 hex_digit_plain : (b : ℕ) → is_hex_digit b ≡ true → nat_lt 32 b ≡ true
 hex_digit_plain b is = grind (arith, nat_tests)
@@ -50,4 +51,4 @@ digits_plain (b ∷ word) each = (hex_digit_plain b each.0, digits_plain word ea
 pub hex_plain : (word bytes : List ℕ) → IsHexWord word bytes → list_all (λ b. nat_lt 32 b) word ≡ true
 hex_plain word [] dash = ap (list_all (λ b. nat_lt 32 b)) dash
 hex_plain word (byte ∷ bytes) is =
-    each_passes (λ b. nat_lt 32 b) word (digits_plain word (recursion_from_All (λ b. is_hex_digit b ≡ true) word (decode_of-ok word (byte ∷ bytes) is).1))
+    each_passes (λ b. nat_lt 32 b) word (digits_plain word (recursion_from_All (λ b. is_hex_digit b ≡ true) word (decode_of-ok word (byte ∷ bytes) (decoded_by_digits word (byte ∷ bytes) is)).1))

@@ -3,7 +3,9 @@ pub mod PartsLemmas
 pub mod Numerals
 pub mod NameTests
 pub mod Steps
+pub mod HexDigits
 pub mod Hexes
+pub mod LineParts
 pub mod Found
 pub mod Again
 pub mod Lines

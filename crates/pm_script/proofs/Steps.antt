@@ -1,6 +1,7 @@
 -- Readers one after another.
 use Rattle.std.proofs.Common.{◌≡◌, ℕ, Bool, true, false, List, [], ◌∷◌, Option, Some, None, refl, ap, if◌then◌else◌}
-use Rattle.pm_script.specs.Reading.{◌>>=◌, Words, word_at}
+use Rattle.pm_base.specs.Options.{◌>>=◌}
+use Rattle.pm_script.specs.Reading.{Words, word_at}
 
 -- where two readers gave something, each did
 pub both : {A B : Type 0} (first : Option A) (second : A → Option B) (y : B) → (first >>= second) ≡ Some y → (x : A) × (first ≡ Some x) × (second x ≡ Some y)

@@ -1,4 +1,5 @@
 pub mod Parts
 pub mod Reading
+pub mod HexDigits
 pub mod Script
 pub mod Replies

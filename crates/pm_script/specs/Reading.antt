@@ -5,6 +5,7 @@ use Rattle.std.specs.Cmp.Lexicographic.{pointwise}
 use Rattle.std.specs.Str.Parse.{digits_value}
 use Rattle.hex.specs.Hex.{decode_of}
 use Rattle.hex.specs.declared.error.FromHexError.{FromHexError}
+use Rattle.pm_base.specs.Options.{◌>>=◌}
 use Rattle.pm_types.specs.declared.limits.TheConstants.{CLIENTS, REGISTERS, NAME_BYTES}
 use Rattle.pm_types.specs.declared.command.Cmd.{Cmd}
 use Rattle.pm_types.specs.declared.command.Cmd.TheVariants.{New, Show, IdOf, Bind, Find, Save, Settle}
@@ -12,12 +13,6 @@ use Rattle.pm_types.specs.Names.{is_name_byte}
 use Rattle.pm_model.specs.declared.request.Request.{Request}
 use Rattle.pm_script.specs.declared.fault.ScriptFault.{ScriptFault}
 use Rattle.pm_script.specs.declared.fault.ScriptFault.TheVariants.{Unread, Memory}
-
--- one reader after another
-infixl 10 ◌>>=◌
-abbrev pub ◌>>=◌ : {A B : Type 0} → Option A → (A → Option B) → Option B
-None >>= f = None
-(Some x) >>= f = f x
 
 -- the words that are left
 abbrev pub Words : Type 0

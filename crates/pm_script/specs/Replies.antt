@@ -1,10 +1,9 @@
--- Replies that fit a line.
-use Rattle.std.specs.Prelude.{◌≤◌, length}
-use Rattle.pm_types.specs.declared.limits.TheConstants.{OBJECT_BYTES}
-use Rattle.pm_types.specs.declared.reply.Reply.{Reply}
-use Rattle.pm_types.specs.declared.reply.Reply.TheVariants.{Shown}
+-- Lines of replies that stand behind what stood before.
+use Rattle.std.specs.Prelude.{◌≡◌, List, ℕ, ◌++◌}
 
--- the bytes that a reply shows are those of an object
-abbrev pub IsShortReply : Reply → Type 0
-IsShortReply (Shown bytes) = length bytes ≤ OBJECT_BYTES
-IsShortReply reply = Unit {0}
+-- what stood before stands, and behind it a first part of a line, which may be none
+pub record StandsPart (before line now : List ℕ) : Type 0 where
+  pub done : List ℕ
+  pub rest : List ℕ
+  pub split : done ++ rest ≡ line
+  pub stands : now ≡ before ++ done

@@ -1,18 +1,18 @@
 -- Scripts: lines of one command each. Bytes may be spelled in either case, so a line has several spellings.
-use Rattle.std.specs.Prelude.{◌≡◌, ℕ, ◌^◌, ◌<◌, ◌≤◌, List, [], ◌∷◌, ◌++◌, length, Ok, codes, decimal}
+use Rattle.std.specs.Prelude.{◌≡◌, ℕ, ◌^◌, ◌<◌, ◌≤◌, List, [], ◌∷◌, ◌++◌, length, codes, decimal}
 use Rattle.std.specs.List.{flat_map, join_with_byte}
-use Rattle.hex.specs.Hex.{decode_of}
 use Rattle.pm_types.specs.declared.limits.TheConstants.{CLIENTS, REGISTERS, SCRIPT_LINES, SOURCE_BYTES}
 use Rattle.pm_types.specs.declared.command.Cmd.{Cmd}
 use Rattle.pm_types.specs.declared.command.Cmd.TheVariants.{New, Show, IdOf, Bind, Find, Save, Settle}
 use Rattle.pm_types.specs.Names.{IsName}
+use Rattle.pm_script.specs.HexDigits.{ArePairsOf}
 use Rattle.pm_script.specs.Parts.{parts_of}
 use Rattle.pm_model.specs.declared.request.Request.{Request}
 
 -- the word spells the bytes: a dash where there are none, and otherwise two hexadecimal digits for each, in either case
 abbrev pub IsHexWord : List ℕ → List ℕ → Type 0
 IsHexWord word [] = word ≡ codes "-"
-IsHexWord word (byte ∷ bytes) = decode_of word ≡ Ok (byte ∷ bytes)
+IsHexWord word (byte ∷ bytes) = ArePairsOf (byte ∷ bytes) word
 
 -- the words spell the command
 abbrev pub Spells : Cmd → List (List ℕ) → Type 0

@@ -12,6 +12,6 @@ mod tests;
 mod words;
 
 pub use fault::ScriptFault;
-pub use laws::a_script_has_one_reading;
-pub use reply::{LINE_BYTES, append_line};
+pub use laws::{a_script_has_one_reading, printed_bytes_are_read_again};
+pub use reply::{LINE_BYTES, append_line, append_numbered};
 pub use script::read_script;

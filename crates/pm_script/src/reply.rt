@@ -1,20 +1,26 @@
-ghost use Rattle.std.specs.Prelude.{◌≡◌, ◌+◌, ◌*◌, ◌≤◌, ◌++◌, length, OnOk, IsOk, vec_len, vec_capacity, decimal};
+ghost use Rattle.std.specs.Prelude.{◌≡◌, ◌+◌, ◌*◌, ◌≤◌, ◌++◌, length, OnOk, OnErr, IsOk, vec_len, vec_capacity, decimal};
 ghost use Rattle.pm_model.specs.Text.{pairs, reply_words, reply_line};
-ghost use Rattle.pm_script.specs.Replies.{IsShortReply};
+ghost use Rattle.pm_types.specs.Replies.{IsShortReply};
+ghost use Rattle.pm_script.specs.Replies.{StandsPart};
 
 use hex::encode_to_slice;
 use itoa::Buffer;
 use pm_types::{Entry, NoMemory, OBJECT_BYTES, Reply};
 
-/// The most bytes of a reply line: ten of a client, a space, 8,192 digits, a newline, and some to spare.
+/// The most bytes of a reply line: 20 of a client, a space, 8,192 digits, a newline, and some to spare.
 pub const LINE_BYTES: usize = 8224;
 
-fn append_number(out: &mut Vec<u8>, number: u32) -> Result<(), NoMemory>
-    ensures text { OnOk result (out.new.items ≡ out.old.items ++ decimal number) }
-    ensures room { vec_len out.old + 10 ≤ vec_capacity out.old → IsOk result }
-    ensures len { vec_len out.new ≤ vec_len out.old + 10 }
+/// Appends a word or more, and a number in decimal digits, of which it has 20 at most. Where memory runs out, the words
+/// may stand after what stood before.
+pub fn append_numbered(out: &mut Vec<u8>, words: &[u8], number: u64) -> Result<(), NoMemory>
+    requires { length words.now ≤ 4096 }
+    ensures text { OnOk result (out.new.items ≡ out.old.items ++ words.now ++ decimal number) }
+    ensures part { OnErr result (StandsPart out.old.items (words.now ++ decimal number) out.new.items) }
+    ensures room { vec_len out.old + length words.now + 20 ≤ vec_capacity out.old → IsOk result }
+    ensures len { vec_len out.new ≤ vec_len out.old + length words.now + 20 }
     ensures capacity { vec_capacity out.old ≤ vec_capacity out.new }
 {
+    out.extend_from_slice(words)?;
     let mut buffer = Buffer::new();
     out.extend_from_slice(buffer.format(number).as_bytes())?;
     Ok(())
@@ -24,6 +30,7 @@ fn append_number(out: &mut Vec<u8>, number: u32) -> Result<(), NoMemory>
 fn append_pairs(out: &mut Vec<u8>, bytes: &[u8]) -> Result<(), NoMemory>
     requires { length bytes.now ≤ OBJECT_BYTES }
     ensures text { OnOk result (out.new.items ≡ out.old.items ++ pairs bytes.now) }
+    ensures still { OnErr result (out.new.items ≡ out.old.items) }
     ensures room { vec_len out.old + 8192 ≤ vec_capacity out.old → IsOk result }
     ensures len { vec_len out.new ≤ vec_len out.old + 8192 }
     ensures capacity { vec_capacity out.old ≤ vec_capacity out.new }
@@ -39,37 +46,26 @@ fn append_pairs(out: &mut Vec<u8>, bytes: &[u8]) -> Result<(), NoMemory>
     Ok(())
 }
 
-// A word, a space and a number.
-fn append_numbered(out: &mut Vec<u8>, word: &[u8], number: u32) -> Result<(), NoMemory>
-    requires { length word.now ≤ 6 }
-    ensures text { OnOk result (out.new.items ≡ out.old.items ++ word.now ++ decimal number) }
-    ensures room { vec_len out.old + 16 ≤ vec_capacity out.old → IsOk result }
-    ensures len { vec_len out.new ≤ vec_len out.old + 16 }
-    ensures capacity { vec_capacity out.old ≤ vec_capacity out.new }
-{
-    out.extend_from_slice(word)?;
-    append_number(out, number)
-}
-
 fn append_words(out: &mut Vec<u8>, reply: &Reply) -> Result<(), NoMemory>
     requires { IsShortReply reply.now }
     ensures text { OnOk result (out.new.items ≡ out.old.items ++ reply_words reply.now) }
+    ensures part { OnErr result (StandsPart out.old.items (reply_words reply.now) out.new.items) }
     ensures room { vec_len out.old + 8192 ≤ vec_capacity out.old → IsOk result }
     ensures len { vec_len out.new ≤ vec_len out.old + 8192 }
     ensures capacity { vec_capacity out.old ≤ vec_capacity out.new }
 {
     let words: &[u8] = match reply {
         Reply::Done => b"ok",
-        Reply::Ident(id) => return append_numbered(out, b"ok ", *id),
+        Reply::Ident(id) => return append_numbered(out, b"ok ", u64::from(*id)),
         Reply::Shown(bytes) => return append_pairs(out, bytes.as_slice()),
-        Reply::Begun(number) => return append_numbered(out, b"begun ", *number),
-        Reply::Saved(number) => return append_numbered(out, b"saved ", *number),
+        Reply::Begun(number) => return append_numbered(out, b"begun ", u64::from(*number)),
+        Reply::Saved(number) => return append_numbered(out, b"saved ", u64::from(*number)),
         Reply::TooLarge => b"too-large",
         Reply::IdsSpent => b"ids-spent",
         Reply::NoHandle => b"no-handle",
         Reply::TooManyRoots => b"too-many-roots",
         Reply::NoRoot => b"no-root",
-        Reply::Busy(number) => return append_numbered(out, b"busy ", *number),
+        Reply::Busy(number) => return append_numbered(out, b"busy ", u64::from(*number)),
         Reply::SavesSpent => b"saves-spent",
         Reply::Idle => b"idle",
     };
@@ -78,15 +74,16 @@ fn append_words(out: &mut Vec<u8>, reply: &Reply) -> Result<(), NoMemory>
 }
 
 /// Appends the line of an entry: the client, a space, the reply, a newline. It takes no memory where
-/// there is room for `LINE_BYTES` more. A reply may show 4,096 bytes at most, as an object has. Where
-/// memory runs out, a part of the line may stand after what stood before.
+/// there is room for 8,224 bytes more, which are `LINE_BYTES`. A reply may show 4,096 bytes at most, as an object has.
+/// Where memory runs out, a first part of the line may stand after what stood before.
 pub fn append_line(out: &mut Vec<u8>, entry: &Entry) -> Result<(), NoMemory>
     requires { IsShortReply entry.now.reply }
     ensures text { OnOk result (out.new.items ≡ out.old.items ++ reply_line entry.now) }
-    ensures room { vec_len out.old + LINE_BYTES ≤ vec_capacity out.old → IsOk result }
+    ensures part { OnErr result (StandsPart out.old.items (reply_line entry.now) out.new.items) }
+    ensures room { vec_len out.old + 8224 ≤ vec_capacity out.old → IsOk result }
     ensures capacity { vec_capacity out.old ≤ vec_capacity out.new }
 {
-    append_number(out, entry.client)?;
+    append_numbered(out, b"", u64::from(entry.client))?;
     out.extend_from_slice(b" ")?;
     append_words(out, &entry.reply)?;
     out.extend_from_slice(b"\n")?;

@@ -1,5 +1,5 @@
 ghost use Rattle.std.specs.Prelude.{IsTrue};
-ghost use Rattle.pm_script.specs.Replies.{IsShortReply};
+ghost use Rattle.pm_types.specs.Replies.{IsShortReply};
 
 use crate::{ScriptFault, append_line, read_script};
 use pm_model::Request;

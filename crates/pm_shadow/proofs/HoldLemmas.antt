@@ -124,7 +124,7 @@ module _ (s : State) (header : Header) (bytes : List ℕ) (held : Holds s bytes 
   made_body : header_body_of made o ≡ header_spelling header
   made_body =
       let long = held.heads.long in
-      ap (λ (n : ℕ). take n (drop (place_of o) made)) (sym spelled) ∙ part_written (place_of o) (header_spelling header) bytes (omega (arith, spelled)) (omega (arith, spelled))
+      ap (λ (n : ℕ). take n (drop (place_of o) made)) (sym spelled) ∙ part_written (place_of o) (header_spelling header) bytes (omega (arith, spelled))
 
   module _ (image : List ℕ) (torn : Torn (gate_place o) 1 made image) where
     body_here : (slot : ℕ) → slot < 2 → header_body_of image slot ≡ header_body_of made slot

@@ -1,6 +1,7 @@
 pub mod TableLemmas
 pub mod RunLemmas
 pub mod SlotLemmas
+pub mod PageLemmas
 pub mod HoldLemmas
 pub mod SoundLemmas
 pub mod AttachLemmas

@@ -4,18 +4,10 @@ use Rattle.std.specs.Prelude.{option_map}
 use Rattle.pm_disk.specs.Writes.{written, Torn, TornIfTold}
 use Rattle.pm_disk.specs.Disk.{LeavesOnly, SameImages, Elapses}
 use Rattle.pm_disk.specs.Ordered.{IsInOrder}
-use Rattle.pm_disk.proofs.RunLemmas.{started, goes_on, weaker}
+use Rattle.pm_disk.proofs.RunLemmas.{started, goes_on, joined, weaker}
 use Rattle.pm_shadow.specs.Runs.{IsCut, OnlyLooks}
 
 module _ {D : Type 0} (moment : D → ℕ) (since : D → ℕ → List ℕ → Type 0) where
-  -- one run behind another, with images of one kind
-  pub joined : (old mid new : D) (P : List ℕ → Type 0) → LeavesOnly moment since old mid P → LeavesOnly moment since mid new P → LeavesOnly moment since old new P
-  joined old mid new P one two = record {
-    later = omega (arith, one.later, two.later);
-    each = λ image left. ⊎_elim (one.each image) (λ p. p) (two.before (moment old) image one.later left);
-    before = λ t image le left. ⊎_elim (one.before t image le) (λ p. inr p) (two.before t image (omega (arith, le, one.later)) left);
-  }
-
   -- two writes, each with a sync behind it
   pub in_order : (old mid new : D) (images mid_images : List ℕ → Type 0) (bytes first : List ℕ) (first_at second_at n : ℕ)
       → LeavesOnly moment since old mid (IsCut first_at (length first) images) → LeavesOnly moment since mid new (IsCut second_at n mid_images)
@@ -23,7 +15,7 @@ module _ {D : Type 0} (moment : D → ℕ) (since : D → ℕ → List ℕ → T
       → LeavesOnly moment since old new (IsInOrder images bytes first_at first second_at n)
   in_order old mid new images mid_images bytes first first_at second_at n one two only =
       let P : List ℕ → Type 0 = IsInOrder images bytes first_at first second_at n in
-      joined old mid new P
+      joined moment since old mid new P
       (weaker moment since old mid (IsCut first_at (length first) images) P one (λ left cut. inr (inl cut)))
       (weaker moment since mid new (IsCut second_at n mid_images) P two (λ left cut. inr (inr (subst (λ (was : List ℕ). Torn second_at n was left) (only cut.0 cut.1) cut.2))))
 

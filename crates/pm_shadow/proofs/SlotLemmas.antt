@@ -7,7 +7,7 @@ use Rattle.std.proofs.lemmas.List.{get_or-drop, get_or-take, ext_get_or}
 use Rattle.pm_types.specs.declared.limits.TheConstants.{PAGE_BYTES}
 use Rattle.pm_disk.specs.Writes.{written, Torn}
 use Rattle.pm_image.specs.Opening.{page_of, page_count, header_body_of, gate_place, open_gate, is_open, epoch_in, greater_slot, open_slot}
-use Rattle.pm_layout.specs.Steps.{◌>>=◌}
+use Rattle.pm_base.specs.Results.{◌>>=◌}
 use Rattle.pm_layout.specs.Reading.{number_from}
 use Rattle.pm_layout.specs.Headers.{header_at, magic_at, version_at, digest_kept, next_at}
 use Rattle.pm_layout.specs.declared.header.HeaderFault.{HeaderFault}
@@ -119,9 +119,9 @@ part_of_same k n a b len same =
     let within : i < n = omega (arith, length-take n (drop k a)) in
     get_or-take n (drop k a) i 0 within ∙ get_or-drop k a i 0 ∙ same (k + i) (omega arith) (omega (arith, length-take n (drop k a), length-drop k a)) ∙ sym (get_or-drop k b i 0) ∙ sym (get_or-take n (drop k b) i 0 within))
 
--- what was written is read
-pub part_written : (at : ℕ) (new old : List ℕ) → at + length new ≤ length old → 0 < length new → take (length new) (drop at (written at new old)) ≡ new
-part_written at new old inside some =
+-- what was written is read, also behind the old end
+pub part_written : (at : ℕ) (new old : List ℕ) → 0 < length new → take (length new) (drop at (written at new old)) ≡ new
+part_written at new old some =
     let long = length-written at new old some in
     ext_get_or 0 (take (length new) (drop at (written at new old))) new
     (omega (arith, length-take (length new) (drop at (written at new old)), length-drop at (written at new old)))

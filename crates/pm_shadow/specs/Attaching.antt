@@ -1,6 +1,6 @@
 -- What is read of a store to find its current header, and why none is found.
 use Rattle.std.specs.Prelude.{◌≡◌, ℕ, ◌*◌, ◌<◌, ◌≤◌, Bool, not, List, length, Option, Some, None, Result, Ok, Err, MatchOption, ◌==◌, ◌&&◌, if◌then◌else◌}
-use Rattle.pm_types.specs.Counts.{Rose}
+use Rattle.pm_base.specs.Counts.{ShowsRise}
 use Rattle.pm_types.specs.declared.limits.TheConstants.{PAGE_BYTES}
 use Rattle.pm_types.specs.declared.fault.OpenFault.{OpenFault}
 use Rattle.pm_types.specs.declared.fault.OpenFault.TheVariants.{NotAStore, Version, Damaged, Malformed, Broken, Disk, Memory}
@@ -41,7 +41,7 @@ IsAttachFault before after (Version version) = after ≡ before
 IsAttachFault before after (Damaged page kept found) = after ≡ before
 IsAttachFault before after (Malformed page at) = after ≡ before
 IsAttachFault before after Broken = ⊥
-IsAttachFault before after (Disk b a) = (b ≡ before) × (a ≡ after) × Rose before after
+IsAttachFault before after (Disk b a) = ShowsRise b a before after
 IsAttachFault before after Memory = ⊥
 
 -- what was found in bytes that alone a crash may leave

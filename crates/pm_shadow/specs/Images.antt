@@ -33,6 +33,12 @@ pub record IsSound (s : State) (bytes : List ℕ) (images : List ℕ → Type 0)
   pub counted : s.count ≤ page_count bytes
   pub each : (image : List ℕ) → images image → Holds s bytes image
 
+-- This page has these bytes, and every other page that there was is as it was.
+pub record WritesPage (page : ℕ) (bytes was now : List ℕ) : Type 0 where
+  pub there : page < page_count now
+  pub here : page_of now page ≡ bytes
+  pub others : (other : ℕ) → (other ≡ page → ⊥) → other < page_count was → page_of now other ≡ page_of was other
+
 -- the place where a page begins
 abbrev pub place_of : ℕ → ℕ
 place_of page = PAGE_BYTES * page

@@ -1,6 +1,7 @@
 -- Why no store is made.
-use Rattle.std.specs.Prelude.{◌≡◌, ℕ, ◌<◌, List, length}
-use Rattle.pm_types.specs.Counts.{Rose}
+use Rattle.std.specs.Prelude.{◌≡◌, ℕ, ◌<◌, List, length, Option}
+use Rattle.pm_base.specs.Counts.{ShowsRise}
+use Rattle.pm_disk.specs.Disk.{IfTold, SameImages}
 use Rattle.pm_types.specs.declared.fault.InitFault.{InitFault}
 use Rattle.pm_types.specs.declared.fault.InitFault.TheVariants.{NotEmpty, Disk, Memory}
 
@@ -8,7 +9,7 @@ use Rattle.pm_types.specs.declared.fault.InitFault.TheVariants.{NotEmpty, Disk, 
 -- memory ran out.
 abbrev pub IsInitFault : ℕ → ℕ → InitFault → Type 0
 IsInitFault before after (NotEmpty n) = (0 < n) × (after ≡ before)
-IsInitFault before after (Disk b a) = (b ≡ before) × (a ≡ after) × Rose before after
+IsInitFault before after (Disk b a) = ShowsRise b a before after
 IsInitFault before after Memory = after ≡ before
 
 -- the disk was not empty exactly where it is said to be so, and holds so many bytes
@@ -22,3 +23,7 @@ abbrev pub UnlessFailed : InitFault → Type 0 → Type 0
 UnlessFailed (NotEmpty n) P = P
 UnlessFailed (Disk b a) P = Unit {0}
 UnlessFailed Memory P = P
+
+-- where some byte was told, the contents are those that were told, and a crash leaves what it might have left before
+abbrev pub KeepsBytes : Option (List ℕ) → Option (List ℕ) → (List ℕ → Type 0) → (List ℕ → Type 0) → Type 0
+KeepsBytes told now old new = IfTold told (λ bytes. 0 < length bytes → (now ≡ told) × SameImages old new)

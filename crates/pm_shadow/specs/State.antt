@@ -45,11 +45,11 @@ attached slot header count closed = record { slot = slot; header = header; settl
 
 -- the pages have these uses
 abbrev pub with_uses : State → (ℕ → PageUse) → State
-with_uses s uses = record { slot = s.slot; header = s.header; settled = s.settled; count = s.count; known = s.known; uses = uses; closed = s.closed; failed = s.failed }
+with_uses s uses = record s { uses = uses }
 
 -- the pages of the current copy are known now
 abbrev pub known_by : State → (ℕ → PageUse) → State
-known_by s uses = record { slot = s.slot; header = s.header; settled = s.settled; count = s.count; known = true; uses = uses; closed = s.closed; failed = s.failed }
+known_by s uses = record s { known = true; uses = uses }
 
 -- a page was claimed
 abbrev pub with_claimed : State → ℕ → State
@@ -57,7 +57,7 @@ with_claimed s page = with_uses s (with_use page Claimed s.uses)
 
 -- there are so many pages
 abbrev pub with_count : State → ℕ → State
-with_count s n = record { slot = s.slot; header = s.header; settled = s.settled; count = n; known = s.known; uses = s.uses; closed = s.closed; failed = s.failed }
+with_count s n = record s { count = n }
 
 -- a page was written, maybe behind the end
 abbrev pub with_page : State → ℕ → State
@@ -65,15 +65,15 @@ with_page s page = with_count s (max s.count (page + 1))
 
 -- the other gate is closed now
 abbrev pub with_closed : State → State
-with_closed s = record { slot = s.slot; header = s.header; settled = s.settled; count = s.count; known = s.known; uses = s.uses; closed = true; failed = s.failed }
+with_closed s = record s { closed = true }
 
 -- a publish has failed
 abbrev pub with_failed : State → State
-with_failed s = record { slot = s.slot; header = s.header; settled = s.settled; count = s.count; known = s.known; uses = s.uses; closed = s.closed; failed = true }
+with_failed s = record s { failed = true }
 
 -- the header in the other slot is the current one now, and its pages are known
 abbrev pub published_with : State → Header → (ℕ → PageUse) → State
-published_with s header uses = record { slot = other s.slot; header = header; settled = s.count; count = s.count; known = true; uses = uses; closed = false; failed = false }
+published_with s header uses = record s { slot = other s.slot; header = header; settled = s.count; known = true; uses = uses; closed = false; failed = false }
 
 -- and they are those that were claimed
 abbrev pub published : State → Header → State

@@ -1,5 +1,6 @@
 //! Reading what attaching has to know.
-ghost use Rattle.std.specs.Prelude.{◌≡◌, ◌<◌, ◌^◌, List, ℕ, IfOk, IfErr, IfSome, OnOk};
+ghost use Rattle.std.specs.Prelude.{◌≡◌, ◌*◌, ◌≤◌, ◌<◌, ◌^◌, length, List, ℕ, IfOk, IfErr, IfSome, OnOk};
+ghost use Rattle.pm_disk.specs.Made.{with_sync};
 ghost use Rattle.pm_disk.specs.Disk.{IfTold, LeavesOnly, HasCause};
 ghost use Rattle.pm_layout.specs.Headers.{HasHeaderSpelling};
 ghost use Rattle.pm_shadow.specs.Runs.{OnlyLooks};
@@ -12,10 +13,12 @@ use pm_types::{OpenFault, PAGE_BYTES};
 
 /// Reads a slot of a store: its body and its gate.
 fn read_slot<D: Disk>(disk: &mut D, slot: u64) -> Result<SlotRead, DiskFailed>
-    requires { slot < 2 }
+    requires slot { slot < 2 }
+    requires long { IfTold (D.contents disk.old) (λ bytes. 2 * PAGE_BYTES ≤ length bytes) }
     ensures read { IfOk result (λ read. IfTold (D.contents disk.old) (λ bytes. IsSlotOf bytes slot read)) }
     ensures looks { OnlyLooks D.contents D.image D.moment D.since disk.old disk.new }
     ensures cause { HasCause (D.count disk.old) (D.count disk.new) result }
+    ensures made { D.made disk.new ≡ D.made disk.old }
 {
     let mut body = [0; 96];
     let mut gate = [0; 1];
@@ -29,10 +32,12 @@ fn read_slot<D: Disk>(disk: &mut D, slot: u64) -> Result<SlotRead, DiskFailed>
 
 /// Reads both slots of a store that has them.
 fn read_slots<D: Disk>(disk: &mut D, count: u64) -> Result<Seen, DiskFailed>
+    requires long { IfTold (D.contents disk.old) (λ bytes. 2 * PAGE_BYTES ≤ length bytes) }
     ensures count { IfOk result (λ seen. seen.count ≡ count) }
     ensures read { IfOk result (λ seen. IfTold (D.contents disk.old) (λ bytes. IsSlotOf bytes 0 seen.zeroth × IsSlotOf bytes 1 seen.first)) }
     ensures looks { OnlyLooks D.contents D.image D.moment D.since disk.old disk.new }
     ensures cause { HasCause (D.count disk.old) (D.count disk.new) result }
+    ensures made { D.made disk.new ≡ D.made disk.old }
 {
     let zeroth = read_slot(disk, 0)?;
     let first = read_slot(disk, 1)?;
@@ -51,6 +56,8 @@ pub(crate) fn look<D: Disk>(disk: &mut D) -> Result<Option<Seen>, DiskFailed>
     ensures only { OnOk result (IfTold (D.contents disk.old) (λ bytes. (left : List ℕ) → D.image disk.new left → left ≡ bytes)) }
     ensures leaves { LeavesOnly D.moment D.since disk.old disk.new (D.image disk.old) }
     ensures cause { HasCause (D.count disk.old) (D.count disk.new) result }
+    // One sync is made, and no write and no read past the end of what the disk told, whatever is found.
+    ensures made { D.made disk.new ≡ with_sync (D.made disk.old) }
 {
     disk.sync()?;
     let len = disk.len()?;
@@ -72,6 +79,7 @@ pub(crate) fn find<D: Disk>(disk: &mut D) -> Result<Found, OpenFault>
     ensures cause { IfErr result (IsAttachFault (D.count disk.old) (D.count disk.new)) }
     ensures told { D.contents disk.new ≡ D.contents disk.old }
     ensures leaves { LeavesOnly D.moment D.since disk.old disk.new (D.image disk.old) }
+    ensures made { D.made disk.new ≡ with_sync (D.made disk.old) }
 {
     let before = disk.faults();
     match look(disk) {

@@ -7,17 +7,15 @@ ghost use Rattle.pm_image.specs.CarPages.{padded};
 ghost use Rattle.pm_image.specs.Opening.{open_gate};
 ghost use Rattle.pm_image.specs.Blank.{blank_header, blank_catalog_page, blank_store};
 ghost use Rattle.pm_shadow.specs.Images.{place_of, with_gate};
-ghost use Rattle.pm_shadow.specs.Init.{IsInitFault, IsInitFaultOf, UnlessFailed};
+ghost use Rattle.pm_shadow.specs.Init.{IsInitFault, IsInitFaultOf, UnlessFailed, KeepsBytes};
 
 use crate::runs::write_and_sync;
 use crate::slots::{OPEN, gate_place};
 use pm_disk::{Disk, DiskFailed};
+use pm_image::ENTRIES;
 use pm_layout::{Header, digest, write_header};
 use pm_types::{InitFault, NoMemory, PAGE_BYTES};
 use std::alloc::Global;
-
-/// How many bytes of a catalog page without entries are used.
-const BLANK_CATALOG: usize = 46;
 
 /// A page that begins with these bytes, and is zero behind them.
 fn padded_page(alloc: Global, used: &[u8]) -> Result<Vec<u8>, NoMemory>
@@ -35,7 +33,7 @@ fn catalog_page(alloc: Global) -> Result<Vec<u8>, NoMemory>
     ensures items { IfOk result (λ page. page.items ≡ blank_catalog_page) }
     ensures len { IfOk result (λ page. length page.items ≡ PAGE_BYTES) }
 {
-    let mut used = [0; BLANK_CATALOG];
+    let mut used = [0; ENTRIES];
     used[..4].copy_from_slice(b"PCAT");
     let page = padded_page(alloc, &used)?;
     Ok(page)
@@ -71,6 +69,7 @@ fn write_pages<D: Disk>(
         (with_gate 0 open_gate (written (place_of 2) second.now (written (place_of 1) first.now (written 0 zeroth.now bytes)))))) }
     ensures only { OnOk result (IfTold (D.contents disk.new) (λ told. (left : List ℕ) → D.image disk.new left → left ≡ told)) }
     ensures cause { HasCause (D.count disk.old) (D.count disk.new) result }
+    ensures past { (D.made disk.new).past ≡ (D.made disk.old).past }
 {
     disk.write_at(0, zeroth)?;
     disk.write_at(PAGE_BYTES as u64, first)?;
@@ -84,6 +83,7 @@ fn make<D: Disk>(alloc: Global, disk: &mut D) -> Result<Result<(), DiskFailed>, 
     ensures blank { IfOk result (λ made. OnOk made (IfTold (D.contents disk.old) (λ bytes. length bytes ≡ 0 → D.contents disk.new ≡ Some blank_store))) }
     ensures only { IfOk result (λ made. OnOk made (IfTold (D.contents disk.new) (λ told. (left : List ℕ) → D.image disk.new left → left ≡ told))) }
     ensures cause { IfOk result (λ made. HasCause (D.count disk.old) (D.count disk.new) made) }
+    ensures past { (D.made disk.new).past ≡ (D.made disk.old).past }
     ensures still { OnErr result (disk.new ≡ disk.old) }
 {
     let second = catalog_page(alloc)?;
@@ -99,7 +99,7 @@ fn make<D: Disk>(alloc: Global, disk: &mut D) -> Result<Result<(), DiskFailed>, 
 /// # Errors
 ///
 /// `NotEmpty` where the disk holds a byte, `Disk` where it failed, and `Memory` before anything is
-/// written. In the first case and in the last one nothing was written.
+/// written. In the first case and in the last one nothing was written, and never where the disk holds a byte.
 pub fn init<D: Disk>(alloc: Global, disk: &mut D) -> Result<(), InitFault>
     ensures blank { OnOk result (IfTold (D.contents disk.old) (λ bytes. D.contents disk.new ≡ Some blank_store)) }
     ensures empty { OnOk result (IfTold (D.contents disk.old) (λ bytes. length bytes ≡ 0)) }
@@ -107,6 +107,9 @@ pub fn init<D: Disk>(alloc: Global, disk: &mut D) -> Result<(), InitFault>
     ensures count { OnOk result (D.count disk.new ≡ D.count disk.old) }
     ensures fault { IfErr result (λ fault. IfTold (D.contents disk.old) (λ bytes. IsInitFaultOf bytes fault)) }
     ensures cause { IfErr result (IsInitFault (D.count disk.old) (D.count disk.new)) }
+    // Whatever it answers, a disk that told of some byte is as it was.
+    ensures kept { KeepsBytes (D.contents disk.old) (D.contents disk.new) (D.image disk.old) (D.image disk.new) }
+    ensures past { (D.made disk.new).past ≡ (D.made disk.old).past }
     ensures still { IfErr result (λ fault. UnlessFailed fault (D.contents disk.new ≡ D.contents disk.old)) }
     ensures images { IfErr result (λ fault. UnlessFailed fault (SameImages (D.image disk.old) (D.image disk.new))) }
 {

@@ -40,14 +40,15 @@ pub struct Pages<D: Disk> {
 }
 
 impl<D: Disk> Pages<D> {
-    ghost use Rattle.std.specs.Prelude.{◌≡◌, ◌⊎◌, ◌+◌, ◌*◌, ◌-◌, ◌^◌, ◌<◌, ◌≤◌, ℕ, List, All, Some, true, false, [], ◌∷◌, length, option_map, not, Ok, IfOk, IfErr, OnOk, OnErr};
+    ghost use Rattle.std.specs.Prelude.{◌≡◌, ◌⊎◌, ◌+◌, ◌*◌, ◌-◌, ◌^◌, ◌<◌, ◌≤◌, ℕ, List, All, Some, true, false, [], ◌∷◌, length, option_map, not, Ok, MatchResult, IfOk, IfErr, OnOk, OnErr};
     ghost use Rattle.pm_disk.specs.Writes.{written, TornIfTold};
+    ghost use Rattle.pm_disk.specs.Made.{with_sync, with_write};
     ghost use Rattle.pm_disk.specs.Disk.{IfTold, SameImages, LeavesOnly, HasCause};
     ghost use Rattle.pm_layout.specs.Headers.{HasHeaderSpelling};
     ghost use Rattle.pm_image.specs.Opening.{current, is_open, page_count, page_of, gate_place, open_gate};
     ghost use Rattle.pm_shadow.specs.Uses.{IsLowestFree, IsListed};
     ghost use Rattle.pm_shadow.specs.State.{other, attached, IsListable, known_by, with_claimed, with_page, with_closed, with_failed, published};
-    ghost use Rattle.pm_shadow.specs.Images.{Holds, Renews, place_of, with_header, with_gate};
+    ghost use Rattle.pm_shadow.specs.Images.{IsSound, Holds, Renews, WritesPage, place_of, with_header, with_gate};
     ghost use Rattle.pm_shadow.specs.Runs.{OnlyLooks};
     ghost use Rattle.pm_shadow.specs.Attaching.{IsFaultOf, IsAttachFault, IsFoundIn};
     ghost use Rattle.pm_shadow.specs.Pages.{state, disk_of};
@@ -74,6 +75,8 @@ impl<D: Disk> Pages<D> {
         ensures cause { IfErr result (λ e. IsAttachFault (D.count disk) (D.count e.0) e.1) }
         ensures told_err { IfErr result (λ e. D.contents e.0 ≡ D.contents disk) }
         ensures leaves_err { IfErr result (λ e. LeavesOnly D.moment D.since disk e.0 (D.image disk)) }
+        // One sync was made, no write, and no read past the end of what the disk told.
+        ensures made { MatchResult result (λ it. D.made (disk_of it) ≡ with_sync (D.made disk)) (λ e. D.made e.0 ≡ with_sync (D.made disk)) }
     {
         let mut disk = disk;
         match find(&mut disk) {
@@ -165,6 +168,8 @@ impl<D: Disk> Pages<D> {
         ensures read { OnOk result (IfTold (D.contents (disk_of self.old)) (λ bytes. into.new ≡ page_of bytes page)) }
         ensures state { state self.new ≡ state self.old }
         ensures looks { OnlyLooks D.contents D.image D.moment D.since (disk_of self.old) (disk_of self.new) }
+        // It is no read past the end of what the disk told.
+        ensures made { (state self.old).failed ≡ false → D.made (disk_of self.new) ≡ D.made (disk_of self.old) }
         ensures cause { HasCause (D.count (disk_of self.old)) (D.count (disk_of self.new)) result }
     {
         self.disk.read_at(PAGE_BYTES as u64 * page, into)
@@ -176,6 +181,8 @@ impl<D: Disk> Pages<D> {
         requires len { length bytes.now ≡ PAGE_BYTES }
         requires sound { (state self.old).failed ≡ false }
         ensures written { OnOk result (D.contents (disk_of self.new) ≡ option_map (written (place_of page) bytes.now) (D.contents (disk_of self.old))) }
+        // The page reads so, and every other page stays.
+        ensures pages { OnOk result ((was now : List ℕ) → D.contents (disk_of self.old) ≡ Some was → D.contents (disk_of self.new) ≡ Some now → WritesPage page bytes.now was now) }
         ensures torn { OnErr result (TornIfTold (place_of page) PAGE_BYTES (D.contents (disk_of self.old)) (D.contents (disk_of self.new))) }
         ensures state { OnOk result (state self.new ≡ with_page (state self.old) page) }
         ensures state_err { OnErr result (state self.new ≡ state self.old) }
@@ -183,10 +190,18 @@ impl<D: Disk> Pages<D> {
         // A crash at any moment of the call leaves the current header and its pages.
         ensures leaves { IfTold (D.contents (disk_of self.old)) (λ told. LeavesOnly D.moment D.since (disk_of self.old) (disk_of self.new) (Holds (state self.old) told)) }
         ensures cause { HasCause (D.count (disk_of self.old)) (D.count (disk_of self.new)) result }
+        ensures made { D.made (disk_of self.new) ≡ with_write (D.made (disk_of self.old)) }
     {
         self.disk.write_at(PAGE_BYTES as u64 * page, bytes)?;
         self.count = self.count.max(page + 1);
         Ok(())
+    }
+
+    /// A law of the pages between calls: while no publish has failed, whatever a crash leaves has the current header and
+    /// the current copy's pages, as they stand on the disk.
+    pub fn keep_the_current_copy(&self)
+        ensures { (state self.now).failed ≡ false → IfTold (D.contents (disk_of self.now)) (λ bytes. IsSound (state self.now) bytes (D.image (disk_of self.now))) }
+    {
     }
 
     /// Closes the gate of the slot that the next header goes to. Where it is closed already no call of
@@ -201,6 +216,7 @@ impl<D: Disk> Pages<D> {
         ensures torn { OnErr result (TornIfTold (gate_place (other (state self.old).slot)) 1 (D.contents (disk_of self.old)) (D.contents (disk_of self.new))) }
         ensures leaves { IfTold (D.contents (disk_of self.old)) (λ told. LeavesOnly D.moment D.since (disk_of self.old) (disk_of self.new) (Holds (state self.old) told)) }
         ensures cause { HasCause (D.count (disk_of self.old)) (D.count (disk_of self.new)) result }
+        ensures past { (D.made (disk_of self.new)).past ≡ (D.made (disk_of self.old)).past }
     {
         if self.closed {
             return Ok(());
@@ -227,6 +243,7 @@ impl<D: Disk> Pages<D> {
         ensures leaves { IfTold (D.contents (disk_of self.old)) (λ told. LeavesOnly D.moment D.since (disk_of self.old) (disk_of self.new)
             (λ image. Holds (state self.old) told image ⊎ Renews (state self.old) header.now told image)) }
         ensures cause { HasCause (D.count (disk_of self.old)) (D.count (disk_of self.new)) result }
+        ensures past { (D.made (disk_of self.new)).past ≡ (D.made (disk_of self.old)).past }
     {
         let slot = 1 - self.slot;
         self.failed = true;

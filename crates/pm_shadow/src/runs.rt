@@ -16,6 +16,7 @@ pub(crate) fn write_and_sync<D: Disk>(disk: &mut D, at: u64, bytes: &[u8]) -> Re
     ensures images { OnlyTorn at (length bytes.now) (D.image disk.old) (D.image disk.new) }
     ensures leaves { LeavesOnly D.moment D.since disk.old disk.new (IsCut at (length bytes.now) (D.image disk.old)) }
     ensures cause { HasCause (D.count disk.old) (D.count disk.new) result }
+    ensures past { (D.made disk.new).past ≡ (D.made disk.old).past }
 {
     disk.write_at(at, bytes)?;
     disk.sync()
@@ -36,6 +37,7 @@ pub(crate) fn write_one_by_one<D: Disk>(
     ensures in_order { IfTold (D.contents disk.old) (λ bytes. LeavesOnly D.moment D.since disk.old disk.new
         (IsInOrder (D.image disk.old) bytes first_at first.now second_at (length second.now))) }
     ensures cause { HasCause (D.count disk.old) (D.count disk.new) result }
+    ensures past { (D.made disk.new).past ≡ (D.made disk.old).past }
 {
     write_and_sync(disk, first_at, first)?;
     write_and_sync(disk, second_at, second)

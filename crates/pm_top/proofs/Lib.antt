@@ -1,2 +1,3 @@
 pub mod Ran
+pub mod NotMade
 pub mod Opened

@@ -4,20 +4,19 @@ use Rattle.pm_types.specs.declared.entry.Entry.{Entry}
 use Rattle.pm_types.specs.declared.fault.OpenFault.{OpenFault}
 use Rattle.pm_types.specs.declared.fault.OpenFault.TheVariants.{NotAStore, Version, Damaged, Malformed, Broken, Disk, Memory as NoRoom}
 use Rattle.pm_disk.specs.Disk.{LeavesOnly}
-use Rattle.pm_disk.proofs.RunLemmas.{weaker}
+use Rattle.pm_disk.proofs.RunLemmas.{weaker, joined}
 use Rattle.pm_model.specs.World.{World, Copy, begin}
 use Rattle.pm_model.specs.Journal.{IsLegal, after}
 use Rattle.pm_image.specs.Stands.{Stands}
 use Rattle.pm_image.specs.Opening.{current}
 use Rattle.pm_types.specs.declared.limits.TheConstants.{FIELDS}
-use Rattle.pm_image.specs.Steps.{◌>>=◌}
+use Rattle.pm_base.specs.Results.{◌>>=◌}
 use Rattle.pm_image.specs.Graphs.{graph_of, copy_of}
 use Rattle.pm_image.specs.Stands.{pages_of}
 use Rattle.pm_image.proofs.StandsLaws.{one_copy}
 use Rattle.pm_shadow.specs.State.{State}
 use Rattle.pm_shadow.specs.Runs.{OnlyLooks}
 use Rattle.pm_shadow.specs.Attaching.{IsFaultOf}
-use Rattle.pm_shadow.proofs.RunLemmas.{joined}
 use Rattle.pm_plain.specs.Plain.{Opens, readable, reopened}
 use Rattle.pm_plain.proofs.PlainLaws.{reopened_stands}
 use Rattle.pm_run.specs.Images.{IsOfRun}

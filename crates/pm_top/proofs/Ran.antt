@@ -26,14 +26,14 @@ end_world start first now lines journal whole same_start same ran = ran.world �
 pub none_begun : (journal : List Entry) → journal ≡ [] → IsBegun journal
 none_begun journal none = (0, empty_copy, subst (IsLegal (begin 0 empty_copy)) (sym none) tt)
 
--- where the source was read, it did not fail
-pub read_before : (detail : Detail) (count_before count_after : ℕ) → IsPastReading detail → ShowsReading detail count_before count_after
-read_before Fine a b is = tt
-read_before Usage a b is = tt
-read_before Unread a b is = tt
-read_before (Reading before after) a b is = absurd is
-read_before (Writing before after) a b is = tt
-read_before (Device before after) a b is = tt
-read_before (NotEmpty n) a b is = tt
-read_before (Refused fault) a b is = tt
-read_before Memory a b is = tt
+-- where the source was read, it did not fail, and its count of faults stands still
+pub read_before : (detail : Detail) (count_before count_after : ℕ) → IsPastReading detail → count_after ≡ count_before → ShowsReading detail count_before count_after
+read_before Fine a b is same = same
+read_before Usage a b is same = same
+read_before Unread a b is same = same
+read_before (Reading before after) a b is same = absurd is
+read_before (Writing before after) a b is same = same
+read_before (Device before after) a b is same = same
+read_before (NotEmpty n) a b is same = same
+read_before (Refused fault) a b is same = same
+read_before Memory a b is same = same

@@ -4,6 +4,7 @@ use Rattle.pm_types.specs.declared.entry.Entry.{Entry}
 use Rattle.pm_disk.specs.Disk.{LeavesOnly, SameImages}
 use Rattle.pm_model.specs.World.{World, Copy, begin, empty_copy}
 use Rattle.pm_model.specs.Journal.{IsLegal, after}
+use Rattle.pm_shadow.specs.Init.{KeepsBytes}
 use Rattle.pm_image.specs.Stands.{Stands}
 use Rattle.pm_image.specs.Blank.{blank_store}
 use Rattle.pm_plain.specs.Plain.{Opens, reopened}
@@ -49,6 +50,6 @@ MakesStore contents image count start end (NotEmpty n) =
     (0 < n) × ((bytes : List ℕ) → contents start ≡ Some bytes → n ≡ length bytes) × (contents end ≡ contents start) × SameImages (image start) (image end)
 -- nothing was written to a disk that is empty
 MakesStore contents image count start end Memory = (contents end ≡ contents start) × SameImages (image start) (image end)
--- the disk failed
-MakesStore contents image count start end (Device before after) = Unit {0}
+-- the disk failed: where it told of some byte, nothing was written
+MakesStore contents image count start end (Device before after) = KeepsBytes (contents start) (contents end) (image start) (image end)
 MakesStore contents image count start end detail = ⊥

@@ -1,7 +1,7 @@
 -- How the program ends.
 use Rattle.std.specs.Prelude.{◌≡◌, ℕ, codes, decimal, List, [], ◌++◌}
 use Rattle.hex.specs.Hex.{encode_lower}
-use Rattle.pm_types.specs.Counts.{Rose}
+use Rattle.pm_base.specs.Counts.{ShowsRise}
 use Rattle.pm_types.specs.declared.entry.Entry.{Entry}
 use Rattle.pm_types.specs.declared.fault.OpenFault.{OpenFault}
 use Rattle.pm_types.specs.declared.fault.OpenFault.TheVariants.{NotAStore, Version, Damaged, Malformed, Broken, Disk, Memory as NoRoom}
@@ -48,24 +48,23 @@ detail_line (NotEmpty bytes) = codes "pmos: not empty " ++ decimal bytes ++ code
 detail_line (Refused fault) = refusal_line fault
 detail_line Memory = codes "pmos: no memory\n"
 
--- the counts of faults before and after, between which the count rose
-abbrev pub ShowsRise : ℕ → ℕ → ℕ → ℕ → Type 0
-ShowsRise before after count_before count_after = (before ≡ count_before) × (after ≡ count_after) × Rose before after
-
--- a read fault shows the rise of the source's count
+-- the source's count of faults rose where the source failed, and else stands still
 abbrev pub ShowsReading : Detail → ℕ → ℕ → Type 0
 ShowsReading (Reading before after) count_before count_after = ShowsRise before after count_before count_after
-ShowsReading detail count_before count_after = Unit {0}
+ShowsReading detail count_before count_after = count_after ≡ count_before
 
--- a write fault shows that of the sink's
+-- the sink's rose where the sink failed, and may have risen while the replies so far were written that an end for
+-- want of memory or of the disk leaves; else it stands still
 abbrev pub ShowsWriting : Detail → ℕ → ℕ → Type 0
 ShowsWriting (Writing before after) count_before count_after = ShowsRise before after count_before count_after
-ShowsWriting detail count_before count_after = Unit {0}
+ShowsWriting Memory count_before count_after = Unit {0}
+ShowsWriting (Device before after) count_before count_after = Unit {0}
+ShowsWriting detail count_before count_after = count_after ≡ count_before
 
--- a disk fault shows that of the disk's
+-- the disk's rose where the disk failed, and else stands still
 abbrev pub ShowsDevice : Detail → ℕ → ℕ → Type 0
 ShowsDevice (Device before after) count_before count_after = ShowsRise before after count_before count_after
-ShowsDevice detail count_before count_after = Unit {0}
+ShowsDevice detail count_before count_after = count_after ≡ count_before
 
 -- a store is refused for what stands in it: a disk that fails and want of memory are ends of their own
 abbrev pub IsOfStore : OpenFault → Type 0

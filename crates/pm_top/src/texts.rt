@@ -1,23 +1,13 @@
 //! What the program writes on standard error.
-ghost use Rattle.std.specs.Prelude.{◌≡◌, ◌++◌, IfOk, OnOk, codes, decimal};
+ghost use Rattle.std.specs.Prelude.{◌≡◌, ◌≤◌, ◌++◌, length, IfOk, OnOk, codes, decimal};
 ghost use Rattle.hex.specs.Hex.{encode_lower};
 ghost use Rattle.pm_top.specs.Ends.{detail_line, refusal_line};
 
 use crate::Detail;
 use hex::encode_to_slice;
-use itoa::Buffer;
+use pm_script::append_numbered;
 use pm_types::{NoMemory, OpenFault};
 use std::alloc::Global;
-
-// A word or more, and a number.
-fn append_numbered(out: &mut Vec<u8>, words: &[u8], number: u64) -> Result<(), NoMemory>
-    ensures { OnOk result (out.new.items ≡ out.old.items ++ words.now ++ decimal number) }
-{
-    out.extend_from_slice(words)?;
-    let mut buffer = Buffer::new();
-    out.extend_from_slice(buffer.format(number).as_bytes())?;
-    Ok(())
-}
 
 // A word or more, and a digest in 64 digits.
 fn append_digest(out: &mut Vec<u8>, words: &[u8], digest: &[u8; 32]) -> Result<(), NoMemory>
@@ -32,6 +22,7 @@ fn append_digest(out: &mut Vec<u8>, words: &[u8], digest: &[u8; 32]) -> Result<(
 
 // A line with a number at its end.
 fn numbered_line(alloc: Global, words: &[u8], number: u64) -> Result<Vec<u8>, NoMemory>
+    requires { length words.now ≤ 4096 }
     ensures { IfOk result (λ text. text.items ≡ words.now ++ decimal number ++ codes "\n") }
 {
     let mut text = Vec::new(alloc);

@@ -1,6 +1,6 @@
 //! All that the program does.
 ghost use Rattle.std.specs.Prelude.{◌≡◌, ◌≤◌, ◌↔◌, ◌||◌, List, ℕ, [], ◌++◌, length, map, true, false, Some};
-ghost use Rattle.pm_types.specs.Counts.{Rose};
+ghost use Rattle.pm_base.specs.Counts.{Rose};
 ghost use Rattle.pm_model.specs.declared.request.Request.{Request as Line};
 ghost use Rattle.pm_model.specs.World.{Copy, begin};
 ghost use Rattle.pm_model.specs.Journal.{IsLegal, after, requests_of, Serves};
@@ -50,6 +50,7 @@ fn run_bytes<D: Disk, S: Source, K: Sink>(
     ensures disk { LeavesDisk D.contents D.image D.moment D.since disk result.disk result.detail result.journal.items }
     ensures uncalled { IsBeforeDisk result.detail → result.disk ≡ disk }
     ensures device { ShowsDevice result.detail (D.count disk) (D.count result.disk) }
+    ensures unread { (D.made result.disk).past ≡ (D.made disk).past }
 
     ensures quiet { IsBeforeRun result.detail → result.sink ≡ sink }
     ensures written { result.detail ≡ Detail.Fine → (before : List ℕ) → K.written sink ≡ Some before
@@ -96,6 +97,7 @@ fn run_source<D: Disk, S: Source, K: Sink>(
     ensures disk { LeavesDisk D.contents D.image D.moment D.since disk result.disk result.detail result.journal.items }
     ensures uncalled { IsBeforeDisk result.detail → result.disk ≡ disk }
     ensures device { ShowsDevice result.detail (D.count disk) (D.count result.disk) }
+    ensures unread { (D.made result.disk).past ≡ (D.made disk).past }
 
     ensures quiet { IsBeforeRun result.detail → result.sink ≡ sink }
     ensures written { result.detail ≡ Detail.Fine → (before : List ℕ) → K.written sink ≡ Some before
@@ -142,13 +144,16 @@ pub fn pmos<R: AllocGlobal, D: Disk, S: Source, K: Sink>(
 ) -> Ended<D, S, K>
     ensures status { result.status ≡ status_of result.detail }
 
-    // Each end has its cause. Want of memory alone may come at any time.
+    // Each end has its cause, which is the first: the other counts of faults stand still. Want of memory alone may
+    // come at any time.
     ensures usage { (result.detail ≡ Detail.Usage) ↔ ((is_run (map (λ word. word.now) words.now) || is_init (map (λ word. word.now) words.now)) ≡ false) }
     ensures unread { result.detail ≡ Detail.Unread → (bytes : List ℕ) → S.left source ≡ Some bytes
         → (lines : List Line) → IsScript bytes lines → ⊥ }
     ensures reading { ShowsReading result.detail (S.count source) (S.count result.source) }
     ensures writing { ShowsWriting result.detail (K.count sink) (K.count result.sink) }
     ensures device { ShowsDevice result.detail (D.count disk) (D.count result.disk) }
+    // Nobody asks for a read past the end of what the disk tells.
+    ensures unread { (D.made result.disk).past ≡ (D.made disk).past }
     // A store is refused by the rule that its bytes fail, and only where they fail one; where it was opened, they fail none.
     ensures refused { (bytes : List ℕ) → D.contents disk ≡ Some bytes → IsRefusedFor bytes result.detail }
     ensures rule { NamesRule result.detail }

@@ -1,5 +1,5 @@
 pub mod Names
 pub mod NameFaults
 pub mod Orders
-pub mod Counts
 pub mod Fields
+pub mod Replies

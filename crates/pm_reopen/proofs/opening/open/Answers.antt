@@ -67,3 +67,14 @@ returns-clause-unclaimed g c page claimed =
 pub returns-clause-looks : goal.returns-clause-looks
 returns-clause-looks g c =
     subst (λ (d : g.row.D.Denot). OnlyLooks g.D.Disk.contents g.D.Disk.image g.D.Disk.moment g.D.Disk.since (disk_of c.args.pages.now) d) (sym c.in_ok-commit_list.ensures.still) c.in_ok-used.ensures.looked.looks
+
+pub returns-in_err-used-clause-made : goal.returns-in_err-used-clause-made
+returns-in_err-used-clause-made g c = c.in_err-used.ensures.looked.made (ap (λ (s : State). s.failed) c.requires.attached)
+
+pub returns-in_err-commit_list-clause-made : goal.returns-in_err-commit_list-clause-made
+returns-in_err-commit_list-clause-made g c =
+    ap g.D.Disk.made c.commit_list.ensures.still ∙ c.in_ok-used.ensures.looked.made (ap (λ (s : State). s.failed) c.requires.attached)
+
+pub returns-clause-made : goal.returns-clause-made
+returns-clause-made g c =
+    ap g.D.Disk.made c.in_ok-commit_list.ensures.still ∙ c.in_ok-used.ensures.looked.made (ap (λ (s : State). s.failed) c.requires.attached)

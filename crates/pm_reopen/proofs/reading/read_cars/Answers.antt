@@ -10,7 +10,8 @@ use Rattle.pm_shadow.specs.State.{State}
 use Rattle.pm_reopen.specs.Reading.{Gives, store_of, entry_car, car_list, IsCar}
 use Rattle.pm_reopen.proofs.Lists.{drop_here, all_both, all_listed}
 use Rattle.pm_reopen.proofs.LookedLaws.{looked_then}
-use Rattle.pm_reopen.proofs.ReadLaws.{with_front, cars_on, cars_end, cars_done}
+use Rattle.pm_reopen.proofs.ReadLaws.{cars_on, cars_end, cars_done}
+use Rattle.pm_base.proofs.Fronts.{with_front}
 use Rattle.pm_reopen.proofs.reading.read_cars.Goals as goal
 
 pub returns-in_err-car-clause-gives : goal.returns-in_err-car-clause-gives

@@ -5,7 +5,7 @@ use Rattle.pm_types.specs.declared.limits.TheConstants.{FIELDS}
 use Rattle.pm_image.specs.Graphs.{cars_from}
 use Rattle.pm_shadow.specs.Pages.{state, disk_of}
 use Rattle.pm_reopen.specs.Reading.{Looked, store_of, IsCar}
-use Rattle.pm_reopen.proofs.ReadLaws.{with_front}
+use Rattle.pm_base.proofs.Fronts.{with_front}
 use Rattle.pm_reopen.proofs.reading.read_cars.Given as goal
 
 abbrev pub invariant-loop-entry : goal.invariant-loop-entry

@@ -6,7 +6,8 @@ use Rattle.pm_image.specs.Graphs.{Catalog, catalog_from, catalog_of, most_pages,
 use Rattle.pm_shadow.specs.State.{State}
 use Rattle.pm_reopen.specs.Reading.{Gives, store_of, link_at, IsSound, root_count}
 use Rattle.pm_reopen.proofs.LookedLaws.{looked_then}
-use Rattle.pm_reopen.proofs.ChainLaws.{with_pages, chain_on, chain_done, chain_ends, chain_long, next_there, roots_on, sound_on}
+use Rattle.pm_reopen.proofs.ChainLaws.{chain_on, chain_done, chain_ends, chain_long, next_there, roots_on, sound_on}
+use Rattle.pm_base.proofs.Fronts.{with_front}
 use Rattle.pm_reopen.proofs.reading.read_chain.Goals as goal
 
 pub returns-in_err-read-clause-gives : goal.returns-in_err-read-clause-gives
@@ -52,7 +53,7 @@ loop-preserved g c =
       so_far = λ bytes told.
           let store = store_of count bytes in
           let given = subst (λ (n : ℕ). link_at (store_of n bytes) l.met l.page l.kept ≡ Ok read) same (c.in_ok-read.ensures.gives bytes (l.invariant.looked.looks.told ∙ told)) in
-          (λ i. with_pages (items i) (catalog_from (most_pages - (l.counter + 1)) store (met i) read.next read.digest))
+          (λ i. with_front (items i) (catalog_from (most_pages - (l.counter + 1)) store (met i) read.next read.digest))
           ∙ chain_on store l.counter l.met l.page l.kept l.chain.items (catalog_of store c.args.pages.now.header) read c.loop-test.true given c.if-next-eq0.false (l.invariant.so_far bytes told);
       there = next_there count l.met read has c.if-next-eq0.false;
       sound = subst (IsSound count) (sym items) (sound_on count l.met l.chain.items l.page read has l.invariant.there l.invariant.sound l.invariant.roots);

@@ -21,6 +21,7 @@ loop-request-init g c =
       leaves = λ first. started g.D.Disk.moment g.D.Disk.since (disk_of c.args.pages.now) (OfChain g.D.Disk.moment g.D.Disk.since (g.D.Disk.image (disk_of c.args.pages.now)) c.args.world.now c.args.journal.now.items) (λ left there. inl (g.met.D.Disk.only_now (disk_of c.args.pages.now) left there));
       still = λ none. refl;
       device_counted = refl;
+      unread = refl;
       wrote = λ before told. none_wrote before _ c.args.out.now.items (text c.args.journal.now.items) told c.requires.empty_buffer (ap text c.requires.empty);
       room = c.requires.room;
       counted = refl;
@@ -39,7 +40,8 @@ loop-request-preserved g c =
           c.args.world.now c.loop-request.world c.step.new.world c.loop-request.journal.items c.step.new.journal.items (entry_of c.loop-request.world c.in-Some.request)
           runs.legal on.legal c.in-Ok.ensures.pushed runs.world on.world (c.loop-request.invariant.leaves first) (c.in-Ok.ensures.settled (c.loop-request.invariant.stores first));
       still = λ none. absurd (no_end c.loop-request.journal.items (entry_of c.loop-request.world c.in-Some.request) (sym c.in-Ok.ensures.pushed ∙ none));
-      device_counted = c.in-Ok.ensures.device_count ∙ c.loop-request.invariant.device_counted;
+      device_counted = c.in-Ok.ensures.device_count (λ is. cc is) ∙ c.loop-request.invariant.device_counted;
+      unread = c.step.ensures.unread ∙ c.loop-request.invariant.unread;
       wrote = λ before told. c.in-Ok.ensures.wrote before (c.loop-request.invariant.wrote before told);
       room = c.step.ensures.capacity;
       counted = c.in-Ok.ensures.counted ∙ c.loop-request.invariant.counted;
@@ -69,3 +71,9 @@ returns-in-Err-clause-still g c idle none =
 
 pub returns-in-Err-clause-last : goal.returns-in-Err-clause-last
 returns-in-Err-clause-last g c other first left now = c.in-Err.ensures.last other (c.loop-request.invariant.stores first) left now
+
+pub returns-in-Err-clause-device_count : goal.returns-in-Err-clause-device_count
+returns-in-Err-clause-device_count g c other = c.in-Err.ensures.device_count other ∙ c.loop-request.invariant.device_counted
+
+pub returns-in-Err-clause-unread : goal.returns-in-Err-clause-unread
+returns-in-Err-clause-unread g c = c.step.ensures.unread ∙ c.loop-request.invariant.unread

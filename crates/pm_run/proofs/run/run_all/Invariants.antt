@@ -20,6 +20,7 @@ invariant-loop-request g l =
           → LeavesOnly g.D.Disk.moment g.D.Disk.since (disk_of l.fn.pages) (disk_of l.pages) (OfChain g.D.Disk.moment g.D.Disk.since (g.D.Disk.image (disk_of l.fn.pages)) l.fn.world l.journal.items);
       still : l.journal.items ≡ [] → disk_of l.pages ≡ disk_of l.fn.pages;
       device_counted : g.D.Disk.count (disk_of l.pages) ≡ g.D.Disk.count (disk_of l.fn.pages);
+      unread : (g.D.Disk.made (disk_of l.pages)).past ≡ (g.D.Disk.made (disk_of l.fn.pages)).past;
       wrote : (before : List ℕ) → g.K.Sink.written l.fn.sink ≡ Some before → Wrote before (g.K.Sink.written l.sink) l.out.items (text l.journal.items);
       room : BUFFER_BYTES ≤ vec_capacity l.out;
       counted : g.K.Sink.count l.sink ≡ g.K.Sink.count l.fn.sink;

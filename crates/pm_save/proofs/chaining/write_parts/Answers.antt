@@ -5,7 +5,7 @@ use Rattle.std.proofs.lemmas.List.{append-nil}
 use Rattle.pm_image.specs.declared.catalog.CatalogPage.{CatalogPage}
 use Rattle.pm_image.specs.CatalogPages.{HasCatalogPage, nothing_met}
 use Rattle.sha2.specs.Sha256.{sha256}
-use Rattle.pm_shadow.specs.Pages.{state, disk_of}
+use Rattle.pm_shadow.specs.Pages.{state, disk_of, current_kept}
 use Rattle.pm_plain.specs.Laying.{catalog_page}
 use Rattle.pm_plain.proofs.ChainLaid.{all_first, all_second}
 use Rattle.pm_save.specs.Putting.{IsWritten}
@@ -25,7 +25,7 @@ loop-entries-init g c =
       link = λ none. refl;
       chained = λ puts put. none_chained (state it) (g.D.Disk.contents it.disk) puts _ refl refl put;
       goes = goes_still g.D.Disk.contents g.D.Disk.count (state it) it.disk c.requires.ready;
-      spares = spares_still g.D.Disk.contents g.D.Disk.moment g.D.Disk.since g.D.Disk.image (state it) it.disk (it.sound c.requires.ready.fine) (g.met.D.Disk.only_now it.disk);
+      spares = spares_still g.D.Disk.contents g.D.Disk.moment g.D.Disk.since g.D.Disk.made g.D.Disk.image (state it) it.disk (current_kept it c.requires.ready.fine) (g.met.D.Disk.only_now it.disk);
     }
 
 pub put_page-requires-clause-has : goal.put_page-requires-clause-has
@@ -37,7 +37,7 @@ put_page-requires-clause-has g c =
 pub returns-in_err-next-clause-spares : goal.returns-in_err-next-clause-spares
 returns-in_err-next-clause-spares g c =
     let is = c.loop-entries.invariant in
-    spares_then g.D.Disk.contents g.D.Disk.moment g.D.Disk.since g.D.Disk.count (state c.args.pages.now) (state c.loop-entries.pages) (disk_of c.args.pages.now) (disk_of c.loop-entries.pages) (disk_of c.put_page.new.pages) is.spares is.goes c.put_page.ensures.spares
+    spares_then g.D.Disk.contents g.D.Disk.moment g.D.Disk.since g.D.Disk.made g.D.Disk.count (state c.args.pages.now) (state c.loop-entries.pages) (disk_of c.args.pages.now) (disk_of c.loop-entries.pages) (disk_of c.put_page.new.pages) is.spares is.goes c.put_page.ensures.spares
 
 pub loop-entries-preserved : goal.loop-entries-preserved
 loop-entries-preserved g c =
@@ -60,5 +60,5 @@ loop-entries-preserved g c =
       link = is_link s t was now (catalog_page c.linked-page.result) new c.in_ok-next.ensures.written;
       chained = λ puts put. chained_before s t was now puts is.done next new entries (is.chained puts put) written digest;
       goes = goes_then g.D.Disk.contents g.D.Disk.count (state c.args.pages.now) s t (disk_of c.args.pages.now) (disk_of c.loop-entries.pages) (disk_of c.put_page.new.pages) is.goes c.in_ok-next.ensures.goes;
-      spares = spares_then g.D.Disk.contents g.D.Disk.moment g.D.Disk.since g.D.Disk.count (state c.args.pages.now) s (disk_of c.args.pages.now) (disk_of c.loop-entries.pages) (disk_of c.put_page.new.pages) is.spares is.goes c.put_page.ensures.spares;
+      spares = spares_then g.D.Disk.contents g.D.Disk.moment g.D.Disk.since g.D.Disk.made g.D.Disk.count (state c.args.pages.now) s (disk_of c.args.pages.now) (disk_of c.loop-entries.pages) (disk_of c.put_page.new.pages) is.spares is.goes c.put_page.ensures.spares;
     }

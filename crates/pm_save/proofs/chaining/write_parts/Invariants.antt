@@ -20,5 +20,5 @@ invariant-loop-entries g l =
       link : IsLink l.next;
       chained : (puts : List Put) → ArePutIfTold (state l.initial.pages) (g.D.Disk.contents (disk_of l.initial.pages)) puts → IsChained (state l.pages) (g.D.Disk.contents (disk_of l.pages)) puts done l.next;
       goes : GoesOn g.D.Disk.contents g.D.Disk.count (state l.initial.pages) (state l.pages) (disk_of l.initial.pages) (disk_of l.pages);
-      spares : Spares g.D.Disk.contents g.D.Disk.moment g.D.Disk.since (state l.initial.pages) (disk_of l.initial.pages) (disk_of l.pages);
+      spares : Spares g.D.Disk.contents g.D.Disk.moment g.D.Disk.since g.D.Disk.made (state l.initial.pages) (disk_of l.initial.pages) (disk_of l.pages);
     }

@@ -2,7 +2,7 @@ use Rattle.std.proofs.Common.{rules, ◌≡◌, ◌++◌, [], ◌∷◌, List, a
 use Rattle.std.specs.FinMap as map
 use Rattle.std.proofs.lemmas.List.{append-nil}
 use Rattle.pm_save.specs.Filling.{IsGoing}
-use Rattle.pm_shadow.specs.Pages.{state, disk_of}
+use Rattle.pm_shadow.specs.Pages.{state, disk_of, current_kept}
 use Rattle.pm_plain.specs.Laying.{Item}
 use Rattle.pm_plain.proofs.CarsLaid.{AreGiven, last_of, given_first, given_others}
 use Rattle.pm_save.proofs.ListLemmas.{moved}
@@ -18,7 +18,7 @@ loop-id-init g c =
       all = refl;
       filling = none_going (state it) (g.D.Disk.contents it.disk) c.new-filling.result c.new-filling.ensures.slots c.new-filling.ensures.used c.new-filling.ensures.entries c.new-filling.ensures.places;
       goes = goes_still g.D.Disk.contents g.D.Disk.count (state it) it.disk c.requires.ready;
-      spares = spares_still g.D.Disk.contents g.D.Disk.moment g.D.Disk.since g.D.Disk.image (state it) it.disk (it.sound c.requires.ready.fine) (g.met.D.Disk.only_now it.disk);
+      spares = spares_still g.D.Disk.contents g.D.Disk.moment g.D.Disk.since g.D.Disk.made g.D.Disk.image (state it) it.disk (current_kept it c.requires.ready.fine) (g.met.D.Disk.only_now it.disk);
     }
 
 pub put_object-requires-clause-ready : goal.put_object-requires-clause-ready
@@ -52,13 +52,13 @@ loop-id-preserved g c =
       all = moved is.seen item c.next.new.self c.loop-id.id-iterator c.into_iter-id-iterator.result is.all c.in-Some.ensures.steps;
       filling = c.in_ok-put_object.ensures.filling is.seen is.filling;
       goes = goes_then g.D.Disk.contents g.D.Disk.count (state c.args.pages.now) (state c.loop-id.pages) (state c.put_object.new.pages) (disk_of c.args.pages.now) (disk_of c.loop-id.pages) (disk_of c.put_object.new.pages) is.goes c.in_ok-put_object.ensures.goes;
-      spares = spares_then g.D.Disk.contents g.D.Disk.moment g.D.Disk.since g.D.Disk.count (state c.args.pages.now) (state c.loop-id.pages) (disk_of c.args.pages.now) (disk_of c.loop-id.pages) (disk_of c.put_object.new.pages) is.spares is.goes c.put_object.ensures.spares;
+      spares = spares_then g.D.Disk.contents g.D.Disk.moment g.D.Disk.since g.D.Disk.made g.D.Disk.count (state c.args.pages.now) (state c.loop-id.pages) (disk_of c.args.pages.now) (disk_of c.loop-id.pages) (disk_of c.put_object.new.pages) is.spares is.goes c.put_object.ensures.spares;
     }
 
 pub returns-in_err-put_object-clause-spares : goal.returns-in_err-put_object-clause-spares
 returns-in_err-put_object-clause-spares g c =
     let is = c.loop-id.invariant in
-    spares_then g.D.Disk.contents g.D.Disk.moment g.D.Disk.since g.D.Disk.count (state c.args.pages.now) (state c.loop-id.pages) (disk_of c.args.pages.now) (disk_of c.loop-id.pages) (disk_of c.put_object.new.pages) is.spares is.goes c.put_object.ensures.spares
+    spares_then g.D.Disk.contents g.D.Disk.moment g.D.Disk.since g.D.Disk.made g.D.Disk.count (state c.args.pages.now) (state c.loop-id.pages) (disk_of c.args.pages.now) (disk_of c.loop-id.pages) (disk_of c.put_object.new.pages) is.spares is.goes c.put_object.ensures.spares
 
 pub returns-clause-filling : goal.returns-clause-filling
 returns-clause-filling g c =

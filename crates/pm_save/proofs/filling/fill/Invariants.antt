@@ -12,5 +12,5 @@ invariant-loop-id g l =
       all : seen ++ l.id-iterator ≡ l.initial.id-iterator;
       filling : IsGoing (state l.pages) (g.D.Disk.contents (disk_of l.pages)) seen l.filling;
       goes : GoesOn g.D.Disk.contents g.D.Disk.count (state l.initial.pages) (state l.pages) (disk_of l.initial.pages) (disk_of l.pages);
-      spares : Spares g.D.Disk.contents g.D.Disk.moment g.D.Disk.since (state l.initial.pages) (disk_of l.initial.pages) (disk_of l.pages);
+      spares : Spares g.D.Disk.contents g.D.Disk.moment g.D.Disk.since g.D.Disk.made (state l.initial.pages) (disk_of l.initial.pages) (disk_of l.pages);
     }

@@ -10,7 +10,7 @@ end_last-requires-clause-fits g c =
 
 pub returns-in_err-end_last-clause-spares : goal.returns-in_err-end_last-clause-spares
 returns-in_err-end_last-clause-spares g c =
-    spares_then g.D.Disk.contents g.D.Disk.moment g.D.Disk.since g.D.Disk.count (state c.args.pages.now) (state c.fill.new.pages) (disk_of c.args.pages.now) (disk_of c.fill.new.pages) (disk_of c.end_last.new.pages) c.fill.ensures.spares c.in_ok-filling.ensures.goes c.end_last.ensures.spares
+    spares_then g.D.Disk.contents g.D.Disk.moment g.D.Disk.since g.D.Disk.made g.D.Disk.count (state c.args.pages.now) (state c.fill.new.pages) (disk_of c.args.pages.now) (disk_of c.fill.new.pages) (disk_of c.end_last.new.pages) c.fill.ensures.spares c.in_ok-filling.ensures.goes c.end_last.ensures.spares
 
 pub returns-clause-goes : goal.returns-clause-goes
 returns-clause-goes g c =
@@ -18,7 +18,7 @@ returns-clause-goes g c =
 
 pub returns-clause-spares : goal.returns-clause-spares
 returns-clause-spares g c =
-    spares_then g.D.Disk.contents g.D.Disk.moment g.D.Disk.since g.D.Disk.count (state c.args.pages.now) (state c.fill.new.pages) (disk_of c.args.pages.now) (disk_of c.fill.new.pages) (disk_of c.end_last.new.pages) c.fill.ensures.spares c.in_ok-filling.ensures.goes c.end_last.ensures.spares
+    spares_then g.D.Disk.contents g.D.Disk.moment g.D.Disk.since g.D.Disk.made g.D.Disk.count (state c.args.pages.now) (state c.fill.new.pages) (disk_of c.args.pages.now) (disk_of c.fill.new.pages) (disk_of c.end_last.new.pages) c.fill.ensures.spares c.in_ok-filling.ensures.goes c.end_last.ensures.spares
 
 pub returns-clause-filling : goal.returns-clause-filling
 returns-clause-filling g c = c.in_ok-end_last.ensures.filling (map.entries c.args.objects.now) c.in_ok-filling.ensures.filling

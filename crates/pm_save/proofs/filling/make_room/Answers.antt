@@ -1,6 +1,6 @@
 use Rattle.std.proofs.Common.{◌<◌, length, arith}
 use Rattle.pm_image.proofs.CarSizes.{few_slots}
-use Rattle.pm_shadow.specs.Pages.{state, disk_of}
+use Rattle.pm_shadow.specs.Pages.{state, disk_of, current_kept}
 use Rattle.pm_save.proofs.FillLemmas.{still_roomy, has_object}
 use Rattle.pm_save.proofs.SpareLemmas.{spares_still}
 use Rattle.pm_save.proofs.filling.make_room.Goals as goal
@@ -14,7 +14,7 @@ pub returns-else-filling-size-gt-PAGE_BYTES-clause-spares :
     goal.returns-else-filling-size-gt-PAGE_BYTES-clause-spares
 returns-else-filling-size-gt-PAGE_BYTES-clause-spares g c =
     let it = c.args.pages.now in
-    spares_still g.D.Disk.contents g.D.Disk.moment g.D.Disk.since g.D.Disk.image (state it) it.disk (it.sound c.requires.ready.fine) (g.met.D.Disk.only_now it.disk)
+    spares_still g.D.Disk.contents g.D.Disk.moment g.D.Disk.since g.D.Disk.made g.D.Disk.image (state it) it.disk (current_kept it c.requires.ready.fine) (g.met.D.Disk.only_now it.disk)
 
 pub end_car-requires-clause-some : goal.end_car-requires-clause-some
 end_car-requires-clause-some g c = has_object c.args.filling.now c.args.size c.requires.used c.if-filling-size-gt-PAGE_BYTES.true c.requires.size

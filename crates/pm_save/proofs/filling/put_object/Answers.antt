@@ -3,7 +3,7 @@ use Rattle.pm_types.specs.declared.object.Slot.{Slot}
 use Rattle.pm_layout.specs.Spelling.{slot_size}
 use Rattle.pm_plain.specs.Laying.{Item, plain_slot}
 use Rattle.pm_save.proofs.FillLemmas.{object_full}
-use Rattle.pm_shadow.specs.Pages.{disk_of}
+use Rattle.pm_shadow.specs.Pages.{disk_of, current_kept}
 use Rattle.pm_shadow.specs.Pages.{state}
 use Rattle.pm_save.proofs.SpareLemmas.{spares_still}
 use Rattle.pm_save.proofs.filling.put_object.Goals as goal
@@ -11,7 +11,7 @@ use Rattle.pm_save.proofs.filling.put_object.Goals as goal
 pub returns-in_err-slot-clause-spares : goal.returns-in_err-slot-clause-spares
 returns-in_err-slot-clause-spares g c =
     let it = c.args.pages.now in
-    spares_still g.D.Disk.contents g.D.Disk.moment g.D.Disk.since g.D.Disk.image (state it) it.disk (it.sound c.requires.ready.fine) (g.met.D.Disk.only_now it.disk)
+    spares_still g.D.Disk.contents g.D.Disk.moment g.D.Disk.since g.D.Disk.made g.D.Disk.image (state it) it.disk (current_kept it c.requires.ready.fine) (g.met.D.Disk.only_now it.disk)
 
 pub returns-clause-filling : goal.returns-clause-filling
 returns-clause-filling g c seen had =

@@ -1,4 +1,4 @@
-use Rattle.pm_shadow.specs.Pages.{state, disk_of}
+use Rattle.pm_shadow.specs.Pages.{state, disk_of, current_kept}
 use Rattle.pm_save.proofs.SpareLemmas.{spares_held}
 use Rattle.pm_save.proofs.StateLemmas.{keeps_same}
 use Rattle.pm_save.proofs.GateLemmas.{gate_next, gate_goes, gate_still}
@@ -7,12 +7,12 @@ use Rattle.pm_save.proofs.settling.close_gate.Goals as goal
 pub returns-in_err-close_gate-clause-spares : goal.returns-in_err-close_gate-clause-spares
 returns-in_err-close_gate-clause-spares g c =
     let it = c.args.pages.now in
-    spares_held g.D.Disk.contents g.D.Disk.moment g.D.Disk.since (state it) (state it) it.disk (disk_of c.close_gate.new.self) (keeps_same (state it)) c.close_gate.ensures.leaves
+    spares_held g.D.Disk.contents g.D.Disk.moment g.D.Disk.since g.D.Disk.made (state it) (state it) it.disk (disk_of c.close_gate.new.self) (keeps_same (state it)) c.close_gate.ensures.leaves c.close_gate.ensures.past
 
 pub returns-clause-spares : goal.returns-clause-spares
 returns-clause-spares g c =
     let it = c.args.pages.now in
-    spares_held g.D.Disk.contents g.D.Disk.moment g.D.Disk.since (state it) (state it) it.disk (disk_of c.close_gate.new.self) (keeps_same (state it)) c.close_gate.ensures.leaves
+    spares_held g.D.Disk.contents g.D.Disk.moment g.D.Disk.since g.D.Disk.made (state it) (state it) it.disk (disk_of c.close_gate.new.self) (keeps_same (state it)) c.close_gate.ensures.leaves c.close_gate.ensures.past
 
 pub returns-clause-next : goal.returns-clause-next
 returns-clause-next g c =
@@ -31,4 +31,4 @@ pub returns-clause-pages : goal.returns-clause-pages
 returns-clause-pages g c was now then_told now_told =
     let it = c.args.pages.now in
     let done = c.in_ok-close_gate.ensures in
-    gate_still g.D.Disk.contents (state it) (state c.close_gate.new.self) it.disk (disk_of c.close_gate.new.self) done.state c.close_gate.ensures.still done.written was now then_told now_told (it.sound c.requires.fine was then_told).counted
+    gate_still g.D.Disk.contents (state it) (state c.close_gate.new.self) it.disk (disk_of c.close_gate.new.self) done.state c.close_gate.ensures.still done.written was now then_told now_told (current_kept it c.requires.fine was then_told).counted

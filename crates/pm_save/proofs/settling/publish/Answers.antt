@@ -52,3 +52,12 @@ returns-clause-pages g c was now told now_told page low below =
     let done = c.in_ok-close_gate.ensures in
     let mid_told = done.goes.told (was, told) in
     (c.in_ok-publish.ensures.renews mid_told.0 mid_told.1 now now_told).pages page low ∙ done.pages was mid_told.0 told mid_told.1 page low below
+
+pub returns-in_err-close_gate-clause-unread : goal.returns-in_err-close_gate-clause-unread
+returns-in_err-close_gate-clause-unread g c = c.close_gate.ensures.spares.unread
+
+pub returns-in_err-publish-clause-unread : goal.returns-in_err-publish-clause-unread
+returns-in_err-publish-clause-unread g c = c.publish.ensures.past ∙ c.close_gate.ensures.spares.unread
+
+pub returns-clause-unread : goal.returns-clause-unread
+returns-clause-unread g c = c.publish.ensures.past ∙ c.close_gate.ensures.spares.unread

@@ -1,4 +1,4 @@
-use Rattle.std.proofs.Common.{◌⊎◌, inl, List, ℕ, refl, ap}
+use Rattle.std.proofs.Common.{◌⊎◌, inl, List, ℕ, refl, ap, ◌∙◌}
 use Rattle.pm_disk.proofs.RunLemmas.{weaker}
 use Rattle.pm_layout.specs.declared.header.Header.{Header}
 use Rattle.pm_shadow.specs.State.{State}
@@ -60,3 +60,12 @@ returns-clause-laid g c bytes now_told =
     let t = state c.write_copy.new.pages in
     let mid = c.in_ok-publish.ensures.was_told (bytes, now_told) in
     laid_out t (state c.publish.new.pages) mid.0 bytes c.args.copy.now c.in_ok-first.first (c.in_ok-first.ensures.laid mid.0 mid.1) (ap (λ (s : State). s.count) c.in_ok-publish.ensures.state) (c.in_ok-publish.ensures.pages mid.0 bytes mid.1 now_told)
+
+pub returns-in_err-first-clause-unread : goal.returns-in_err-first-clause-unread
+returns-in_err-first-clause-unread g c = c.write_copy.ensures.spares.unread
+
+pub returns-in_err-publish-clause-unread : goal.returns-in_err-publish-clause-unread
+returns-in_err-publish-clause-unread g c = c.publish.ensures.unread ∙ c.write_copy.ensures.spares.unread
+
+pub returns-clause-unread : goal.returns-clause-unread
+returns-clause-unread g c = c.publish.ensures.unread ∙ c.write_copy.ensures.spares.unread

@@ -50,7 +50,7 @@ returns-clause-laid g c bytes told =
 
 pub returns-in_err-first-clause-spares : goal.returns-in_err-first-clause-spares
 returns-in_err-first-clause-spares g c =
-    spares_then g.D.Disk.contents g.D.Disk.moment g.D.Disk.since g.D.Disk.count (state c.args.pages.now) (state c.lay_cars.new.pages) (disk_of c.args.pages.now) (disk_of c.lay_cars.new.pages) (disk_of c.write_parts.new.pages) c.lay_cars.ensures.spares c.in_ok-filling.ensures.goes c.write_parts.ensures.spares
+    spares_then g.D.Disk.contents g.D.Disk.moment g.D.Disk.since g.D.Disk.made g.D.Disk.count (state c.args.pages.now) (state c.lay_cars.new.pages) (disk_of c.args.pages.now) (disk_of c.lay_cars.new.pages) (disk_of c.write_parts.new.pages) c.lay_cars.ensures.spares c.in_ok-filling.ensures.goes c.write_parts.ensures.spares
 
 pub returns-clause-goes : goal.returns-clause-goes
 returns-clause-goes g c =
@@ -58,4 +58,4 @@ returns-clause-goes g c =
 
 pub returns-clause-spares : goal.returns-clause-spares
 returns-clause-spares g c =
-    spares_then g.D.Disk.contents g.D.Disk.moment g.D.Disk.since g.D.Disk.count (state c.args.pages.now) (state c.lay_cars.new.pages) (disk_of c.args.pages.now) (disk_of c.lay_cars.new.pages) (disk_of c.write_parts.new.pages) c.lay_cars.ensures.spares c.in_ok-filling.ensures.goes c.write_parts.ensures.spares
+    spares_then g.D.Disk.contents g.D.Disk.moment g.D.Disk.since g.D.Disk.made g.D.Disk.count (state c.args.pages.now) (state c.lay_cars.new.pages) (disk_of c.args.pages.now) (disk_of c.lay_cars.new.pages) (disk_of c.write_parts.new.pages) c.lay_cars.ensures.spares c.in_ok-filling.ensures.goes c.write_parts.ensures.spares

@@ -1,5 +1,6 @@
-use Rattle.std.proofs.Common.{◌≡◌, ◌+◌, ℕ, List, take, drop, get_or, ap, ◌∙◌, arith}
+use Rattle.std.proofs.Common.{◌≡◌, ◌+◌, ℕ, List, take, drop, get_or, ap, sym, ◌∙◌, arith}
 use Rattle.std.proofs.lemmas.List.{get_or-take, get_or-drop}
+use Rattle.pm_disk.proofs.MadeLemmas.{within_counts}
 use Rattle.pm_shadow.proofs.RunLemmas.{one_look, looks_then}
 use Rattle.pm_shadow.proofs.looking.read_slot.Goals as goal
 
@@ -36,3 +37,16 @@ returns-clause-read g c bytes told = record {
   body = c.in_ok-read_at.ensures.read bytes told;
   gate = byte_read c.gate_place.result bytes c.read_at-2.new.into (c.in_ok-read_at-2.ensures.read bytes (c.read_at.ensures.contents ∙ told)) ∙ ap (λ (n : ℕ). get_or bytes n 0) c.gate_place.ensures;
 }
+
+pub returns-in_err-read_at-clause-made : goal.returns-in_err-read_at-clause-made
+returns-in_err-read_at-clause-made g c = c.read_at.ensures.made ∙ within_counts _ _ _ _ (λ bytes told. let long = c.requires.long bytes told in let slot = c.requires.slot in omega arith)
+
+pub returns-in_err-read_at-2-clause-made : goal.returns-in_err-read_at-2-clause-made
+returns-in_err-read_at-2-clause-made g c =
+    c.read_at-2.ensures.made ∙ within_counts _ _ _ _ (λ bytes told. let long = c.requires.long bytes (sym c.read_at.ensures.contents ∙ told) in let slot = c.requires.slot in omega (arith, c.gate_place.ensures))
+    ∙ c.read_at.ensures.made ∙ within_counts _ _ _ _ (λ bytes told. let long = c.requires.long bytes told in let slot = c.requires.slot in omega arith)
+
+pub returns-clause-made : goal.returns-clause-made
+returns-clause-made g c =
+    c.read_at-2.ensures.made ∙ within_counts _ _ _ _ (λ bytes told. let long = c.requires.long bytes (sym c.read_at.ensures.contents ∙ told) in let slot = c.requires.slot in omega (arith, c.gate_place.ensures))
+    ∙ c.read_at.ensures.made ∙ within_counts _ _ _ _ (λ bytes told. let long = c.requires.long bytes told in let slot = c.requires.slot in omega arith)

@@ -2,7 +2,7 @@ use Rattle.std.proofs.Common.{◌≡◌, ◌∙◌, ap, sym, subst, refl, Ok, �
 use Rattle.pm_model.specs.World.{begin, empty_copy}
 use Rattle.pm_model.specs.Journal.{IsLegal}
 use Rattle.pm_shadow.specs.State.{State}
-use Rattle.pm_shadow.specs.Pages.{state, disk_of}
+use Rattle.pm_shadow.specs.Pages.{state, disk_of, current_kept}
 use Rattle.pm_plain.proofs.KeptLaws.{held_opens}
 use Rattle.pm_top.proofs.Opened.{opened_run}
 use Rattle.pm_top.proofs.opening.run_attached.Goals as goal
@@ -20,7 +20,7 @@ returns-in-Ok-clause-disk g c =
     (λ bytes told. c.in-Ok.ensures.found bytes told ∙ ap (λ (n : ℕ). Ok (n, copy)) (sym epoch))
     (λ bytes told.
     let now = looks.told ∙ told in
-    held_opens (state pages) bytes bytes copy (c.in-Ok.ensures.has bytes now) ((pages.sound sound bytes now).each bytes (g.met.D.Disk.contents_stay (disk_of pages) bytes now)))
+    held_opens (state pages) bytes bytes copy (c.in-Ok.ensures.has bytes now) ((current_kept pages sound bytes now).each bytes (g.met.D.Disk.contents_stay (disk_of pages) bytes now)))
     (λ bytes told.
     let now = looks.told ∙ told in
     record {
@@ -28,7 +28,7 @@ returns-in-Ok-clause-disk g c =
       is_told = now;
       has = c.in-Ok.ensures.has bytes now;
       numbered = refl;
-      only = λ left there. held_opens (state pages) bytes left copy (c.in-Ok.ensures.has bytes now) ((pages.sound sound bytes now).each left there);
+      only = λ left there. held_opens (state pages) bytes left copy (c.in-Ok.ensures.has bytes now) ((current_kept pages sound bytes now).each left there);
     })
     c.run_on_pages.ensures.ran.legal c.run_on_pages.ensures.leaves c.run_on_pages.ensures.last c.run_on_pages.ensures.still c.run_on_pages.ensures.stopped
 

@@ -1,4 +1,5 @@
-use Rattle.std.proofs.Common.{◌≡◌, ◌∷◌, length, refl, ◌∙◌, sym, rules}
+use Rattle.std.proofs.Common.{◌≡◌, ◌∷◌, length, ap, refl, ◌∙◌, sym, rules}
+use Rattle.pm_disk.specs.Made.{numbers, made_in}
 use Rattle.pm_disk.proofs.Steps.{quiet_same, quiet_sound, quiet_placed, grown_placed, grown_marked}
 use Rattle.pm_disk.proofs.DiskSteps.{elapses, look_images}
 use Rattle.pm_disk.proofs.mem_disk.MemDisk.pass.Goals as goal
@@ -11,7 +12,7 @@ invariant_of-self c =
       shows = disk.shows ∙ sym (quiet_same disk.start.items disk.fails.items disk.calls.items c.args.call _ c.requires grown);
       sound = quiet_sound disk.start.items disk.fails.items disk.calls.items c.args.call _ c.requires grown disk.sound;
       placed = grown_placed disk.start.items disk.fails.items disk.calls.items c.args.call _ (quiet_placed c.args.call c.requires) grown disk.placed;
-      marked = grown_marked disk.start.items disk.fails.items disk.calls.items c.args.call _ disk.moments.marks _ c.len.result c.after-self.ensures (search rules) grown disk.marked;
+      marked = grown_marked disk.start.items disk.fails.items disk.calls.items c.args.call _ (numbers disk.moments.marks) _ c.len.result (ap numbers c.after-self.ensures) (search rules) grown disk.marked;
     }
 
 pub returns-clause-contents : goal.returns-clause-contents
@@ -28,5 +29,8 @@ pub returns-clause-time : goal.returns-clause-time
 returns-clause-time c =
     let disk = c.args.self.now in
     let mark : c.len.result ≡ length disk.calls.items = search rules in
-    elapses disk.start.items disk.fails.items disk.calls.items disk.moments.marks disk.start.items disk.fails.items c.note-outcome.new.calls.items c.after-self.result.marks c.args.call refl refl
-    (c.after-self.ensures ∙ (λ i. mark i ∷ disk.moments.marks)) c.note-outcome.ensures.grown disk.marked
+    elapses disk.start.items disk.fails.items disk.calls.items (numbers disk.moments.marks) disk.start.items disk.fails.items c.note-outcome.new.calls.items (numbers c.after-self.result.marks) c.args.call refl refl
+    (ap numbers c.after-self.ensures ∙ (λ i. mark i ∷ numbers disk.moments.marks)) c.note-outcome.ensures.grown disk.marked
+
+pub returns-clause-made : goal.returns-clause-made
+returns-clause-made c = ap made_in c.after-self.ensures

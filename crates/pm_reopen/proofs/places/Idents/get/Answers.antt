@@ -1,6 +1,6 @@
 use Rattle.std.proofs.Common.{◌∙◌}
 use Rattle.std.specs.Cmp.{nat_cmp_total}
-use Rattle.pm_model.proofs.Shown.{gotten}
+use Rattle.pm_base.proofs.Shown.{gotten}
 use Rattle.pm_reopen.proofs.places.Idents.get.Goals as goal
 
 pub returns : goal.returns

@@ -1,5 +1,5 @@
 use Rattle.std.specs.Cmp.{nat_cmp_total}
-use Rattle.pm_model.proofs.Shown.{gotten}
+use Rattle.pm_base.proofs.Shown.{gotten}
 use Rattle.pm_reopen.proofs.places.Places.car.Goals as goal
 
 pub returns : goal.returns

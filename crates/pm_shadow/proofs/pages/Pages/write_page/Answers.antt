@@ -8,6 +8,7 @@ use Rattle.pm_shadow.specs.Pages.{state}
 use Rattle.pm_shadow.proofs.TableLemmas.{claimed_from_2, claimed_in_list}
 use Rattle.pm_shadow.proofs.RunLemmas.{told_before}
 use Rattle.pm_shadow.proofs.HoldLemmas.{page_cut}
+use Rattle.pm_shadow.proofs.PageLemmas.{page_made}
 use Rattle.pm_shadow.proofs.SoundLemmas.{written_torn, cut_holds, sound_after, sound_counted, page_written, one_call}
 use Rattle.pm_shadow.proofs.pages.Pages.write_page.Goals as goal
 
@@ -63,3 +64,7 @@ returns-clause-leaves g c bytes told =
     one_call g.D.Disk.moment g.D.Disk.since it.disk now (Holds (state it) bytes) (g.D.Disk.image it.disk) (g.D.Disk.image now) (g.met.D.Disk.only_now it.disk) (it.sound c.requires.sound bytes told).each c.write_at.ensures.time
     (cut_holds (state it) (place_of c.args.page) (length c.args.bytes.now) (g.D.Disk.contents it.disk) (g.D.Disk.contents now) (g.D.Disk.image it.disk) (g.D.Disk.image now) (it.sound c.requires.sound)
     (cut (state it) c.args.page (length c.args.bytes.now) it.is_slot low c.requires.claimed c.requires.len) c.write_at.ensures.only_torn bytes told)
+
+pub returns-clause-pages : goal.returns-clause-pages
+returns-clause-pages g c was now told then =
+    page_made c.args.page c.args.bytes.now (g.D.Disk.contents c.args.self.now.disk) (g.D.Disk.contents c.write_at.new.self) was now c.requires.len c.in_ok-write_at.ensures.written told then

@@ -1,0 +1,4 @@
+pub mod Results
+pub mod Fronts
+pub mod Mapped
+pub mod Shown

@@ -1,0 +1,14 @@
+-- Counts of faults.
+use Rattle.std.specs.Prelude.{◌≡◌, ℕ, ◌<◌, ◌⊎◌}
+
+-- the greatest count: a count that stands there stays there at a further fault
+abbrev pub greatest_count : ℕ
+greatest_count = 18446744073709551615
+
+-- a count rose from before to after; one that stands at its end has risen where it still stands there
+abbrev pub Rose : ℕ → ℕ → Type 0
+Rose before after = (before < after) ⊎ ((before ≡ greatest_count) × (after ≡ greatest_count))
+
+-- these counts are those before and after, between which the count rose
+abbrev pub ShowsRise : ℕ → ℕ → ℕ → ℕ → Type 0
+ShowsRise before after count_before count_after = (before ≡ count_before) × (after ≡ count_after) × Rose before after

@@ -1,0 +1,4 @@
+pub mod Counts
+pub mod Results
+pub mod Options
+pub mod Mapped
