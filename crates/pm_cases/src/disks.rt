@@ -1,0 +1,112 @@
+//! The bytes of a disk before a run.
+
+use crate::fault::{Fault, refuse};
+use crate::running::{INIT, Run, Setting, run};
+use crate::spelling::{bytes, number, numbered, place, placed};
+use pm_layout::digest;
+use pm_types::PAGE_BYTES;
+use std::alloc::Global;
+
+// The bytes of a store that has just been made.
+fn new_store<R: AllocGlobal>(rt: &R) -> Result<Vec<u8>, Fault> {
+    let alloc = rt.alloc();
+    let made = run(rt, Vec::new(alloc), Setting::new(alloc, INIT)?)?;
+    if made.status != 0 {
+        return Err(refuse("no store was made"));
+    }
+    Ok(made.disk.contents().to_vec(alloc)?)
+}
+
+// What a crash leaves of a run's disk.
+fn image(alloc: Global, last: &Option<Run>, pick: u64) -> Result<Vec<u8>, Fault> {
+    match last {
+        Some(run) => Ok(run.disk.image(alloc, pick)?),
+        None => Err(refuse("no run before")),
+    }
+}
+
+/// `empty`, `new`, `zeros N`, or `image PICK`: no byte, a new store, N zero bytes, or what a crash after the last run
+/// leaves.
+pub(crate) fn named<R: AllocGlobal>(
+    rt: &R,
+    last: &Option<Run>,
+    text: &str,
+) -> Result<Vec<u8>, Fault> {
+    match text.split_once(' ') {
+        Some(("zeros", count)) => Ok(vec![in rt.alloc(); 0; number(count)? as usize]?),
+        Some(("image", pick)) => image(rt.alloc(), last, number(pick)?),
+        _ => match text {
+            "empty" => Ok(Vec::new(rt.alloc())),
+            "new" => new_store(rt),
+            _ => Err(refuse("no such disk")),
+        },
+    }
+}
+
+// The bytes from a place on.
+fn part(disk: &[u8], from: usize, count: usize) -> Result<&[u8], Fault> {
+    let found = match from.checked_add(count) {
+        Some(end) => disk.get(from..end),
+        None => None,
+    };
+    found.ok_or(refuse("past the end"))
+}
+
+// Writes bytes over those that stand at a place.
+fn put(disk: &mut [u8], at: usize, bytes: &[u8]) -> Result<(), Fault> {
+    for (index, byte) in bytes.iter().enumerate() {
+        match at.checked_add(index) {
+            Some(place) => match disk.get_mut(place) {
+                Some(found) => *found = *byte,
+                None => return Err(refuse("past the end")),
+            },
+            None => return Err(refuse("past the end")),
+        }
+    }
+    Ok(())
+}
+
+/// `PLACE HEX`: these bytes stand at that place.
+pub(crate) fn patch(alloc: Global, disk: &mut [u8], text: &str) -> Result<(), Fault> {
+    let (at, digits) = placed(text)?;
+    put(disk, at, bytes(alloc, digits)?.as_slice())
+}
+
+// The digest of bytes stands at a place.
+fn put_digest(disk: &mut [u8], from: usize, count: usize, at: usize) -> Result<(), Fault> {
+    let made = digest(part(disk, from, count)?);
+    put(disk, at, &made)
+}
+
+/// `FROM COUNT PLACE`: the digest of that many bytes from there on stands at that place.
+pub(crate) fn put_digest_of(disk: &mut [u8], text: &str) -> Result<(), Fault> {
+    let (from, rest) = placed(text)?;
+    let (count, at) = numbered(rest)?;
+    put_digest(disk, from, count as usize, place(at)?)
+}
+
+// Byte `at` of the page of this number.
+fn page_place(page: u64, at: u64) -> Result<usize, Fault> {
+    match page.checked_mul(PAGE_BYTES as u64) {
+        Some(start) => Ok(start.saturating_add(at) as usize),
+        None => Err(refuse("no page")),
+    }
+}
+
+/// `HEADER CATALOG CAR`, three pages: the digest of the car is made again in the first entry of the catalog page, that
+/// of the catalog page in the header, and the header's own.
+pub(crate) fn seal(disk: &mut [u8], text: &str) -> Result<(), Fault> {
+    let (header, rest) = numbered(text)?;
+    let (catalog, car) = numbered(rest)?;
+    let car = page_place(number(car)?, 0)?;
+    put_digest(disk, car, PAGE_BYTES, page_place(catalog, 71)?)?;
+    let first = page_place(catalog, 0)?;
+    put_digest(disk, first, PAGE_BYTES, page_place(header, 32)?)?;
+    put_digest(disk, page_place(header, 0)?, 64, page_place(header, 64)?)
+}
+
+/// `PLACE COUNT`: that many bytes from that place on, in hexadecimal.
+pub(crate) fn digits_at(alloc: Global, disk: &[u8], text: &str) -> Result<String, Fault> {
+    let (from, count) = placed(text)?;
+    Ok(hex::encode(alloc, part(disk, from, number(count)? as usize)?)?)
+}

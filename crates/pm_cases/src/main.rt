@@ -1,0 +1,32 @@
+//! `pm_cases`: reads cases from standard input, runs each over a disk, a source and a sink in memory through the
+//! program's top call, and prints what that gave. `docs/TESTS.md` says how a case is written.
+#![tactic(auto)]
+
+mod case;
+mod disks;
+mod fault;
+mod generated;
+mod inner;
+mod replayed;
+mod running;
+mod shown;
+mod spelling;
+
+use case::Case;
+use std::fmt::Write;
+use std::io::{self, BufRead, BufReader};
+
+fn main(rt: HostRuntime) -> io::Result<()> {
+    let alloc = rt.alloc();
+    let mut case = Case::new(alloc);
+    for line in BufReader::new(alloc, rt.reader())?.lines(alloc) {
+        let line = line?;
+        let mut out = String::new(alloc);
+        if let Err(fault) = case.take(&rt, line.as_str(), &mut out) {
+            let reason = fault.reason;
+            writeln!(out, "? {reason}: {line}")?;
+        }
+        print!(rt; "{out}")?;
+    }
+    Ok(())
+}

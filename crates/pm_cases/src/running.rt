@@ -1,0 +1,74 @@
+//! The program over a disk, a source and a sink in memory.
+
+use crate::fault::Fault;
+use pm_disk::MemDisk;
+use pm_io::{MemSink, MemSource};
+use pm_top::{Ended, pmos};
+use std::alloc::Global;
+
+/// How the program ended over a disk, a source and a sink in memory.
+pub(crate) type Run = Ended<MemDisk, MemSource, MemSink>;
+
+/// With what a run begins, beside the disk's bytes.
+#[derive(Drop)]
+pub(crate) struct Setting {
+    /// The words of the command line, with a space between each two.
+    pub(crate) words: String,
+    /// What the source holds.
+    pub(crate) script: Vec<u8>,
+    /// How many bytes the source gives at most in one call.
+    pub(crate) piece: usize,
+    /// Which calls fail, by their numbers from 1.
+    pub(crate) disk_fails: Vec<u64>,
+    pub(crate) source_fails: Vec<u64>,
+    pub(crate) sink_fails: Vec<u64>,
+}
+
+impl Setting {
+    /// No script, nothing that fails, and pieces of 4 bytes.
+    pub(crate) fn new(alloc: Global, words: &str) -> Result<Setting, Fault> {
+        Ok(Setting {
+            words: String::from_str(alloc, words)?,
+            script: Vec::new(alloc),
+            piece: 4,
+            disk_fails: Vec::new(alloc),
+            source_fails: Vec::new(alloc),
+            sink_fails: Vec::new(alloc),
+        })
+    }
+}
+
+/// The words of a run.
+pub(crate) const RUN: &str = "run store.pmos serial";
+
+/// The words that make a store.
+pub(crate) const INIT: &str = "init store.pmos";
+
+// The words of a text; two quotes are a word without a letter.
+fn words_of(alloc: Global, text: &str) -> Result<Vec<&str>, Fault> {
+    let mut words = Vec::new(alloc);
+    if text.is_empty() {
+        return Ok(words);
+    }
+    for word in text.split(' ') {
+        words.push(if word == "''" { "" } else { word })?;
+    }
+    Ok(words)
+}
+
+/// Runs the program over a disk with these bytes.
+pub(crate) fn run<R: AllocGlobal>(rt: &R, disk: Vec<u8>, setting: Setting) -> Result<Run, Fault> {
+    let Setting {
+        words,
+        script,
+        piece,
+        disk_fails,
+        source_fails,
+        sink_fails,
+    } = setting;
+    let words = words_of(rt.alloc(), words.as_str())?;
+    let disk = MemDisk::new(disk, disk_fails);
+    let source = MemSource::new(script, piece.max(1), source_fails);
+    let sink = MemSink::new(rt.alloc(), sink_fails);
+    Ok(pmos(rt, words.as_slice(), disk, source, sink))
+}
