@@ -10,11 +10,12 @@ use Rattle.std.proofs.lemmas.Bool.{eqb-true}
 use Rattle.std.proofs.lemmas.Bool.Decides.{nat_tests}
 use Rattle.pm_types.specs.declared.limits.TheConstants.{FIELDS, OBJECT_BYTES, ROOTS, LAST_COPY}
 use Rattle.pm_model.specs.Heap.{Object, Heap}
-use Rattle.pm_model.specs.World.{Roots, Registers, Copy, empty_copy, name_cmp, place_cmp}
+use Rattle.pm_model.specs.World.{Roots, Registers, Copy, empty_copy}
 use Rattle.pm_model.specs.Copying.{copied, reached}
 use Rattle.pm_model.specs.Answer.{fresh}
 use Rattle.pm_model.specs.Plain.{IsPlainObject, IsPlain, IsPlainCopy, AreHeld}
-use Rattle.pm_model.proofs.Orders.{names_total, places_total}
+use Rattle.pm_types.specs.Orders.{name_cmp, place_cmp}
+use Rattle.pm_types.proofs.Orders.{names_total, places_total}
 use Rattle.pm_model.proofs.Unused.{tied_nat}
 use Rattle.pm_model.proofs.Reached.{copied_kept, copied_reached, copied_again}
 use Rattle.pm_memory.specs.Memories.{IsSound}

@@ -41,10 +41,10 @@ fn append_pairs(out: &mut Vec<u8>, bytes: &[u8]) -> Result<(), NoMemory>
 
 // A word, a space and a number.
 fn append_numbered(out: &mut Vec<u8>, word: &[u8], number: u32) -> Result<(), NoMemory>
-    requires { length word.now ≤ 6 }
+    requires { length word.now ≤ 9 }
     ensures text { OnOk result (out.new.items ≡ out.old.items ++ word.now ++ decimal number) }
-    ensures room { vec_len out.old + 16 ≤ vec_capacity out.old → IsOk result }
-    ensures len { vec_len out.new ≤ vec_len out.old + 16 }
+    ensures room { vec_len out.old + 19 ≤ vec_capacity out.old → IsOk result }
+    ensures len { vec_len out.new ≤ vec_len out.old + 19 }
     ensures capacity { vec_capacity out.old ≤ vec_capacity out.new }
 {
     out.extend_from_slice(word)?;
@@ -61,17 +61,24 @@ fn append_words(out: &mut Vec<u8>, reply: &Reply) -> Result<(), NoMemory>
     let words: &[u8] = match reply {
         Reply::Done => b"ok",
         Reply::Ident(id) => return append_numbered(out, b"ok ", *id),
+        Reply::Null => b"null",
         Reply::Shown(bytes) => return append_pairs(out, bytes.as_slice()),
         Reply::Begun(number) => return append_numbered(out, b"begun ", *number),
         Reply::Saved(number) => return append_numbered(out, b"saved ", *number),
+        Reply::Watching(number) => return append_numbered(out, b"watching ", *number),
         Reply::TooLarge => b"too-large",
         Reply::IdsSpent => b"ids-spent",
         Reply::NoHandle => b"no-handle",
+        Reply::NoField => b"no-field",
+        Reply::OutOfRange => b"out-of-range",
         Reply::TooManyRoots => b"too-many-roots",
         Reply::NoRoot => b"no-root",
         Reply::Busy(number) => return append_numbered(out, b"busy ", *number),
         Reply::SavesSpent => b"saves-spent",
         Reply::Idle => b"idle",
+        Reply::TooManyWatches => b"too-many-watches",
+        Reply::Dropped(number) => return append_numbered(out, b"dropped ", *number),
+        Reply::Held(id) => return append_numbered(out, b"held ", *id),
     };
     out.extend_from_slice(words)?;
     Ok(())
