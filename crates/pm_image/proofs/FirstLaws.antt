@@ -12,9 +12,10 @@ use Rattle.sha2.specs.Sha256.{sha256}
 use Rattle.sha2.proofs.Facts256.{length-sha256}
 use Rattle.pm_types.specs.declared.limits.TheConstants.{FIELDS}
 use Rattle.pm_model.specs.Heap.{Object, Heap}
-use Rattle.pm_model.specs.World.{Roots, name_cmp}
+use Rattle.pm_types.specs.Orders.{name_cmp}
+use Rattle.pm_model.specs.World.{Roots}
 use Rattle.pm_model.specs.Copying.{reached}
-use Rattle.pm_model.proofs.Orders.{names_total}
+use Rattle.pm_types.proofs.Orders.{names_total}
 use Rattle.pm_model.proofs.Unused.{tied_nat}
 use Rattle.pm_model.proofs.Members.{is_value}
 use Rattle.pm_model.proofs.Reached.{IsFrom, reached_whole, same_count}

@@ -10,7 +10,7 @@ use Rattle.pm_types.specs.Names.{is_name_byte, IsName}
 use Rattle.pm_types.specs.declared.address.Addr.{Addr}
 use Rattle.pm_layout.specs.Spelling.{address, IsAddress}
 use Rattle.pm_layout.specs.Reading.{number_from, address_at}
-use Rattle.pm_model.specs.World.{name_cmp}
+use Rattle.pm_types.specs.Orders.{name_cmp}
 use Rattle.pm_image.specs.declared.catalog.CatEntry.{CatEntry}
 use Rattle.pm_image.specs.declared.catalog.CatEntry.TheVariants.{Car, Root}
 use Rattle.pm_image.specs.declared.catalog.CatalogPage.{CatalogPage}

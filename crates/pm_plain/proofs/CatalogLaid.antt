@@ -10,7 +10,7 @@ use Rattle.std.specs.Ordering.{nat_cmp, is_lt, eq_by_cmp}
 use Rattle.std.specs.Cmp.{nat_cmp_total, eq_by_cmp_equiv}
 use Rattle.std.proofs.lemmas.Bool.Decides.{nat_tests}
 use Rattle.pm_types.specs.declared.limits.TheConstants.{ROOTS}
-use Rattle.pm_model.specs.World.{name_cmp}
+use Rattle.pm_types.specs.Orders.{name_cmp}
 use Rattle.pm_model.proofs.Unused.{tied_nat}
 use Rattle.pm_model.proofs.Members.{at_first, in_rest}
 use Rattle.pm_image.specs.declared.catalog.CatEntry.{CatEntry}

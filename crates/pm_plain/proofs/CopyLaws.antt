@@ -11,7 +11,7 @@ use Rattle.pm_model.specs.Heap.{Object}
 use Rattle.pm_model.specs.World.{Copy}
 use Rattle.pm_model.specs.Copying.{copied}
 use Rattle.pm_model.specs.Plain.{IsPlainObject, IsPlainCopy}
-use Rattle.pm_model.proofs.Orders.{names_total, names_antisymmetric}
+use Rattle.pm_types.proofs.Orders.{names_total, names_antisymmetric}
 use Rattle.pm_model.proofs.Members.{at_first, in_rest, at_key}
 use Rattle.pm_image.specs.declared.catalog.CatEntry.{CatEntry}
 use Rattle.pm_image.specs.declared.catalog.CatEntry.TheVariants.{Car, Root}

@@ -14,10 +14,11 @@ use Rattle.pm_types.specs.declared.object.Slot.{Slot}
 use Rattle.pm_types.specs.declared.object.Slot.TheVariants.{Live, Moved}
 use Rattle.pm_layout.specs.Spelling.{HasSpelling}
 use Rattle.pm_model.specs.Heap.{Object, Heap}
-use Rattle.pm_model.specs.World.{Roots, Copy, name_cmp}
+use Rattle.pm_types.specs.Orders.{name_cmp}
+use Rattle.pm_model.specs.World.{Roots, Copy}
 use Rattle.pm_model.specs.Copying.{copied}
 use Rattle.pm_model.specs.Plain.{IsPlainObject, IsPlainCopy}
-use Rattle.pm_model.proofs.Orders.{names_total}
+use Rattle.pm_types.proofs.Orders.{names_total}
 use Rattle.pm_model.proofs.Reached.{copied_kept, copied_reached, copied_again}
 use Rattle.pm_image.specs.declared.catalog.CatEntry.{CatEntry}
 use Rattle.pm_image.specs.declared.catalog.CatEntry.TheVariants.{Car, Root}

@@ -13,7 +13,7 @@ use Rattle.pm_model.specs.Heap.{Object}
 use Rattle.pm_model.specs.World.{Copy}
 use Rattle.pm_model.specs.Plain.{IsPlainCopy}
 use Rattle.pm_model.proofs.Members.{at_first, in_rest, in_none, first_or_rest, at_key}
-use Rattle.pm_model.proofs.Orders.{names_total}
+use Rattle.pm_types.proofs.Orders.{names_total}
 use Rattle.pm_model.proofs.Unused.{tied_nat}
 use Rattle.pm_image.specs.declared.catalog.CatEntry.{CatEntry}
 use Rattle.pm_image.specs.declared.catalog.CatalogPage.{CatalogPage}

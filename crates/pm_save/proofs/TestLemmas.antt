@@ -9,11 +9,12 @@ use Rattle.std.proofs.lemmas.Bool.{eqb-true}
 use Rattle.std.proofs.lemmas.Option.{none-some}
 use Rattle.pm_types.specs.declared.limits.TheConstants.{OBJECT_BYTES, ROOTS}
 use Rattle.pm_model.specs.Heap.{Object, Heap}
-use Rattle.pm_model.specs.World.{Roots, Copy, name_cmp}
+use Rattle.pm_types.specs.Orders.{name_cmp}
+use Rattle.pm_model.specs.World.{Roots, Copy}
 use Rattle.pm_model.specs.Answer.{fresh}
 use Rattle.pm_model.specs.Copying.{copied}
 use Rattle.pm_model.specs.Plain.{IsPlainObject, IsPlain, IsPlainCopy}
-use Rattle.pm_model.proofs.Orders.{names_total}
+use Rattle.pm_types.proofs.Orders.{names_total}
 use Rattle.pm_model.proofs.Unused.{tied_nat}
 use Rattle.pm_model.proofs.Reached.{copied_kept, copied_reached, copied_again}
 
