@@ -1,9 +1,9 @@
-ghost use Rattle.std.specs.Prelude.{◌≡◌, ◌<◌, ◌≤◌, length, OnOk, OnErr, IfOk, Some};
+ghost use Rattle.std.specs.Prelude.{◌≡◌, ◌<◌, ◌≤◌, length, OnOk, OnErr, IfOk, Some, true};
 ghost use Rattle.std.specs.Option.{option_map};
 ghost use Rattle.std.specs.FinMap.{get};
 ghost use Rattle.pm_types.specs.declared.limits.TheConstants.{LAST_COPY};
 ghost use Rattle.pm_model.specs.World.{empty_world, begin, held};
-ghost use Rattle.pm_model.specs.Plain.{IsPlainCopy, IsPlainSave};
+ghost use Rattle.pm_model.specs.Plain.{is_plain, IsPlainCopy, IsPlainSave};
 ghost use Rattle.pm_model.specs.Answer.{answer, answer_new, bytes_of, answer_data, answer_id, answer_root, answer_find, answer_save, answer_settle};
 ghost use Rattle.pm_types.specs.Replies.{IsShortReply};
 
@@ -78,9 +78,11 @@ impl Memory {
         self.saving.as_ref()
     }
 
-    /// Answers a client's command. After want of memory the world is as it was.
+    /// Answers one of the commands that the program reads today. After want of memory the world is as it
+    /// was.
     #[tactic(auto, unfolding(pm_model::specs::Answer::answer))]
     pub fn answer(&mut self, alloc: Global, client: u32, cmd: &Cmd) -> Result<Reply, NoMemory>
+        requires { is_plain cmd.now ≡ true }
         ensures reply { IfOk result (λ reply. reply ≡ (answer self.old client cmd.now).0) }
         ensures world { OnOk result (self.new ≡ (answer self.old client cmd.now).1) }
         ensures err { OnErr result (self.new ≡ self.old) }
@@ -95,6 +97,7 @@ impl Memory {
             Cmd::Find { to, name } => self.find(client, *to, name),
             Cmd::Save => self.save(alloc),
             Cmd::Settle => Ok(self.settle()),
+            _ => unreachable!(),
         }
     }
 

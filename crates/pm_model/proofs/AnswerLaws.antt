@@ -11,7 +11,8 @@ use Rattle.pm_types.specs.declared.reply.Reply.TheVariants.{Done, Ident, TooMany
 use Rattle.pm_types.proofs.Orders.{names_total, names_antisymmetric, places_total, places_antisymmetric}
 use Rattle.pm_model.specs.World.{World, held, naming, unbinding}
 use Rattle.pm_model.specs.Answer.{answer, answer_root, answer_unroot, answer_find, refused, has_no_room, is_refusal}
-use Rattle.pm_model.specs.Frames.{makes_object, changed_name, sets_register, saves, sets_watch, Makes as MakesAt, MayChange}
+use Rattle.pm_model.specs.Journal.{settled_in}
+use Rattle.pm_model.specs.Frames.{makes_object, changed_name, sets_register, saves, is_settle, sets_watch, Makes as MakesAt, MayChange}
 use Rattle.pm_model.proofs.Maps.{insert_here, insert_other, remove_here, remove_other, retain_get}
 use Rattle.pm_model.proofs.Effects.{Effect, Nothing, Makes, Holds, Sets, Puts, Names, Closes, Begins, Settles, Drops, Watches, effected, IsOf, does}
 
@@ -123,20 +124,36 @@ register_stays world client cmd reply Drops other register of is = refl
 register_stays world client cmd reply Watches other register of is = refl
 
 saving_stays : (world : World) (client : ℕ) (cmd : Cmd) (reply : Reply) (effect : Effect) → IsOf world client cmd reply effect → saves cmd ≡ false
-    → ((effected world client effect).saving ≡ world.saving) × ((effected world client effect).settled ≡ world.settled) × ((effected world client effect).settled_copy ≡ world.settled_copy)
-saving_stays world client cmd reply Nothing of is = (refl, refl, refl)
-saving_stays world client cmd reply (Makes reg object) of is = (refl, refl, refl)
-saving_stays world client cmd reply (Holds reg None) of is = (refl, refl, refl)
-saving_stays world client cmd reply (Holds reg (Some to)) of is = (refl, refl, refl)
-saving_stays world client cmd reply (Sets at object index value) of is = (refl, refl, refl)
-saving_stays world client cmd reply (Puts at object from bytes) of is = (refl, refl, refl)
-saving_stays world client cmd reply (Names name None) of is = (refl, refl, refl)
-saving_stays world client cmd reply (Names name (Some to)) of is = (refl, refl, refl)
-saving_stays world client cmd reply Closes of is = (refl, refl, refl)
-saving_stays world client cmd reply (Begins number) of is = absurd (cc (of.saves))
-saving_stays world client cmd reply (Settles number copy) of is = absurd (cc (of.saves))
-saving_stays world client cmd reply Drops of is = absurd (cc (of.1))
-saving_stays world client cmd reply Watches of is = (refl, refl, refl)
+    → (effected world client effect).saving ≡ world.saving
+saving_stays world client cmd reply Nothing of is = refl
+saving_stays world client cmd reply (Makes reg object) of is = refl
+saving_stays world client cmd reply (Holds reg None) of is = refl
+saving_stays world client cmd reply (Holds reg (Some to)) of is = refl
+saving_stays world client cmd reply (Sets at object index value) of is = refl
+saving_stays world client cmd reply (Puts at object from bytes) of is = refl
+saving_stays world client cmd reply (Names name None) of is = refl
+saving_stays world client cmd reply (Names name (Some to)) of is = refl
+saving_stays world client cmd reply Closes of is = refl
+saving_stays world client cmd reply (Begins number) of is = cc (of.saves)
+saving_stays world client cmd reply (Settles number copy) of is = cc (of.saves)
+saving_stays world client cmd reply Drops of is = cc (of.1)
+saving_stays world client cmd reply Watches of is = refl
+
+settled_stays : (world : World) (client : ℕ) (cmd : Cmd) (reply : Reply) (effect : Effect) → IsOf world client cmd reply effect → is_settle cmd ≡ false
+    → settled_in (effected world client effect) ≡ settled_in world
+settled_stays world client cmd reply Nothing of is = refl
+settled_stays world client cmd reply (Makes reg object) of is = refl
+settled_stays world client cmd reply (Holds reg None) of is = refl
+settled_stays world client cmd reply (Holds reg (Some to)) of is = refl
+settled_stays world client cmd reply (Sets at object index value) of is = refl
+settled_stays world client cmd reply (Puts at object from bytes) of is = refl
+settled_stays world client cmd reply (Names name None) of is = refl
+settled_stays world client cmd reply (Names name (Some to)) of is = refl
+settled_stays world client cmd reply Closes of is = refl
+settled_stays world client cmd reply (Begins number) of is = refl
+settled_stays world client cmd reply (Settles number copy) of is = cc (of.settles)
+settled_stays world client cmd reply Drops of is = refl
+settled_stays world client cmd reply Watches of is = refl
 
 watches_stay : (world : World) (client : ℕ) (cmd : Cmd) (reply : Reply) (effect : Effect) → IsOf world client cmd reply effect → sets_watch cmd ≡ false → (effected world client effect).watches ≡ world.watches
 watches_stay world client cmd reply Nothing of is = refl
@@ -168,13 +185,10 @@ leaves_register world client cmd other register is =
     let d = does world client cmd in ap (λ (w : World). held w other register) d.is ∙ register_stays world client cmd _ d.effect other register d.allowed is
 
 pub leaves_saving : (world : World) (client : ℕ) (cmd : Cmd) → saves cmd ≡ false → (answer world client cmd).1.saving ≡ world.saving
-leaves_saving world client cmd is = let d = does world client cmd in ap (λ (w : World). w.saving) d.is ∙ (saving_stays world client cmd _ d.effect d.allowed is).0
+leaves_saving world client cmd is = let d = does world client cmd in ap (λ (w : World). w.saving) d.is ∙ saving_stays world client cmd _ d.effect d.allowed is
 
-pub leaves_settled : (world : World) (client : ℕ) (cmd : Cmd) → saves cmd ≡ false → ((answer world client cmd).1.settled ≡ world.settled) × ((answer world client cmd).1.settled_copy ≡ world.settled_copy)
-leaves_settled world client cmd is =
-    let d = does world client cmd in
-    let stays = saving_stays world client cmd _ d.effect d.allowed is in
-    (ap (λ (w : World). w.settled) d.is ∙ stays.1, ap (λ (w : World). w.settled_copy) d.is ∙ stays.2)
+pub leaves_settled : (world : World) (client : ℕ) (cmd : Cmd) → is_settle cmd ≡ false → settled_in (answer world client cmd).1 ≡ settled_in world
+leaves_settled world client cmd is = let d = does world client cmd in ap settled_in d.is ∙ settled_stays world client cmd _ d.effect d.allowed is
 
 pub leaves_watches : (world : World) (client : ℕ) (cmd : Cmd) → sets_watch cmd ≡ false → (answer world client cmd).1.watches ≡ world.watches
 leaves_watches world client cmd is = let d = does world client cmd in ap (λ (w : World). w.watches) d.is ∙ watches_stay world client cmd _ d.effect d.allowed is

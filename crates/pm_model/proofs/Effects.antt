@@ -16,7 +16,7 @@ use Rattle.pm_model.specs.World.{World, Saving, Copy, held, holding, emptying, c
 use Rattle.pm_model.specs.Copying.{copy}
 use Rattle.pm_model.specs.Answer.{answer, fresh, has_no_room, is_refusal, answer_new, loading, answer_load, writing, answer_store, answer_clear, answer_data, putting, answer_put, answer_copy, answer_id, answer_drop, answer_root, answer_unroot, answer_find, answer_save, answer_settle, answer_watch, swapping, answer_swap, answer_unsave}
 use Rattle.pm_model.specs.Journal.{says_saved}
-use Rattle.pm_model.specs.Frames.{makes_object, changed_object, changed_field, changed_name, sets_register, saves, sets_watch}
+use Rattle.pm_model.specs.Frames.{makes_object, changed_object, changed_field, changed_name, sets_register, saves, is_settle, sets_watch}
 use Rattle.pm_model.specs.Closed.{IsClosed}
 
 pub data Effect : Type 0 where
@@ -118,6 +118,7 @@ pub record IsSettled (world : World) (cmd : Cmd) (reply : Reply) (number : ℕ) 
   pub said : reply ≡ Saved number
   pub was : world.saving ≡ Some (number, copy)
   pub saves : saves cmd ≡ true
+  pub settles : is_settle cmd ≡ true
 
 pub record IsWatched (world : World) (cmd : Cmd) (reply : Reply) : Type 0 where
   pub fine : IsFine cmd reply
@@ -311,7 +312,7 @@ save_does world client (Some begun) is = nothing world client Save (Busy begun.0
 
 settle_does : (world : World) (client : ℕ) (saving : Saving) → world.saving ≡ saving → Does world client Settle (answer_settle world saving)
 settle_does world client None is = nothing world client Settle Idle refl
-settle_does world client (Some begun) is = record { effect = Settles begun.0 begun.1; is = refl; allowed = record { accepted = refl; said = refl; was = is; saves = refl } }
+settle_does world client (Some begun) is = record { effect = Settles begun.0 begun.1; is = refl; allowed = record { accepted = refl; said = refl; was = is; saves = refl; settles = refl } }
 
 watch_does : (world : World) (client : ℕ) → Does world client Watch (answer_watch world)
 watch_does world client =

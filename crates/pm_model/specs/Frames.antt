@@ -47,6 +47,11 @@ saves Settle = true
 saves Unsave = true
 saves cmd = false
 
+-- the command is `settle`
+abbrev pub is_settle : Cmd → Bool
+is_settle Settle = true
+is_settle cmd = false
+
 -- the command sets a watch
 abbrev pub sets_watch : Cmd → Bool
 sets_watch Watch = true

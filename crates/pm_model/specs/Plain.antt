@@ -1,11 +1,29 @@
--- The worlds and copies of this stage, in which every field is null.
-use Rattle.std.specs.Prelude.{◌≡◌, ℕ, ◌<◌, ◌≤◌, List, length, Option, Some, None, IsSome}
+-- The commands, worlds and copies of this stage, in which every field is null.
+use Rattle.std.specs.Prelude.{◌≡◌, ℕ, ◌<◌, ◌≤◌, Bool, true, false, List, length, Option, Some, None, IsSome}
 use Rattle.std.specs.List.{AllByRecursion}
 use Rattle.std.specs.FinMap.{get, len}
 use Rattle.pm_types.specs.declared.limits.TheConstants.{FIELDS, OBJECT_BYTES, ROOTS, LAST_COPY}
+use Rattle.pm_types.specs.declared.command.Cmd.{Cmd}
+use Rattle.pm_types.specs.declared.command.Cmd.TheVariants.{New, Show, IdOf, Bind, Find, Save, Settle}
+use Rattle.pm_model.specs.declared.request.Request.{Request}
 use Rattle.pm_model.specs.Heap.{Object, Heap}
 use Rattle.pm_model.specs.World.{Roots, Registers, Copy}
 use Rattle.pm_model.specs.Copying.{copied}
+
+-- the commands that the program reads and answers today
+abbrev pub is_plain : Cmd → Bool
+is_plain (New reg count bytes) = true
+is_plain (Show reg) = true
+is_plain (IdOf reg) = true
+is_plain (Bind name reg) = true
+is_plain (Find to name) = true
+is_plain Save = true
+is_plain Settle = true
+is_plain cmd = false
+
+-- whatever is asked is one of these
+abbrev pub ArePlain : List Request → Type 0
+ArePlain requests = AllByRecursion (λ (request : Request). is_plain request.cmd ≡ true) requests
 
 -- each field is null, and the object is within the limits
 pub record IsPlainObject (object : Object) : Type 0 where

@@ -12,7 +12,7 @@ ghost use Rattle.pm_model.specs.World.{World, Roots, Copy, begin, empty_world, h
 ghost use Rattle.pm_model.specs.Copying.{copied};
 ghost use Rattle.pm_model.specs.Answer.{answer};
 ghost use Rattle.pm_model.specs.Journal.{after, settled_in};
-ghost use Rattle.pm_model.specs.Frames.{makes_object, changed_name, sets_register, saves, sets_watch, Makes, MayChange};
+ghost use Rattle.pm_model.specs.Frames.{makes_object, changed_name, sets_register, saves, is_settle, sets_watch, Makes, MayChange};
 ghost use Rattle.pm_model.specs.Closed.{IsClosedGraph, IsClosedCopy, IsClosed, IsWithinLimits};
 ghost use Rattle.pm_model.specs.Lasting.{field_at, IsUntouched, loaded};
 
@@ -26,7 +26,7 @@ pub fn commands_leave_the_rest()
     ensures register { (world : World) (client : ℕ) (cmd : Cmd) (register : ℕ) → sets_register cmd register ≡ false
         → held (answer world client cmd).1 client register ≡ held world client register }
     ensures others { (world : World) (client : ℕ) (cmd : Cmd) (other register : ℕ) → (other ≡ client → ⊥) → held (answer world client cmd).1 other register ≡ held world other register }
-    ensures settled { (world : World) (client : ℕ) (cmd : Cmd) → saves cmd ≡ false → settled_in (answer world client cmd).1 ≡ settled_in world }
+    ensures settled { (world : World) (client : ℕ) (cmd : Cmd) → is_settle cmd ≡ false → settled_in (answer world client cmd).1 ≡ settled_in world }
     ensures saving { (world : World) (client : ℕ) (cmd : Cmd) → saves cmd ≡ false → (answer world client cmd).1.saving ≡ world.saving }
     ensures watches { (world : World) (client : ℕ) (cmd : Cmd) → sets_watch cmd ≡ false → (answer world client cmd).1.watches ≡ world.watches }
 {}

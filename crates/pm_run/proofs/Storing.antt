@@ -1,7 +1,7 @@
 -- What a crash may leave while events are made.
 use Rattle.std.proofs.Common.{◌≡◌, ◌⊎◌, inl, inr, ⊎_elim, ℕ, Bool, true, false, List, [], ◌∷◌, ◌++◌, Option, Some, None, refl, sym, ap, subst, ◌∙◌}
 use Rattle.pm_types.specs.declared.command.Cmd.{Cmd}
-use Rattle.pm_types.specs.declared.command.Cmd.TheVariants.{New, Show, IdOf, Bind, Find, Save, Settle}
+use Rattle.pm_types.specs.declared.command.Cmd.TheVariants.{Settle}
 use Rattle.pm_disk.specs.Disk.{LeavesOnly}
 use Rattle.pm_disk.proofs.RunLemmas.{started, weaker, joined}
 use Rattle.std.specs.List.{last_or, Contains}
@@ -15,7 +15,8 @@ use Rattle.std.specs.FinMap.{get}
 use Rattle.pm_types.specs.declared.limits.TheConstants.{FIELDS, OBJECT_BYTES, LAST_ID, LAST_COPY}
 use Rattle.pm_types.specs.declared.reply.Reply.{Reply}
 use Rattle.pm_model.specs.World.{World, Copy, held, settling}
-use Rattle.pm_model.specs.Answer.{answer, answer_data, answer_id, answer_root, answer_find, answer_save, answer_settle, has_no_room}
+use Rattle.pm_model.specs.Answer.{answer, answer_settle}
+use Rattle.pm_model.specs.Frames.{is_settle}
 use Rattle.pm_model.specs.Journal.{IsLegal, after, chain, settled_in}
 use Rattle.pm_shadow.specs.State.{State}
 use Rattle.pm_plain.specs.Plain.{Opens}
@@ -23,7 +24,6 @@ use Rattle.pm_plain.specs.Kept.{HasCopy}
 use Rattle.pm_save.specs.declared.fault.SaveFault.{SaveFault}
 use Rattle.pm_save.specs.declared.fault.SaveFault.TheVariants.{Disk, Memory}
 use Rattle.pm_save.specs.Running.{IfMemory}
-use Rattle.pm_run.specs.Events.{is_settle}
 use Rattle.pm_run.specs.Images.{IsSettled, IsInProgress, IsOfChain, IsOfRun}
 use Rattle.pm_run.specs.Storing.{Stores}
 
@@ -109,49 +109,8 @@ module _ {D : Type 0} (contents : D → Option (List ℕ)) (image : D → List �
 -- `settle` is answered as it is
 pub is_answered : (world : World) (client : ℕ) (cmd : Cmd) → is_settle cmd ≡ true → answer world client cmd ≡ answer_settle world world.saving
 unfolding answer
-is_answered world client (New reg count bytes) is = cc
-is_answered world client (Show reg) is = cc
-is_answered world client (IdOf reg) is = cc
-is_answered world client (Bind name reg) is = cc
-is_answered world client (Find to name) is = cc
-is_answered world client Save is = cc
 is_answered world client Settle is = refl
-
-one_stays : (b : Bool) (x y : Reply × World) (world : World) → settled_in x.1 ≡ settled_in world → settled_in y.1 ≡ settled_in world → settled_in (if b then x else y).1 ≡ settled_in world
-one_stays true x y world same other = same
-one_stays false x y world same other = other
-
-data_stays : (world : World) (id : Option ℕ) → settled_in (answer_data world id).1 ≡ settled_in world
-data_stays world None = refl
-data_stays world (Some id) = refl
-
-id_stays : (world : World) (id : Option ℕ) → settled_in (answer_id world id).1 ≡ settled_in world
-id_stays world None = refl
-id_stays world (Some id) = refl
-
-root_stays : (world : World) (name : List ℕ) (id : Option ℕ) → settled_in (answer_root world name id).1 ≡ settled_in world
-root_stays world name None = refl
-root_stays world name (Some id) = one_stays (has_no_room world name) _ _ world refl refl
-
-find_stays : (world : World) (client to : ℕ) (id : Option ℕ) → settled_in (answer_find world client to id).1 ≡ settled_in world
-find_stays world client to None = refl
-find_stays world client to (Some id) = refl
-
-save_stays : (world : World) (saving : Option (ℕ × Copy)) → settled_in (answer_save world saving).1 ≡ settled_in world
-save_stays world None = one_stays (nat_lt world.settled LAST_COPY) _ _ world refl refl
-save_stays world (Some begun) = refl
-
--- every other command leaves the copy that has settled
-pub others_stay : (world : World) (client : ℕ) (cmd : Cmd) → is_settle cmd ≡ false → settled_in (answer world client cmd).1 ≡ settled_in world
-unfolding answer
-others_stay world client (New reg count bytes) is =
-    one_stays (nat_lt FIELDS count || nat_lt OBJECT_BYTES (length bytes)) _ _ world refl (one_stays (nat_lt LAST_ID world.next) _ _ world refl refl)
-others_stay world client (Show reg) is = data_stays world (held world client reg)
-others_stay world client (IdOf reg) is = id_stays world (held world client reg)
-others_stay world client (Bind name reg) is = root_stays world name (held world client reg)
-others_stay world client (Find to name) is = find_stays world client to (get world.roots name)
-others_stay world client Save is = save_stays world world.saving
-others_stay world client Settle is = cc
+is_answered world client cmd is = cc
 
 -- ---- the chain of a run
 

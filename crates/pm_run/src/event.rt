@@ -1,10 +1,12 @@
 //! One event: a request is answered, and goes into the journal with its reply.
-ghost use Rattle.std.specs.Prelude.{◌≡◌, ◌⊎◌, ℕ, List, [], ◌∷◌, ◌++◌, None, OnOk, OnErr, IfOk};
+ghost use Rattle.std.specs.Prelude.{◌≡◌, ◌⊎◌, ℕ, List, [], ◌∷◌, ◌++◌, None, OnOk, OnErr, IfOk, true};
 ghost use Rattle.pm_disk.specs.Disk.{LeavesOnly};
 ghost use Rattle.pm_model.specs.Answer.{answer};
 ghost use Rattle.pm_types.specs.Replies.{IsShortReply};
 ghost use Rattle.pm_shadow.specs.Pages.{state, disk_of};
-ghost use Rattle.pm_run.specs.Events.{entry_of, is_settle};
+ghost use Rattle.pm_model.specs.Frames.{is_settle};
+ghost use Rattle.pm_model.specs.Plain.{is_plain};
+ghost use Rattle.pm_run.specs.Events.{entry_of};
 ghost use Rattle.pm_run.specs.Images.{IsSettled, IsInProgress};
 ghost use Rattle.pm_save.specs.Running.{HasCause, OnMemory};
 ghost use Rattle.pm_run.specs.Storing.{IsReady, Stores};
@@ -32,7 +34,8 @@ fn answer_now<D: Disk>(
     pages: &mut Pages<D>,
     request: &Request,
 ) -> Result<Reply, SaveFault>
-    requires { IsReady (state pages.old) world.old.settled }
+    requires ready { IsReady (state pages.old) world.old.settled }
+    requires plain { is_plain request.now.cmd ≡ true }
     ensures reply { IfOk result (λ reply. reply ≡ (answer world.old request.now.client request.now.cmd).0) }
     ensures short { IfOk result IsShortReply }
     ensures world { OnOk result (world.new ≡ (answer world.old request.now.client request.now.cmd).1) }
@@ -69,7 +72,8 @@ pub(crate) fn make_event<D: Disk>(
     journal: &mut Vec<Entry>,
     request: Request,
 ) -> Result<(), SaveFault>
-    requires { IsReady (state pages.old) world.old.settled }
+    requires ready { IsReady (state pages.old) world.old.settled }
+    requires plain { is_plain request.cmd ≡ true }
     ensures journal { OnOk result (journal.new.items ≡ journal.old.items ++ entry_of world.old request ∷ []) }
     ensures short { OnOk result (IsShortReply (entry_of world.old request).reply) }
     ensures world { OnOk result (world.new ≡ (answer world.old request.client request.cmd).1) }

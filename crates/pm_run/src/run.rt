@@ -3,6 +3,7 @@ ghost use Rattle.std.specs.Prelude.{◌≡◌, ◌⊎◌, ◌≤◌, List, ℕ, 
 ghost use Rattle.pm_base.specs.Counts.{Rose};
 ghost use Rattle.pm_disk.specs.Disk.{LeavesOnly};
 ghost use Rattle.pm_model.specs.World.{World};
+ghost use Rattle.pm_model.specs.Plain.{is_plain, ArePlain};
 ghost use Rattle.pm_model.specs.Journal.{requests_of};
 ghost use Rattle.pm_model.specs.Text.{text};
 ghost use Rattle.pm_model.specs.declared.request.Request.{Request as Line};
@@ -47,6 +48,7 @@ fn step<D: Disk, K: Sink>(
 ) -> Result<(), Stop>
     requires room { BUFFER_BYTES ≤ vec_capacity out.old }
     requires ready { IsReady (state pages.old) world.old.settled }
+    requires plain { is_plain request.cmd ≡ true }
     ensures runs { OnOk result ((start : World) (lines rest : List Line) → Runs start lines world.old journal.old.items (request ∷ rest)
         → Runs start lines world.new journal.new.items rest) }
     ensures ran { OnErr result ((start : World) (lines rest : List Line) → Runs start lines world.old journal.old.items (request ∷ rest)
@@ -152,6 +154,7 @@ fn run_all<D: Disk, K: Sink>(
     requires empty_buffer { out.old.items ≡ [] }
     requires room { BUFFER_BYTES ≤ vec_capacity out.old }
     requires ready { IsReady (state pages.old) world.old.settled }
+    requires plain { ArePlain lines.items }
     ensures ran { RanSome world.old lines.items world.new journal.new.items }
     ensures all { OnOk result (requests_of journal.new.items ≡ lines.items) }
 
@@ -205,6 +208,7 @@ pub fn run_lines<D: Disk, K: Sink>(
 ) -> Result<(), Stop>
     requires empty { journal.old.items ≡ [] }
     requires ready { IsReady (state pages.old) world.old.settled }
+    requires plain { ArePlain lines.items }
     ensures ran { RanSome world.old lines.items world.new journal.new.items }
     ensures all { OnOk result (requests_of journal.new.items ≡ lines.items) }
 

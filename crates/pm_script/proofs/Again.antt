@@ -74,6 +74,7 @@ command_again (Bind name reg) words has = ap command_at has.2 ∙ root_again nam
 command_again (Find to name) words has = ap command_at has.2 ∙ find_again to name has.0 has.1
 command_again Save words has = ap command_at has ∙ save_again
 command_again Settle words has = ap command_at has ∙ settle_again
+command_again cmd words has = absurd has
 
 -- the words that spell a line are read as that line
 pub request_again : (line : Request) (words : Words) → line.client < 8 → Spells line.cmd words → request_at (decimal line.client ∷ words) ≡ Some (line, [])

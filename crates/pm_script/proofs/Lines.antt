@@ -10,6 +10,7 @@ use Rattle.pm_types.specs.declared.command.Cmd.{Cmd}
 use Rattle.pm_types.specs.declared.command.Cmd.TheVariants.{New, Show, IdOf, Bind, Find, Save, Settle}
 use Rattle.pm_types.specs.declared.entry.Entry.{Entry}
 use Rattle.pm_model.specs.declared.request.Request.{Request}
+use Rattle.pm_model.specs.Plain.{is_plain, ArePlain}
 use Rattle.pm_model.specs.Journal.{requests_of, commands_of, Serves}
 use Rattle.pm_script.specs.Parts.{parts_of}
 use Rattle.pm_script.specs.Script.{Spells, IsBody, AreBodies, ended, AreLines, IsScript}
@@ -58,6 +59,7 @@ words_plain (Bind name reg) words has = subst (AllByRecursion IsPlain) (sym has.
 words_plain (Find to name) words has = subst (AllByRecursion IsPlain) (sym has.2) (refl, (decimal_plain to (omega (arith, has.0)), (name_plain name has.1, tt)))
 words_plain Save words has = subst (AllByRecursion IsPlain) (sym has) (refl, tt)
 words_plain Settle words has = subst (AllByRecursion IsPlain) (sym has) (refl, tt)
+words_plain cmd words has = absurd has
 
 line_plain : (body : List ℕ) (line : Request) → (is : IsBody body line) → AllByRecursion IsPlain (decimal line.client ∷ is.words)
 line_plain body line is = (decimal_plain line.client (omega (arith, is.client)), words_plain line.cmd is.words is.cmd)
@@ -305,3 +307,20 @@ one_reading bytes a b script_a script_b =
 -- a journal of all the lines of a script serves them, by whichever reading they are lines of it
 pub all_served : (bytes : List ℕ) (journal : List Entry) (lines : List Request) → IsScript bytes (requests_of journal) → IsScript bytes lines → Serves journal lines
 all_served bytes journal lines script_a script_b client = ap (commands_of client) (one_reading bytes (requests_of journal) lines script_a script_b)
+
+-- a command that can be spelled is one that the program answers today
+spelled_plain : (cmd : Cmd) (words : List (List ℕ)) → Spells cmd words → is_plain cmd ≡ true
+spelled_plain (New reg count bytes) words has = refl
+spelled_plain (Show reg) words has = refl
+spelled_plain (IdOf reg) words has = refl
+spelled_plain (Bind name reg) words has = refl
+spelled_plain (Find to name) words has = refl
+spelled_plain Save words has = refl
+spelled_plain Settle words has = refl
+spelled_plain cmd words has = absurd has
+
+pub bodies_plain : (bodies : List (List ℕ)) (lines : List Request) → AreBodies bodies lines → ArePlain lines
+bodies_plain [] [] are = tt
+bodies_plain [] (line ∷ lines) are = absurd are
+bodies_plain (body ∷ bodies) [] are = absurd are
+bodies_plain (body ∷ bodies) (line ∷ lines) are = (spelled_plain line.cmd are.0.words are.0.cmd, bodies_plain bodies lines are.1)

@@ -14,7 +14,7 @@ abbrev pub IsHexWord : List ℕ → List ℕ → Type 0
 IsHexWord word [] = word ≡ codes "-"
 IsHexWord word (byte ∷ bytes) = ArePairsOf (byte ∷ bytes) word
 
--- the words spell the command
+-- the words spell the command; other commands can not be spelled yet
 abbrev pub Spells : Cmd → List (List ℕ) → Type 0
 Spells (New reg count bytes) words =
     (word : List ℕ) × (reg < REGISTERS) × (count < 2 ^ 32) × IsHexWord word bytes × (words ≡ codes "new" ∷ decimal reg ∷ decimal count ∷ word ∷ [])
@@ -24,6 +24,7 @@ Spells (Bind name reg) words = IsName name × (reg < REGISTERS) × (words ≡ co
 Spells (Find to name) words = (to < REGISTERS) × IsName name × (words ≡ codes "find" ∷ decimal to ∷ name ∷ [])
 Spells Save words = words ≡ codes "save" ∷ []
 Spells Settle words = words ≡ codes "settle" ∷ []
+Spells cmd words = ⊥
 
 -- the body spells the line: its client, from 0 to 7, and the words of its command, with a space between each two
 pub record IsBody (body : List ℕ) (line : Request) : Type 0 where

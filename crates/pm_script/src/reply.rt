@@ -57,17 +57,24 @@ fn append_words(out: &mut Vec<u8>, reply: &Reply) -> Result<(), NoMemory>
     let words: &[u8] = match reply {
         Reply::Done => b"ok",
         Reply::Ident(id) => return append_numbered(out, b"ok ", u64::from(*id)),
+        Reply::Null => b"null",
         Reply::Shown(bytes) => return append_pairs(out, bytes.as_slice()),
         Reply::Begun(number) => return append_numbered(out, b"begun ", u64::from(*number)),
         Reply::Saved(number) => return append_numbered(out, b"saved ", u64::from(*number)),
+        Reply::Watching(number) => return append_numbered(out, b"watching ", u64::from(*number)),
         Reply::TooLarge => b"too-large",
         Reply::IdsSpent => b"ids-spent",
         Reply::NoHandle => b"no-handle",
+        Reply::NoField => b"no-field",
+        Reply::OutOfRange => b"out-of-range",
         Reply::TooManyRoots => b"too-many-roots",
         Reply::NoRoot => b"no-root",
         Reply::Busy(number) => return append_numbered(out, b"busy ", u64::from(*number)),
         Reply::SavesSpent => b"saves-spent",
         Reply::Idle => b"idle",
+        Reply::TooManyWatches => b"too-many-watches",
+        Reply::Dropped(number) => return append_numbered(out, b"dropped ", u64::from(*number)),
+        Reply::Held(id) => return append_numbered(out, b"held ", u64::from(*id)),
     };
     out.extend_from_slice(words)?;
     Ok(())

@@ -1,5 +1,6 @@
 ghost use Rattle.std.specs.Prelude.{◌≡◌, ◌≤◌, List, length, IfOk};
 ghost use Rattle.pm_model.specs.declared.request.Request.{Request as Line};
+ghost use Rattle.pm_model.specs.Plain.{ArePlain};
 ghost use Rattle.pm_script.specs.Script.{IsBody, AreLines, IsScript};
 
 use crate::fault::ScriptFault;
@@ -45,6 +46,8 @@ pub fn read_script(alloc: Global, bytes: &[u8]) -> Result<Vec<Request>, ScriptFa
     requires { length bytes.now ≤ SOURCE_BYTES }
     ensures found { IfOk result (λ lines. IsScript bytes.now lines.items) }
     ensures unread { result ≡ Err ScriptFault.Unread → (lines : List Line) → IsScript bytes.now lines → ⊥ }
+    // Each line's command is one of those that the program answers today.
+    ensures plain { IfOk result (λ lines. ArePlain lines.items) }
 {
     if bytes.is_empty() {
         return Ok(Vec::new(alloc));

@@ -17,7 +17,7 @@ pub returns-clause-others : goal.returns-clause-others
 returns-clause-others c world client cmd other register apart = leaves_register world client cmd other register (λ same. absurd (apart same))
 
 pub returns-clause-settled : goal.returns-clause-settled
-returns-clause-settled c world client cmd is = let same = leaves_settled world client cmd is in λ i. (same.0 i, same.1 i)
+returns-clause-settled c world client cmd is = leaves_settled world client cmd is
 
 pub returns-clause-saving : goal.returns-clause-saving
 returns-clause-saving c world client cmd is = leaves_saving world client cmd is

@@ -2,9 +2,10 @@ use Rattle.std.proofs.Common.{◌⊎◌, inl, ◌∙◌, ap, sym}
 use Rattle.pm_types.specs.declared.reply.Reply.{Reply}
 use Rattle.pm_model.specs.World.{World}
 use Rattle.pm_model.specs.Journal.{settled_in}
+use Rattle.pm_model.proofs.AnswerLaws.{leaves_settled}
 use Rattle.pm_shadow.specs.Pages.{state, disk_of}
 use Rattle.pm_run.specs.Images.{IsSettled, IsInProgress}
-use Rattle.pm_run.proofs.Storing.{is_answered, others_stay, same_stores, still_leaves}
+use Rattle.pm_run.proofs.Storing.{is_answered, same_stores, still_leaves}
 use Rattle.pm_run.proofs.event.answer_now.Goals as goal
 
 pub returns-then-is_settle-clause-reply : goal.returns-then-is_settle-clause-reply
@@ -17,13 +18,13 @@ returns-then-is_settle-clause-world g c =
 
 pub returns-in-Ok-clause-ready : goal.returns-in-Ok-clause-ready
 returns-in-Ok-clause-ready g c =
-    let same = ap settled_in c.in-Ok.ensures.world ∙ others_stay c.args.world.now c.args.request.now.client c.args.request.now.cmd (sym c.is_settle.ensures ∙ c.if-is_settle.false) in
-    record { known = c.requires.known; sound = c.requires.sound; numbered = c.requires.numbered ∙ sym (λ i. (same i).0) }
+    let same = ap settled_in c.in-Ok.ensures.world ∙ leaves_settled c.args.world.now c.args.request.now.client c.args.request.now.cmd (sym c.is_settle.ensures ∙ c.if-is_settle.false) in
+    record { known = c.requires.ready.known; sound = c.requires.ready.sound; numbered = c.requires.ready.numbered ∙ sym (λ i. (same i).0) }
 
 pub returns-in-Ok-clause-stores : goal.returns-in-Ok-clause-stores
 returns-in-Ok-clause-stores g c stores =
     same_stores g.D.Disk.contents g.D.Disk.image g.D.Disk.moment g.D.Disk.since (state c.args.pages.now) (disk_of c.args.pages.now) c.args.world.now c.answer.new.self
-    (ap settled_in c.in-Ok.ensures.world ∙ others_stay c.args.world.now c.args.request.now.client c.args.request.now.cmd (sym c.is_settle.ensures ∙ c.if-is_settle.false)) stores
+    (ap settled_in c.in-Ok.ensures.world ∙ leaves_settled c.args.world.now c.args.request.now.client c.args.request.now.cmd (sym c.is_settle.ensures ∙ c.if-is_settle.false)) stores
 
 pub returns-in-Err-clause-device : goal.returns-in-Err-clause-device
 returns-in-Err-clause-device g c stores =

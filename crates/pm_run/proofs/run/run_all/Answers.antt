@@ -6,6 +6,7 @@ use Rattle.pm_shadow.specs.Pages.{disk_of}
 use Rattle.pm_run.specs.Events.{entry_of}
 use Rattle.pm_run.specs.Running.{Runs}
 use Rattle.std.specs.Vec.Iter.{into_iter_items}
+use Rattle.pm_model.specs.Plain.{ArePlain}
 use Rattle.pm_model.specs.Text.{text}
 use Rattle.pm_run.proofs.Runs.{runs_first, no_end, not_grown, first_world}
 use Rattle.pm_run.proofs.Written.{none_wrote}
@@ -17,6 +18,7 @@ loop-request-init g c =
     record {
       runs = runs_first c.args.world.now c.args.lines.items c.args.journal.now.items (into_iter_items c.into_iter-rest.result) c.requires.empty c.into_iter-rest.ensures.rest;
       ready = c.requires.ready;
+      plain = subst ArePlain (sym c.into_iter-rest.ensures.rest) c.requires.plain;
       stores = λ first. first;
       leaves = λ first. started g.D.Disk.moment g.D.Disk.since (disk_of c.args.pages.now) (OfChain g.D.Disk.moment g.D.Disk.since (g.D.Disk.image (disk_of c.args.pages.now)) c.args.world.now c.args.journal.now.items) (λ left there. inl (g.met.D.Disk.only_now (disk_of c.args.pages.now) left there));
       still = λ none. refl;
@@ -34,6 +36,7 @@ loop-request-preserved g c =
     record {
       runs = on;
       ready = c.in-Ok.ensures.ready;
+      plain = (subst ArePlain c.in-Some.ensures.items c.loop-request.invariant.plain).1;
       stores = λ first. c.in-Ok.ensures.stores (c.loop-request.invariant.stores first);
       leaves = λ first.
           chain_goes_on g.D.Disk.moment g.D.Disk.since (g.D.Disk.image (disk_of c.args.pages.now)) (disk_of c.args.pages.now) (disk_of c.loop-request.pages) (disk_of c.step.new.pages)

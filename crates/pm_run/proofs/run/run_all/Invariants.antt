@@ -1,6 +1,7 @@
 use Rattle.std.proofs.Common.{◌≡◌, ◌≤◌, List, [], ℕ, length, vec_capacity, Some}
 use Rattle.std.specs.Vec.Iter.{into_iter_items}
 use Rattle.pm_disk.specs.Disk.{LeavesOnly}
+use Rattle.pm_model.specs.Plain.{ArePlain}
 use Rattle.pm_model.specs.Text.{text}
 use Rattle.pm_shadow.specs.Pages.{state, disk_of}
 use Rattle.pm_run.specs.declared.output.TheConstants.{BUFFER_BYTES}
@@ -15,6 +16,7 @@ invariant-loop-request g l =
     record {
       runs : Runs l.fn.world l.fn.lines.items l.world l.journal.items (into_iter_items l.rest);
       ready : IsReady (state l.pages) l.world.settled;
+      plain : ArePlain (into_iter_items l.rest);
       stores : Stores g.D.Disk.contents g.D.Disk.image (state l.fn.pages) (disk_of l.fn.pages) l.fn.world → Stores g.D.Disk.contents g.D.Disk.image (state l.pages) (disk_of l.pages) l.world;
       leaves : Stores g.D.Disk.contents g.D.Disk.image (state l.fn.pages) (disk_of l.fn.pages) l.fn.world
           → LeavesOnly g.D.Disk.moment g.D.Disk.since (disk_of l.fn.pages) (disk_of l.pages) (OfChain g.D.Disk.moment g.D.Disk.since (g.D.Disk.image (disk_of l.fn.pages)) l.fn.world l.journal.items);
