@@ -1,5 +1,5 @@
 -- How many slots are listed, how many of them are Live, and how many Moved.
-use Rattle.std.proofs.Common.{◌≡◌, ℕ, ◌+◌, ◌*◌, ◌<◌, ◌≤◌, Bool, true, false, cond, not, is_some, refl, ap, sym, subst, ◌∙◌, arith, List, [], ◌∷◌, length, map, get_or, Option, Some, None, inl, inr}
+use Rattle.std.proofs.Common.{◌≡◌, ℕ, ◌+◌, ◌*◌, ◌≤◌, cond, not, is_some, refl, ap, sym, ◌∙◌, arith, List, [], ◌∷◌, length, map, get_or, Option, None, inl, inr}
 use mathlib.Core.Bool.{false≢true}
 use Rattle.std.specs.List.{sum_by}
 use Rattle.std.specs.FinMap.{entries, len, len-entries}
@@ -9,8 +9,8 @@ use Rattle.std.proofs.lemmas.List.Sums.{sum_by-cons}
 use Rattle.pm_types.specs.declared.object.Object.{Object}
 use Rattle.pm_types.specs.declared.object.Slot.{Slot}
 use Rattle.pm_types.specs.declared.object.Slot.TheVariants.{Live, Moved}
-use Rattle.pm_cars.specs.Cars.{Car, Slots, total, slot_room, one_live, one_moved, IsLive, IsLowestLive, object_at}
-use Rattle.pm_cars.specs.Entries.{Entry, slots_of, holds_object, is_live, first_place, IsKept}
+use Rattle.pm_cars.specs.Cars.{Slots, total, slot_room, one_live, one_moved, IsLowestLive}
+use Rattle.pm_cars.specs.Entries.{Entry, slots_of, holds_object, first_place, IsKept}
 use Rattle.pm_cars.proofs.Taken.{listed}
 use Rattle.pm_cars.proofs.Places.{blank}
 use Rattle.pm_cars.proofs.Kept.{seen, lowest_none, lowest_some}

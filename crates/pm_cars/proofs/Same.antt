@@ -1,5 +1,5 @@
 -- Slots, and what stands in them, are equal exactly where a comparison says so.
-use Rattle.std.proofs.Common.{◌≡◌, ℕ, ◌==◌, Bool, true, false, ◌&&◌, refl, ap, sym, ◌∙◌, List, Option, Some, None, unwrap_or}
+use Rattle.std.proofs.Common.{◌≡◌, ◌==◌, ◌&&◌, refl, ap, Option, Some, None, unwrap_or}
 use Rattle.std.specs.Bool.{Decides}
 use Rattle.std.specs.Option.{option_eq}
 use Rattle.std.specs.Cmp.Lexicographic.{pointwise, pointwise_decides, bytes_decides}

@@ -1,20 +1,17 @@
 -- A list of entries in order: as a map it lists just these, and an entry that is taken away leaves the others.
-use Rattle.std.proofs.Common.{◌≡◌, ℕ, zero, suc, ◌+◌, ◌<◌, ◌≤◌, ◌==◌, Bool, true, false, cond, refl, ap, sym, subst, ◌∙◌, arith, List, [], ◌∷◌, ◌++◌, length, take, drop, get_or, slice_index, Option, Some, None}
-use Rattle.std.specs.Prelude.{T, ◌&&◌}
+use Rattle.std.proofs.Common.{◌≡◌, ℕ, zero, suc, ◌+◌, ◌<◌, ◌≤◌, ◌==◌, Bool, true, false, cond, refl, ap, sym, subst, ◌∙◌, arith, List, [], ◌∷◌, length, slice_index, Option, Some, None}
 use Rattle.std.specs.List.{remove}
-use Rattle.std.specs.Ordering.{nat_cmp, is_lt}
+use Rattle.std.specs.Ordering.{nat_cmp}
 use Rattle.std.specs.declared.cmp.Ordering.{Ordering}
 use Rattle.std.specs.declared.cmp.Ordering.TheVariants.{Less}
 use Rattle.std.specs.Cmp.{nat_cmp_total}
-use Rattle.std.specs.FinMap.{get, insert, entries, put, get-remove, entries-insert, len-entries, len-empty, empty, same_map, nat_cmp-IsAntisymmetric}
+use Rattle.std.specs.FinMap.{get, entries, put, get-remove, entries-insert, len-entries, len-empty, empty, same_map, nat_cmp-IsAntisymmetric}
 use Rattle.std.specs.FinMap as finite
 use Rattle.std.specs.FinMap.Entries.{by_order}
 use Rattle.std.proofs.lemmas.Bool.{eqb-true}
 use Rattle.std.proofs.lemmas.Bool.Decides.{nat_tests}
-use Rattle.std.proofs.lemmas.List.{map-append, length-map}
-use Rattle.std.proofs.lemmas.Grind.{common_steps}
+use Rattle.std.proofs.lemmas.List.{length-map}
 use Rattle.pm_types.specs.declared.object.Slot.{Slot}
-use Rattle.pm_cars.specs.Cars.{Slots}
 use Rattle.pm_cars.specs.Entries.{Entry, numbers, content_at, slots_of, without, IsAscending, HasNone}
 use Rattle.pm_cars.proofs.Listed.{NoneBefore, get_slots, tied_nat, not_here, here, differs, same, before_later, content_absent, cond_swap}
 

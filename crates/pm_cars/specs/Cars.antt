@@ -146,6 +146,14 @@ with_next car slot = record car { next = slot }
 abbrev pub with_slot : Car → ℕ → Slot → Car
 with_slot car slot content = record car { slots = insert car.slots slot content }
 
+-- the same with its spare births
+abbrev pub told : CarAndSpare → ℕ → Slot → CarAndSpare
+told it slot content = record it { car = with_slot it.car slot content }
+
+-- the object of the slot was changed so, and all else is as it was
+abbrev pub IsEdited : CarAndSpare → CarAndSpare → ℕ → (Object → Object) → Type 0
+IsEdited old new slot change = IsSomeAnd (object_at old.car slot) (λ object. new ≡ told old slot (Live (change object)))
+
 -- the car whose slot is Gone, and every other slot is as it was
 abbrev pub without_slot : Car → ℕ → Car
 without_slot car slot = record car { slots = remove car.slots slot }

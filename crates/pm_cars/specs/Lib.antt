@@ -1,2 +1,3 @@
 pub mod Cars
 pub mod Entries
+pub mod Sums

@@ -1,9 +1,9 @@
 ghost use Rattle.std.specs.Prelude.{◌≡◌, ℕ, ◌+◌, ◌-◌, ◌<◌, ◌≤◌, ◌↔◌, max, length, IsTrue, IsSomeAnd, IfSome, IfOk, IsOk, OnOk, OnErr, Some, None, option_copied};
 ghost use Rattle.std.specs.List.{slice_get};
 ghost use Rattle.std.specs.FinMap.{get, entries};
-ghost use Rattle.pm_types.specs.declared.object.Slot.TheVariants.{Live, Moved};
+ghost use Rattle.pm_types.specs.declared.object.Slot.TheVariants.{Moved};
 ghost use Rattle.pm_cars.specs.declared.look.Look.TheVariants as looks;
-ghost use Rattle.pm_cars.specs.Cars.{object_room, slot_room, used, live_count, moved_count, FitsAt, Fits, IsSound, look_of, object_at, IsLive, HasField, HasBytes, IsLowestLive, new_car, placed, with_birth, with_next, with_slot, without_slot, with_field, with_bytes};
+ghost use Rattle.pm_cars.specs.Cars.{object_room, slot_room, used, live_count, moved_count, FitsAt, Fits, IsSound, look_of, object_at, IsLive, HasField, HasBytes, IsLowestLive, new_car, placed, with_birth, with_next, told, IsEdited, without_slot, with_field, with_bytes};
 
 use crate::entry::{Entry, content_of, copy_all, exchange, first_live, put_back, take_object};
 use crate::limits::{CAR_BYTES, CAR_HEAD_BYTES, LAST_SLOT, MOVED_BYTES};
@@ -243,7 +243,7 @@ impl Car {
     /// Sets a field of the slot's object. It takes no memory.
     pub fn set_field(&mut self, slot: u32, index: u32, value: Option<Addr>)
         requires field { HasField self.old.car slot index }
-        ensures { IsSomeAnd (object_at self.old.car slot) (λ object. self.new ≡ record self.old { car = with_slot self.old.car slot (Live (with_field object index value)) }) }
+        ensures { IsEdited self.old self.new slot (λ object. with_field object index value) }
     {
         let object = exchange(&mut self.entries, slot, NOWHERE);
         let changed = set_field(object, index as usize, value);
@@ -253,7 +253,7 @@ impl Car {
     /// Writes the bytes into the slot's object, from the place `at` on. It takes no memory.
     pub fn set_bytes(&mut self, slot: u32, at: u32, from: &[u8])
         requires inside { HasBytes self.old.car slot at (length from.now) }
-        ensures { IsSomeAnd (object_at self.old.car slot) (λ object. self.new ≡ record self.old { car = with_slot self.old.car slot (Live (with_bytes object at from.now)) }) }
+        ensures { IsEdited self.old self.new slot (λ object. with_bytes object at from.now) }
     {
         let object = exchange(&mut self.entries, slot, NOWHERE);
         let changed = set_bytes(object, at as usize, from);
@@ -265,7 +265,7 @@ impl Car {
     pub fn mark_moved(&mut self, slot: u32, to: Addr) -> Object
         requires live { IsLive self.old.car slot }
         ensures object { object_at self.old.car slot ≡ Some result }
-        ensures car { self.new ≡ record self.old { car = with_slot self.old.car slot (Moved to) } }
+        ensures car { self.new ≡ told self.old slot (Moved to) }
     {
         let object = exchange(&mut self.entries, slot, Slot::Moved(to));
         self.used = self.used + MOVED_BYTES - room_of(&object);

@@ -1,3 +1,4 @@
 pub mod Trains
 pub mod Sound
 pub mod Places
+pub mod Changes

@@ -1,7 +1,8 @@
-ghost use Rattle.std.specs.Prelude.{◌≡◌, ◌+◌, ◌<◌, ◌==◌, ◌++◌, ◌∷◌, [], length, drop, Some, None, cond, ℕ, OnOk, OnErr};
+ghost use Rattle.std.specs.Prelude.{◌≡◌, ◌+◌, ◌<◌, ◌++◌, ◌∷◌, [], length, drop, ℕ, OnOk, OnErr};
 ghost use Rattle.std.specs.Ordering.{nat_cmp};
 ghost use Rattle.std.specs.BTreeMap as tree;
-ghost use Rattle.pm_trains.specs.Trains.{Train, empty_train};
+ghost use Rattle.pm_trains.specs.Trains.{empty_train};
+ghost use Rattle.pm_trains.specs.Changes.{Notes};
 
 use pm_types::NoMemory;
 use std::alloc::Global;
@@ -59,7 +60,7 @@ impl Line {
     /// Puts the car at the end of the train, and notes the train as its home.
     pub fn append(&mut self, homes: &mut BTreeMap<u64, u64>, car: u64) -> Result<(), NoMemory>
         ensures train { OnOk result (self.new ≡ record self.old { cars = self.old.cars ++ car ∷ [] }) }
-        ensures home { OnOk result ((c : ℕ) → tree.get nat_cmp homes.new c ≡ cond (c == car) (Some self.old.number) (tree.get nat_cmp homes.old c)) }
+        ensures home { OnOk result (Notes (tree.get nat_cmp homes.old) (tree.get nat_cmp homes.new) car self.old.number) }
         ensures err_train { OnErr result (self.new ≡ self.old) }
         ensures err_homes { OnErr result ((c : ℕ) → tree.get nat_cmp homes.new c ≡ tree.get nat_cmp homes.old c) }
     {

@@ -1,8 +1,8 @@
-ghost use Rattle.std.specs.Prelude.{◌≡◌, ◌<◌, ◌+◌, ◌==◌, ◌&&◌, nat_lt, length, if◌then◌else◌, slice_index_or, None, MatchOption};
+ghost use Rattle.std.specs.Prelude.{◌≡◌, ◌<◌, length, if◌then◌else◌, None, MatchOption};
 ghost use Rattle.std.specs.List.{remove};
-ghost use Rattle.pm_trains.specs.Trains.{cars_at, empty_train};
+ghost use Rattle.pm_trains.specs.Trains.{cars_at};
 ghost use Rattle.pm_trains.specs.Sound.{Rise};
-ghost use Rattle.pm_trains.specs.Places.{IsAt};
+ghost use Rattle.pm_trains.specs.Places.{IsAt, is_left_empty};
 
 use crate::line::Line;
 use std::collections::VecDeque;
@@ -22,7 +22,7 @@ pub fn place_of(trains: &VecDeque<Line>, number: u64) -> Option<usize>
 /// the shorter side of the trains moves: the oldest train goes at once.
 pub fn drop_empty(trains: &mut VecDeque<Line>, place: usize)
     requires { place < length trains.old.items }
-    ensures { trains.new.items ≡ (if nat_lt (place + 1) (length trains.old.items) && (length (slice_index_or trains.old.items place (empty_train 0)).cars == 0) then remove trains.old.items place else trains.old.items) }
+    ensures { let ts = trains.old.items in trains.new.items ≡ (if is_left_empty ts place then remove ts place else ts) }
 {
     if place + 1 < trains.len() && trains[place].cars().is_empty() {
         trains.remove(place);

@@ -1,6 +1,7 @@
-ghost use Rattle.std.specs.Prelude.{◌≡◌, ◌+◌, ◌<◌, ◌≤◌, ◌^◌, length, map, slice_index, Some, None, IsSome, IfSome, IsSomeAnd, IsTrue, IfOk, OnOk, OnErr};
-ghost use Rattle.pm_trains.specs.Trains.{Train, first_trains, cars_at, HasCar, is_among, train_of, oldest, youngest, first_car, tail, appended, without_first, rotated};
+ghost use Rattle.std.specs.Prelude.{◌≡◌, ◌+◌, ◌<◌, ◌≤◌, ◌^◌, length, map, slice_index, Some, None, IsSome, IfSome, IfOk, OnOk, OnErr};
+ghost use Rattle.pm_trains.specs.Trains.{Train, first_trains, cars_at, HasCar, train_of, oldest, youngest, first_car, tail, appended, without_first, rotated};
 ghost use Rattle.pm_trains.specs.Sound.{IsSound};
+ghost use Rattle.pm_trains.specs.Changes.{StandsIn, opened};
 
 use crate::line::Line;
 use crate::place::{drop_empty, place_of};
@@ -147,7 +148,7 @@ impl Trains {
     pub fn train_of(&self, car: u64) -> u64
         requires { IsSome (train_of self.now.trains car) }
         ensures train { train_of self.now.trains car ≡ Some result }
-        ensures car { IsSomeAnd (cars_at self.now.trains result) (λ cars. IsTrue (is_among car cars)) }
+        ensures car { StandsIn self.now.trains car result }
     {
         match self.homes.get(&car) {
             Some(train) => *train,
@@ -203,7 +204,7 @@ impl Trains {
         requires small { youngest self.old.trains < 2 ^ 62 }
         requires car { train_of self.old.trains car ≡ None }
         ensures number { IfOk result (λ number. number ≡ youngest self.old.trains + 1) }
-        ensures ok { OnOk result (self.new ≡ record { trains = appended (youngest self.old.trains + 1) car (rotated self.old.trains); births = 0 }) }
+        ensures ok { OnOk result (self.new ≡ opened self.old car) }
         ensures err { OnErr result (self.new ≡ self.old) }
         ensures sound { IsSound self.new }
     {

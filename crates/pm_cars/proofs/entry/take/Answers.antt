@@ -1,4 +1,4 @@
-use Rattle.std.proofs.Common.{◌≡◌, ap, sym, subst, ◌∙◌, List, Some}
+use Rattle.std.proofs.Common.{ap, sym, subst, ◌∙◌, List, Some}
 use Rattle.pm_cars.specs.Entries.{Entry, IsAt, HasNone}
 use Rattle.pm_cars.proofs.Listed.{content_present}
 use Rattle.pm_cars.proofs.Taken.{without_present, without_absent}

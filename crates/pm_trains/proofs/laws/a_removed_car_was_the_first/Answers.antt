@@ -11,4 +11,4 @@ pub returns-clause-youngest : goal.returns-clause-youngest
 returns-clause-youngest c t train = last_emptied 0 (with_cars train (λ cars. drop 1 cars) t.trains) ∙ last_changed 0 train (λ cars. drop 1 cars) t.trains
 
 pub returns-clause-home : goal.returns-clause-home
-returns-clause-home c t train car other sound is = home_first t.trains train car (sound.single car) is other
+returns-clause-home c t train car sound is other = home_first t.trains train car (sound.single car) is other

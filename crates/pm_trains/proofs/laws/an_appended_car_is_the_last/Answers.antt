@@ -10,4 +10,4 @@ pub returns-clause-youngest : goal.returns-clause-youngest
 returns-clause-youngest c ts train car = last_changed 0 train (λ cars. cars ++ car ∷ []) ts
 
 pub returns-clause-home : goal.returns-clause-home
-returns-clause-home c ts train car other there none = home_appended train car ts there none other
+returns-clause-home c ts train car there none other = home_appended train car ts there none other

@@ -1,4 +1,4 @@
-use Rattle.std.proofs.Common.{◌≡◌, ◌<◌, ap, sym, subst, ◌∙◌, List, length, Some, None, IsSomeAnd}
+use Rattle.std.proofs.Common.{◌≡◌, ◌<◌, ap, sym, subst, ◌∙◌, List, length, IsSomeAnd}
 use Rattle.pm_types.specs.declared.object.Object.{Object}
 use Rattle.pm_types.specs.declared.object.Slot.TheVariants.{Live}
 use Rattle.pm_cars.specs.Cars.{CarAndSpare, HasField, object_at, with_slot, with_field, object_room}
