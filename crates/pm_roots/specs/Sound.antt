@@ -1,5 +1,5 @@
 -- What holds of the named roots at every moment.
-use Rattle.std.specs.Prelude.{ℕ, ◌≤◌}
+use Rattle.std.specs.Prelude.{◌≤◌}
 use Rattle.std.specs.FinMap.{len}
 use Rattle.pm_roots.specs.Bindings.{Bindings, AllNumbersDiffer}
 
