@@ -1,15 +1,16 @@
 -- What the map of the registers answers, from their list.
-use Rattle.std.proofs.Common.{◌≡◌, ℕ, ◌+◌, ◌-◌, ◌*◌, ◌/◌, ◌%◌, ◌<◌, ◌≤◌, true, false, cond, List, [], ◌∷◌, length, get_or, set, replicate, zero, suc, Option, Some, None, refl, sym, ap, ◌∙◌, arith, ⊎_elim}
+use Rattle.std.proofs.Common.{◌≡◌, ℕ, ◌+◌, ◌-◌, ◌*◌, ◌/◌, ◌%◌, ◌<◌, ◌≤◌, true, false, cond, List, [], ◌∷◌, length, get_or, set, replicate, zero, suc, Option, Some, None, refl, sym, ap, ◌∙◌, arith, ⊎_elim, inl, inr, IsSome}
 use Rattle.std.proofs.Math.Logic.{⊎_swap}
 use Rattle.std.specs.Ordering.{eq_by_cmp}
 use Rattle.std.specs.FinMap.{find, from_entries, get, empty, get-from_entries, get-insert, get-remove, same_map}
 use Rattle.std.proofs.lemmas.Bool.{cases_eq, cases_lt}
 use Rattle.std.proofs.lemmas.Bool.Decides.{nat_tests}
-use Rattle.std.proofs.lemmas.List.{get_or-set_same, get_or-set_other, get_or_default}
+use Rattle.std.proofs.lemmas.List.{get_or-set_same, get_or-set_other, get_or_default, get_or_past}
 use Rattle.pm_types.specs.declared.address.Addr.{Addr}
 use Rattle.pm_types.specs.Orders.{place_cmp}
 use Rattle.pm_types.proofs.Orders.{places_total, places_antisymmetric}
 use Rattle.pm_handles.specs.Handles.{Registers, with_register, held_from}
+use Rattle.pm_handles.specs.Sound.{IsSound}
 
 -- two places tie where both numbers are the same
 same_place : (c r d s : ℕ) → c ≡ d → r ≡ s → eq_by_cmp place_cmp (c, r) (d, s) ≡ true
@@ -60,6 +61,26 @@ shown : (c r : ℕ) (items : List (Option Addr)) → r < 1024 → get (from_entr
 shown c r items small =
     let same : c * 1024 + r - 0 ≡ c * 1024 + r = omega arith in
     get-from_entries places_total (held_from 0 items) (c, r) ∙ found_from c r 0 items small (omega arith) ∙ ap (λ n. get_or items n None) same
+
+-- a register that is not one of 1,024 holds nothing
+far_none : (c r : ℕ) (items : List (Option Addr)) → 1024 ≤ r → get (from_entries {R = place_cmp} (held_from 0 items)) (c, r) ≡ None
+far_none c r items far = get-from_entries places_total (held_from 0 items) (c, r) ∙ none_far c r 0 items far
+
+not_none : (found : Option Addr) → IsSome found → found ≡ None → ⊥
+not_none found some none = grind (arith, some, none)
+
+-- a register that holds an address is one of 1,024 of one of 8 clients
+pub sound_held : (items : List (Option Addr)) → length items ≡ 8192 → IsSound (from_entries {R = place_cmp} (held_from 0 items))
+sound_held items long = record {
+  clients = λ c r held. elim (cases_lt c 8) [
+    | inl few ↦ few
+    | inr many ↦ absurd (not_none _ held (elim (cases_lt r 1024) [
+      | inl near ↦ shown c r items near ∙ get_or_past items (c * 1024 + r) None (omega arith)
+      | inr far ↦ far_none c r items far
+    ]))
+  ];
+  numbers = λ c r held. elim (cases_lt r 1024) [ inl near ↦ near | inr far ↦ absurd (not_none _ held (far_none c r items far)) ];
+}
 
 -- the same of what was read there
 pub read : (c r : ℕ) (items : List (Option Addr)) (there : Option Addr) → r < 1024 → c * 1024 + r < length items → there ≡ get_or items (c * 1024 + r) there → there ≡ get (from_entries {R = place_cmp} (held_from 0 items)) (c, r)

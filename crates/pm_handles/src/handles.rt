@@ -1,6 +1,7 @@
 ghost use Rattle.std.specs.Prelude.{◌≡◌, ◌+◌, ◌*◌, ◌<◌, IfOk};
 ghost use Rattle.std.specs.FinMap as map;
 ghost use Rattle.pm_handles.specs.Handles.{with_register};
+ghost use Rattle.pm_handles.specs.Sound.{IsSound};
 
 use pm_types::{Addr, CLIENTS, NoMemory, REGISTERS};
 use std::alloc::Global;
@@ -54,6 +55,14 @@ impl Handles {
         Ok(Handles {
             held: vec![in alloc; None; CELLS]?,
         })
+    }
+
+    /// What holds of the registers at every moment: one that holds an address is below 1,024, and its
+    /// client below 8. It does nothing, and takes no memory.
+    pub fn sound(&self)
+        ensures { IsSound self.now }
+    {
+        let _registers = self.held.len();
     }
 
     /// What this register of this client holds, or `None` where it is empty. It takes no memory.

@@ -7,6 +7,7 @@ fn the_first_and_the_last_register(rt: HostRuntime) -> Result<(), Fail> {
     let first = Addr { car: 1, slot: 0 };
     let last = Addr { car: 2, slot: 5 };
     let mut handles = Handles::new(rt.alloc())?;
+    handles.sound();
     assert_eq!(rt; handles.get(0, 0), None);
     assert_eq!(rt; handles.get(7, 1023), None);
     assert_eq!(rt; handles.set(0, 0, Some(first)), None);

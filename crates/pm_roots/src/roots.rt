@@ -3,7 +3,8 @@ ghost use Rattle.std.specs.FinMap as map;
 ghost use Rattle.std.specs.List.{insert};
 ghost use Rattle.std.specs.Option.{option_map};
 ghost use Rattle.slab.specs.Slab.{get};
-ghost use Rattle.pm_roots.specs.Bindings.{address_at, IsBound, IsFree, AllNumbersDiffer, IsNumberFor, with_address};
+ghost use Rattle.pm_roots.specs.Bindings.{address_at, IsBound, IsFree, IsNumberFor, with_address};
+ghost use Rattle.pm_roots.specs.Sound.{IsSound};
 ghost use Rattle.pm_roots.specs.Kept.{Adds};
 
 use crate::BindFault;
@@ -78,10 +79,17 @@ impl Roots {
         }
     }
 
+    /// What holds of the roots at every moment: at most 4,096 names are bound, and their numbers differ. It
+    /// does nothing, and takes no memory.
+    pub fn sound(&self)
+        ensures { IsSound self.now }
+    {
+        let _names = self.names.len();
+    }
+
     /// How many names are bound. It takes no memory.
     pub fn len(&self) -> u64
-        ensures len { result ≡ map.len self.now }
-        ensures few { result ≤ ROOTS }
+        ensures { result ≡ map.len self.now }
     {
         self.names.len() as u64
     }
@@ -104,7 +112,6 @@ impl Roots {
         ensures value { result ≡ address_at self.now number }
         ensures bound { IfSome result (IsBound self.now number) }
         ensures free { IfNone result (IsFree self.now number) }
-        ensures differ { AllNumbersDiffer self.now }
     {
         self.addresses.get(number as usize).copied()
     }

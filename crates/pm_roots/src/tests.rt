@@ -48,6 +48,7 @@ fn names_stand_in_order_of_their_bytes(rt: HostRuntime) -> Result<(), Fail> {
     for text in ["b", "b.c", "a-"] {
         roots.bind(name(alloc, text)?, at(1))?;
     }
+    roots.sound();
     assert_eq!(rt; roots.len(), 3);
     for (place, (text, number)) in [("a-", 2), ("b", 0), ("b.c", 1)].into_iter().enumerate() {
         if (place as u64) < roots.len() {

@@ -1,7 +1,7 @@
-use Rattle.std.proofs.Common.{◌∙◌, sym, ap, subst}
+use Rattle.std.proofs.Common.{◌∙◌, sym, ap}
 use Rattle.slab.specs.Slab as slab
-use Rattle.pm_roots.specs.Bindings.{address_at, AllNumbersDiffer}
-use Rattle.pm_roots.proofs.Views.{at_shown, bound_shown, free_shown, differ_shown}
+use Rattle.pm_roots.specs.Bindings.{address_at}
+use Rattle.pm_roots.proofs.Views.{at_shown, bound_shown, free_shown}
 use Rattle.pm_roots.proofs.roots.Roots.at.Goals as goal
 
 pub returns-clause-value : goal.returns-clause-value
@@ -17,7 +17,3 @@ returns-clause-bound c =
 pub returns-clause-free : goal.returns-clause-free
 returns-clause-free c =
     rw (← c.self.view_is) (free_shown c.self.inside.names.items (slab.get c.self.inside.addresses) c.self.invariant c.args.number _ (c.copied.ensures ∙ c.get.ensures))
-
-pub returns-clause-differ : goal.returns-clause-differ
-returns-clause-differ c =
-    subst AllNumbersDiffer c.self.view_is (differ_shown c.self.inside.names.items (slab.get c.self.inside.addresses) c.self.invariant)
