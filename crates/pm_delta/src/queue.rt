@@ -21,7 +21,10 @@ impl Model for Queue {
 
     ghost Value = { Waiting };
 
-    ghost view = { λ it. record { changes = it.changes.items; spare = deque_capacity it.changes - deque_len it.changes } };
+    ghost view = { λ it. record {
+      changes = it.changes.items;
+      spare = deque_capacity it.changes - deque_len it.changes;
+    } };
 }
 
 impl Queue {
@@ -71,7 +74,8 @@ impl Queue {
     /// Takes the change that waits longest, or answers `None` where none waits. Its room can be used again.
     /// It takes no memory.
     pub fn pop(&mut self) -> Option<Change>
-        ensures changes { MatchOption result (self.old.changes ≡ []) (λ change. self.old.changes ≡ change ∷ self.new.changes) }
+        ensures changes { MatchOption result (self.old.changes ≡ [])
+            (λ change. self.old.changes ≡ change ∷ self.new.changes) }
         ensures none { result ≡ None → self.new ≡ self.old }
         ensures room { room self.new ≡ room self.old }
     {

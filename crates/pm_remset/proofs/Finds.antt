@@ -1,8 +1,8 @@
 -- What the index finds from a slot on, and what the map finds from a source on.
-use Rattle.std.proofs.Common.{◌≡◌, ℕ, ◌<◌, true, false, refl, sym, ap, subst, ◌∙◌, arith, List, [], ◌∷◌, Option, Some, None}
+use Rattle.std.proofs.Common.{◌≡◌, ◌==◌, Ordering, ℕ, ◌<◌, true, false, refl, sym, ap, subst, ◌∙◌, arith, List, [], ◌∷◌, Option, Some, None}
 use Rattle.std.specs.declared.cmp.Ordering.TheVariants.{Less, Equal, Greater}
 use Rattle.std.specs.declared.ops.Bound.TheVariants.{Included, Unbounded}
-use Rattle.std.specs.Ordering.{is_gt, nat_cmp, ordering_then, ordering_reverse}
+use Rattle.std.specs.Ordering.{is_le, is_gt, nat_cmp, ordering_then, ordering_reverse}
 use Rattle.std.specs.List.{slice_get}
 use Rattle.std.specs.Option.{IfSome, IsSome}
 use Rattle.std.specs.FinMap.{FinMap, from_entries, get}
@@ -18,7 +18,7 @@ use Rattle.pm_types.specs.contracts.source.RefSourceOrd.TheImpl.{ghosts}
 use Rattle.pm_types.specs.Orders.{source_cmp}
 use Rattle.pm_types.proofs.Orders.{source_cmp_is, sources_total}
 use Rattle.pm_remset.specs.Indexed.{pair_cmp, is_slot, IsIndexed}
-use Rattle.pm_remset.specs.Remembered.{EachEntry, FindsLeastOf, FindsAtOrAfter}
+use Rattle.pm_remset.specs.Remembered.{FindsLeastOf, FindsAtOrAfter}
 use Rattle.pm_remset.proofs.Shown.{get_shown}
 use Rattle.pm_remset.proofs.Sources.{derived_is, get_seen}
 
@@ -28,6 +28,9 @@ slot_found (Some at) slot is = grind (arith, nat_tests, is)
 
 slot_is : (slot : ℕ) → is_slot (Some slot) slot ≡ true
 slot_is slot = grind (arith, nat_tests)
+
+differ : (m n : ℕ) → (m ≡ n → ⊥) → (m == n) ≡ false
+differ m n apart = grind (arith, nat_tests, apart)
 
 -- no source is below the first root
 pub first_root : (source : RefSource) → is_gt (source_cmp (Root 0) source) ≡ false
@@ -67,10 +70,11 @@ module _ (slots : BTreeMap RefSource ℕ) (index : BTreeSet (ℕ × RefSource)) 
     from_start source = ap is_gt (same_slot slot (Root 0) source) ∙ first_root source
 
     -- nothing from the slot on
-    pub none_from : r ≡ [] → EachEntry (λ _ at. at ≡ slot → ⊥) set
-    none_from none source at is same =
+    pub none_from : r ≡ [] → FindsLeastOf set slot None
+    none_from none source at is =
+        differ at slot (λ same.
         let absent = part.5 none (slot, source) (from_start source, tt) in
-        let there = in_index slot source (is ∙ ap Some same) in cc
+        let there = in_index slot source (is ∙ ap Some same) in cc)
 
     module _ (p : ℕ × RefSource) (rest : List (ℕ × RefSource)) (begins : r ≡ p ∷ rest) where
       first : (sorted.IsKeyInRange pair_cmp (Included (slot, Root 0)) Unbounded index p)
@@ -83,29 +87,32 @@ module _ (slots : BTreeMap RefSource ℕ) (index : BTreeSet (ℕ × RefSource)) 
       pub least_found : p.0 ≡ slot → FindsLeastOf set slot (Some p.1)
       least_found same = record {
         there = from_index slot p.1 (subst (λ s. sorted.contains pair_cmp index (s, p.1) ≡ true) same first.1);
-        passed = refl;
-        lower_failed = λ other at is less at_slot.
+        passed = slot_is slot;
+        lower_failed = λ other at is less. differ at slot (λ at_slot.
             let le : is_gt (pair_cmp (slot, p.1) (slot, other)) ≡ false = subst (λ s. is_gt (pair_cmp (s, p.1) (slot, other)) ≡ false) same (least other (is ∙ ap Some at_slot)) in
-            below_not_above p.1 other less (sym (ap is_gt (same_slot slot p.1 other)) ∙ le);
+            below_not_above p.1 other less (sym (ap is_gt (same_slot slot p.1 other)) ∙ le));
       }
 
       -- the first one names a later slot
-      pub later_found : (p.0 ≡ slot → ⊥) → EachEntry (λ _ at. at ≡ slot → ⊥) set
-      later_found apart source at is same =
+      pub later_found : (p.0 ≡ slot → ⊥) → FindsLeastOf set slot None
+      later_found apart source at is =
+          differ at slot (λ same.
           let le = least source (is ∙ ap Some same) in
           let from : is_gt (pair_cmp (slot, Root 0) p) ≡ false = first.0.0 in
           let after : p.0 < slot → ⊥ = λ h. let gt = lower_slot p.0 slot (Root 0) p.1 h in cc in
           let before : slot < p.0 → ⊥ = λ h. let gt = lower_slot slot p.0 p.1 source h in cc in
-          apart (omega (arith, after, before))
+          apart (omega (arith, after, before)))
 
--- whether a source is below another, or at it or above
-below_or_not : (x y : RefSource) (holds : Type 0) → (source_cmp x y ≡ Less → holds) → (is_gt (source_cmp y x) ≡ false → holds) → holds
-below_or_not x y holds less not_less =
-    elim (source_cmp x y) as (λ o. source_cmp x y ≡ o → holds) [
-      | Less ↦ λ e. less e
-      | Equal ↦ λ e. not_less (ap is_gt (sources_total.antisymm y x ∙ ap ordering_reverse e))
-      | Greater ↦ λ e. not_less (ap is_gt (sources_total.antisymm y x ∙ ap ordering_reverse e))
-    ] refl
+-- a source that is not at or above another is below it
+pub at_or_above : (o : Ordering) → is_gt o ≡ false → is_le o ≡ true
+at_or_above Less h = refl
+at_or_above Equal h = refl
+at_or_above Greater h = sym h
+
+above_or_not : (o : Ordering) (holds : Type 0) → (is_gt o ≡ false → holds) → (is_le o ≡ false → holds) → holds
+above_or_not Less holds not_above above = not_above refl
+above_or_not Equal holds not_above above = not_above refl
+above_or_not Greater holds not_above above = above refl
 
 module _ (slots : BTreeMap RefSource ℕ) (set : FinMap source_cmp ℕ) (seen : from_entries {R = source_cmp} slots.entries ≡ set) (from : RefSource) (r : List (RefSource × ℕ)) (part : IsRangeOf ghosts.cmp (Included from) Unbounded slots r) where
   said : IsRangeOf source_cmp (Included from) Unbounded slots r
@@ -117,9 +124,9 @@ module _ (slots : BTreeMap RefSource ℕ) (set : FinMap source_cmp ℕ) (seen : 
   -- nothing from the source on
   pub none_after : r ≡ [] → FindsAtOrAfter set from None
   none_after none source at is =
-      below_or_not source from (source_cmp source from ≡ Less) (λ e. e) (λ le.
+      above_or_not (source_cmp from source) (is_le (source_cmp from source) ≡ false) (λ le.
       let absent = said.5 none source (le, tt) in
-      let there = sym (got source) ∙ is in cc)
+      let there = sym (got source) ∙ is in absurd cc) (λ e. e)
 
   -- the first one
   pub found_after : (e : RefSource × ℕ) (rest : List (RefSource × ℕ)) → r ≡ e ∷ rest → FindsAtOrAfter set from (Some e)
@@ -127,9 +134,9 @@ module _ (slots : BTreeMap RefSource ℕ) (set : FinMap source_cmp ℕ) (seen : 
       let first = subst (λ xs. IfSome (slice_get xs 0) (IsEntryInRange source_cmp (Included from) Unbounded slots)) begins said.1 in
       record {
         there = got e.0 ∙ first.1;
-        passed = first.0.0;
+        passed = at_or_above (source_cmp from e.0) first.0.0;
         lower_failed = λ other at is less.
-            below_or_not other from (source_cmp other from ≡ Less) (λ e. e) (λ le.
+            above_or_not (source_cmp from other) (is_le (source_cmp from other) ≡ false) (λ le.
             let lowest = subst (λ xs. IfSome (slice_get xs 0) (λ e. IsLeBy source_cmp e.0 other)) begins (said.2 other (le, tt) (subst IsSome (sym (sym (got other) ∙ is)) refl)) in
-            absurd (below_not_above e.0 other less lowest));
+            absurd (below_not_above e.0 other less lowest)) (λ e. e);
       }

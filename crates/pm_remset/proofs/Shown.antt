@@ -13,7 +13,8 @@ use Rattle.std.specs.BTreeMap.{BTreeMap, is_at, UpdatesBy, IsOrdered}
 use Rattle.std.specs.BTreeMap as tree
 
 module _ {K X : Type 0} {R : K → K → Ordering} (o : IsTotalOrder R) where
-  find-lookup : (q : K) (es : List (K × X)) → find R q es ≡ lookup (is_at (R q)) es
+  -- a look-up in a list, as the one of a map
+  pub find-lookup : (q : K) (es : List (K × X)) → find R q es ≡ lookup (is_at (R q)) es
   find-lookup q [] = refl
   find-lookup q (e ∷ es) = ap (cond (is_eq (R q e.0)) (Some e.1)) (find-lookup q es)
 

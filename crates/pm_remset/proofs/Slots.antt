@@ -2,10 +2,9 @@
 use Rattle.std.proofs.Common.{◌≡◌, ℕ, suc, ◌<◌, ◌==◌, ◌||◌, ◌&&◌, inl, inr, Bool, true, false, cond, refl, sym, ap, subst, ◌∙◌, arith, List, [], ◌∷◌, ◌++◌, length, get_or, take, append-nil, append_assoc, Some}
 use Rattle.std.proofs.lemmas.Bool.{cases_Bool, and_parts, eqb-true}
 use Rattle.std.proofs.lemmas.Bool.Decides.{nat_tests}
-use Rattle.std.specs.declared.cmp.Ordering.{Ordering}
-use Rattle.std.specs.declared.cmp.Ordering.TheVariants.{Less, Equal, Greater}
+use Rattle.std.specs.declared.cmp.Ordering.TheVariants.{Less}
 use Rattle.std.specs.declared.ops.Bound.TheVariants.{Included, Unbounded}
-use Rattle.std.specs.Ordering.{is_eq, is_gt, is_le}
+use Rattle.std.specs.Ordering.{is_eq, is_gt}
 use Rattle.std.specs.List.{All, AllByRecursion, Contains, list_any}
 use Rattle.std.specs.List.Sorted.{IsStrictlySortedBy}
 use Rattle.std.specs.FinMap.{from_entries, get}
@@ -22,7 +21,7 @@ use Rattle.pm_remset.specs.Indexed.{pair_cmp, IsIndexed}
 use Rattle.pm_remset.specs.Remembered.{Remembered, AppendsSources}
 use Rattle.std.proofs.lemmas.Map.Views.{any-filter_same}
 use Rattle.pm_remset.proofs.Sources.{at_pair, tied_source}
-use Rattle.pm_remset.proofs.Finds.{same_slot, first_root, lower_slot, from_index, in_index}
+use Rattle.pm_remset.proofs.Finds.{same_slot, first_root, lower_slot, at_or_above, from_index, in_index}
 use Rattle.std.proofs.Math.Seq.{take-append_seam}
 use Rattle.std.proofs.lemmas.List.Elements.{All-head, All-tail}
 
@@ -64,11 +63,6 @@ reading_ends slot before out all left none reading = sym (append-nil out) ∙ ap
 -- what was appended is taken away again
 pub reading_undone : (slot n : ℕ) (before out : List RefSource) (all left : List (ℕ × RefSource)) → n ≡ length before → Reading slot before out all left → take n out ≡ before
 reading_undone slot n before out all left is reading = (λ i. take (is i) (reading.appended i)) ∙ take-append_seam before reading.so_far
-
-le_from_not_gt : (o : Ordering) → is_gt o ≡ false → is_le o ≡ true
-le_from_not_gt Less h = refl
-le_from_not_gt Equal h = refl
-le_from_not_gt Greater h = sym h
 
 and_false : (b : Bool) → (b && false) ≡ false
 and_false true = refl
@@ -165,7 +159,7 @@ module _ (slots : BTreeMap RefSource ℕ) (index : BTreeSet (ℕ × RefSource)) 
       let both = and_parts (slot == k.0) (is_eq (ghosts.cmp source k.1)) (sym (at_pair slot k.0 source k.1) ∙ at) in
       let same : slot ≡ k.0 = eqb-true slot k.0 both.0 in
       let from : is_gt (pair_cmp (slot, Root 0) k) ≡ false = (λ i. is_gt (pair_cmp (slot, Root 0) (sym same i, k.1))) ∙ ap is_gt (same_slot slot (Root 0) k.1) ∙ first_root k.1 in
-      (λ i. le_from_not_gt (pair_cmp (slot, Root 0) k) from i && true)
+      (λ i. at_or_above (pair_cmp (slot, Root 0) k) from i && true)
 
   in_part : (source : RefSource) → get set source ≡ Some slot → list_any (is_at (pair_cmp (slot, source))) r ≡ true
   in_part source is = ap (list_any (is_at (pair_cmp (slot, source)))) between ∙ any-filter_same (is_at (pair_cmp (slot, source))) _ true (in_range source) index.keys ∙ in_index slots index kept set seen slot source is

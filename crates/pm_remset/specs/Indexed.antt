@@ -20,4 +20,5 @@ is_slot (Some found) slot = found == slot
 
 -- the index has a slot and a source just where the source names the slot
 abbrev pub IsIndexed : BTreeMap RefSource ℕ → BTreeSet (ℕ × RefSource) → Type 0
-IsIndexed slots index = (slot : ℕ) (source : RefSource) → sorted.contains pair_cmp index (slot, source) ≡ is_slot (tree.get ghosts.cmp slots source) slot
+IsIndexed slots index =
+    (slot : ℕ) (source : RefSource) → sorted.contains pair_cmp index (slot, source) ≡ is_slot (tree.get ghosts.cmp slots source) slot

@@ -77,9 +77,9 @@ impl Remset {
         ensures value { result ≡ map.get self.old source }
         ensures after { self.new ≡ map.remove self.old source }
     {
-        let slot = self.slots.remove(&source)?;
-        self.index.remove(&(slot, source));
-        Some(slot)
+        let named = self.slots.remove(&source)?;
+        self.index.remove(&(named, source));
+        Some(named)
     }
 
     /// The least source that names the slot, or `None` where none does. It takes no memory.
