@@ -231,8 +231,8 @@ else
     "$pmos" run "$work/store" serial <"$work/long.script" >"$work/whole"
     came='' ended=0 replied=0
     starts() { (ulimit -d "$1" && exec "$pmos") 2>/dev/null; [ $? = 1 ]; } 2>/dev/null
-    kibibytes=256
-    until starts "$kibibytes" || [ "$kibibytes" -ge 65536 ]; do kibibytes=$((kibibytes + 64)); done
+    kibibytes=96
+    until starts "$kibibytes" || [ "$kibibytes" -ge 65536 ]; do kibibytes=$((kibibytes + 32)); done
     for _ in $(seq 400); do
         fresh
         (ulimit -d "$kibibytes" && exec "$pmos" run "$work/store" serial) <"$work/long.script" >"$work/out" 2>/dev/null
