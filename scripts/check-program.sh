@@ -20,6 +20,7 @@ trap 'exit 1' INT TERM HUP
 chmod 755 "$work"
 
 failed=0
+unproved=''
 row() {
     local mark=ok
     case $3 in
@@ -62,13 +63,15 @@ elif lacks rt || lacks python3; then
     exit 0
 else
     echo "The program is built without proof, since there is no crates/pmos/out/pmos."
+    unproved=yes
     try_build
 fi
 pmos=$work/pmos
-if ! [ -x "$pmos" ]; then
+if ! [ -f "$pmos" ]; then
     echo "There is no program to check."
     exit 1
 fi
+chmod 755 "$pmos"
 
 # What an ordinary run makes.
 cat >"$work/settle.script" <<'SCRIPT'
@@ -218,15 +221,42 @@ fresh
 head -c 314572800 /dev/zero | tr '\0' '0' | "$pmos" run "$work/store" serial >"$work/out" 2>/dev/null
 row "a script of 300 MB" "2 made" "${PIPESTATUS[2]} $(is_which "$work/store")"
 
-# More and more memory: a run is whole, or ends for want of memory with a first part of the replies.
-fresh
-"$pmos" run "$work/store" serial <"$work/long.script" >"$work/whole"
-ends=() first_parts=0
-for kibibytes in $(seq 1000 200 20000); do
+# More and more memory, from what the program needs to start: it ends for want of memory with a first part of the
+# replies, over and over, and at last it is whole.
+wanted="7 with a first part, then 0 settled"
+if [ -n "$unproved" ]; then
+    row "little memory" "$wanted" "skipped: this build takes too much itself"
+else
     fresh
-    (ulimit -v "$kibibytes" && exec "$pmos" run "$work/store" serial <"$work/long.script" >"$work/out") 2>/dev/null
-    end=$?
-    echo "$kibibytes $end $(stat -c %s "$work/out") $(is_which "$work/store")"
-done
+    "$pmos" run "$work/store" serial <"$work/long.script" >"$work/whole"
+    came='' ended=0 replied=0
+    starts() { (ulimit -d "$1" && exec "$pmos") 2>/dev/null; [ $? = 1 ]; } 2>/dev/null
+    kibibytes=96
+    until starts "$kibibytes" || [ "$kibibytes" -ge 65536 ]; do kibibytes=$((kibibytes + 32)); done
+    for _ in $(seq 400); do
+        fresh
+        (ulimit -d "$kibibytes" && exec "$pmos" run "$work/store" serial) <"$work/long.script" >"$work/out" 2>/dev/null
+        end=$?
+        case $end in
+        0) cmp -s "$work/out" "$work/whole" || end="0 with other replies" ;;
+        7)
+            ended=$((ended + 1))
+            [ -s "$work/out" ] && replied=$((replied + 1))
+            cmp -s -n "$(wc -c <"$work/out")" "$work/out" "$work/whole" || end="7 with other replies"
+            ;;
+        esac
+        [ "$end" = 7 ] && [ "$(is_which "$work/store")" != other ] || break
+        kibibytes=$((kibibytes + 32))
+    done
+    if [ "$end" = 0 ] && [ "$ended" = 0 ]; then
+        came="skipped: the limit is not kept here"
+    elif [ "$end" = 0 ]; then
+        came="7 with a first part, then 0 $(is_which "$work/store")"
+    else
+        came="$end $(is_which "$work/store") at $kibibytes KiB"
+    fi
+    row "little memory" "$wanted" "$came"
+    echo "     ($ended runs ended with 7, $replied of them with replies)"
+fi
 
 exit "$failed"
