@@ -1,4 +1,4 @@
-use Rattle.std.proofs.Common.{◌≡◌, ℕ, ◌++◌, ap, subst, ◌∙◌, decimal, codes}
+use Rattle.std.proofs.Common.{ℕ, ◌++◌, ap, subst, ◌∙◌, decimal, codes}
 use Rattle.pm_model.specs.Text.{reply_words}
 use Rattle.pm_script.specs.Replies.{StandsPart}
 use Rattle.pm_script.proofs.LineParts.{on_err, line_number, line_first, line_words}
