@@ -105,7 +105,10 @@ impl MemDisk {
         ensures cause { HasCause (count_of self.old) (count_of self.new) result }
         ensures made { made_of self.new ≡ with_kind kind (made_of self.old) }
     {
-        let mark = Mark { number: self.calls.len() as u64, kind };
+        let mark = Mark {
+            number: self.calls.len() as u64,
+            kind,
+        };
         self.moments = self.moments.after(&mark);
         let outcome = note(&self.fails, past, &mut self.calls, call);
         settle(outcome, &mut self.faults, &mut self.refused)
@@ -119,7 +122,10 @@ impl MemDisk {
         ensures cause { HasCause (count_of self.old) (count_of self.new) result }
         ensures made { made_of self.new ≡ with_write (made_of self.old) }
     {
-        let mark = Mark { number: self.calls.len() as u64, kind: CallKind::Write };
+        let mark = Mark {
+            number: self.calls.len() as u64,
+            kind: CallKind::Write,
+        };
         self.moments = self.moments.after(&mark);
         let outcome = note_write(
             &self.start,

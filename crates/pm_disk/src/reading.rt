@@ -17,7 +17,11 @@ pub(crate) fn is_past(bytes: &[u8], at: u64, into: &[u8]) -> bool
 pub(crate) fn kind_of(past: bool) -> CallKind
     ensures { result ≡ read_kind past }
 {
-    if past { CallKind::ReadPastEnd } else { CallKind::Look }
+    if past {
+        CallKind::ReadPastEnd
+    } else {
+        CallKind::Look
+    }
 }
 
 /// Fills `into` with the bytes from place `at` on.

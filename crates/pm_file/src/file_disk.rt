@@ -84,25 +84,37 @@ where
     }
 
     fn len(&mut self) -> Result<u64, DiskFailed> {
-        self.moments = self.moments.after(&Mark { number: 0, kind: CallKind::Look });
+        self.moments = self.moments.after(&Mark {
+            number: 0,
+            kind: CallKind::Look,
+        });
         let outcome = measure(&self.rt, &self.path, &mut self.file);
         counted(outcome, &mut self.faults)
     }
 
     fn read_at(&mut self, at: u64, into: &mut [u8]) -> Result<(), DiskFailed> {
-        self.moments = self.moments.after(&Mark { number: 0, kind: CallKind::Look });
+        self.moments = self.moments.after(&Mark {
+            number: 0,
+            kind: CallKind::Look,
+        });
         let outcome = read(&self.rt, &self.path, &mut self.file, at, into);
         counted(outcome, &mut self.faults)
     }
 
     fn write_at(&mut self, at: u64, from: &[u8]) -> Result<(), DiskFailed> {
-        self.moments = self.moments.after(&Mark { number: 0, kind: CallKind::Write });
+        self.moments = self.moments.after(&Mark {
+            number: 0,
+            kind: CallKind::Write,
+        });
         let outcome = write(&self.rt, &self.path, &mut self.file, at, from);
         counted(outcome, &mut self.faults)
     }
 
     fn sync(&mut self) -> Result<(), DiskFailed> {
-        self.moments = self.moments.after(&Mark { number: 0, kind: CallKind::Sync });
+        self.moments = self.moments.after(&Mark {
+            number: 0,
+            kind: CallKind::Sync,
+        });
         let outcome = sync(&self.rt, &self.path, &mut self.file);
         counted(outcome, &mut self.faults)
     }

@@ -1,12 +1,12 @@
 -- What is decoded is what pairs of digits spell.
-use Rattle.std.proofs.Common.{◌≡◌, ◌⊎◌, inl, inr, ⊎_elim, ℕ, ◌+◌, ◌*◌, ◌-◌, ◌<◌, ◌≤◌, Bool, true, false, cond, ◌&&◌, List, [], ◌∷◌, length, Option, Some, None, Result, Ok, Err, refl, sym, ap, subst, ◌∙◌, arith, nat_le, codes}
+use Rattle.std.proofs.Common.{◌≡◌, inl, inr, ℕ, ◌+◌, ◌*◌, ◌-◌, ◌≤◌, Bool, true, false, cond, ◌&&◌, List, [], ◌∷◌, length, Option, Some, None, Result, Ok, Err, refl, sym, ap, subst, ◌∙◌, arith, nat_le}
 use Rattle.std.proofs.lemmas.Bool.Decides.{nat_tests}
 use Rattle.hex.specs.Hex.{◌>>=◌, decode_of, decode_pairs, pair_value, value_at, digit_or_error, hex_digit_value, encode_lower, IsBytes}
 use Rattle.hex.specs.declared.error.FromHexError.{FromHexError}
 use Rattle.hex.proofs.Pairs.{cons_byte, decode_pairs-ok_pair}
 use Rattle.hex.proofs.HexLemmas.{decode_of-even, decode_of-ok, decode_of-encode_lower}
 use Rattle.pm_model.specs.Text.{pairs}
-use Rattle.pm_script.specs.HexDigits.{IsDigitOf, IsPairOf, ArePairsOf}
+use Rattle.pm_script.specs.HexDigits.{IsDigitOf, ArePairsOf}
 use Rattle.pm_script.specs.Script.{IsHexWord}
 
 -- the value of a digit is the one that it has
@@ -58,15 +58,16 @@ decoded_pairs i (high ∷ low ∷ word) bytes is =
     let rest = bound_ok (decode_pairs (i + 2) word) _ bytes whole.2 in
     let all : whole.0 ∷ rest.0 ≡ bytes = cc (rest.2) in
     let sum : first.0 * 16 + second.0 ≡ whole.0 = cc (second.2) in
-    subst (λ (bs : List ℕ). ArePairsOf bs (high ∷ low ∷ word)) all
-    (record {
-      sixteens = first.0;
-      ones = second.0;
-      high = digit_read high i first.0 (hex_digit_value high) refl first.1;
-      low = digit_read low (i + 1) second.0 (hex_digit_value low) refl second.1;
-      sum = sym sum;
-    },
-    decoded_pairs (i + 2) word rest.0 rest.1)
+    subst (λ (bs : List ℕ). ArePairsOf bs (high ∷ low ∷ word)) all (
+      record {
+        sixteens = first.0;
+        ones = second.0;
+        high = digit_read high i first.0 (hex_digit_value high) refl first.1;
+        low = digit_read low (i + 1) second.0 (hex_digit_value low) refl second.1;
+        sum = sym sum;
+      },
+      decoded_pairs (i + 2) word rest.0 rest.1,
+    )
 
 pair_made : (high low i h l : ℕ) → hex_digit_value high ≡ Some h → hex_digit_value low ≡ Some l → pair_value high low i ≡ Ok (h * 16 + l)
 pair_made high low i h l ha hb = rw (ha, hb) refl

@@ -201,8 +201,7 @@ impl<D: Disk> Pages<D> {
     /// the current copy's pages, as they stand on the disk.
     pub fn keep_the_current_copy(&self)
         ensures { (state self.now).failed ≡ false → IfTold (D.contents (disk_of self.now)) (λ bytes. IsSound (state self.now) bytes (D.image (disk_of self.now))) }
-    {
-    }
+    {}
 
     /// Closes the gate of the slot that the next header goes to. Where it is closed already no call of
     /// the disk is made. It takes no memory.
