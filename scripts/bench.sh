@@ -1,12 +1,12 @@
 #!/usr/bin/env bash
 # Measures the program on real files: scripts of n and 4n lines; a save with its settle, and an opening, beside
-# `dd` of the same bytes; and the memory at its highest. 'scripts/demo.sh' builds the program. Needs python3, dd and
+# `dd` of the same bytes; and the memory at its highest. 'scripts/build.sh' builds the program. Needs python3, dd and
 # GNU time.
 set -euo pipefail
 cd "$(dirname "$0")/.."
 
-pmos=$PWD/crates/pmos/out/pmos
-[ -x "$pmos" ] || { echo "run scripts/demo.sh first: it builds $pmos"; exit 1; }
+pmos=$PWD/pmos
+[ -x "$pmos" ] || { echo "run scripts/build.sh first: it builds $pmos"; exit 1; }
 work=$(mktemp -d)
 trap 'rm -rf "$work"' EXIT
 

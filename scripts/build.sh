@@ -29,7 +29,8 @@ echo "Proving and building ${#wanted[@]} crates on $processors processors: about
 
 # A crate can begin once all below it are done.
 can_begin() {
-    for name in $(below "$1"); do [ -e "$work/$name.done" ] || return 1; done
+    local lower
+    for lower in $(below "$1"); do [ -e "$work/$lower.done" ] || return 1; done
 }
 
 # Proves one crate. The program is built too, by a run; without words it says how it is used, and ends with 1.
@@ -62,6 +63,7 @@ while [ ${#waiting[@]} -gt 0 ] || [ ${#at_work[@]} -gt 0 ]; do
         if [ -e "$work/$name.failed" ]; then
             tail -40 "$work/$name.log"
             echo "$name was not proved."
+            wait
             exit 1
         fi
         [ -e "$work/$name.done" ] || still+=("$name")

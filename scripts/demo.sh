@@ -1,19 +1,20 @@
 #!/usr/bin/env bash
-# Builds the program (it is proved first), makes a store, runs the first script on it and then the second, and
-# runs the second on a copy of the file that was taken before the first: it holds the copy of then.
+# Makes a store, runs the first script on it and then the second, and runs the second on a copy of the file that was taken
+# before the first: it holds the copy of then. It takes the program that 'scripts/build.sh' proved and built; where there
+# is none, it builds one without proof.
 set -euo pipefail
 cd "$(dirname "$0")/.."
 
 work=$(mktemp -d)
 trap 'rm -rf "$work"' EXIT
 
-echo "Proving and building pmos; the first time takes some minutes."
-# Run without words the program says how it is used, and ends with 1.
-(cd crates/pmos && rt run) >"$work/log" 2>&1 || true
-pmos=crates/pmos/out/pmos
-if ! [ -x "$pmos" ]; then
-    cat "$work/log"
-    exit 1
+if [ -x pmos ]; then
+    pmos=$PWD/pmos
+    echo "The program is ./pmos, which scripts/build.sh proved and built."
+else
+    pmos=$work/pmos
+    echo "Building the program without proof, in about a minute; scripts/build.sh proves and builds it."
+    scripts/build-unproved.sh "$pmos"
 fi
 
 show() {

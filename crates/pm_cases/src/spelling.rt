@@ -72,16 +72,12 @@ fn push_times(out: &mut String, piece: &str) -> Result<(), Fault> {
 
 /// The line with each `{N TEXT}` written out: the text N times.
 pub(crate) fn written_out(alloc: Global, line: &str) -> Result<String, Fault> {
-    let mut out = String::new(alloc);
-    let (start, mut rest) = match line.split_once('{') {
-        None => (line, None),
-        Some((start, rest)) => (start, Some(rest)),
+    let Some((start, pieces)) = line.split_once('{') else {
+        return Ok(String::from_str(alloc, line)?);
     };
-    out.push_str(start)?;
-    if let Some(pieces) = rest.take() {
-        for piece in pieces.split('{') {
-            push_times(&mut out, piece)?;
-        }
+    let mut out = String::from_str(alloc, start)?;
+    for piece in pieces.split('{') {
+        push_times(&mut out, piece)?;
     }
     Ok(out)
 }
