@@ -11,3 +11,4 @@ pub mod JournalLaws
 pub mod ClosedLaws
 pub mod LastingLaws
 pub mod ChainLaws
+pub mod TellingLaws

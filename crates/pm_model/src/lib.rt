@@ -10,6 +10,7 @@ mod oracle;
 mod registers;
 mod request;
 mod roots;
+mod telling;
 #[cfg(test)]
 mod tests;
 
@@ -26,3 +27,4 @@ pub use oracle::Oracle;
 pub use registers::Registers;
 pub use request::Request;
 pub use roots::Roots;
+pub use telling::replies_tell_what_was_done;

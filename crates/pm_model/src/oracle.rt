@@ -16,6 +16,9 @@ use pm_types::{
 use std::alloc::Global;
 use std::marker::Model;
 
+#[cfg(test)]
+mod tests;
+
 /// The world as a plain slow program: ordered maps, and each command as it is defined.
 #[derive(Drop)]
 pub struct Oracle {
@@ -416,13 +419,13 @@ impl Oracle {
         let Some(old) = self.registers.get(client, old.number()) else {
             return Ok(Reply::NoHandle);
         };
-        let Some(value) = self.registers.get(client, value.number()) else {
+        let Some(new) = self.registers.get(client, value.number()) else {
             return Ok(Reply::NoHandle);
         };
         match self.field(id, index) {
             None => Ok(Reply::NoField),
             Some(None) => Ok(Reply::Null),
-            Some(Some(found)) if found == old => self.write(alloc, id, index, Some(value)),
+            Some(Some(found)) if found == old => self.write(alloc, id, index, Some(new)),
             Some(Some(found)) => Ok(Reply::Held(found)),
         }
     }

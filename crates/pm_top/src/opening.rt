@@ -7,7 +7,7 @@ ghost use Rattle.pm_shadow.specs.State.{attached};
 ghost use Rattle.pm_model.specs.World.{begin};
 ghost use Rattle.pm_model.specs.Journal.{after, requests_of};
 ghost use Rattle.pm_model.specs.Text.{text};
-ghost use Rattle.pm_model.specs.Plain.{IsPlainCopy};
+ghost use Rattle.pm_model.specs.Plain.{ArePlain, IsPlainCopy};
 ghost use Rattle.pm_shadow.specs.Pages.{state, disk_of};
 ghost use Rattle.pm_reopen.specs.Reopening.{IsCurrent};
 ghost use Rattle.pm_run.specs.Storing.{IsReady, Stores, LeavesOfRun};
@@ -51,6 +51,7 @@ fn run_on_pages<D: Disk, S: Source, K: Sink>(
 ) -> Ended<D, S, K>
     requires plain { IsPlainCopy copy }
     requires ready { IsReady (state pages) (state pages).header.epoch }
+    requires asked { ArePlain lines.items }
     ensures status { result.status ≡ status_of result.detail }
     ensures source { result.source ≡ source }
     ensures stopped { IsStopped result.detail }
@@ -117,6 +118,7 @@ fn run_attached<D: Disk, S: Source, K: Sink>(
     requires attached { state pages ≡ attached (state pages).slot (state pages).header (state pages).count (state pages).closed }
     requires spelled { HasHeaderSpelling (state pages).header }
     requires current { IfTold (D.contents (disk_of pages)) (λ bytes. IsCurrent (state pages) bytes) }
+    requires asked { ArePlain lines.items }
     ensures status { result.status ≡ status_of result.detail }
     ensures source { result.source ≡ source }
     ensures tried { IsTried result.detail }
@@ -159,6 +161,7 @@ pub(crate) fn open_and_run<D: Disk, S: Source, K: Sink>(
     source: S,
     sink: K,
 ) -> Ended<D, S, K>
+    requires { ArePlain lines.items }
     ensures status { result.status ≡ status_of result.detail }
     ensures source { result.source ≡ source }
     ensures tried { IsTried result.detail }

@@ -1,0 +1,247 @@
+//! Rows of commands, each with its reply, asked of the plain program.
+ghost use Rattle.std.specs.Prelude.{◌<◌};
+
+use super::Oracle;
+use crate::graph::Graph;
+use crate::objects::{Node, Objects};
+use crate::registers::Registers;
+use crate::roots::Roots;
+use pm_types::{Bytes, Cmd, LAST_COPY, LAST_ID, Name, NoMemory, ROOTS, Reg, Reply, WATCHES};
+use std::alloc::Global;
+use std::test::Fail;
+
+// What is asked, in plain numbers and bytes.
+#[derive(Clone, Copy)]
+enum Ask {
+    New(u32, u32, &'static [u8]),
+    Load(u32, u32, u32),
+    Store(u32, u32, u32),
+    Clear(u32, u32),
+    Data(u32),
+    Put(u32, u32, &'static [u8]),
+    Copy(u32, u32),
+    Id(u32),
+    Forget(u32),
+    Root(&'static [u8], u32),
+    Unroot(&'static [u8]),
+    Find(u32, &'static [u8]),
+    Save,
+    Settle,
+    Watch,
+    Close,
+    Swap(u32, u32, u32, u32),
+    Unsave,
+}
+
+fn register(number: u32) -> Result<Reg, Fail> {
+    Ok(Reg::new(number).ok_or("no register")?)
+}
+
+fn name(alloc: Global, bytes: &[u8]) -> Result<Name, Fail> {
+    Ok(Name::read(alloc, bytes).ok().ok_or("no name")?)
+}
+
+fn bytes(alloc: Global, from: &[u8]) -> Result<Bytes, NoMemory> {
+    Ok(Bytes::from_vec(from.to_vec(alloc)?))
+}
+
+fn command(alloc: Global, ask: Ask) -> Result<Cmd, Fail> {
+    Ok(match ask {
+        Ask::New(reg, count, from) => Cmd::New {
+            reg: register(reg)?,
+            count,
+            bytes: bytes(alloc, from)?,
+        },
+        Ask::Load(to, reg, index) => Cmd::Load {
+            to: register(to)?,
+            reg: register(reg)?,
+            index,
+        },
+        Ask::Store(reg, index, value) => Cmd::Store {
+            reg: register(reg)?,
+            index,
+            value: register(value)?,
+        },
+        Ask::Clear(reg, index) => Cmd::Clear {
+            reg: register(reg)?,
+            index,
+        },
+        Ask::Data(reg) => Cmd::Show {
+            reg: register(reg)?,
+        },
+        Ask::Put(reg, at, from) => Cmd::Put {
+            reg: register(reg)?,
+            at,
+            bytes: bytes(alloc, from)?,
+        },
+        Ask::Copy(to, reg) => Cmd::Copy {
+            to: register(to)?,
+            reg: register(reg)?,
+        },
+        Ask::Id(reg) => Cmd::IdOf {
+            reg: register(reg)?,
+        },
+        Ask::Forget(reg) => Cmd::Forget {
+            reg: register(reg)?,
+        },
+        Ask::Root(bound, reg) => Cmd::Bind {
+            name: name(alloc, bound)?,
+            reg: register(reg)?,
+        },
+        Ask::Unroot(bound) => Cmd::Unbind {
+            name: name(alloc, bound)?,
+        },
+        Ask::Find(to, bound) => Cmd::Find {
+            to: register(to)?,
+            name: name(alloc, bound)?,
+        },
+        Ask::Save => Cmd::Save,
+        Ask::Settle => Cmd::Settle,
+        Ask::Watch => Cmd::Watch,
+        Ask::Close => Cmd::Close,
+        Ask::Swap(reg, index, old, value) => Cmd::Swap {
+            reg: register(reg)?,
+            index,
+            old: register(old)?,
+            value: register(value)?,
+        },
+        Ask::Unsave => Cmd::Unsave,
+    })
+}
+
+// Asks the rows one after another, each of the client that it names.
+fn ask_all(
+    alloc: Global,
+    oracle: &mut Oracle,
+    rows: Vec<(u32, Ask, Reply)>,
+) -> Result<(), Fail> {
+    for (client, ask, reply) in rows {
+        let cmd = command(alloc, ask)?;
+        if oracle.answer(alloc, client % 8, &cmd)? != reply {
+            return Err(Fail::from("another reply"));
+        }
+    }
+    Ok(())
+}
+
+#[test]
+fn fields_bytes_and_registers(rt: HostRuntime) -> Result<(), Fail> {
+    let alloc = rt.alloc();
+    let mut oracle = Oracle::new(alloc);
+    let shown = Reply::Shown(bytes(alloc, b"\x01\xff")?);
+    let rows = vec![in alloc;
+        (0, Ask::New(1, 2, b"\x01\x02"), Reply::Ident(1)),
+        (0, Ask::Store(1, 2, 1), Reply::NoField),
+        (0, Ask::Store(1, 2, 9), Reply::NoHandle),
+        (0, Ask::Store(1, 1, 1), Reply::Done),
+        (0, Ask::Load(2, 1, 1), Reply::Ident(1)),
+        (0, Ask::Load(2, 1, 2), Reply::NoField),
+        (0, Ask::Id(2), Reply::Ident(1)),
+        (0, Ask::Clear(1, 1), Reply::Done),
+        (0, Ask::Load(2, 1, 1), Reply::Null),
+        (0, Ask::Clear(2, 1), Reply::NoHandle),
+        (0, Ask::Put(1, 2, b""), Reply::Done),
+        (0, Ask::Put(1, 2, b"\xff"), Reply::OutOfRange),
+        (0, Ask::Put(1, 4_294_967_295, b"\xff"), Reply::OutOfRange),
+        (0, Ask::Put(1, 1, b"\xff"), Reply::Done),
+        (0, Ask::Data(1), shown),
+        (0, Ask::Copy(3, 1), Reply::Ident(1)),
+        (0, Ask::Forget(1), Reply::Done),
+        (0, Ask::Forget(1), Reply::NoHandle),
+        (1, Ask::New(3, 0, b""), Reply::Ident(2)),
+        (0, Ask::Close, Reply::Done),
+        (0, Ask::Id(3), Reply::NoHandle),
+        (1, Ask::Id(3), Reply::Ident(2)),
+        (1, Ask::New(4, 65, b""), Reply::TooLarge),
+        (1, Ask::Id(4), Reply::NoHandle),
+        (1, Ask::Unroot(b"zz"), Reply::NoRoot),
+        (1, Ask::Root(b"zz", 3), Reply::Done),
+        (1, Ask::Unroot(b"zz"), Reply::Done),
+        (1, Ask::Find(3, b"zz"), Reply::NoRoot)
+    ]?;
+    ask_all(alloc, &mut oracle, rows)
+}
+
+#[test]
+fn swaps_and_copies(rt: HostRuntime) -> Result<(), Fail> {
+    let alloc = rt.alloc();
+    let mut oracle = Oracle::new(alloc);
+    let rows = vec![in alloc;
+        (0, Ask::New(1, 1, b""), Reply::Ident(1)),
+        (0, Ask::New(2, 0, b""), Reply::Ident(2)),
+        (0, Ask::New(3, 0, b""), Reply::Ident(3)),
+        (0, Ask::Swap(1, 0, 2, 3), Reply::Null),
+        (0, Ask::Store(1, 0, 2), Reply::Done),
+        (0, Ask::Swap(1, 0, 3, 2), Reply::Held(2)),
+        (0, Ask::Swap(1, 0, 2, 3), Reply::Done),
+        (0, Ask::Load(4, 1, 0), Reply::Ident(3)),
+        (0, Ask::Settle, Reply::Idle),
+        (0, Ask::Unsave, Reply::Idle),
+        (0, Ask::Save, Reply::Begun(1)),
+        (1, Ask::Save, Reply::Busy(1)),
+        (1, Ask::Unsave, Reply::Dropped(1)),
+        (0, Ask::Settle, Reply::Idle),
+        (0, Ask::Save, Reply::Begun(1)),
+        (1, Ask::Settle, Reply::Saved(1)),
+        (0, Ask::Settle, Reply::Idle),
+        (0, Ask::Save, Reply::Begun(2))
+    ]?;
+    ask_all(alloc, &mut oracle, rows)
+}
+
+#[test]
+fn as_many_watches_and_names_as_there_may_be(rt: HostRuntime) -> Result<(), Fail> {
+    let alloc = rt.alloc();
+    let mut oracle = Oracle::new(alloc);
+    for number in 0..WATCHES {
+        if oracle.answer(alloc, 0, &Cmd::Watch)? != Reply::Watching(number + 1) {
+            return Err(Fail::from("another watch"));
+        }
+    }
+    let rows = vec![in alloc;
+        (0, Ask::Watch, Reply::TooManyWatches),
+        (0, Ask::New(1, 0, b""), Reply::Ident(1))
+    ]?;
+    ask_all(alloc, &mut oracle, rows)?;
+    let reg = register(1)?;
+    for number in 0..ROOTS {
+        let text = format!(in alloc; "{number}")?;
+        let name = name(alloc, text.as_bytes())?;
+        if oracle.answer(alloc, 0, &Cmd::Bind { name, reg })? != Reply::Done {
+            return Err(Fail::from("a name was refused"));
+        }
+    }
+    let rows = vec![in alloc;
+        (0, Ask::Root(b"one-more", 1), Reply::TooManyRoots),
+        (0, Ask::Root(b"17", 1), Reply::Done),
+        (0, Ask::Unroot(b"17"), Reply::Done),
+        (0, Ask::Root(b"one-more", 1), Reply::Done)
+    ]?;
+    ask_all(alloc, &mut oracle, rows)
+}
+
+#[test]
+fn identities_and_copies_that_are_spent(rt: HostRuntime) -> Result<(), Fail> {
+    let alloc = rt.alloc();
+    let mut objects = Objects::new(alloc);
+    objects.insert(LAST_ID, Node::new(vec![in alloc; None]?, bytes(alloc, b"")?))?;
+    let mut roots = Roots::new(alloc);
+    roots.bind(name(alloc, b"a")?, LAST_ID)?;
+    let mut oracle = Oracle {
+        objects,
+        roots,
+        registers: Registers::new(alloc),
+        next: u64::from(LAST_ID) + 1,
+        settled: LAST_COPY,
+        settled_copy: Graph::empty(alloc),
+        saving: None,
+        watches: 0,
+    };
+    let rows = vec![in alloc;
+        (0, Ask::New(1, 0, b""), Reply::IdsSpent),
+        (0, Ask::Find(1, b"a"), Reply::Ident(LAST_ID)),
+        (0, Ask::Load(2, 1, 0), Reply::Null),
+        (0, Ask::Save, Reply::SavesSpent)
+    ]?;
+    ask_all(alloc, &mut oracle, rows)
+}
