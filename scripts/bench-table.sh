@@ -1,6 +1,6 @@
 #!/usr/bin/env bash
-# Prints how long it takes to freeze a table, change 10 of its values and thaw it, with 1,000, 10,000 and 100,000
-# values: the mean of 1,000 rounds, in nanoseconds; and beside it the filling of the table, for each value.
+# Prints how long it takes to freeze a table, change none or 10 of its values, and thaw it, with 1,000, 10,000 and
+# 100,000 values: the mean of 1,000 rounds; and how long it takes to fill the table.
 set -eu
 cd "$(dirname "$0")/.."
 work=$(mktemp -d)
@@ -23,7 +23,7 @@ use anyhow::Result;
 use pm_snap::{Keep, Table, put};
 use pm_types::NoMemory;
 use std::alloc::Global;
-use std::time::Instant;
+use std::time::{Clock, Instant};
 
 #[derive(Drop)]
 struct Held {
@@ -45,14 +45,24 @@ fn change(table: &mut Table<Held>, key: u64, number: u64) -> Result<(), NoMemory
     put(table, key, Held { number })
 }
 
-fn round(table: &mut Table<Held>, first: u64, step: u64) -> Result<(), NoMemory> {
+// Freezes the table, changes so many values, and thaws it.
+fn round(table: &mut Table<Held>, first: u64, changes: u64) -> Result<(), NoMemory> {
     table.thaw();
     table.freeze();
-    for place in 0..10u64 {
-        change(table, first.wrapping_add(place.wrapping_mul(step)), place)?;
+    for place in 0..changes {
+        change(table, first.wrapping_add(place.wrapping_mul(97)), place)?;
     }
     table.thaw();
     Ok(())
+}
+
+// How long 1,000 rounds take, in microseconds: as many nanoseconds a round.
+fn rounds(rt: &impl Clock, table: &mut Table<Held>, changes: u64) -> Result<u128> {
+    let start = Instant::now(rt)?;
+    for first in 1..1001 {
+        round(table, first % 90 + 1, changes)?;
+    }
+    Ok(start.elapsed(rt)?.as_micros())
 }
 
 fn main(rt: HostRuntime) -> Result<()> {
@@ -62,20 +72,17 @@ fn main(rt: HostRuntime) -> Result<()> {
         for number in 0..size {
             let _ = table.add(Held { number });
         }
-        let filled = start.elapsed(&rt)?.as_nanos() / size as u128;
-        let start = Instant::now(&rt)?;
-        for first in 1..1001 {
-            round(&mut table, first % 90 + 1, size / 11)?;
-        }
-        let took = start.elapsed(&rt)?.as_nanos() / 1000;
-        println!(rt; "{size} values: a round {took} ns; filling {filled} ns a value")?;
+        let filled = start.elapsed(&rt)?.as_micros();
+        let none = rounds(&rt, &mut table, 0)?;
+        let ten = rounds(&rt, &mut table, 10)?;
+        println!(rt; "{size} values: filled in {filled} us; a round with no change {none} ns, with 10 changes {ten} ns")?;
     }
     Ok(())
 }
 EOF
 
 cd "$work/crates/table_bench"
-if ! rt try > "$work/out" 2> "$work/err"; then
+if ! rt run > "$work/out" 2> "$work/err"; then
     cat "$work/out" "$work/err" >&2
     exit 1
 fi

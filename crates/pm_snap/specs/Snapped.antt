@@ -52,5 +52,5 @@ module _ {T : Type 0} where
   pub record IsSound (s : Snapped T) : Type 0 where
     pub from_one : (key : ℕ) → IsSome (get s.current key) → 0 < key
     pub frozen_from_one : (key : ℕ) → IsSome (at_key s.frozen key) → 0 < key
-    pub unchanged : (key : ℕ) → IsSome s.frozen → set.contains s.changed key ≡ false → at_key s.frozen key ≡ get s.current key
+    pub unchanged : (k : ℕ) → IsSome s.frozen → set.contains s.changed k ≡ false → at_key s.frozen k ≡ get s.current k
     pub none_changed : s.frozen ≡ None → s.changed ≡ set.empty

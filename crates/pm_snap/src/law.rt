@@ -5,5 +5,5 @@ ghost use Rattle.pm_snap.specs.Snapped.{IsLowestUnused};
 
 /// A law of keys: one key alone is the lowest that is not used. So what `vacant` tells is what `add` gives.
 pub fn one_key_is_the_lowest<T>()
-    ensures { (values : FinMap nat_cmp T) (one two : ℕ) → IsLowestUnused values one → IsLowestUnused values two → one ≡ two }
+    ensures { (values : FinMap nat_cmp T) (p q : ℕ) → IsLowestUnused values p → IsLowestUnused values q → p ≡ q }
 {}

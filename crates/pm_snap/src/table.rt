@@ -187,7 +187,7 @@ impl<T: Keep + Drop> Table<T> {
         save(&self.values, &mut self.kept, self.alloc, key)?;
         match self.values.get_mut(&key) {
             Some(value) => Ok(value),
-            None => Err(NoMemory),
+            None => unreachable!(),
         }
     }
 

@@ -14,8 +14,8 @@ returns-in_err-save g c =
     let unready : is_ready c.args.self.now c.args.key ≡ true → ⊥ = λ ready. (let ok = c.in_err-save.ensures.succeeds (ready_part c.self.inside.values c.self.inside.kept c.args.self.now c.args.key c.self.view_is ready) in grind (arith, ok)) in
     search (rules, same, unready)
 
-pub returns-in-Some : goal.returns-in-Some
-returns-in-Some g c =
+pub returns : goal.returns
+returns g c =
     let values = c.self.inside.values in
     let used = used_part values c.self.inside.kept c.args.self.now c.args.key c.self.view_is c.requires in (
       (
@@ -31,14 +31,8 @@ returns-in-Some g c =
       },
     )
 
-pub invariant_of-self-in-None : goal.invariant_of-self-in-None
-invariant_of-self-in-None g c =
+pub unreachable-requires : goal.unreachable-requires
+unreachable-requires g c =
     let used = used_part c.self.inside.values c.self.inside.kept c.args.self.now c.args.key c.self.view_is c.requires in
     let none = c.in-None.ensures.value in
-    absurd (grind (arith, used, none))
-
-pub returns-in-None : goal.returns-in-None
-returns-in-None g c =
-    let used = used_part c.self.inside.values c.self.inside.kept c.args.self.now c.args.key c.self.view_is c.requires in
-    let none = c.in-None.ensures.value in
-    absurd (grind (arith, used, none))
+    grind (arith, used, none)
