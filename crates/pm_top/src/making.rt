@@ -37,7 +37,7 @@ pub(crate) fn make_store<D: Disk, S: Source, K: Sink>(
     ensures sink { result.sink ≡ sink }
     ensures makes { MakesStore D.contents D.image D.count disk result.disk result.detail }
     ensures device { ShowsDevice result.detail (D.count disk) (D.count result.disk) }
-    ensures unread { (D.made result.disk).past ≡ (D.made disk).past }
+    ensures reads { (D.made result.disk).past ≡ (D.made disk).past }
 {
     match init(alloc, &mut disk) {
         Ok(()) => end_with(Detail::Fine, Vec::new(alloc), disk, source, sink),

@@ -65,7 +65,7 @@ fn run_on_pages<D: Disk, S: Source, K: Sink>(
         → (left : List ℕ) → D.image result.disk left → IsLastOf result.detail (after (begin (state pages).header.epoch copy) result.journal.items) left }
     ensures still { result.journal.items ≡ [] → result.disk ≡ disk_of pages }
     ensures device { ShowsDevice result.detail (D.count (disk_of pages)) (D.count result.disk) }
-    ensures unread { (D.made result.disk).past ≡ (D.made (disk_of pages)).past }
+    ensures reads { (D.made result.disk).past ≡ (D.made (disk_of pages)).past }
 
     ensures written { result.detail ≡ Detail.Fine → (before : List ℕ) → K.written sink ≡ Some before
         → K.written result.sink ≡ Some (before ++ text result.journal.items) }
@@ -130,7 +130,7 @@ fn run_attached<D: Disk, S: Source, K: Sink>(
 
     ensures disk { LeavesDisk D.contents D.image D.moment D.since (disk_of pages) result.disk result.detail result.journal.items }
     ensures device { ShowsDevice result.detail (D.count (disk_of pages)) (D.count result.disk) }
-    ensures unread { (D.made result.disk).past ≡ (D.made (disk_of pages)).past }
+    ensures reads { (D.made result.disk).past ≡ (D.made (disk_of pages)).past }
 
     ensures quiet { IsBeforeRun result.detail → result.sink ≡ sink }
     ensures written { result.detail ≡ Detail.Fine → (before : List ℕ) → K.written sink ≡ Some before
@@ -173,7 +173,7 @@ pub(crate) fn open_and_run<D: Disk, S: Source, K: Sink>(
 
     ensures disk { LeavesDisk D.contents D.image D.moment D.since disk result.disk result.detail result.journal.items }
     ensures device { ShowsDevice result.detail (D.count disk) (D.count result.disk) }
-    ensures unread { (D.made result.disk).past ≡ (D.made disk).past }
+    ensures reads { (D.made result.disk).past ≡ (D.made disk).past }
 
     ensures quiet { IsBeforeRun result.detail → result.sink ≡ sink }
     ensures written { result.detail ≡ Detail.Fine → (before : List ℕ) → K.written sink ≡ Some before

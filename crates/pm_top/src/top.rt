@@ -50,7 +50,7 @@ fn run_bytes<D: Disk, S: Source, K: Sink>(
     ensures disk { LeavesDisk D.contents D.image D.moment D.since disk result.disk result.detail result.journal.items }
     ensures uncalled { IsBeforeDisk result.detail → result.disk ≡ disk }
     ensures device { ShowsDevice result.detail (D.count disk) (D.count result.disk) }
-    ensures unread { (D.made result.disk).past ≡ (D.made disk).past }
+    ensures reads { (D.made result.disk).past ≡ (D.made disk).past }
 
     ensures quiet { IsBeforeRun result.detail → result.sink ≡ sink }
     ensures written { result.detail ≡ Detail.Fine → (before : List ℕ) → K.written sink ≡ Some before
@@ -97,7 +97,7 @@ fn run_source<D: Disk, S: Source, K: Sink>(
     ensures disk { LeavesDisk D.contents D.image D.moment D.since disk result.disk result.detail result.journal.items }
     ensures uncalled { IsBeforeDisk result.detail → result.disk ≡ disk }
     ensures device { ShowsDevice result.detail (D.count disk) (D.count result.disk) }
-    ensures unread { (D.made result.disk).past ≡ (D.made disk).past }
+    ensures reads { (D.made result.disk).past ≡ (D.made disk).past }
 
     ensures quiet { IsBeforeRun result.detail → result.sink ≡ sink }
     ensures written { result.detail ≡ Detail.Fine → (before : List ℕ) → K.written sink ≡ Some before
@@ -153,7 +153,7 @@ pub fn pmos<R: AllocGlobal, D: Disk, S: Source, K: Sink>(
     ensures writing { ShowsWriting result.detail (K.count sink) (K.count result.sink) }
     ensures device { ShowsDevice result.detail (D.count disk) (D.count result.disk) }
     // Nobody asks for a read past the end of what the disk tells.
-    ensures unread { (D.made result.disk).past ≡ (D.made disk).past }
+    ensures reads { (D.made result.disk).past ≡ (D.made disk).past }
     // A store is refused by the rule that its bytes fail, and only where they fail one; where it was opened, they fail none.
     ensures refused { (bytes : List ℕ) → D.contents disk ≡ Some bytes → IsRefusedFor bytes result.detail }
     ensures rule { NamesRule result.detail }
