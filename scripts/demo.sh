@@ -1,7 +1,7 @@
 #!/usr/bin/env bash
 # Makes a store, runs the first script on it and then the second, and runs the second on a copy of the file that was taken
-# before the first: it holds the copy of then. It takes the program that 'scripts/build.sh' proved and built; where there
-# is none, it builds one without proof.
+# before the first: it holds the copy of then. It takes the program that was proved and built, where there is one, and
+# else builds one without proof.
 set -euo pipefail
 cd "$(dirname "$0")/.."
 
@@ -11,6 +11,9 @@ trap 'rm -rf "$work"' EXIT
 if [ -x pmos ]; then
     pmos=$PWD/pmos
     echo "The program is ./pmos, which scripts/build.sh proved and built."
+elif [ -x crates/pmos/out/pmos ]; then
+    pmos=$PWD/crates/pmos/out/pmos
+    echo "The program is crates/pmos/out/pmos, which rt proved and built."
 else
     pmos=$work/pmos
     echo "Building the program without proof, in about a minute; scripts/build.sh proves and builds it."
