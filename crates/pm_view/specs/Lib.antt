@@ -1,0 +1,10 @@
+pub mod Sources
+pub mod View
+pub mod Reading
+pub mod Effective
+pub mod Seen
+pub mod Counts
+pub mod Law
+pub mod Barrier
+pub mod Rows
+pub mod Represents
