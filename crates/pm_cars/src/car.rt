@@ -51,7 +51,7 @@ impl Model for Car {
 }
 
 impl Car {
-    /// A car of this number with no slot. It takes no memory.
+    /// A car of this number with no slot.
     pub fn new(alloc: Global, number: u64) -> Car
         ensures { result ≡ record { car = new_car number; spare = 0 } }
     {
@@ -74,28 +74,28 @@ impl Car {
         let _next = self.next;
     }
 
-    /// The car's number. It takes no memory.
+    /// The car's number.
     pub fn number(&self) -> u64
         ensures { result ≡ self.now.car.number }
     {
         self.number
     }
 
-    /// The slot of the next birth, 65,536 where there is none. It takes no memory.
+    /// The slot of the next birth, 65,536 where there is none.
     pub fn next_slot(&self) -> u32
         ensures { result ≡ self.now.car.next }
     {
         self.next
     }
 
-    /// The room that is used, in bytes: that of the head and of all slots. It takes no memory.
+    /// The room that is used, in bytes: that of the head and of all slots.
     pub fn used(&self) -> u32
         ensures { result ≡ used self.now.car }
     {
         self.used
     }
 
-    /// How many slots are Live. It takes no memory.
+    /// How many slots are Live.
     pub fn live(&self) -> u32
         ensures count { result ≡ live_count self.now.car }
         ensures none { (result ≡ 0) ↔ IsLowestLive self.now.car None }
@@ -103,7 +103,7 @@ impl Car {
         self.live
     }
 
-    /// How many slots are Moved. It takes no memory.
+    /// How many slots are Moved.
     pub fn moved(&self) -> u32
         ensures { result ≡ moved_count self.now.car }
     {
@@ -111,7 +111,7 @@ impl Car {
     }
 
     /// Whether an object of this room, in bytes, fits: all room together is at most 16,384, and the
-    /// next slot at most 65,535. It takes no memory.
+    /// next slot at most 65,535.
     pub fn fits(&self, room: u32) -> bool
         ensures { IsTrue result ↔ Fits self.now.car room }
     {
@@ -132,7 +132,7 @@ impl Car {
         Ok(())
     }
 
-    /// Puts the object into the next slot, and answers that slot. It takes no memory.
+    /// Puts the object into the next slot, and answers that slot.
     pub fn birth(&mut self, object: Object) -> u32
         requires fits { Fits self.old.car (object_room object) }
         requires spare { 0 < self.old.spare }
@@ -144,7 +144,7 @@ impl Car {
         slot
     }
 
-    /// Puts the object into this slot, which is the next or a later one. It takes no memory.
+    /// Puts the object into this slot, which is the next or a later one.
     pub fn place(&mut self, slot: u32, object: Object)
         requires fits { FitsAt self.old.car slot (object_room object) }
         requires spare { 0 < self.old.spare }
@@ -157,7 +157,7 @@ impl Car {
         self.spare -= 1;
     }
 
-    /// Lets this be the next slot, which is not lower than that of now. It takes no memory.
+    /// Lets this be the next slot, which is not lower than that of now.
     pub fn set_next(&mut self, slot: u32)
         requires upward { self.old.car.next ≤ slot }
         requires last { slot ≤ 65536 }
@@ -166,7 +166,7 @@ impl Car {
         self.next = slot;
     }
 
-    /// What the slot is. It takes no memory.
+    /// What the slot is.
     pub fn look(&self, slot: u32) -> Look
         ensures look { result ≡ look_of (get self.now.car.slots slot) }
         ensures live { (result ≡ looks.Live) ↔ IsLive self.now.car slot }
@@ -178,7 +178,7 @@ impl Car {
         }
     }
 
-    /// The Live and the Moved slots with what they hold, in their order, lent. It takes no memory.
+    /// The Live and the Moved slots with what they hold, in their order, lent.
     #[tactic(auto, using(crate::proofs::Taken::listed))]
     pub fn slots(&self) -> &[(u32, Slot)]
         ensures { result.now ≡ entries self.now.car.slots }
@@ -194,7 +194,7 @@ impl Car {
         self.slots() == slots
     }
 
-    /// The slot's object, lent. It takes no memory.
+    /// The slot's object, lent.
     pub fn object(&self, slot: u32) -> &Object
         requires live { IsLive self.now.car slot }
         ensures object { object_at self.now.car slot ≡ Some result.now }
@@ -206,7 +206,7 @@ impl Car {
         }
     }
 
-    /// The identity of the slot's object. It takes no memory.
+    /// The identity of the slot's object.
     pub fn id_at(&self, slot: u32) -> Id
         requires live { IsLive self.now.car slot }
         ensures { IsSomeAnd (object_at self.now.car slot) (λ object. result ≡ object.id) }
@@ -214,7 +214,7 @@ impl Car {
         self.object(slot).id
     }
 
-    /// How many fields the slot's object has. It takes no memory.
+    /// How many fields the slot's object has.
     pub fn count(&self, slot: u32) -> u32
         requires live { IsLive self.now.car slot }
         ensures count { IsSomeAnd (object_at self.now.car slot) (λ object. result ≡ length object.fields) }
@@ -223,7 +223,7 @@ impl Car {
         self.object(slot).fields.as_slice().len() as u32
     }
 
-    /// The bytes of the slot's object, lent. It takes no memory.
+    /// The bytes of the slot's object, lent.
     pub fn bytes(&self, slot: u32) -> &[u8]
         requires live { IsLive self.now.car slot }
         ensures bytes { IsSomeAnd (object_at self.now.car slot) (λ object. result.now ≡ object.bytes) }
@@ -232,7 +232,7 @@ impl Car {
         self.object(slot).bytes.as_slice()
     }
 
-    /// A field of the slot's object: null or an address. It takes no memory.
+    /// A field of the slot's object: null or an address.
     pub fn field(&self, slot: u32, index: u32) -> Option<Addr>
         requires field { HasField self.now.car slot index }
         ensures { IsSomeAnd (object_at self.now.car slot) (λ object. slice_get object.fields index ≡ Some result) }
@@ -240,7 +240,7 @@ impl Car {
         self.object(slot).fields.as_slice()[index as usize]
     }
 
-    /// Sets a field of the slot's object. It takes no memory.
+    /// Sets a field of the slot's object.
     pub fn set_field(&mut self, slot: u32, index: u32, value: Option<Addr>)
         requires field { HasField self.old.car slot index }
         ensures { IsEdited self.old self.new slot (λ object. with_field object index value) }
@@ -250,7 +250,7 @@ impl Car {
         put_back(&mut self.entries, slot, changed);
     }
 
-    /// Writes the bytes into the slot's object, from the place `at` on. It takes no memory.
+    /// Writes the bytes into the slot's object, from the place `at` on.
     pub fn set_bytes(&mut self, slot: u32, at: u32, from: &[u8])
         requires inside { HasBytes self.old.car slot at (length from.now) }
         ensures { IsEdited self.old self.new slot (λ object. with_bytes object at from.now) }
@@ -261,7 +261,6 @@ impl Car {
     }
 
     /// Lets the slot say that its object went to this address, and hands the object back.
-    /// It takes no memory.
     pub fn mark_moved(&mut self, slot: u32, to: Addr) -> Object
         requires live { IsLive self.old.car slot }
         ensures object { object_at self.old.car slot ≡ Some result }
@@ -274,7 +273,7 @@ impl Car {
         object
     }
 
-    /// Lets the slot be Gone, and hands its object back. It takes no memory.
+    /// Lets the slot be Gone, and hands its object back.
     pub fn drop_slot(&mut self, slot: u32) -> Object
         requires live { IsLive self.old.car slot }
         ensures object { object_at self.old.car slot ≡ Some result }
@@ -287,7 +286,7 @@ impl Car {
         dropped
     }
 
-    /// The least slot that is Live, `None` exactly where none is. It takes no memory.
+    /// The least slot that is Live, `None` exactly where none is.
     pub fn lowest_live(&self) -> Option<u32>
         ensures { IsLowestLive self.now.car result }
     {

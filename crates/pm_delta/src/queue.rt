@@ -28,7 +28,7 @@ impl Model for Queue {
 }
 
 impl Queue {
-    /// A queue in which nothing waits. It takes no memory.
+    /// A queue in which nothing waits.
     pub fn new(alloc: Global) -> Queue
         ensures { result.changes ≡ [] }
     {
@@ -37,7 +37,7 @@ impl Queue {
         }
     }
 
-    /// How many changes wait. It takes no memory.
+    /// How many changes wait.
     pub fn len(&self) -> u64
         ensures { result ≡ length self.now.changes }
     {
@@ -55,7 +55,7 @@ impl Queue {
         Ok(())
     }
 
-    /// Lets a change wait behind all others, in room that was taken before. It takes no memory.
+    /// Lets a change wait behind all others, in room that was taken before.
     pub fn push(&mut self, change: Change)
         requires { 0 < self.old.spare }
         ensures changes { self.new.changes ≡ self.old.changes ++ change ∷ [] }
@@ -64,7 +64,7 @@ impl Queue {
         self.changes.push_back_reserved(change);
     }
 
-    /// The change that waits longest, or `None` where none waits. It stays. It takes no memory.
+    /// The change that waits longest, or `None` where none waits. It stays.
     pub fn front(&self) -> Option<&Change>
         ensures { option_copied result ≡ slice_get self.now.changes 0 }
     {
@@ -72,7 +72,6 @@ impl Queue {
     }
 
     /// Takes the change that waits longest, or answers `None` where none waits. Its room can be used again.
-    /// It takes no memory.
     pub fn pop(&mut self) -> Option<Change>
         ensures changes { MatchOption result (self.old.changes ≡ [])
             (λ change. self.old.changes ≡ change ∷ self.new.changes) }

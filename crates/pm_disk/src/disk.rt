@@ -39,7 +39,7 @@ pub trait Disk {
     /// How many syncs, writes and reads past the end of what the disk told were made, whatever they answered.
     ghost made: { Self → Made };
 
-    /// The count of failed calls. It takes no memory.
+    /// The count of failed calls.
     fn faults(&self) -> u64
         ensures { result ≡ count self.now };
 

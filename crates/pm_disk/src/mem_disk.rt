@@ -38,7 +38,6 @@ impl MemDisk {
     ghost use Rattle.pm_disk.specs.MemDisk.{start_of, fails_of, calls_of, refused_of, held_of, contents_of, MayLeave, moment_of, MayHaveLeft, count_of, made_of, fails_next, Answers};
 
     /// A disk that holds these bytes, all of them synced, and that fails the calls of these numbers.
-    /// It takes no memory.
     pub fn new(contents: Vec<u8>, fails: Vec<u64>) -> MemDisk
         ensures start { start_of result ≡ contents.items }
         ensures fails { fails_of result ≡ fails.items }
@@ -71,7 +70,7 @@ impl MemDisk {
     }
 
     /// All its calls in their order, those that failed among them, but for those that were refused
-    /// memory. It takes no memory.
+    /// memory.
     pub fn calls(&self) -> &[DiskCall]
         ensures { result.now ≡ calls_of self.now }
     {

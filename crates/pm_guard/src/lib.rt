@@ -26,7 +26,7 @@ impl Model for Guard {
 }
 
 impl Guard {
-    /// No anchor. It takes no memory.
+    /// No anchor.
     pub fn new() -> Guard
         ensures { result ≡ None }
     {
@@ -34,7 +34,7 @@ impl Guard {
     }
 
     /// Notes the object at this address as the anchor, with the number of the train to which it goes,
-    /// in place of an earlier anchor. It takes no memory.
+    /// in place of an earlier anchor.
     pub fn note(&mut self, at: Addr, train: u64)
         ensures { self.new ≡ Some (at, train) }
     {
@@ -49,7 +49,7 @@ impl Guard {
         self.noted
     }
 
-    /// Takes the anchor away. It takes no memory.
+    /// Takes the anchor away.
     pub fn clear(&mut self)
         ensures { self.new ≡ None }
     {

@@ -65,7 +65,7 @@ impl Handles {
         let _registers = self.held.len();
     }
 
-    /// What this register of this client holds, or `None` where it is empty. It takes no memory.
+    /// What this register of this client holds, or `None` where it is empty.
     pub fn get(&self, client: u32, register: u32) -> Option<Addr>
         requires client { client < CLIENTS }
         requires register { register < REGISTERS }

@@ -30,21 +30,21 @@ impl Model for SlotList {
 }
 
 impl SlotList {
-    /// These slots. It takes no memory.
+    /// These slots.
     pub fn from_vec(items: Vec<(u32, Slot)>) -> Self
         ensures { result ≡ items.items }
     {
         SlotList { items }
     }
 
-    /// The slots, lent. It takes no memory.
+    /// The slots, lent.
     pub fn as_slice(&self) -> &[(u32, Slot)]
         ensures { result.now ≡ self.now }
     {
         self.items.as_slice()
     }
 
-    /// The slots, given back. It takes no memory.
+    /// The slots, given back.
     pub fn into_vec(self) -> Vec<(u32, Slot)>
         ensures { result.items ≡ self }
     {

@@ -44,21 +44,21 @@ impl Model for EntryList {
 }
 
 impl EntryList {
-    /// These entries. It takes no memory.
+    /// These entries.
     pub fn from_vec(items: Vec<CatEntry>) -> Self
         ensures { result ≡ items.items }
     {
         EntryList { items }
     }
 
-    /// The entries, lent. It takes no memory.
+    /// The entries, lent.
     pub fn as_slice(&self) -> &[CatEntry]
         ensures { result.now ≡ self.now }
     {
         self.items.as_slice()
     }
 
-    /// The entries, given back. It takes no memory.
+    /// The entries, given back.
     pub fn into_vec(self) -> Vec<CatEntry>
         ensures { result.items ≡ self }
     {

@@ -41,7 +41,7 @@ impl Model for Met {
 }
 
 impl Met {
-    /// Nothing was met. It takes no memory.
+    /// Nothing was met.
     pub fn new(alloc: Global) -> Self
         ensures { result ≡ nothing_met }
     {
@@ -63,21 +63,21 @@ impl Met {
         Ok(met)
     }
 
-    /// A car of this number was met. It takes no memory.
+    /// A car of this number was met.
     pub(crate) fn has_car(&self, car: u64) -> bool
         ensures { result ≡ set.contains self.now.cars car }
     {
         self.cars.contains(car)
     }
 
-    /// The train of the last car, 0 before the first. It takes no memory.
+    /// The train of the last car, 0 before the first.
     pub(crate) fn train(&self) -> u64
         ensures { result ≡ self.now.train }
     {
         self.train
     }
 
-    /// A root was met. It takes no memory.
+    /// A root was met.
     pub(crate) fn has_root(&self) -> bool
         ensures { result ≡ is_some self.now.name }
     {
@@ -95,7 +95,7 @@ impl Met {
         }
     }
 
-    /// The name comes after that of the last root. It takes no memory.
+    /// The name comes after that of the last root.
     pub(crate) fn is_next_name(&self, name: &Name) -> bool
         ensures { result ≡ is_next_name self.now.name name.now }
     {
@@ -105,7 +105,7 @@ impl Met {
         }
     }
 
-    /// One root more is within the limit of a store; a page by itself has none. It takes no memory.
+    /// One root more is within the limit of a store; a page by itself has none.
     pub(crate) fn has_root_left(&self, count: Option<u64>) -> bool
         ensures { result ≡ has_root_left count self.now.roots }
     {

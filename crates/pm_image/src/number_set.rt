@@ -25,7 +25,7 @@ impl Model for NumberSet {
 }
 
 impl NumberSet {
-    /// No number. It takes no memory.
+    /// No number.
     pub fn new(alloc: Global) -> Self
         ensures { result ≡ set.empty }
     {
@@ -34,7 +34,7 @@ impl NumberSet {
         }
     }
 
-    /// Whether the number is one of them. It takes no memory.
+    /// Whether the number is one of them.
     pub fn contains(&self, number: u64) -> bool
         ensures { result ≡ set.contains self.now number }
     {

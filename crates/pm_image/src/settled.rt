@@ -32,21 +32,21 @@ impl Model for Settled {
 }
 
 impl Settled {
-    /// These cars. It takes no memory.
+    /// These cars.
     pub fn from_vec(items: Vec<KeptPage>) -> Self
         ensures { result ≡ items.items }
     {
         Settled { items }
     }
 
-    /// The cars, lent. It takes no memory.
+    /// The cars, lent.
     pub fn as_slice(&self) -> &[KeptPage]
         ensures { result.now ≡ self.now }
     {
         self.items.as_slice()
     }
 
-    /// The cars, given back. It takes no memory.
+    /// The cars, given back.
     pub fn into_vec(self) -> Vec<KeptPage>
         ensures { result.items ≡ self }
     {

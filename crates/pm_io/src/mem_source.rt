@@ -37,7 +37,7 @@ impl Model for MemSource {
 
 impl MemSource {
     /// These bytes, in pieces of at most `piece` bytes a call, at least 1. It fails exactly the calls
-    /// of `take` whose number, counted from 1, is in `fails`. It takes no memory.
+    /// of `take` whose number, counted from 1, is in `fails`.
     pub fn new(bytes: Vec<u8>, piece: usize, fails: Vec<u64>) -> Self
         requires { 0 < piece }
         ensures { result ≡ record {

@@ -64,7 +64,7 @@ fn write_whole<W: Write>(writer: &mut W, from: &[u8]) -> io::Result<()>
 }
 
 impl<W: Write + Drop> StdSink<W> {
-    /// A sink that hands on to the writer. It takes no memory.
+    /// A sink that hands on to the writer.
     pub fn new(writer: W) -> Self
         ensures known { result.known ≡ W.contents writer }
         ensures faults { result.faults ≡ 0 }

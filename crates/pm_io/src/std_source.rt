@@ -45,7 +45,7 @@ fn read_once<R: Read>(reader: &mut R, into: &mut [u8]) -> io::Result<usize>
 }
 
 impl<R: Read + Drop> StdSource<R> {
-    /// A source of what the reader gives. It takes no memory.
+    /// A source of what the reader gives.
     pub fn new(reader: R) -> Self
         ensures known { result.known ≡ R.remaining reader }
         ensures faults { result.faults ≡ 0 }

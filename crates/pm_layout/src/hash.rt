@@ -3,7 +3,7 @@ ghost use Rattle.sha2.specs.Sha256.{sha256};
 
 use sha2::{Digest, Sha256};
 
-/// The digest of the bytes: SHA-256 of FIPS 180-4. It takes no memory.
+/// The digest of the bytes: SHA-256 of FIPS 180-4.
 pub fn digest(bytes: &[u8]) -> [u8; 32]
     ensures { result ≡ sha256 bytes.now }
 {

@@ -98,7 +98,7 @@ fn put_body(out: &mut [u8], header: &Header)
     back.copy_from_slice(&header.digest);
 }
 
-/// The bytes of the header. It takes no memory.
+/// The bytes of the header.
 #[tactic(auto, unfolding(crate::specs::Headers::header_spelling))]
 pub fn write_header(header: &Header) -> [u8; 96]
     requires { HasHeaderSpelling header.now }
@@ -175,7 +175,7 @@ fn header_at(bytes: &[u8; 96]) -> Result<Header, HeaderFault>
     })
 }
 
-/// The header that the bytes spell. It takes no memory.
+/// The header that the bytes spell.
 pub fn read_header(bytes: &[u8; 96]) -> Result<Header, HeaderFault>
     // What is read is spelled so.
     ensures found { IfOk result (λ header. HasHeaderSpelling header × (bytes.now ≡ header_spelling header)) }

@@ -8,7 +8,7 @@ ghost use Rattle.pm_layout.specs.Room.{HasRoom, Appends};
 
 use byteorder::{BigEndian, ByteOrder};
 
-/// The number in the two bytes from a place on, which are inside the bytes. It takes no memory.
+/// The number in the two bytes from a place on, which are inside the bytes.
 pub fn u16_at(bytes: &[u8], place: usize) -> u16
     requires { place + 2 ≤ length bytes.now }
     ensures { result ≡ number_from 2 bytes.now place }
@@ -16,7 +16,7 @@ pub fn u16_at(bytes: &[u8], place: usize) -> u16
     BigEndian::read_u16(&bytes[place..])
 }
 
-/// The number in the four bytes from a place on, which are inside the bytes. It takes no memory.
+/// The number in the four bytes from a place on, which are inside the bytes.
 pub fn u32_at(bytes: &[u8], place: usize) -> u32
     requires { place + 4 ≤ length bytes.now }
     ensures { result ≡ number_from 4 bytes.now place }
@@ -24,7 +24,7 @@ pub fn u32_at(bytes: &[u8], place: usize) -> u32
     BigEndian::read_u32(&bytes[place..])
 }
 
-/// The number in the eight bytes from a place on, which are inside the bytes. It takes no memory.
+/// The number in the eight bytes from a place on, which are inside the bytes.
 pub fn u64_at(bytes: &[u8], place: usize) -> u64
     requires { place + 8 ≤ length bytes.now }
     ensures { result ≡ number_from 8 bytes.now place }
@@ -32,7 +32,7 @@ pub fn u64_at(bytes: &[u8], place: usize) -> u64
     BigEndian::read_u64(&bytes[place..])
 }
 
-/// The digest in the 32 bytes from a place on, which are inside the bytes. It takes no memory.
+/// The digest in the 32 bytes from a place on, which are inside the bytes.
 pub fn digest_at(bytes: &[u8], place: usize) -> [u8; 32]
     requires { place + 32 ≤ length bytes.now }
     ensures { result ≡ slice_range bytes.now place (place + 32) }
@@ -42,7 +42,7 @@ pub fn digest_at(bytes: &[u8], place: usize) -> [u8; 32]
     digest
 }
 
-/// Appends bytes, which there is room for. It takes no memory.
+/// Appends bytes, which there is room for.
 pub fn put_bytes(out: &mut Vec<u8>, bytes: &[u8])
     requires { HasRoom out.old (length bytes.now) }
     ensures { Appends out.old out.new bytes.now }
@@ -50,7 +50,7 @@ pub fn put_bytes(out: &mut Vec<u8>, bytes: &[u8])
     out.extend_from_slice(bytes).unwrap();
 }
 
-/// Appends a number of one byte, which there is room for. It takes no memory.
+/// Appends a number of one byte, which there is room for.
 pub fn put_u8(out: &mut Vec<u8>, byte: u8)
     requires { HasRoom out.old 1 }
     ensures { Appends out.old out.new (big_bytes 1 byte) }
@@ -58,7 +58,7 @@ pub fn put_u8(out: &mut Vec<u8>, byte: u8)
     put_bytes(out, &[byte]);
 }
 
-/// Appends a number of two bytes, which there is room for. It takes no memory.
+/// Appends a number of two bytes, which there is room for.
 pub fn put_u16(out: &mut Vec<u8>, number: u16)
     requires { HasRoom out.old 2 }
     ensures { Appends out.old out.new (big_bytes 2 number) }
@@ -68,7 +68,7 @@ pub fn put_u16(out: &mut Vec<u8>, number: u16)
     put_bytes(out, &bytes);
 }
 
-/// Appends a number of four bytes, which there is room for. It takes no memory.
+/// Appends a number of four bytes, which there is room for.
 pub fn put_u32(out: &mut Vec<u8>, number: u32)
     requires { HasRoom out.old 4 }
     ensures { Appends out.old out.new (big_bytes 4 number) }
@@ -78,7 +78,7 @@ pub fn put_u32(out: &mut Vec<u8>, number: u32)
     put_bytes(out, &bytes);
 }
 
-/// Appends a number of eight bytes, which there is room for. It takes no memory.
+/// Appends a number of eight bytes, which there is room for.
 pub fn put_u64(out: &mut Vec<u8>, number: u64)
     requires { HasRoom out.old 8 }
     ensures { Appends out.old out.new (big_bytes 8 number) }

@@ -75,7 +75,6 @@ fn byte_count_at(bytes: &[u8], place: usize) -> Result<u32, LayoutFault>
 }
 
 /// The address in the twelve bytes from a place on, which are inside the bytes, whatever its numbers are.
-/// It takes no memory.
 pub fn address_at(bytes: &[u8], place: usize) -> Addr
     requires { place + 12 ≤ length bytes.now }
     ensures { result ≡ address_at bytes.now place }

@@ -8,7 +8,7 @@ use crate::kind::{LIVE, MOVED};
 use crate::number::{put_bytes, put_u8, put_u16, put_u32, put_u64};
 use pm_types::{Addr, FIELDS, NoMemory, Object, Slot};
 
-/// How many bytes the slot is spelled in. It takes no memory.
+/// How many bytes the slot is spelled in.
 pub fn size(slot: &Slot) -> u32
     requires { IsWithinLimits FIELDS slot.now }
     ensures counted { result ≡ slot_size slot.now }
@@ -24,7 +24,7 @@ pub fn size(slot: &Slot) -> u32
     }
 }
 
-/// Appends an address, of twelve bytes, which there is room for. It takes no memory.
+/// Appends an address, of twelve bytes, which there is room for.
 #[tactic(auto, unfolding(crate::specs::Spelling::address))]
 pub fn put_address(out: &mut Vec<u8>, to: &Addr)
     requires { HasRoom out.old 12 }

@@ -45,7 +45,7 @@ impl Model for Memory {
 }
 
 impl Memory {
-    /// The world in which nothing was ever made. It takes no memory.
+    /// The world in which nothing was ever made.
     pub fn new(alloc: Global) -> Memory
         ensures { result ≡ empty_world }
     {
@@ -70,7 +70,7 @@ impl Memory {
         }
     }
 
-    /// The number of the copy in progress, and that copy, lent. It takes no memory.
+    /// The number of the copy in progress, and that copy, lent.
     pub fn in_progress(&self) -> Option<&(u32, Graph)>
         ensures begun { option_map (λ begun. begun.now) result ≡ self.now.saving }
         ensures plain { IsPlainSave self.now.settled self.now.saving }

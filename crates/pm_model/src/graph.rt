@@ -30,7 +30,7 @@ impl Model for Graph {
 }
 
 impl Graph {
-    /// These parts, as one value. It takes no memory.
+    /// These parts, as one value.
     pub fn new(objects: Objects, roots: Roots, next: u64) -> Graph
         ensures objects { result.heap ≡ objects }
         ensures roots { result.roots ≡ roots }
@@ -43,7 +43,7 @@ impl Graph {
         }
     }
 
-    /// The copy of nothing. It takes no memory.
+    /// The copy of nothing.
     pub fn empty(alloc: Global) -> Graph
         ensures { result ≡ empty_copy }
     {
@@ -73,7 +73,7 @@ impl Graph {
         })
     }
 
-    /// The objects, the names and the next identity, given back. It takes no memory.
+    /// The objects, the names and the next identity, given back.
     pub fn into_parts(self) -> (Objects, Roots, u64)
         ensures objects { result.0 ≡ self.heap }
         ensures roots { result.1 ≡ self.roots }
@@ -87,21 +87,21 @@ impl Graph {
         (objects, roots, next)
     }
 
-    /// The objects, lent. It takes no memory.
+    /// The objects, lent.
     pub fn objects(&self) -> &Objects
         ensures { result.now ≡ self.now.heap }
     {
         &self.objects
     }
 
-    /// The names, lent. It takes no memory.
+    /// The names, lent.
     pub fn roots(&self) -> &Roots
         ensures { result.now ≡ self.now.roots }
     {
         &self.roots
     }
 
-    /// The next identity. It takes no memory.
+    /// The next identity.
     pub fn next(&self) -> u64
         ensures { result ≡ self.now.next }
     {

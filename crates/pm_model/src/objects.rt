@@ -28,7 +28,7 @@ impl Model for Node {
 }
 
 impl Node {
-    /// An object of these fields, each null or an identity, and these bytes. It takes no memory.
+    /// An object of these fields, each null or an identity, and these bytes.
     pub fn new(fields: Vec<Option<Id>>, bytes: Bytes) -> Node
         ensures fields { result.fields ≡ fields.items }
         ensures bytes { result.bytes ≡ bytes }
@@ -45,14 +45,14 @@ impl Node {
         Ok(Node { fields, bytes })
     }
 
-    /// The fields, lent. It takes no memory.
+    /// The fields, lent.
     pub fn fields(&self) -> &[Option<Id>]
         ensures { result.now ≡ self.now.fields }
     {
         self.fields.as_slice()
     }
 
-    /// The bytes, lent. It takes no memory.
+    /// The bytes, lent.
     pub fn bytes(&self) -> &Bytes
         ensures { result.now ≡ self.now.bytes }
     {
@@ -132,7 +132,7 @@ impl Model for Objects {
 }
 
 impl Objects {
-    /// A heap with no object. It takes no memory.
+    /// A heap with no object.
     pub fn new(alloc: Global) -> Self
         ensures { result ≡ map.empty }
     {
@@ -141,14 +141,14 @@ impl Objects {
         }
     }
 
-    /// The object at the identity. It takes no memory.
+    /// The object at the identity.
     pub fn get(&self, id: Id) -> Option<&Node>
         ensures { option_map (λ node. node.now) result ≡ map.get self.now id }
     {
         self.nodes.get(&id)
     }
 
-    /// Goes over the objects in ascending order of their identities. It takes no memory.
+    /// Goes over the objects in ascending order of their identities.
     pub fn iter(&self) -> btree_map::Iter<'_, Id, Node>
         ensures { result ≡ map.entries self.now }
     {

@@ -50,7 +50,7 @@ impl Model for Oracle {
 }
 
 impl Oracle {
-    /// The world in which nothing was ever made. It takes no memory.
+    /// The world in which nothing was ever made.
     pub fn new(alloc: Global) -> Oracle
         ensures { result ≡ empty_world }
     {

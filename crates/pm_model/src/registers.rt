@@ -27,7 +27,7 @@ impl Model for Registers {
 }
 
 impl Registers {
-    /// Registers that are all empty. It takes no memory.
+    /// Registers that are all empty.
     pub fn new(alloc: Global) -> Self
         ensures { result ≡ map.empty }
     {
@@ -36,7 +36,7 @@ impl Registers {
         }
     }
 
-    /// What this register of this client holds. It takes no memory.
+    /// What this register of this client holds.
     pub fn get(&self, client: u32, register: u32) -> Option<Id>
         ensures { result ≡ map.get self.now (client, register) }
     {
@@ -52,14 +52,14 @@ impl Registers {
         Ok(())
     }
 
-    /// Lets this register of this client be empty. It takes no memory.
+    /// Lets this register of this client be empty.
     pub fn forget(&mut self, client: u32, register: u32)
         ensures { self.new ≡ map.remove self.old (client, register) }
     {
         self.held.remove(&(client, register));
     }
 
-    /// Lets all registers of this client be empty. It takes no memory.
+    /// Lets all registers of this client be empty.
     pub fn close(&mut self, client: u32)
         ensures { self.new ≡ map.retain_keys self.old (λ place. not (nat_eq place.0 client)) }
     {

@@ -26,7 +26,7 @@ impl Model for Roots {
 }
 
 impl Roots {
-    /// No name is bound. It takes no memory.
+    /// No name is bound.
     pub fn new(alloc: Global) -> Self
         ensures { result ≡ map.empty }
     {
@@ -35,21 +35,21 @@ impl Roots {
         }
     }
 
-    /// How many names are bound. It takes no memory.
+    /// How many names are bound.
     pub fn len(&self) -> usize
         ensures { result ≡ map.len self.now }
     {
         self.bound.len()
     }
 
-    /// What the name stands for. It takes no memory.
+    /// What the name stands for.
     pub fn get(&self, name: &Name) -> Option<Id>
         ensures { result ≡ map.get self.now name.now }
     {
         self.bound.get(name).copied()
     }
 
-    /// Goes over the names in the order of their bytes, each with what it stands for. It takes no memory.
+    /// Goes over the names in the order of their bytes, each with what it stands for.
     pub fn iter(&self) -> btree_map::Iter<'_, Name, Id>
         ensures { result ≡ map.entries self.now }
     {
@@ -83,7 +83,7 @@ impl Roots {
         Ok(())
     }
 
-    /// Lets the name be bound to nothing. It takes no memory.
+    /// Lets the name be bound to nothing.
     pub fn unbind(&mut self, name: &Name)
         ensures { self.new ≡ map.remove self.old name.now }
     {

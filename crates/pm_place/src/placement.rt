@@ -19,7 +19,7 @@ impl<F> Model for Placement<F> {
 }
 
 impl<F: Fn(&[u64]) -> usize + Drop> Placement<F> {
-    /// Keeps the chooser. It takes no memory.
+    /// Keeps the chooser.
     pub fn new(choose: F) -> Placement<F>
         requires { IsChooser F.Fn choose }
         ensures { result ≡ choose }
@@ -27,7 +27,7 @@ impl<F: Fn(&[u64]) -> usize + Drop> Placement<F> {
         Placement { choose }
     }
 
-    /// The member of the list at the index that the chooser answers for it. It takes no memory.
+    /// The member of the list at the index that the chooser answers for it.
     pub fn pick(&self, trains: &[u64]) -> u64
         requires chooser { IsChooser F.Fn self.now }
         requires some { 0 < length trains.now }

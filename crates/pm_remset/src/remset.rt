@@ -33,7 +33,7 @@ impl Model for Remset {
 }
 
 impl Remset {
-    /// A set in which nothing is remembered. It takes no memory.
+    /// A set in which nothing is remembered.
     pub fn new(alloc: Global) -> Remset
         ensures { result ≡ map.empty }
     {
@@ -43,7 +43,7 @@ impl Remset {
         }
     }
 
-    /// How many sources are remembered. It takes no memory.
+    /// How many sources are remembered.
     pub fn len(&self) -> u64
         ensures { result ≡ map.len self.now }
     {
@@ -82,7 +82,7 @@ impl Remset {
         Some(named)
     }
 
-    /// The least source that names the slot, or `None` where none does. It takes no memory.
+    /// The least source that names the slot, or `None` where none does.
     pub fn least_of(&self, slot: u32) -> Option<RefSource>
         ensures { FindsLeastOf self.now slot result }
     {
@@ -94,7 +94,7 @@ impl Remset {
     }
 
     /// The least source that is not below this one, and the slot that it names, or `None` where all are
-    /// below it. It takes no memory.
+    /// below it.
     pub fn at_or_after(&self, from: RefSource) -> Option<(RefSource, u32)>
         ensures { FindsAtOrAfter self.now from result }
     {
@@ -105,7 +105,7 @@ impl Remset {
     }
 
     /// The least source at which the test answers true, and the slot that it names, or `None` where it
-    /// answers false at all. It takes no memory.
+    /// answers false at all.
     pub fn next_where<P: Fn(RefSource, u32) -> bool + Drop>(
         &self,
         pass: P,

@@ -20,14 +20,14 @@ impl Model for Chain {
 impl Chain {
     ghost use Rattle.std.specs.Prelude.{◌≡◌};
 
-    /// These pages. It takes no memory.
+    /// These pages.
     pub(crate) fn from_vec(pages: Vec<(u64, CatalogPage)>) -> Self
         ensures { result ≡ pages.items }
     {
         Chain { pages }
     }
 
-    /// The pages, given back. It takes no memory.
+    /// The pages, given back.
     pub(crate) fn into_vec(self) -> Vec<(u64, CatalogPage)>
         ensures { result.items ≡ self }
     {

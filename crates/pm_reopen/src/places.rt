@@ -28,7 +28,7 @@ impl Idents {
     ghost use Rattle.std.specs.Prelude.{◌≡◌, OnOk};
     ghost use Rattle.std.specs.FinMap as map;
 
-    /// No object. It takes no memory.
+    /// No object.
     pub(crate) fn new(alloc: Global) -> Self
         ensures { result ≡ map.empty }
     {
@@ -37,7 +37,7 @@ impl Idents {
         }
     }
 
-    /// The identity of the object in a slot. It takes no memory.
+    /// The identity of the object in a slot.
     pub(crate) fn get(&self, slot: u32) -> Option<Id>
         ensures { result ≡ map.get self.now slot }
     {
@@ -78,7 +78,7 @@ impl Places {
     ghost use Rattle.std.specs.FinMap as map;
     ghost use Rattle.pm_reopen.specs.Building.{id_at};
 
-    /// No car. It takes no memory.
+    /// No car.
     pub(crate) fn new(alloc: Global) -> Self
         ensures { result ≡ map.empty }
     {
@@ -87,14 +87,14 @@ impl Places {
         }
     }
 
-    /// The objects of a car. It takes no memory.
+    /// The objects of a car.
     fn car(&self, number: u64) -> Option<&Idents>
         ensures { option_map (λ ids. ids.now) result ≡ map.get self.now number }
     {
         self.cars.get(&number)
     }
 
-    /// The identity of the object at an address. It takes no memory.
+    /// The identity of the object at an address.
     pub(crate) fn find(&self, at: Addr) -> Option<Id>
         ensures { result ≡ id_at self.now at }
     {

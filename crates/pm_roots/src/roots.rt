@@ -69,7 +69,7 @@ fn add(
 }
 
 impl Roots {
-    /// No name is bound. It takes no memory.
+    /// No name is bound.
     pub fn new(alloc: Global) -> Self
         ensures { result ≡ map.empty }
     {
@@ -87,14 +87,14 @@ impl Roots {
         let _names = self.names.len();
     }
 
-    /// How many names are bound. It takes no memory.
+    /// How many names are bound.
     pub fn len(&self) -> u64
         ensures { result ≡ map.len self.now }
     {
         self.names.len() as u64
     }
 
-    /// The number and the address of the name. It takes no memory.
+    /// The number and the address of the name.
     pub fn find(&self, name: &Name) -> Option<(u64, Addr)>
         ensures { result ≡ map.get self.now name.now }
     {
@@ -107,7 +107,7 @@ impl Roots {
         }
     }
 
-    /// The address under the number, where some name has it. It takes no memory.
+    /// The address under the number, where some name has it.
     pub fn at(&self, number: u64) -> Option<Addr>
         ensures value { result ≡ address_at self.now number }
         ensures bound { IfSome result (IsBound self.now number) }
@@ -117,7 +117,6 @@ impl Roots {
     }
 
     /// The name, number and address at the place, counted from 0 in ascending order of the names' bytes.
-    /// It takes no memory.
     pub fn nth(&self, place: u64) -> (&Name, u64, Addr)
         requires { place < map.len self.now }
         ensures { slice_get (map.entries self.now) place ≡ Some (result.0.now, (result.1, result.2)) }
@@ -160,7 +159,7 @@ impl Roots {
     }
 
     /// Takes the name away, and answers the number and the address that it was bound to; `None` exactly
-    /// where it is not bound. The number is the next that is given. It takes no memory.
+    /// where it is not bound. The number is the next that is given.
     pub fn unbind(&mut self, name: &Name) -> Option<(u64, Addr)>
         ensures value { result ≡ map.get self.old name.now }
         ensures names { self.new ≡ map.remove self.old name.now }
@@ -176,7 +175,7 @@ impl Roots {
         }
     }
 
-    /// Sets the address under a number that some name has. It takes no memory.
+    /// Sets the address under a number that some name has.
     pub fn set(&mut self, number: u64, at: Addr)
         requires { IsSome (address_at self.old number) }
         ensures names { (name : List ℕ) → map.get self.new name ≡ with_address number at (map.get self.old name) }

@@ -21,7 +21,7 @@ pub(crate) struct Cutting {
     used: usize,
 }
 
-/// How many bytes the entry is spelled in. It takes no memory.
+/// How many bytes the entry is spelled in.
 fn entry_size(entry: &CatEntry) -> usize
     ensures exact { result ≡ entry_size entry.now }
     ensures small { result ≤ 78 }
@@ -33,7 +33,7 @@ fn entry_size(entry: &CatEntry) -> usize
 }
 
 impl Cutting {
-    /// No entry was met. It takes no memory.
+    /// No entry was met.
     fn new(alloc: Global) -> Cutting
         ensures { IsCutting [] result }
     {

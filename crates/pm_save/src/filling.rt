@@ -49,7 +49,7 @@ fn plain_slot(alloc: Global, id: Id, node: &Node) -> Result<Slot, NoMemory>
 }
 
 impl Filling {
-    /// No car was begun. It takes no memory.
+    /// No car was begun.
     fn new(alloc: Global) -> Filling
         ensures slots { result.slots.items ≡ [] }
         ensures used { result.used ≡ 14 }
@@ -83,7 +83,7 @@ impl Filling {
         Ok(())
     }
 
-    /// Takes the car that is being filled, and begins the next one. It takes no memory.
+    /// Takes the car that is being filled, and begins the next one.
     fn take_car(&mut self, alloc: Global) -> CarImage
         ensures number { result.number ≡ length self.old.entries.items + 1 }
         ensures taken { result.slots ≡ self.old.slots.items }

@@ -28,7 +28,7 @@ impl Model for Places {
 }
 
 impl Places {
-    /// No object was put anywhere. It takes no memory.
+    /// No object was put anywhere.
     pub(crate) fn new(alloc: Global) -> Self
         ensures { result ≡ map.empty }
     {
@@ -37,7 +37,7 @@ impl Places {
         }
     }
 
-    /// Where the object of this identity is. It takes no memory.
+    /// Where the object of this identity is.
     pub(crate) fn get(&self, id: Id) -> Option<Addr>
         ensures { result ≡ map.get self.now id }
     {

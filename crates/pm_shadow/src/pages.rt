@@ -106,28 +106,28 @@ impl<D: Disk> Pages<D> {
         }
     }
 
-    /// The disk. It takes no memory.
+    /// The disk.
     pub fn into_disk(self) -> D
         ensures { result ≡ disk_of self }
     {
         self.disk
     }
 
-    /// The disk's count of failed calls. It takes no memory.
+    /// The disk's count of failed calls.
     pub fn faults(&self) -> u64
         ensures { result ≡ D.count (disk_of self.now) }
     {
         self.disk.faults()
     }
 
-    /// The current header. It takes no memory.
+    /// The current header.
     pub fn header(&self) -> &Header
         ensures { result.now ≡ (state self.now).header }
     {
         &self.header
     }
 
-    /// How many whole pages of 16,384 bytes the store has. It takes no memory.
+    /// How many whole pages of 16,384 bytes the store has.
     pub fn page_count(&self) -> u64
         ensures { result ≡ (state self.now).count }
     {
@@ -161,7 +161,7 @@ impl<D: Disk> Pages<D> {
         Ok(page)
     }
 
-    /// Fills `into` with the bytes of a page. It takes no memory.
+    /// Fills `into` with the bytes of a page.
     pub fn read_page(&mut self, page: u64, into: &mut [u8]) -> Result<(), DiskFailed>
         requires page { page < (state self.old).count }
         requires len { length into.old ≡ PAGE_BYTES }
@@ -175,7 +175,7 @@ impl<D: Disk> Pages<D> {
         self.disk.read_at(PAGE_BYTES as u64 * page, into)
     }
 
-    /// Writes a page that was claimed. It takes no memory.
+    /// Writes a page that was claimed.
     pub fn write_page(&mut self, page: u64, bytes: &[u8]) -> Result<(), DiskFailed>
         requires claimed { (state self.old).uses page ≡ PageUse.Claimed }
         requires len { length bytes.now ≡ PAGE_BYTES }
@@ -204,7 +204,7 @@ impl<D: Disk> Pages<D> {
     {}
 
     /// Closes the gate of the slot that the next header goes to. Where it is closed already no call of
-    /// the disk is made. It takes no memory.
+    /// the disk is made.
     pub fn close_gate(&mut self) -> Result<(), DiskFailed>
         requires { (state self.old).failed ≡ false }
         ensures state { OnOk result (state self.new ≡ with_closed (state self.old)) }
@@ -226,7 +226,7 @@ impl<D: Disk> Pages<D> {
     }
 
     /// Makes this header the current one: its body is written into the other slot and synced, and then
-    /// that slot's gate alone, and synced. It takes no memory.
+    /// that slot's gate alone, and synced.
     pub fn publish(&mut self, header: &Header) -> Result<(), DiskFailed>
         requires closed { (state self.old).closed ≡ true }
         requires sound { (state self.old).failed ≡ false }

@@ -28,7 +28,7 @@ impl Table {
     ghost use Rattle.pm_shadow.specs.Uses.{IsLowestFree, with_use, renewed_uses, IsListed};
     ghost use Rattle.pm_shadow.specs.Tables.{uses_in};
 
-    /// No page is used. It takes no memory.
+    /// No page is used.
     pub(crate) fn new(alloc: Global) -> Table
         ensures { uses_in result ≡ use_of [] }
     {
@@ -86,7 +86,7 @@ impl Table {
         Ok(Table { uses, free })
     }
 
-    /// The claimed pages are those of the current copy now, and all others are free. It takes no memory.
+    /// The claimed pages are those of the current copy now, and all others are free.
     pub(crate) fn renew(&mut self)
         ensures { uses_in self.new ≡ renewed_uses (uses_in self.old) }
     {

@@ -43,7 +43,7 @@ fn starts_with(heap: &BinaryHeap<Reverse<u64>>, key: u64) -> bool
 }
 
 impl Freed {
-    /// No key. It takes no memory.
+    /// No key.
     pub(crate) fn new(alloc: Global) -> Freed
         ensures { result.keys ≡ set.empty }
     {
@@ -62,7 +62,7 @@ impl Freed {
         Ok(())
     }
 
-    /// The least key, or `None` where there is none. It takes no memory.
+    /// The least key, or `None` where there is none.
     pub(crate) fn least(&self) -> Option<u64>
         ensures some { IfSome result (IsLeastOf self.now.keys) }
         ensures none { IfNone result (self.now.keys ≡ set.empty) }
@@ -73,7 +73,7 @@ impl Freed {
         }
     }
 
-    /// Adds a key for which there is room. It takes no memory.
+    /// Adds a key for which there is room.
     pub(crate) fn put(&mut self, key: u64)
         requires room { 0 < self.old.room }
         requires new { set.contains self.old.keys key ≡ false }

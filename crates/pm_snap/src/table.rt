@@ -77,7 +77,7 @@ fn use_freed(freed: &mut Freed, next: u64, key: u64)
 }
 
 impl<T: Keep + Drop> Table<T> {
-    /// A table with no value, not frozen. It takes no memory.
+    /// A table with no value, not frozen.
     pub fn new(alloc: Global) -> Self
         ensures current { result.current ≡ map.empty }
         ensures frozen { result.frozen ≡ None }
@@ -99,7 +99,7 @@ impl<T: Keep + Drop> Table<T> {
         let _next = self.next;
     }
 
-    /// The value that the key has now. It takes no memory.
+    /// The value that the key has now.
     pub fn get(&self, key: u64) -> Option<&T>
         ensures { option_copied result ≡ map.get self.now.current key }
     {
@@ -120,7 +120,7 @@ impl<T: Keep + Drop> Table<T> {
         }
     }
 
-    /// The lowest key from 1 on that is not used now, which `add` gives. It takes no memory.
+    /// The lowest key from 1 on that is not used now, which `add` gives.
     pub fn vacant(&self) -> u64
         ensures { IsLowestUnused self.now.current result }
     {

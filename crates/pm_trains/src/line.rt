@@ -32,7 +32,7 @@ impl Model for Line {
 }
 
 impl Line {
-    /// A train without a car. It takes no memory.
+    /// A train without a car.
     pub fn new(alloc: Global, number: u64) -> Line
         ensures { result ≡ empty_train number }
     {
@@ -43,14 +43,14 @@ impl Line {
         }
     }
 
-    /// The train's number. It takes no memory.
+    /// The train's number.
     pub fn number(&self) -> u64
         ensures { result ≡ self.now.number }
     {
         self.number
     }
 
-    /// The train's cars, the first car first. It takes no memory.
+    /// The train's cars, the first car first.
     pub fn cars(&self) -> &[u64]
         ensures { result.now ≡ self.now.cars }
     {
@@ -70,7 +70,7 @@ impl Line {
         Ok(())
     }
 
-    /// Takes the first car out of the train, which has one, and answers it. It takes no memory.
+    /// Takes the first car out of the train, which has one, and answers it.
     pub fn take_first(&mut self) -> u64
         requires { 0 < length self.old.cars }
         ensures first { self.old.cars ≡ result ∷ self.new.cars }

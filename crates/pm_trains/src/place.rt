@@ -8,7 +8,7 @@ use crate::line::Line;
 use std::collections::VecDeque;
 
 /// The place, from 0, at which the train of this number stands in trains whose numbers rise, or
-/// `None` where it stands at none. It takes no memory.
+/// `None` where it stands at none.
 pub fn place_of(trains: &VecDeque<Line>, number: u64) -> Option<usize>
     requires { Rise 0 trains.now.items }
     ensures { MatchOption result (cars_at trains.now.items number ≡ None) (IsAt trains.now.items number) }

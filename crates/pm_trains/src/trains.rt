@@ -67,7 +67,7 @@ impl Trains {
         let _births = self.births;
     }
 
-    /// How many trains stand, at least 1. It takes no memory.
+    /// How many trains stand, at least 1.
     pub fn len(&self) -> u64
         ensures len { result ≡ length self.now.trains }
         ensures some { 0 < result }
@@ -75,7 +75,7 @@ impl Trains {
         self.trains.len() as u64
     }
 
-    /// How many objects were born in the open train, at most 1,024. It takes no memory.
+    /// How many objects were born in the open train, at most 1,024.
     pub fn births(&self) -> u32
         ensures births { result ≡ self.now.births }
         ensures small { result ≤ BIRTHS }
@@ -83,7 +83,7 @@ impl Trains {
         self.births
     }
 
-    /// The number of the oldest train that has a car, or `None` where no car stands. It takes no memory.
+    /// The number of the oldest train that has a car, or `None` where no car stands.
     pub fn oldest(&self) -> Option<u64>
         ensures train { result ≡ oldest self.now.trains }
         ensures car { IfSome result (λ train. HasCar self.now.trains train) }
@@ -96,7 +96,7 @@ impl Trains {
         }
     }
 
-    /// The number of the youngest train, which is the open one. It takes no memory.
+    /// The number of the youngest train, which is the open one.
     pub fn youngest(&self) -> u64
         ensures train { result ≡ youngest self.now.trains }
         ensures stands { IsSome (cars_at self.now.trains result) }
@@ -104,7 +104,7 @@ impl Trains {
         self.trains[self.trains.len() - 1].number()
     }
 
-    /// The number of the train at this place, counted from 0, the oldest first. It takes no memory.
+    /// The number of the train at this place, counted from 0, the oldest first.
     pub fn nth(&self, place: u64) -> u64
         requires { place < length self.now.trains }
         ensures train { result ≡ slice_index (map (λ train. train.number) self.now.trains) place }
@@ -113,7 +113,7 @@ impl Trains {
         self.trains[place as usize].number()
     }
 
-    /// The cars of this train, which stands, the first car first. It takes no memory.
+    /// The cars of this train, which stands, the first car first.
     pub fn cars(&self, train: u64) -> &[u64]
         requires { IsSome (cars_at self.now.trains train) }
         ensures { cars_at self.now.trains train ≡ Some result.now }
@@ -124,7 +124,7 @@ impl Trains {
         }
     }
 
-    /// The first car of this train, or `None` where it has none or does not stand. It takes no memory.
+    /// The first car of this train, or `None` where it has none or does not stand.
     pub fn first_car(&self, train: u64) -> Option<u64>
         ensures car { result ≡ first_car self.now.trains train }
         ensures has { IfSome result (λ _. HasCar self.now.trains train) }
@@ -134,7 +134,7 @@ impl Trains {
         self.trains[place].cars().first().copied()
     }
 
-    /// The last car of this train, or `None` where it has none or does not stand. It takes no memory.
+    /// The last car of this train, or `None` where it has none or does not stand.
     pub fn tail(&self, train: u64) -> Option<u64>
         ensures car { result ≡ tail self.now.trains train }
         ensures has { IfSome result (λ _. HasCar self.now.trains train) }
@@ -144,7 +144,7 @@ impl Trains {
         self.trains[place].cars().last().copied()
     }
 
-    /// The number of the train in which this car, which stands, is. It takes no memory.
+    /// The number of the train in which this car, which stands, is.
     pub fn train_of(&self, car: u64) -> u64
         requires { IsSome (train_of self.now.trains car) }
         ensures train { train_of self.now.trains car ≡ Some result }
@@ -156,7 +156,7 @@ impl Trains {
         }
     }
 
-    /// One more object was born in the open train. It takes no memory.
+    /// One more object was born in the open train.
     pub fn born(&mut self)
         requires { self.old.births < BIRTHS }
         ensures after { self.new ≡ record self.old { births = self.old.births + 1 } }
@@ -218,7 +218,7 @@ impl Trains {
     }
 
     /// Takes the first car of this train, which has one, out of it. A train left empty goes unless it
-    /// is the youngest. It takes no memory.
+    /// is the youngest.
     pub fn remove_first(&mut self, train: u64)
         requires { HasCar self.old.trains train }
         ensures after { self.new ≡ record self.old { trains = without_first train self.old.trains } }

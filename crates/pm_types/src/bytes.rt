@@ -22,21 +22,21 @@ impl Model for Bytes {
 }
 
 impl Bytes {
-    /// These bytes. It takes no memory.
+    /// These bytes.
     pub fn from_vec(items: Vec<u8>) -> Self
         ensures { result ≡ items.items }
     {
         Bytes { items }
     }
 
-    /// The bytes, lent. It takes no memory.
+    /// The bytes, lent.
     pub fn as_slice(&self) -> &[u8]
         ensures { result.now ≡ self.now }
     {
         self.items.as_slice()
     }
 
-    /// The bytes, given back. It takes no memory.
+    /// The bytes, given back.
     pub fn into_vec(self) -> Vec<u8>
         ensures { result.items ≡ self }
     {

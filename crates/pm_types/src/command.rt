@@ -7,29 +7,65 @@ use std::alloc::Global;
 #[derive(Debug, Drop)]
 pub enum Cmd {
     /// Make an object of `count` null fields and these bytes, and hold it in `reg`.
-    New { reg: Reg, count: u32, bytes: Bytes },
+    New {
+        reg: Reg,
+        count: u32,
+        bytes: Bytes,
+    },
     /// Let `to` hold what field `index` of `reg`'s object holds. A null field leaves `to` empty.
-    Load { to: Reg, reg: Reg, index: u32 },
+    Load {
+        to: Reg,
+        reg: Reg,
+        index: u32,
+    },
     /// Let field `index` of `reg`'s object hold what `value` holds.
-    Store { reg: Reg, index: u32, value: Reg },
+    Store {
+        reg: Reg,
+        index: u32,
+        value: Reg,
+    },
     /// Let field `index` of `reg`'s object be null.
-    Clear { reg: Reg, index: u32 },
+    Clear {
+        reg: Reg,
+        index: u32,
+    },
     /// Tell the bytes of the object that `reg` holds.
-    Show { reg: Reg },
+    Show {
+        reg: Reg,
+    },
     /// Put these bytes into the object that `reg` holds, from byte `at` on, counted from 0.
-    Put { reg: Reg, at: u32, bytes: Bytes },
+    Put {
+        reg: Reg,
+        at: u32,
+        bytes: Bytes,
+    },
     /// Let `to` hold what `reg` holds.
-    Copy { to: Reg, reg: Reg },
+    Copy {
+        to: Reg,
+        reg: Reg,
+    },
     /// Tell the identity of what `reg` holds.
-    IdOf { reg: Reg },
+    IdOf {
+        reg: Reg,
+    },
     /// Let `reg` be empty.
-    Forget { reg: Reg },
+    Forget {
+        reg: Reg,
+    },
     /// Bind the name to what `reg` holds, in place of an earlier binding.
-    Bind { name: Name, reg: Reg },
+    Bind {
+        name: Name,
+        reg: Reg,
+    },
     /// Let the name be bound to nothing.
-    Unbind { name: Name },
+    Unbind {
+        name: Name,
+    },
     /// Let `to` hold what the name is bound to.
-    Find { to: Reg, name: Name },
+    Find {
+        to: Reg,
+        name: Name,
+    },
     /// Begin a copy of all that the names reach.
     Save,
     /// Settle the copy that is in progress.

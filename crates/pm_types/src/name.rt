@@ -127,7 +127,7 @@ impl Name {
         }
     }
 
-    /// The bytes of the name, lent. It takes no memory.
+    /// The bytes of the name, lent.
     pub fn as_slice(&self) -> &[u8]
         ensures bytes { result.now ≡ self.now }
         ensures named { IsName self.now }

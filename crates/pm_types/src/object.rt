@@ -21,21 +21,21 @@ impl Model for Fields {
 }
 
 impl Fields {
-    /// These fields. It takes no memory.
+    /// These fields.
     pub fn from_vec(items: Vec<Option<Addr>>) -> Self
         ensures { result ≡ items.items }
     {
         Fields { items }
     }
 
-    /// The fields, lent. It takes no memory.
+    /// The fields, lent.
     pub fn as_slice(&self) -> &[Option<Addr>]
         ensures { result.now ≡ self.now }
     {
         self.items.as_slice()
     }
 
-    /// The fields, given back. It takes no memory.
+    /// The fields, given back.
     pub fn into_vec(self) -> Vec<Option<Addr>>
         ensures { result.items ≡ self }
     {

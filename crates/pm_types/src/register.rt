@@ -23,7 +23,6 @@ impl Model for Reg {
 
 impl Reg {
     /// The register of this number, or `None` exactly where the number is over 1023.
-    /// It takes no memory.
     pub fn new(number: u32) -> Option<Reg>
         ensures none { IsNone result ↔ (REGISTERS ≤ number) }
         ensures number { IfSome result (λ reg. reg ≡ number) }
@@ -35,7 +34,7 @@ impl Reg {
         }
     }
 
-    /// The register's number. It takes no memory.
+    /// The register's number.
     pub fn number(&self) -> u32
         ensures number { result ≡ self.now }
         ensures small { self.now < REGISTERS }

@@ -110,11 +110,7 @@ fn command(alloc: Global, ask: Ask) -> Result<Cmd, Fail> {
 }
 
 // Asks the rows one after another, each of the client that it names.
-fn ask_all(
-    alloc: Global,
-    oracle: &mut Oracle,
-    rows: Vec<(u32, Ask, Reply)>,
-) -> Result<(), Fail> {
+fn ask_all(alloc: Global, oracle: &mut Oracle, rows: Vec<(u32, Ask, Reply)>) -> Result<(), Fail> {
     for (client, ask, reply) in rows {
         let cmd = command(alloc, ask)?;
         if oracle.answer(alloc, client % 8, &cmd)? != reply {
@@ -157,7 +153,7 @@ fn fields_bytes_and_registers(rt: HostRuntime) -> Result<(), Fail> {
         (1, Ask::Unroot(b"zz"), Reply::NoRoot),
         (1, Ask::Root(b"zz", 3), Reply::Done),
         (1, Ask::Unroot(b"zz"), Reply::Done),
-        (1, Ask::Find(3, b"zz"), Reply::NoRoot)
+        (1, Ask::Find(3, b"zz"), Reply::NoRoot),
     ]?;
     ask_all(alloc, &mut oracle, rows)
 }
@@ -184,7 +180,7 @@ fn swaps_and_copies(rt: HostRuntime) -> Result<(), Fail> {
         (0, Ask::Save, Reply::Begun(1)),
         (1, Ask::Settle, Reply::Saved(1)),
         (0, Ask::Settle, Reply::Idle),
-        (0, Ask::Save, Reply::Begun(2))
+        (0, Ask::Save, Reply::Begun(2)),
     ]?;
     ask_all(alloc, &mut oracle, rows)
 }
@@ -200,7 +196,7 @@ fn as_many_watches_and_names_as_there_may_be(rt: HostRuntime) -> Result<(), Fail
     }
     let rows = vec![in alloc;
         (0, Ask::Watch, Reply::TooManyWatches),
-        (0, Ask::New(1, 0, b""), Reply::Ident(1))
+        (0, Ask::New(1, 0, b""), Reply::Ident(1)),
     ]?;
     ask_all(alloc, &mut oracle, rows)?;
     let reg = register(1)?;
@@ -215,7 +211,7 @@ fn as_many_watches_and_names_as_there_may_be(rt: HostRuntime) -> Result<(), Fail
         (0, Ask::Root(b"one-more", 1), Reply::TooManyRoots),
         (0, Ask::Root(b"17", 1), Reply::Done),
         (0, Ask::Unroot(b"17"), Reply::Done),
-        (0, Ask::Root(b"one-more", 1), Reply::Done)
+        (0, Ask::Root(b"one-more", 1), Reply::Done),
     ]?;
     ask_all(alloc, &mut oracle, rows)
 }
@@ -224,7 +220,10 @@ fn as_many_watches_and_names_as_there_may_be(rt: HostRuntime) -> Result<(), Fail
 fn identities_and_copies_that_are_spent(rt: HostRuntime) -> Result<(), Fail> {
     let alloc = rt.alloc();
     let mut objects = Objects::new(alloc);
-    objects.insert(LAST_ID, Node::new(vec![in alloc; None]?, bytes(alloc, b"")?))?;
+    objects.insert(
+        LAST_ID,
+        Node::new(vec![in alloc; None]?, bytes(alloc, b"")?),
+    )?;
     let mut roots = Roots::new(alloc);
     roots.bind(name(alloc, b"a")?, LAST_ID)?;
     let mut oracle = Oracle {
@@ -241,7 +240,7 @@ fn identities_and_copies_that_are_spent(rt: HostRuntime) -> Result<(), Fail> {
         (0, Ask::New(1, 0, b""), Reply::IdsSpent),
         (0, Ask::Find(1, b"a"), Reply::Ident(LAST_ID)),
         (0, Ask::Load(2, 1, 0), Reply::Null),
-        (0, Ask::Save, Reply::SavesSpent)
+        (0, Ask::Save, Reply::SavesSpent),
     ]?;
     ask_all(alloc, &mut oracle, rows)
 }
