@@ -29,12 +29,11 @@ pub new_told : (world : World) (client reg count id : ℕ) (bytes : List ℕ) �
 unfolding answer
 new_told world client reg count id bytes is =
     let made = holding (with_object world (fresh count bytes)) client reg world.next in
-    let one = made_one (ltb FIELDS count || ltb OBJECT_BYTES (length bytes)) (ltb LAST_ID world.next) world made id is in
-    (
+    let one = made_one (ltb FIELDS count || ltb OBJECT_BYTES (length bytes)) (ltb LAST_ID world.next) world made id is in (
       one.0,
       ap (λ (w : World). w.next) one.1 ∙ ap (λ n. n + 1) (sym one.0),
       ap (λ (w : World). held w client reg) one.1 ∙ insert_here places_total places_antisymmetric world.registers (client, reg) world.next ∙ ap Some (sym one.0),
-      ap (λ (w : World). get w.heap id) one.1 ∙ ap (get made.heap) one.0 ∙ insert_here nat_cmp_total nat_cmp-IsAntisymmetric world.heap world.next (fresh count bytes)
+      ap (λ (w : World). get w.heap id) one.1 ∙ ap (get made.heap) one.0 ∙ insert_here nat_cmp_total nat_cmp-IsAntisymmetric world.heap world.next (fresh count bytes),
     )
 
 copied_one : (world : World) (client to id : ℕ) (from : Option ℕ) → (answer_copy world client to from).0 ≡ Ident id → (from ≡ Some id) × (held (answer_copy world client to from).1 client to ≡ Some id)
@@ -147,10 +146,9 @@ unfolding IsOver over
 put_over world id at bytes object true there within is = absurd (cc (is))
 put_over world id at bytes object false there within is =
     let here = insert_here nat_cmp_total nat_cmp-IsAntisymmetric world.heap id (with_bytes object at bytes) in
-    let small = within refl in
-    (
+    let small = within refl in (
       λ j inside. ap (λ found. slice_get (bytes_of found) (at + j)) here ∙ over_inside at object.bytes bytes j small inside,
-      λ k outside. ap (λ found. slice_get (bytes_of found) k) here ∙ over_outside at object.bytes bytes k small outside ∙ ap (λ found. slice_get (bytes_of found) k) (sym there)
+      λ k outside. ap (λ found. slice_get (bytes_of found) k) here ∙ over_outside at object.bytes bytes k small outside ∙ ap (λ found. slice_get (bytes_of found) k) (sym there),
     )
 
 putting_over : (world : World) (id at : ℕ) (bytes : List ℕ) (found : Option Object) → get world.heap id ≡ found → (putting world id at bytes found).0 ≡ Done → IsOver world (putting world id at bytes found).1 id at bytes
