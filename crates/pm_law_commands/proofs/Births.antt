@@ -42,10 +42,13 @@ null_names view (suc n) = ap (λ xs. None ∷ xs) (null_names view n)
 
 module _ (view : SpaceView) (law : HeapLaw view) (room : view.next ≤ LAST_ID) where
   -- a space whose next identity was given keeps the heap law
-  spent_law : HeapLaw (spent view)
+  pub spent_law : HeapLaw (spent view)
   spent_law = record {
     built = record {
-      trains = law.built.trains; linked = law.built.linked; sets = law.built.sets; queues = law.built.queues;
+      trains = law.built.trains;
+      linked = law.built.linked;
+      sets = law.built.sets;
+      queues = law.built.queues;
       cars = λ n car is. let was = law.built.cars n car is in record { numbered = was.numbered; from_one = was.from_one; sound = was.sound; live = was.live; moved = was.moved };
       objects = λ a o is. let was = law.built.objects a o is in record { first = was.first; given = omega (arith, was.given); fields = was.fields; bytes = was.bytes };
       apart = law.built.apart;
@@ -60,12 +63,16 @@ module _ (view : SpaceView) (law : HeapLaw view) (room : view.next ≤ LAST_ID) 
 
   spent_stands : (world : World) → Represents view world → Represents (spent view) (record world { next = world.next + 1 })
   spent_stands world stands = record {
-    roots = stands.roots; registers = stands.registers; next = ap (λ n. n + 1) stands.next; objects = stands.objects; reached = λ id path. let was = stands.reached id path in (was.0, record { kept = was.1.kept; here = was.1.here });
+    roots = stands.roots;
+    registers = stands.registers;
+    next = ap (λ n. n + 1) stands.next;
+    objects = stands.objects;
+    reached = λ id path. let was = stands.reached id path in (was.0, record { kept = was.1.kept; here = was.1.here });
     leftover = λ a o free is none. let was = stands.leftover a o free is none in record { name = was.name; register = was.register; field = was.field };
   }
 
   -- the new object may be born
-  may_be_born : (count : ℕ) (bytes : List ℕ) → count ≤ FIELDS → length bytes ≤ OBJECT_BYTES → MayBeBorn (spent view) (fresh view count bytes)
+  pub may_be_born : (count : ℕ) (bytes : List ℕ) → count ≤ FIELDS → length bytes ≤ OBJECT_BYTES → MayBeBorn (spent view) (fresh view count bytes)
   may_be_born count bytes few short = record {
     first = let low = law.built.next.0 in omega (arith, low);
     given = omega arith;
@@ -106,14 +113,17 @@ module _ (view : SpaceView) (world : World) (law : HeapLaw view) (stands : Repre
         where
           known_then : (id : ℕ) → Some view.next ≡ Some id → IsSome (get (insert world.heap view.next (answers.fresh count bytes)) id)
           known_then id is = let same : view.next ≡ id = cc in ap is_some (at_insert world.heap view.next (answers.fresh count bytes) id ∙ cond-true _ _ _ (eq-eqb view.next id same))
+
       by_next : (b : Bool) → nat_lt LAST_ID view.next ≡ b → count ≤ FIELDS → length bytes ≤ OBJECT_BYTES
           → IsServed (if b then refused view IdsSpent else (Ident view.next, spread (born (spent view) number (fresh view count bytes)) (Handle client reg) (Some (birthplace (spent view) number (fresh view count bytes)))))
           (if b then (IdsSpent, world) else (Ident view.next, holding (with_object (record world { next = view.next }) (answers.fresh count bytes)) client reg view.next))
       by_next true spent_all few short = refused_both view world IdsSpent law stands
       by_next false more few short = made (ltb-false LAST_ID view.next more) few short
+
       same_world : ◌≡◌ {A = Reply × World} (if nat_lt LAST_ID view.next then (IdsSpent, world) else (Ident view.next, holding (with_object (record world { next = view.next }) (answers.fresh count bytes)) client reg view.next))
           (if nat_lt LAST_ID world.next then (IdsSpent, world) else (Ident world.next, holding (with_object world (answers.fresh count bytes)) client reg world.next))
       same_world = λ i. if nat_lt LAST_ID (sym stands.next i) then (IdsSpent, world) else (Ident (sym stands.next i), holding (with_object (record world { next = sym stands.next i }) (answers.fresh count bytes)) client reg (sym stands.next i))
+
       by_size : (b : Bool) → (nat_lt FIELDS count || nat_lt OBJECT_BYTES (length bytes)) ≡ b
           → IsServed (if b then refused view TooLarge else if nat_lt LAST_ID view.next then refused view IdsSpent else (Ident view.next, spread (born (spent view) number (fresh view count bytes)) (Handle client reg) (Some (birthplace (spent view) number (fresh view count bytes)))))
           (if b then (TooLarge, world) else if nat_lt LAST_ID world.next then (IdsSpent, world) else (Ident world.next, holding (with_object world (answers.fresh count bytes)) client reg world.next))

@@ -44,6 +44,7 @@ get_stripped registers client zero d s = by_case (d == client)
   where
     none_below : nat_lt s 0 ≡ false
     none_below = false_from_ne_true (nat_lt s 0) (λ less. let below = ltb-true s 0 less in omega (arith, below))
+
     by_case : (c : Bool) → get registers (d, s) ≡ cond (c && nat_lt s 0) None (get registers (d, s))
     by_case true = sym (cond-false _ _ _ none_below)
     by_case false = refl
@@ -64,8 +65,7 @@ module _ (view : SpaceView) (world : World) (client : ℕ) (law : HeapLaw view) 
   emptied_stands zero within = (law, stands)
   emptied_stands (suc n) within =
       let before = emptied_stands n (omega (arith, within)) in
-      let at : n < REGISTERS = omega (arith, within) in
-      (
+      let at : n < REGISTERS = omega (arith, within) in (
         spread_keeps_law (emptied view client n) (Handle client n) None before.0 (few, at) tt tt,
         register_stands (emptied view client n) (world_at n) client n None before.0 before.1 (few, at) tt nothing_known,
       )
@@ -86,8 +86,10 @@ module _ (view : SpaceView) (world : World) (client : ℕ) (law : HeapLaw view) 
       in_space : (o : Option Addr) → get view.registers (d, s) ≡ o → names view o ≡ Some id → s < REGISTERS
       in_space None has named = cc
       in_space (Some a) has named = (law.named.registers d s a has).1
+
       small : nat_lt s REGISTERS ≡ true
       small = lt-ltb s REGISTERS (in_space (get view.registers (d, s)) refl (sym (stands.registers (d, s)) ∙ is))
+
       by_case : (b : Bool) → cond (b && nat_lt s REGISTERS) None (Some id) ≡ cond (not b) (Some id) None
       by_case true = cond-true _ _ _ small
       by_case false = refl
@@ -97,6 +99,7 @@ module _ (view : SpaceView) (world : World) (client : ℕ) (law : HeapLaw view) 
     where
       alike : (q x : ℕ × ℕ) → place_cmp q x ≡ Equal → not (nat_eq x.0 client) ≡ not (nat_eq q.0 client)
       alike q x tie = ap (λ (p : ℕ × ℕ). not (nat_eq p.0 client)) (sym (places_antisymmetric q x tie))
+
       same : stripped world.registers client REGISTERS ≡ retain_keys world.registers (λ place. not (nat_eq place.0 client))
       same = same_map places_total places_antisymmetric _ _ (λ q.
           get_stripped world.registers client REGISTERS q.0 q.1

@@ -96,6 +96,7 @@ module _ (view : SpaceView) (world : World) (law : HeapLaw view) (stands : Repre
           (subst (λ o. IsServed (set_field view (resolve view a) index (Some (resolve view b))) (writing world it.0.id index o (get world.heap it.0.id))) (named_then view b other.0 other.1)
           (set_serves a it.0 it.3.0 index (Some (resolve view b)) it.1 it.3.1 it.3.2 (may_store view b other.0 other.1)
           (λ id is. ap (λ i. is_some (get world.heap i)) (some_ids id other.0.id (sym is ∙ named_then view b other.0 other.1)) ∙ ap is_some other.3.1))))
+
       by_reg : (o : Option Addr) → register view client reg ≡ o → IsServed (row_store view index o (register view client value)) (answer_store world index (held world client reg) (held world client value))
       by_reg None none = subst (λ o. IsServed (refused view NoHandle) (answer_store world index o (held world client value))) (sym (none_held client reg none)) (refused_both view world NoHandle law stands)
       by_reg (Some a) is = by_value a is (register view client value) refl
@@ -106,6 +107,7 @@ module _ (view : SpaceView) (world : World) (law : HeapLaw view) (stands : Repre
     where
       nothing : (id : ℕ) → None ≡ Some id → IsSome (get world.heap id)
       nothing id is = cc
+
       by_reg : (o : Option Addr) → register view client reg ≡ o → IsServed (row_clear view index o) (answer_clear world index (held world client reg))
       by_reg None none = subst (λ o. IsServed (refused view NoHandle) (answer_clear world index o)) (sym (none_held client reg none)) (refused_both view world NoHandle law stands)
       by_reg (Some a) is =
@@ -126,6 +128,7 @@ module _ (view : SpaceView) (world : World) (law : HeapLaw view) (stands : Repre
             law = bytes_keep_law view (resolve view a) at bytes law room;
             world = bytes_stand view (resolve view a) at bytes law room world object known stands there.here there.free has;
           }
+
       by_reg : (o : Option Addr) → register view client reg ≡ o → IsServed (row_put view at bytes o) (answer_put world at bytes (held world client reg))
       by_reg None none = subst (λ o. IsServed (refused view NoHandle) (answer_put world at bytes o)) (sym (none_held client reg none)) (refused_both view world NoHandle law stands)
       by_reg (Some a) is =
@@ -155,6 +158,7 @@ module _ (view : SpaceView) (world : World) (law : HeapLaw view) (stands : Repre
     where
       stored_then : set_field view (resolve view a) index (Some (resolve view value)) ≡ (Done, spread view (Field (resolve view a) index) (Some (resolve view value)))
       stored_then = ap (λ b. if b then (Done, spread view (Field (resolve view a) index) (Some (resolve view value))) else refused view NoField) (ap (λ o. is_some (field_at o index)) there.here ∙ ap is_some is)
+
       by_test : (found : kept_objects.Object) (b : Bool)
           → IsServed (if b then (Done, spread view (Field (resolve view a) index) (Some (resolve view value))) else refused view (Held found.id))
           (if b then writing world object.id index (Some value_object.id) (get world.heap object.id) else (Held found.id, world))
@@ -190,6 +194,7 @@ module _ (view : SpaceView) (world : World) (law : HeapLaw view) (stands : Repre
           (subst (λ o. IsServed (swap_field view (resolve view a) index (field_at o index) (named_in view (field_at o index)) (object_held view (Some b)) (resolve view c)) (swapping world it.0.id index was.0.id new.0.id (model_heap.field_of (Some it.3.0) index))) (sym it.1.here)
           (subst (λ o. IsServed (swap_field view (resolve view a) index (field_at (Some it.0) index) (named_in view (field_at (Some it.0) index)) o (resolve view c)) (swapping world it.0.id index was.0.id new.0.id (model_heap.field_of (Some it.3.0) index))) (sym was.1.here)
           (named_serves a it.0 it.3.0 index was.0 new.0 c it.1 it.3.1 it.3.2 new.1 (ap is_some new.3.1) (field_at (Some it.0) index) refl))))))
+
       by_old : (a : Addr) → register view client reg ≡ Some a → (o : Option Addr) → register view client old ≡ o
           → IsServed (row_swap view index (Some a) o (register view client value)) (answer_swap world index (held world client reg) (held world client old) (held world client value))
       by_old a is_a None none =
@@ -197,6 +202,7 @@ module _ (view : SpaceView) (world : World) (law : HeapLaw view) (stands : Repre
           subst (λ o. IsServed (refused view NoHandle) (answer_swap world index o (held world client old) (held world client value))) (sym it.2)
           (subst (λ o. IsServed (refused view NoHandle) (answer_swap world index (Some it.0.id) o (held world client value))) (sym (none_held client old none)) (refused_both view world NoHandle law stands))
       by_old a is_a (Some b) is_b = by_value a b is_a is_b (register view client value) refl
+
       by_reg : (o : Option Addr) → register view client reg ≡ o
           → IsServed (row_swap view index o (register view client old) (register view client value)) (answer_swap world index (held world client reg) (held world client old) (held world client value))
       by_reg None none = subst (λ o. IsServed (refused view NoHandle) (answer_swap world index o (held world client old) (held world client value))) (sym (none_held client reg none)) (refused_both view world NoHandle law stands)

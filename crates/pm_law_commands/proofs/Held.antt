@@ -43,8 +43,7 @@ at_live view c object is = ap (λ o. followed o c) is
 leads_by : (view : SpaceView) (a : Addr) (o : Option Slot) → slot_at view.cars a ≡ o → is_aside view a.car ≡ false → seen_words.Leads (seen view) a (look_of o) → (object : kept_objects.Object) × LeadsTo view a object
 leads_by view a None is free leads = absurd leads
 leads_by view a (Some (Live object)) is free leads =
-    let there : resolve view a ≡ a = ap (λ o. followed o a) is in
-    (
+    let there : resolve view a ≡ a = ap (λ o. followed o a) is in (
       object,
       record {
         here = ap (object_at view.cars) there ∙ ap object_of is;
@@ -55,8 +54,7 @@ leads_by view a (Some (Live object)) is free leads =
     )
 leads_by view a (Some (Moved to)) is free leads =
     let there : resolve view a ≡ to = ap (λ o. followed o a) is in
-    let found = object_of_live (slot_at view.cars to) leads.1.0 in
-    (
+    let found = object_of_live (slot_at view.cars to) leads.1.0 in (
       found.0,
       record {
         here = ap (object_at view.cars) there ∙ ap object_of found.1;
@@ -107,6 +105,7 @@ at_item xs k x is = (k, within xs k x is, item xs k x is)
     within [] k x is = cc
     within (y ∷ ys) zero x is = omega arith
     within (y ∷ ys) (suc k) x is = let rest = within ys k x is in omega arith
+
     item : {X : Type 0} (xs : List X) (k : ℕ) (x : X) → slice_get xs k ≡ Some x → get_or xs k x ≡ x
     item [] k x is = cc
     item (y ∷ ys) zero x is = cc

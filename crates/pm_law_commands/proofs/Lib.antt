@@ -4,3 +4,6 @@ pub mod Fields
 pub mod Naming
 pub mod Closing
 pub mod Births
+pub mod Keeps
+pub mod Refusals
+pub mod Rows

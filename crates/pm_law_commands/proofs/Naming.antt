@@ -62,6 +62,7 @@ module _ (view : SpaceView) (world : World) (law : HeapLaw view) (stands : Repre
     where
       room_test : (b : Bool) → is_some (get world.roots name) ≡ b → has_no_room world name ≡ (not b && nat_le ROOTS (len view.roots))
       room_test b same = (λ i. not (same i) && nat_le ROOTS (names_counted i))
+
       by_room : (a : Addr) (object : kept_objects.Object) → LeadsTo view a object → IsSome (get world.heap object.id) → get view.roots name ≡ None → (b : Bool) → nat_le ROOTS (len view.roots) ≡ b
           → IsServed (if b then refused view TooManyRoots else (Done, with_name view name number (resolve view a))) (if b then (TooManyRoots, world) else (Done, naming world name object.id))
       by_room a object there known none true full = refused_both view world TooManyRoots law stands
@@ -72,6 +73,7 @@ module _ (view : SpaceView) (world : World) (law : HeapLaw view) (stands : Repre
             law = name_keeps_law view name number (resolve view a) law free none few (may_store view a object there);
             world = name_stands view name number (resolve view a) law free none few (may_store view a object there) world object.id stands (named_then view a object there) known;
           }
+
       by_name : (a : Addr) (object : kept_objects.Object) → LeadsTo view a object → IsSome (get world.heap object.id) → (o : Option (ℕ × Addr)) → get view.roots name ≡ o
           → IsServed (bind view name o number (resolve view a)) (if has_no_room world name then (TooManyRoots, world) else (Done, naming world name object.id))
       by_name a object there known None none =
@@ -84,6 +86,7 @@ module _ (view : SpaceView) (world : World) (law : HeapLaw view) (stands : Repre
             law = spread_keeps_law view (Root bound.0) (Some (resolve view a)) law (ap is_some (found_by_number view.roots law.named.numbers name bound is)) refl (may_store view a object there);
             world = root_stands view world name bound.0 object.id bound.1 (resolve view a) law stands is (may_store view a object there) (named_then view a object there) known;
           })
+
       by_reg : (o : Option Addr) → register view client reg ≡ o → IsServed (row_root view name number o) (answer_root world name (held world client reg))
       by_reg None none = subst (λ o. IsServed (refused view NoHandle) (answer_root world name o)) (sym (held_is view world law stands client reg ∙ ap (names view) none)) (refused_both view world NoHandle law stands)
       by_reg (Some a) is =

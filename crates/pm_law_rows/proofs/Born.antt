@@ -341,6 +341,7 @@ module _ (view : SpaceView) (number : ℕ) (object : stored_objects.Object) (law
           subst (λ o. Gives view (with_count (put_in view open_number (Some c) number object)) object (record { car = c; slot = next_of o })) (sym found)
           (from_birth view (in_tail view c number car object law found last (room_fits car (object_room object) room) births) c car object law may
           (tail_birth view c number car object law found last (room_fits car (object_room object) room) births))
+
       by_car : (e : ℕ) → tail view.trains.trains open_number ≡ Some e → (o : Option Car) → get view.cars e ≡ o → option_and_then (λ (car : Car). if has_room car (object_room object) then Some e else None) o ≡ Some c → Gives view (with_count (put_in view open_number (Some c) number object)) object (place_in view.cars (Some c) number)
       by_car e last None found is = cc
       by_car e last (Some car) found is = by_test (has_room car (object_room object)) refl is

@@ -6,11 +6,14 @@ use Rattle.pm_types.specs.declared.limits.TheConstants.{FIELDS, OBJECT_BYTES, LA
 use Rattle.pm_types.specs.declared.address.Addr.{Addr}
 use Rattle.pm_types.specs.declared.object.Object.{Object}
 use Rattle.pm_types.specs.declared.source.RefSource.TheVariants.{Root, Handle, Field}
+use Rattle.pm_types.specs.declared.command.Cmd.{Cmd}
+use Rattle.pm_types.specs.declared.command.Cmd.TheVariants.{New, Load, Store, Clear, Show, Put, Copy, IdOf, Forget, Bind, Unbind, Find, Swap, Close, Save, Settle, Unsave, Watch}
 use Rattle.pm_types.specs.declared.reply.Reply.{Reply}
-use Rattle.pm_types.specs.declared.reply.Reply.TheVariants.{Done, Ident, Null, Shown, TooLarge, IdsSpent, NoHandle, NoField, OutOfRange, TooManyRoots, NoRoot, Held}
+use Rattle.pm_types.specs.declared.reply.Reply.TheVariants.{Done, Ident, Null, Shown, TooLarge, IdsSpent, NoHandle, NoField, OutOfRange, TooManyRoots, NoRoot, Idle, Held}
+use Rattle.pm_roots.specs.Bindings.{IsFree}
 use Rattle.pm_view.specs.View.{SpaceView}
 use Rattle.pm_view.specs.Reading.{object_at, resolve}
-use Rattle.pm_view.specs.Rows.{spread, with_name, without_name, with_bytes_at, spent, born, birthplace}
+use Rattle.pm_view.specs.Rows.{spread, with_name, without_name, with_bytes_at, spent, born, birthplace, IsVacant}
 
 -- what a register of a client stores
 abbrev pub register : SpaceView → ℕ → ℕ → Option Addr
@@ -150,3 +153,59 @@ row_new view client reg count bytes number =
       Ident view.next,
       spread (born (spent view) number (fresh view count bytes)) (Handle client reg) (Some (birthplace (spent view) number (fresh view count bytes))),
     )
+
+-- the command changes the space, and not what is saved of it or watched
+abbrev pub is_act : Cmd → Bool
+is_act Save = false
+is_act Settle = false
+is_act Unsave = false
+is_act Watch = false
+is_act cmd = true
+
+-- each register of the command is one that a client has
+abbrev pub HasRegisters : Cmd → Type 0
+HasRegisters (New reg count bytes) = reg < REGISTERS
+HasRegisters (Load to reg index) = (to < REGISTERS) × (reg < REGISTERS)
+HasRegisters (Store reg index value) = (reg < REGISTERS) × (value < REGISTERS)
+HasRegisters (Clear reg index) = reg < REGISTERS
+HasRegisters (Show reg) = reg < REGISTERS
+HasRegisters (Put reg at bytes) = reg < REGISTERS
+HasRegisters (Copy to reg) = (to < REGISTERS) × (reg < REGISTERS)
+HasRegisters (IdOf reg) = reg < REGISTERS
+HasRegisters (Forget reg) = reg < REGISTERS
+HasRegisters (Bind name reg) = reg < REGISTERS
+HasRegisters (Find to name) = to < REGISTERS
+HasRegisters (Swap reg index old value) = (reg < REGISTERS) × (old < REGISTERS) × (value < REGISTERS)
+HasRegisters cmd = Unit {0}
+
+-- what is picked for a command: the number of a root that no name has, and the least number from 1 on that no car has
+pub record Picks : Type 0 where
+  pub root : ℕ
+  pub car : ℕ
+
+-- they are what is asked
+pub record ArePicked (view : SpaceView) (picks : Picks) : Type 0 where
+  pub root : IsFree view.roots picks.root
+  pub car : IsVacant view.cars picks.car
+
+-- The row of a command: its reply, and the whole space after it. What saves, settles, drops a copy or watches is no
+-- command of the space, and has no row: it stands here as a refusal.
+abbrev pub row : SpaceView → ℕ → Cmd → Picks → Reply × SpaceView
+row view client (New reg count bytes) picks = row_new view client reg count bytes picks.car
+row view client (Load to reg index) picks = row_load view client to index (register view client reg)
+row view client (Store reg index value) picks = row_store view index (register view client reg) (register view client value)
+row view client (Clear reg index) picks = row_clear view index (register view client reg)
+row view client (Show reg) picks = row_data view (object_held view (register view client reg))
+row view client (Put reg at bytes) picks = row_put view at bytes (register view client reg)
+row view client (Copy to reg) picks = row_copy view client to (register view client reg)
+row view client (IdOf reg) picks = row_id view (object_held view (register view client reg))
+row view client (Forget reg) picks = row_drop view client reg (register view client reg)
+row view client (Bind name reg) picks = row_root view name picks.root (register view client reg)
+row view client (Unbind name) picks = row_unroot view name (get view.roots name)
+row view client (Find to name) picks = row_find view client to (get view.roots name)
+row view client (Swap reg index old value) picks = row_swap view index (register view client reg) (register view client old) (register view client value)
+row view client Close picks = row_close view client
+row view client Save picks = refused view Idle
+row view client Settle picks = refused view Idle
+row view client Unsave picks = refused view Idle
+row view client Watch picks = refused view Idle
