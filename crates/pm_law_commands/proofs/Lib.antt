@@ -7,3 +7,4 @@ pub mod Births
 pub mod Keeps
 pub mod Refusals
 pub mod Rows
+pub mod Objects

@@ -172,6 +172,13 @@ module _ (view t : SpaceView) (c : ℕ) (car : Car) (object : stored_objects.Obj
   object_then : (a : Addr) → object_at t.cars a ≡ cond (same_address p a) (Some object) (object_at view.cars a)
   object_then a = ap object_of (slot_then a) ∙ object_cond (same_address p a) object (slot_at view.cars a)
 
+  -- no object was there, and each other one stays
+  pub none_before : id_at view p ≡ None
+  none_before = ap (option_map (λ (o : stored_objects.Object). o.id)) (ap object_of nothing_there)
+
+  pub others_stay : (a : Addr) → same_address p a ≡ false → id_at t a ≡ id_at view a
+  others_stay a apart = ap (option_map (λ (o : stored_objects.Object). o.id)) (object_then a ∙ cond-false _ _ _ apart)
+
   was_gone : (a : Addr) → same_address p a ≡ true → object_at view.cars a ≡ None
   was_gone a same = ap object_of (ap (slot_at view.cars) (sym (same_address-true p a same)) ∙ nothing_there)
 

@@ -9,3 +9,4 @@ pub mod Barrier
 pub mod Rows
 pub mod Represents
 pub mod Commands
+pub mod Objects
