@@ -1,32 +1,30 @@
 -- The command that makes an object.
-use Rattle.std.proofs.Common.{◌≡◌, ℕ, ◌+◌, ◌<◌, ◌≤◌, ◌==◌, ◌||◌, nat_lt, if◌then◌else◌, Bool, true, false, cond, not, refl, ap, sym, subst, ◌∙◌, List, [], ◌∷◌, length, map, replicate, zero, suc, Option, Some, None, arith, is_some}
+use Rattle.std.proofs.Common.{◌≡◌, ℕ, ◌+◌, ◌<◌, ◌≤◌, ◌==◌, ◌||◌, nat_lt, if◌then◌else◌, Bool, true, false, refl, ap, sym, subst, ◌∙◌, List, ◌∷◌, length, map, replicate, zero, suc, Some, None, arith, is_some}
 use Rattle.std.specs.Option.{IsSome, option_map, option_flatten}
 use Rattle.std.specs.List.{slice_get}
 use Rattle.std.specs.FinMap.{get, insert}
-use Rattle.std.proofs.lemmas.Bool.{true≢false, cond-true, ltb-false, or_parts, eq-eqb, eqb-true, false_from_ne_true}
+use Rattle.std.proofs.lemmas.Bool.{cond-true, ltb-false, or_parts, eq-eqb, eqb-true, false_from_ne_true}
 use Rattle.std.proofs.lemmas.List.{length-replicate}
 use Rattle.pm_types.specs.declared.limits.TheConstants.{CLIENTS, REGISTERS, FIELDS, OBJECT_BYTES, LAST_ID}
 use Rattle.pm_types.specs.declared.address.Addr.{Addr}
 use Rattle.pm_types.specs.declared.object.Object as kept_objects
-use Rattle.pm_types.specs.declared.object.Slot.TheVariants.{Live}
 use Rattle.pm_types.specs.declared.source.RefSource.TheVariants.{Handle}
 use Rattle.pm_types.specs.declared.reply.Reply.{Reply}
 use Rattle.pm_types.specs.declared.reply.Reply.TheVariants.{Ident, TooLarge, IdsSpent}
 use Rattle.pm_cars.specs.Cars.{look_of, object_of}
-use Rattle.pm_model.specs.Heap.{Object}
 use Rattle.pm_model.specs.World.{World, holding, with_object, changing}
 use Rattle.pm_model.specs.Answer.{answer_new}
 use Rattle.pm_model.specs.Answer as answers
 use Rattle.pm_view.specs.View.{SpaceView}
-use Rattle.pm_view.specs.Reading.{object_at, field_of, followed, id_at, is_aside}
+use Rattle.pm_view.specs.Reading.{followed, id_at}
 use Rattle.pm_view.specs.Seen.{seen, IsLive}
-use Rattle.pm_view.specs.Law.{HeapLaw, IsBuilt, IsObject}
+use Rattle.pm_view.specs.Law.{HeapLaw}
 use Rattle.pm_view.specs.Represents.{names, meaning, Represents, registered}
 use Rattle.pm_view.specs.Rows.{spread, spent, born, birthplace, MayBeBorn, IsVacant}
 use Rattle.pm_view.specs.Commands.{refused, fresh, row_new}
 use Rattle.pm_law_rows.proofs.SpreadKept.{spread_keeps_law}
 use Rattle.pm_law_rows.proofs.SpreadMeans.{register_stands}
-use Rattle.pm_law_rows.proofs.Born.{Gives, born_gives}
+use Rattle.pm_law_rows.proofs.Born.{born_gives}
 use Rattle.pm_law_rows.proofs.News.{at_insert}
 use Rattle.pm_law_commands.specs.Served.{IsServed}
 use Rattle.pm_law_commands.proofs.Registers.{refused_both}

@@ -1,11 +1,9 @@
 -- The command that empties all registers of a client.
-use Rattle.std.proofs.Common.{◌≡◌, ℕ, ◌+◌, ◌<◌, ◌≤◌, ◌==◌, ◌&&◌, ◌||◌, nat_lt, nat_eq, Bool, true, false, cond, not, refl, ap, sym, subst, ◌∙◌, Option, Some, None, arith, is_some, zero, suc}
+use Rattle.std.proofs.Common.{◌≡◌, ℕ, ◌<◌, ◌≤◌, ◌==◌, ◌&&◌, ◌||◌, nat_lt, nat_eq, Bool, true, false, cond, not, refl, ap, sym, subst, ◌∙◌, Option, Some, None, arith, zero, suc}
 use Rattle.std.specs.Option.{IsSome}
-use Rattle.std.specs.Ordering.{eq_by_cmp}
-use Rattle.std.specs.Cmp.{eq_by_cmp_equiv}
 use Rattle.std.specs.FinMap.{get, remove, retain_keys, get-remove, get-retain_keys, same_map}
 use Rattle.std.specs.declared.cmp.Ordering.TheVariants.{Equal}
-use Rattle.std.proofs.lemmas.Bool.{true≢false, eqb-true, and_parts, cond-true, cond-false, false_from_ne_true, ltb-true, lt-ltb}
+use Rattle.std.proofs.lemmas.Bool.{cond-true, cond-false, false_from_ne_true, ltb-true, lt-ltb}
 use Rattle.std.proofs.lemmas.Bool.Decides.{nat_tests}
 use Rattle.pm_types.specs.Orders.{place_cmp}
 use Rattle.pm_types.proofs.Orders.{places_total, places_antisymmetric}

@@ -1,34 +1,31 @@
 -- Commands that set a field or change bytes.
-use Rattle.std.proofs.Common.{◌≡◌, ◌⊎◌, inl, inr, ℕ, ◌+◌, ◌<◌, ◌≤◌, ◌==◌, nat_lt, nat_eq, if◌then◌else◌, Bool, true, false, cond, not, refl, ap, sym, subst, ◌∙◌, List, [], ◌∷◌, length, map, Option, Some, None, arith, is_some, zero, suc}
-use Rattle.std.specs.Option.{IsSome, IsSomeAnd, option_map, option_and_then, option_flatten}
+use Rattle.std.proofs.Common.{◌≡◌, ℕ, ◌+◌, ◌≤◌, nat_lt, nat_eq, if◌then◌else◌, Bool, true, false, refl, ap, sym, subst, ◌∙◌, List, [], ◌∷◌, length, Option, Some, None, arith, is_some, zero, suc}
+use Rattle.std.specs.Option.{IsSome, IsSomeAnd, option_map, option_and_then}
 use Rattle.std.specs.List.{slice_get}
 use Rattle.std.specs.FinMap.{get}
-use Rattle.std.proofs.lemmas.Bool.{cond-true, cond-false, true≢false, ltb-true, ltb-false, eqb-true, lt-ltb, false_from_ne_true}
+use Rattle.std.proofs.lemmas.Bool.{ltb-true, ltb-false, lt-ltb, false_from_ne_true}
 use Rattle.std.proofs.lemmas.Bool.Decides.{nat_tests}
 use Rattle.std.proofs.lemmas.List.{length-map}
-use Rattle.std.proofs.lemmas.Option.{slice_get-map}
 use Rattle.pm_types.specs.declared.address.Addr.{Addr}
 use Rattle.pm_types.specs.declared.object.Object as kept_objects
-use Rattle.pm_types.specs.declared.source.RefSource.{RefSource}
-use Rattle.pm_types.specs.declared.source.RefSource.TheVariants.{Root, Handle, Field}
-use Rattle.pm_types.specs.declared.reply.Reply.{Reply}
+use Rattle.pm_types.specs.declared.source.RefSource.TheVariants.{Field}
 use Rattle.pm_types.specs.declared.reply.Reply.TheVariants.{Done, Null, NoHandle, NoField, OutOfRange, Held}
 use Rattle.pm_model.specs.Heap.{Object, Heap, with_field}
 use Rattle.pm_model.specs.Heap as model_heap
 use Rattle.pm_model.specs.World.{World, held, changing}
 use Rattle.pm_model.specs.Answer.{answer_store, answer_clear, writing, answer_put, putting, answer_swap, swapping}
 use Rattle.pm_view.specs.View.{SpaceView}
-use Rattle.pm_view.specs.Reading.{object_at, stored, is_aside, resolve, named_by, Stands}
-use Rattle.pm_view.specs.Seen.{seen, kept, MayStore}
+use Rattle.pm_view.specs.Reading.{resolve, Stands}
+use Rattle.pm_view.specs.Seen.{seen, MayStore}
 use Rattle.pm_view.specs.Law.{HeapLaw}
-use Rattle.pm_view.specs.Represents.{names, meaning, IsForgotten, Represents}
+use Rattle.pm_view.specs.Represents.{names, meaning, Represents}
 use Rattle.pm_view.specs.Rows.{spread, with_bytes_at, HasBytesAt}
 use Rattle.pm_view.specs.Commands.{register, refused, object_held, field_at, set_field, row_store, row_clear, named_in, swap_field, row_swap, put_bytes, row_put}
 use Rattle.pm_law_rows.proofs.SpreadKept.{spread_keeps_law}
 use Rattle.pm_law_rows.proofs.SpreadMeans.{field_stands}
 use Rattle.pm_law_rows.proofs.Bytes.{bytes_keep_law, bytes_stand}
 use Rattle.pm_law_commands.specs.Served.{IsServed}
-use Rattle.pm_law_commands.proofs.Held.{LeadsTo, named, named_then, may_store, known_by}
+use Rattle.pm_law_commands.proofs.Held.{LeadsTo, named_then, may_store, known_by}
 use Rattle.pm_law_commands.proofs.Registers.{refused_both, found_in, wanted_in, held_is, field_leads, fields_mean}
 
 -- a list has an item where its place is within

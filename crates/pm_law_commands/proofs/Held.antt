@@ -1,28 +1,23 @@
 -- What a source of a space holds, and what the world has there.
-use Rattle.std.proofs.Common.{◌≡◌, ◌⊎◌, inl, inr, ℕ, ◌<◌, ◌==◌, Bool, true, false, cond, not, refl, ap, sym, subst, ◌∙◌, List, [], ◌∷◌, length, map, Option, Some, None, arith, is_some, zero, suc, get_or}
-use Rattle.std.specs.Option.{IsSome, IsSomeAnd, option_map, option_and_then, option_flatten}
+use Rattle.std.proofs.Common.{◌≡◌, ℕ, ◌<◌, true, false, refl, ap, sym, subst, ◌∙◌, List, [], ◌∷◌, length, Option, Some, None, arith, zero, suc, get_or}
+use Rattle.std.specs.Option.{IsSomeAnd, option_map}
 use Rattle.std.specs.List.{slice_get, Contains}
 use Rattle.std.specs.FinMap.{get}
-use Rattle.std.proofs.lemmas.Bool.{eqb-true, true≢false, not-true}
-use Rattle.std.proofs.lemmas.Option.{slice_get-map}
 use Rattle.pm_types.specs.declared.address.Addr.{Addr}
 use Rattle.pm_types.specs.declared.object.Object as kept_objects
 use Rattle.pm_types.specs.declared.object.Slot.{Slot}
 use Rattle.pm_types.specs.declared.object.Slot.TheVariants.{Live, Moved}
 use Rattle.pm_types.specs.declared.source.RefSource.{RefSource}
-use Rattle.pm_types.specs.declared.source.RefSource.TheVariants.{Root, Handle, Field}
-use Rattle.pm_cars.specs.declared.look.Look.{Look}
 use Rattle.pm_cars.specs.declared.look.Look.TheVariants as looks
 use Rattle.pm_cars.specs.Cars.{look_of, object_of}
-use Rattle.pm_model.specs.Heap.{Object, Heap, Holds}
+use Rattle.pm_model.specs.Heap.{Object}
 use Rattle.pm_model.specs.World.{World}
-use Rattle.pm_model.specs.Reachability.{IsReachable}
 use Rattle.pm_view.specs.View.{SpaceView}
 use Rattle.pm_view.specs.Reading.{slot_at, object_at, stored, is_aside, followed, resolve, id_at, named_by}
 use Rattle.pm_view.specs.Seen.{Seen, seen, kept, IsLive, IsTied}
 use Rattle.pm_view.specs.Seen as seen_words
 use Rattle.pm_view.specs.Law.{HeapLaw}
-use Rattle.pm_view.specs.Represents.{names, meaning, IsHeld, IsForgotten, Represents}
+use Rattle.pm_view.specs.Represents.{meaning, IsForgotten, Represents}
 
 -- an address that leads to this object, which stands
 pub record LeadsTo (view : SpaceView) (a : Addr) (object : kept_objects.Object) : Type 0 where

@@ -1,9 +1,9 @@
 -- The row of each command keeps the heap law, whatever world the space stands for.
-use Rattle.std.proofs.Common.{◌≡◌, ℕ, ◌+◌, ◌<◌, ◌≤◌, ◌||◌, nat_lt, nat_le, nat_eq, if◌then◌else◌, Bool, true, false, cond, not, refl, ap, sym, subst, ◌∙◌, List, length, Option, Some, None, arith, is_some, zero, suc}
-use Rattle.std.specs.Option.{IsSome, IsSomeAnd, option_and_then, option_flatten}
+use Rattle.std.proofs.Common.{◌≡◌, ℕ, ◌+◌, ◌<◌, ◌≤◌, ◌||◌, nat_lt, nat_le, nat_eq, if◌then◌else◌, Bool, true, false, not, refl, ap, sym, subst, ◌∙◌, List, length, Option, Some, None, arith, is_some, zero, suc}
+use Rattle.std.specs.Option.{IsSomeAnd, option_and_then, option_flatten}
 use Rattle.std.specs.List.{slice_get}
 use Rattle.std.specs.FinMap.{get, len}
-use Rattle.std.proofs.lemmas.Bool.{true≢false, ltb-false, leb-false, or_parts}
+use Rattle.std.proofs.lemmas.Bool.{ltb-false, leb-false, or_parts}
 use Rattle.pm_types.specs.declared.limits.TheConstants.{CLIENTS, REGISTERS, FIELDS, OBJECT_BYTES, LAST_ID, ROOTS}
 use Rattle.pm_types.specs.declared.address.Addr.{Addr}
 use Rattle.pm_types.specs.declared.object.Object as kept_objects
@@ -15,10 +15,10 @@ use Rattle.pm_types.specs.declared.reply.Reply.TheVariants.{Done, NoField, OutOf
 use Rattle.pm_cars.specs.Cars.{look_of}
 use Rattle.pm_roots.specs.Bindings.{IsFree}
 use Rattle.pm_view.specs.View.{SpaceView}
-use Rattle.pm_view.specs.Reading.{object_at, field_of, stored, resolve, Stands}
+use Rattle.pm_view.specs.Reading.{object_at, field_of, stored, resolve}
 use Rattle.pm_view.specs.Seen.{seen, MayStore}
 use Rattle.pm_view.specs.Law.{HeapLaw}
-use Rattle.pm_view.specs.Rows.{spread, with_name, with_bytes_at, spent, born, birthplace, HasBytesAt, IsVacant}
+use Rattle.pm_view.specs.Rows.{spread, with_name, with_bytes_at, spent, born, birthplace, IsVacant}
 use Rattle.pm_view.specs.Commands.{register, hold, object_held, row_copy, row_id, row_data, row_drop, field_at, load_field, row_load, set_field, row_store, row_clear, named_in, swap_field, row_swap, put_bytes, row_put, bind, row_root, row_unroot, row_find, emptied, fresh, row_new, row, HasRegisters, Picks, ArePicked}
 use Rattle.pm_law_rows.proofs.SpreadKept.{spread_keeps_law}
 use Rattle.pm_law_rows.proofs.Bytes.{bytes_keep_law}

@@ -8,3 +8,4 @@ pub mod Keeps
 pub mod Refusals
 pub mod Rows
 pub mod Objects
+pub mod Added

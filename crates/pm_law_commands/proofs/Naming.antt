@@ -1,5 +1,5 @@
 -- Commands that bind and unbind names, and the one that empties all registers of a client.
-use Rattle.std.proofs.Common.{◌≡◌, ◌⊎◌, inl, inr, ℕ, ◌+◌, ◌<◌, ◌≤◌, ◌==◌, ◌&&◌, ◌||◌, nat_lt, nat_le, nat_eq, if◌then◌else◌, Bool, true, false, cond, not, refl, ap, sym, subst, ◌∙◌, List, [], ◌∷◌, length, Option, Some, None, arith, is_some, zero, suc}
+use Rattle.std.proofs.Common.{◌≡◌, ℕ, ◌&&◌, nat_le, if◌then◌else◌, Bool, true, false, not, refl, ap, sym, subst, ◌∙◌, List, Option, Some, None, is_some}
 use Rattle.std.specs.Option.{IsSome, option_map, option_and_then}
 use Rattle.std.specs.FinMap.{get, len, same_map}
 use Rattle.pm_base.specs.Mapped.{mapped}
@@ -7,21 +7,19 @@ use Rattle.pm_base.proofs.Mapped.{get-mapped, len-mapped}
 use Rattle.pm_types.specs.Orders.{name_cmp}
 use Rattle.pm_types.proofs.Orders.{names_total, names_antisymmetric}
 use Rattle.std.proofs.lemmas.Bool.{true≢false, leb-false}
-use Rattle.pm_types.specs.declared.limits.TheConstants.{CLIENTS, REGISTERS, ROOTS}
+use Rattle.pm_types.specs.declared.limits.TheConstants.{ROOTS}
 use Rattle.pm_types.specs.declared.address.Addr.{Addr}
 use Rattle.pm_types.specs.declared.object.Object as kept_objects
-use Rattle.pm_types.specs.declared.source.RefSource.{RefSource}
-use Rattle.pm_types.specs.declared.source.RefSource.TheVariants.{Root, Handle, Field}
-use Rattle.pm_types.specs.declared.reply.Reply.{Reply}
+use Rattle.pm_types.specs.declared.source.RefSource.TheVariants.{Root}
 use Rattle.pm_types.specs.declared.reply.Reply.TheVariants.{Done, NoHandle, NoRoot, TooManyRoots}
 use Rattle.pm_roots.specs.Bindings.{IsFree}
-use Rattle.pm_model.specs.World.{World, held, naming, unbinding}
+use Rattle.pm_model.specs.World.{World, held, naming}
 use Rattle.pm_model.specs.Answer.{answer_root, answer_unroot, has_no_room}
 use Rattle.pm_view.specs.View.{SpaceView}
 use Rattle.pm_view.specs.Reading.{resolve, named_by}
 use Rattle.pm_view.specs.Law.{HeapLaw}
 use Rattle.pm_view.specs.Represents.{names, Represents}
-use Rattle.pm_view.specs.Rows.{spread, with_name, without_name}
+use Rattle.pm_view.specs.Rows.{with_name}
 use Rattle.pm_view.specs.Commands.{register, refused, bind, row_root, row_unroot}
 use Rattle.pm_law_rows.proofs.SpreadKept.{spread_keeps_law}
 use Rattle.pm_law_rows.proofs.SpreadMeans.{root_stands}

@@ -1,5 +1,5 @@
 -- Every command but `new` leaves each object where it stands.
-use Rattle.std.proofs.Common.{◌≡◌, ℕ, ◌+◌, ◌||◌, nat_lt, nat_le, nat_eq, if◌then◌else◌, Bool, true, false, cond, refl, ap, sym, ◌∙◌, List, length, Option, Some, None, is_some, zero, suc}
+use Rattle.std.proofs.Common.{◌≡◌, ℕ, ◌+◌, nat_lt, nat_le, nat_eq, if◌then◌else◌, Bool, true, false, cond, refl, ap, ◌∙◌, List, length, Option, Some, None, is_some, zero, suc}
 use Rattle.std.specs.Option.{option_map}
 use Rattle.std.specs.FinMap.{get, len}
 use Rattle.std.proofs.lemmas.Bool.{true≢false}
@@ -15,20 +15,15 @@ use Rattle.pm_types.specs.declared.reply.Reply.TheVariants.{Done, NoField, OutOf
 use Rattle.pm_cars.specs.Cars as cars
 use Rattle.pm_view.specs.Sources.{same_address}
 use Rattle.pm_view.specs.View.{SpaceView}
-use Rattle.pm_view.specs.Reading.{object_at, is_aside, id_at, resolve}
-use Rattle.pm_view.specs.Rows.{with_object, with_stored, spread, with_name, without_name, with_bytes_at}
-use Rattle.pm_view.specs.Commands.{register, hold, object_held, row_copy, row_id, row_data, row_drop, field_at, load_field, row_load, set_field, row_store, row_clear, named_in, swap_field, row_swap, put_bytes, row_put, bind, row_root, row_unroot, row_find, emptied, row, Picks}
+use Rattle.pm_view.specs.Reading.{object_at, resolve}
+use Rattle.pm_view.specs.Rows.{spread, with_name, without_name, with_bytes_at}
+use Rattle.pm_view.specs.Commands.{register, hold, object_held, row_copy, row_id, row_data, row_drop, field_at, load_field, row_load, set_field, row_store, row_clear, named_in, swap_field, row_swap, put_bytes, row_put, bind, row_root, row_unroot, row_find, emptied, is_new, row, Picks}
 use Rattle.pm_law_rows.proofs.SameSource.{same_address-true}
 use Rattle.pm_law_rows.proofs.Places.{object_after}
 use Rattle.pm_law_rows.proofs.Built.{IsReshaped, aside_same}
 use Rattle.pm_law_rows.proofs.Meaning.{id_same}
 use Rattle.pm_law_rows.proofs.SpreadKept.{reshaped_spread}
 use Rattle.pm_view.specs.Objects.{KeepsObjects}
-
--- the command makes no object
-abbrev pub is_new : Cmd → Bool
-is_new (New reg count bytes) = true
-is_new cmd = false
 
 abbrev Keeps : SpaceView → Reply × SpaceView → Type 0
 Keeps view after = KeepsObjects view after.1
@@ -39,10 +34,10 @@ still view = record { trains = refl; aside = λ car. refl; ids = λ a. refl }
 reshaped_keeps : (view t : SpaceView) → IsReshaped view t → KeepsObjects view t
 reshaped_keeps view t same = record { trains = same.trains; aside = aside_same view t same; ids = id_same view t same }
 
-then : (view t u : SpaceView) → KeepsObjects view t → KeepsObjects t u → KeepsObjects view u
-then view t u one two = record { trains = two.trains ∙ one.trains; aside = λ car. two.aside car ∙ one.aside car; ids = λ a. two.ids a ∙ one.ids a }
+both_keep : (view t u : SpaceView) → KeepsObjects view t → KeepsObjects t u → KeepsObjects view u
+both_keep view t u one two = record { trains = two.trains ∙ one.trains; aside = λ car. two.aside car ∙ one.aside car; ids = λ a. two.ids a ∙ one.ids a }
 
-spread_keeps : (view : SpaceView) (x : RefSource) (to : Option Addr) → KeepsObjects view (spread view x to)
+pub spread_keeps : (view : SpaceView) (x : RefSource) (to : Option Addr) → KeepsObjects view (spread view x to)
 spread_keeps view x to = reshaped_keeps view (spread view x to) (reshaped_spread view x to)
 
 same_id : (b : Bool) (change : Object → Object) (o p : Option Object) → ((object : Object) → (change object).id ≡ object.id) → (b ≡ true → o ≡ p)
@@ -77,7 +72,7 @@ module _ (view : SpaceView) where
 
   emptied_keeps : (client n : ℕ) → KeepsObjects view (emptied view client n)
   emptied_keeps client zero = still view
-  emptied_keeps client (suc n) = then view (emptied view client n) (emptied view client (suc n)) (emptied_keeps client n) (spread_keeps (emptied view client n) (Handle client n) None)
+  emptied_keeps client (suc n) = both_keep view (emptied view client n) (emptied view client (suc n)) (emptied_keeps client n) (spread_keeps (emptied view client n) (Handle client n) None)
 
   -- each object stays where it stands
   pub row_keeps_objects : (client : ℕ) (cmd : Cmd) (picks : Picks) → is_new cmd ≡ false → Keeps view (row view client cmd picks)

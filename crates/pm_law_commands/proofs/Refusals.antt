@@ -1,5 +1,5 @@
 -- A row that refuses leaves the space as it is.
-use Rattle.std.proofs.Common.{◌≡◌, ℕ, ◌+◌, ◌||◌, nat_lt, nat_le, nat_eq, if◌then◌else◌, Bool, true, false, refl, ap, sym, List, length, Option, Some, None, is_some}
+use Rattle.std.proofs.Common.{◌≡◌, ℕ, ◌+◌, ◌||◌, nat_lt, nat_le, nat_eq, if◌then◌else◌, Bool, true, false, refl, sym, List, length, Option, Some, None, is_some}
 use Rattle.std.specs.FinMap.{get, len}
 use Rattle.std.proofs.lemmas.Bool.{true≢false}
 use Rattle.pm_types.specs.declared.limits.TheConstants.{FIELDS, OBJECT_BYTES, LAST_ID, ROOTS}
@@ -14,7 +14,7 @@ use Rattle.pm_model.specs.Answer.{is_refusal}
 use Rattle.pm_view.specs.View.{SpaceView}
 use Rattle.pm_view.specs.Reading.{object_at, resolve}
 use Rattle.pm_view.specs.Rows.{spread, with_name, with_bytes_at, spent, born, birthplace}
-use Rattle.pm_view.specs.Commands.{register, hold, object_held, row_copy, row_id, row_data, row_drop, field_at, load_field, row_load, set_field, row_store, row_clear, named_in, swap_field, row_swap, put_bytes, row_put, bind, row_root, row_unroot, row_find, fresh, row_new, row, Picks}
+use Rattle.pm_view.specs.Commands.{register, hold, object_held, row_copy, row_id, row_data, row_drop, field_at, load_field, row_load, row_store, row_clear, named_in, swap_field, row_swap, put_bytes, row_put, bind, row_root, row_unroot, row_find, fresh, row_new, row, Picks}
 
 -- where a row refuses, it leaves the space
 abbrev IsStill : SpaceView → Cmd → Reply × SpaceView → Type 0

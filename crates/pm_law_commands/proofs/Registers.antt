@@ -1,13 +1,12 @@
 -- Commands that set a register, or only tell what one holds.
-use Rattle.std.proofs.Common.{◌≡◌, ◌⊎◌, inl, inr, ℕ, ◌<◌, ◌==◌, Bool, true, false, cond, not, refl, ap, sym, subst, ◌∙◌, List, [], ◌∷◌, length, map, Option, Some, None, arith, is_some}
-use Rattle.std.specs.Option.{IsSome, option_map, option_and_then, option_flatten}
+use Rattle.std.proofs.Common.{◌≡◌, ℕ, ◌<◌, not, refl, ap, sym, subst, ◌∙◌, List, Option, Some, None, is_some}
+use Rattle.std.specs.Option.{option_map, option_and_then, option_flatten}
 use Rattle.std.specs.List.{slice_get}
 use Rattle.std.specs.FinMap.{get}
 use Rattle.std.proofs.lemmas.Option.{slice_get-map}
 use Rattle.pm_types.specs.declared.limits.TheConstants.{CLIENTS, REGISTERS}
 use Rattle.pm_types.specs.declared.address.Addr.{Addr}
 use Rattle.pm_types.specs.declared.object.Object as kept_objects
-use Rattle.pm_types.specs.declared.source.RefSource.{RefSource}
 use Rattle.pm_types.specs.declared.source.RefSource.TheVariants.{Root, Handle, Field}
 use Rattle.pm_types.specs.declared.reply.Reply.{Reply}
 use Rattle.pm_types.specs.declared.reply.Reply.TheVariants.{Done, Ident, Null, Shown, NoHandle, NoField, NoRoot}
@@ -16,8 +15,7 @@ use Rattle.pm_model.specs.Heap as model_heap
 use Rattle.pm_model.specs.World.{World, held, holding, emptying}
 use Rattle.pm_model.specs.Answer.{answer_copy, answer_id, answer_data, answer_drop, answer_load, loading, answer_find, bytes_of}
 use Rattle.pm_view.specs.View.{SpaceView}
-use Rattle.pm_view.specs.Reading.{object_at, field_of, stored, is_aside, resolve, named_by}
-use Rattle.pm_view.specs.Seen.{seen, kept}
+use Rattle.pm_view.specs.Reading.{object_at, field_of, stored, resolve, named_by}
 use Rattle.pm_view.specs.Law.{HeapLaw}
 use Rattle.pm_view.specs.Represents.{names, meaning, IsForgotten, Represents, registered}
 use Rattle.pm_view.specs.Rows.{spread}

@@ -1,5 +1,5 @@
 -- The row of each command serves the world's answer.
-use Rattle.std.proofs.Common.{◌≡◌, ℕ, ◌<◌, Bool, true, false, sym, None}
+use Rattle.std.proofs.Common.{◌≡◌, ℕ, ◌<◌, true, sym, None}
 use Rattle.std.specs.FinMap.{get}
 use Rattle.std.proofs.lemmas.Bool.{true≢false}
 use Rattle.pm_types.specs.declared.limits.TheConstants.{CLIENTS}

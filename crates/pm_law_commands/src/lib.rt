@@ -6,5 +6,6 @@ mod laws;
 
 pub use laws::{
     a_command_is_answered_as_by_the_world, a_command_keeps_the_heap_law,
-    a_refused_command_leaves_the_space,
+    a_refused_command_leaves_the_space, every_command_but_new_leaves_objects_where_they_stand,
+    new_adds_one_object_in_the_open_train,
 };

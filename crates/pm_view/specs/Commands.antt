@@ -1,5 +1,5 @@
 -- What a client's command answers on a space, and the space after it. Whatever is stored is followed first.
-use Rattle.std.specs.Prelude.{◌≡◌, ℕ, ◌+◌, ◌<◌, Bool, true, false, not, ◌||◌, nat_lt, nat_le, nat_eq, if◌then◌else◌, List, [], ◌∷◌, ◌++◌, length, replicate, zero, suc, Option, Some, None, is_some}
+use Rattle.std.specs.Prelude.{ℕ, ◌+◌, ◌<◌, Bool, true, false, ◌||◌, nat_lt, nat_le, nat_eq, if◌then◌else◌, List, length, replicate, zero, suc, Option, Some, None, is_some}
 use Rattle.std.specs.List.{slice_get}
 use Rattle.std.specs.FinMap.{get, len}
 use Rattle.pm_types.specs.declared.limits.TheConstants.{FIELDS, OBJECT_BYTES, LAST_ID, ROOTS, REGISTERS}
@@ -161,6 +161,11 @@ is_act Settle = false
 is_act Unsave = false
 is_act Watch = false
 is_act cmd = true
+
+-- the command makes an object
+abbrev pub is_new : Cmd → Bool
+is_new (New reg count bytes) = true
+is_new cmd = false
 
 -- each register of the command is one that a client has
 abbrev pub HasRegisters : Cmd → Type 0

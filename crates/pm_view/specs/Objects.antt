@@ -1,5 +1,5 @@
 -- What becomes of the objects that stand.
-use Rattle.std.specs.Prelude.{◌≡◌, ℕ, ◌+◌, false, nat_le, if◌then◌else◌, Option, Some, None, IsSome}
+use Rattle.std.specs.Prelude.{◌≡◌, ℕ, ◌+◌, false, nat_le, if◌then◌else◌, Some, None, IsSome}
 use Rattle.std.specs.FinMap.{get}
 use Rattle.pm_types.specs.declared.address.Addr.{Addr}
 use Rattle.pm_trains.specs.Trains.{train_of}
