@@ -37,6 +37,7 @@ fn tell(text: &mut String, line: &Request) -> Result<(), Fail> {
         }
         Cmd::Save => write!(text, "{client} save")?,
         Cmd::Settle => write!(text, "{client} settle")?,
+        _ => return Err(Fail::from("a command that no script can spell")),
     }
     text.push_str(";")?;
     Ok(())
