@@ -1,0 +1,2 @@
+pub mod HeldCars
+pub mod Fresh

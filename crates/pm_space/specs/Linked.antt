@@ -1,0 +1,37 @@
+-- Remembered sets and queues of cars, as a space shows them.
+use Rattle.std.specs.Prelude.{ℕ, ◌≤◌, List, Option, Some, None}
+use Rattle.std.specs.Ordering.{nat_cmp}
+use Rattle.std.specs.FinMap.{FinMap, get}
+use Rattle.pm_base.specs.Mapped.{mapped}
+use Rattle.pm_types.specs.declared.source.Change.{Change}
+use Rattle.pm_view.specs.View.{Sources, Sets, Queues}
+use Rattle.pm_space.specs.declared.links.Links.{Links}
+
+-- the remembered set and the queue of each car
+abbrev pub Linked : Type 0
+Linked = FinMap nat_cmp Links
+
+-- a car's remembered set
+abbrev pub set_of : Links → Sources
+set_of links = links.set
+
+-- a car's queue, without its room
+abbrev pub queue_of : Links → List Change
+queue_of links = links.queue.changes
+
+-- the remembered set of each car
+abbrev pub sets_of : Linked → Sets
+sets_of links = mapped set_of links
+
+-- the queue of each car
+abbrev pub queues_of : Linked → Queues
+queues_of links = mapped queue_of links
+
+-- a queue has room for so many more changes; where no car is, none is pushed
+abbrev pub HasRoomOf : Option Links → ℕ → Type 0
+HasRoomOf None count = Unit {0}
+HasRoomOf (Some links) count = count ≤ links.queue.spare
+
+-- the car's queue has room for so many more changes
+abbrev pub HasRoom : Linked → ℕ → ℕ → Type 0
+HasRoom links car count = HasRoomOf (get links car) count

@@ -1,0 +1,84 @@
+ghost use Rattle.std.specs.Prelude.{◌≡◌, IfOk, None};
+ghost use Rattle.pm_view.specs.Law.{HeapLaw};
+ghost use Rattle.pm_view.specs.Reading.{Stands, stored, resolve};
+ghost use Rattle.pm_view.specs.Rows.{new_space};
+ghost use Rattle.pm_space.specs.Shown.{view};
+ghost use Rattle.pm_space.specs.KeptOnce.{HeapLaw-prop};
+
+use crate::links::LinkTable;
+use crate::parts::Parts;
+use crate::sources;
+use pm_guard::Guard;
+use pm_handles::Handles;
+use pm_law_rows::a_new_space_stands_for_nothing;
+use pm_place::Placement;
+use pm_roots::Roots;
+use pm_snap::Table;
+use pm_trains::Trains;
+use pm_types::{Addr, NoMemory, RefSource};
+use pm_view::Phase;
+use std::alloc::Global;
+
+/// A space of objects, which keeps the heap law at every moment.
+#[derive(Drop)]
+pub struct Space<F> {
+    pub parts: Parts<F>,
+    ghost kept: { HeapLaw (view parts) } by { HeapLaw-prop (view parts) },
+}
+
+impl<F: Drop> Space<F> {
+    /// A space with this chooser in which nothing was ever made: it has no car, train 1 is open, no name is
+    /// bound, every register is empty, and the next identity is 1. Its cars are not frozen.
+    pub fn new(alloc: Global, place: Placement<F>) -> Result<Space<F>, NoMemory>
+        ensures view { IfOk result (λ space. view space.parts ≡ new_space) }
+        ensures frozen { IfOk result (λ space. space.parts.cars.frozen ≡ None) }
+        ensures place { IfOk result (λ space. space.parts.place ≡ place) }
+    {
+        a_new_space_stands_for_nothing();
+        let trains = Trains::new(alloc)?;
+        let handles = Handles::new(alloc)?;
+        Ok(Space {
+            parts: Parts {
+                cars: Table::new(alloc),
+                links: LinkTable::new(alloc),
+                trains,
+                roots: Roots::new(alloc),
+                handles,
+                place,
+                guard: Guard::new(),
+                phase: Phase::Idle,
+                next: 1,
+                completed: 0,
+            },
+        })
+    }
+
+    /// Where an address leads: to the new place of the object where it moved away, and else to itself.
+    pub fn resolve(&self, at: Addr) -> Addr
+        ensures { result ≡ resolve (view self.now.parts) at }
+    {
+        sources::resolve(&self.parts.cars, at)
+    }
+
+    /// The address that the source stores, or `None` where it is null. The source stands.
+    pub fn stored(&self, source: RefSource) -> Option<Addr>
+        requires { Stands (view self.now.parts) source }
+        ensures { result ≡ stored (view self.now.parts) source }
+    {
+        sources::stored(&self.parts, source)
+    }
+
+    /// What the collector is at.
+    pub fn phase(&self) -> Phase
+        ensures { result ≡ (view self.now.parts).phase }
+    {
+        self.parts.phase
+    }
+
+    /// How many collections were completed.
+    pub fn completed(&self) -> u64
+        ensures { result ≡ (view self.now.parts).completed }
+    {
+        self.parts.completed
+    }
+}
