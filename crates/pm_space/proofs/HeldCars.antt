@@ -3,9 +3,11 @@ use Rattle.std.proofs.Common.{◌≡◌, ℕ, ◌<◌, refl, sym, ap, subst, ◌
 use Rattle.std.specs.List.{slice_get}
 use Rattle.std.specs.Option.{option_map, option_and_then}
 use Rattle.std.specs.Ordering.{nat_cmp}
-use Rattle.std.specs.FinMap.{get}
+use Rattle.std.specs.Cmp.{nat_cmp_total}
+use Rattle.std.specs.FinMap.{get, insert, nat_cmp-IsAntisymmetric}
 use Rattle.std.proofs.lemmas.Grind.{common_steps}
-use Rattle.pm_base.proofs.Mapped.{get-mapped}
+use Rattle.pm_base.specs.Mapped.{mapped}
+use Rattle.pm_base.proofs.Mapped.{get-mapped, mapped-insert}
 use Rattle.pm_types.specs.declared.address.Addr.{Addr}
 use Rattle.pm_types.specs.declared.object.Object.{Object}
 use Rattle.pm_types.specs.declared.object.Slot.{Slot}
@@ -15,6 +17,7 @@ use Rattle.pm_cars.specs.Cars.{Car, object_of, look_of, HasField}
 use Rattle.pm_cars.specs.Cars as car
 use Rattle.pm_snap.specs.Snapped.{Snapped}
 use Rattle.pm_view.specs.Reading.{slot_at, object_at, field_of, followed}
+use Rattle.pm_view.specs.Rows.{put_car, put_object, with_object}
 use Rattle.pm_space.specs.declared.held.Held.{Held}
 use Rattle.pm_space.specs.Shown.{car_of, cars_of, HasFieldAt}
 
@@ -74,3 +77,23 @@ no_field table a index is there =
 pub field_read : (o : Option Object) (index : ℕ) (read : Option Addr) → IsSomeAnd o (λ object. slice_get object.fields index ≡ Some read) → read ≡ field_of o index
 field_read None index read there = absurd there
 field_read (Some object) index read there = grind (arith, common_steps, there)
+
+-- a field that is there lies in a car that is
+pub car_there : (table : Snapped Held) (a : Addr) (index : ℕ) → HasFieldAt (cars_of table) a index → (found : Option Held) → found ≡ get table.current a.car → IsSome found
+car_there table a index there None is = absurd (no_field table a index is there)
+car_there table a index there (Some held) is = refl
+
+edited : (table : Snapped Held) (a : Addr) (held w : Held) (change : Object → Object) → Some held ≡ get table.current a.car
+    → (o : Option Object) → IsSomeAnd o (λ object. w.car ≡ car.told held.car a.slot (Live (change object))) → insert (cars_of table) a.car (car_of w) ≡ put_object (cars_of table) a o change
+edited table a held w change is None done = absurd done
+edited table a held w change is (Some object) done =
+    ap (λ (c : car.CarAndSpare). insert (cars_of table) a.car c.car) done
+    ∙ sym (ap (λ o. put_car (cars_of table) a.car o (λ c. car.with_slot c a.slot (Live (change object)))) (get_car table a.car (Some held) is))
+
+-- an object of a car that was written
+pub object_written : (table : Snapped Held) (a : Addr) (held w : Held) (change : Object → Object) → Some held ≡ get table.current a.car → car.IsEdited held.car w.car a.slot change
+    → mapped car_of (insert table.current a.car w) ≡ with_object (cars_of table) a change
+object_written table a held w change is done =
+    mapped-insert nat_cmp car_of nat_cmp_total nat_cmp-IsAntisymmetric table.current a.car w
+    ∙ edited table a held w change is (car.object_at held.car.car a.slot) done
+    ∙ sym (ap (λ o. put_object (cars_of table) a o change) (object_there table a held is))

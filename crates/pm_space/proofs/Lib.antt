@@ -1,2 +1,5 @@
 pub mod HeldCars
 pub mod Fresh
+pub mod Linking
+pub mod Aside
+pub mod RootsSet

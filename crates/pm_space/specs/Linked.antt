@@ -1,9 +1,11 @@
 -- Remembered sets and queues of cars, as a space shows them.
-use Rattle.std.specs.Prelude.{ℕ, ◌≤◌, List, Option, Some, None}
+use Rattle.std.specs.Prelude.{ℕ, ◌≤◌, List, Option, Some, None, IsSome}
 use Rattle.std.specs.Ordering.{nat_cmp}
 use Rattle.std.specs.FinMap.{FinMap, get}
 use Rattle.pm_base.specs.Mapped.{mapped}
+use Rattle.pm_types.specs.declared.address.Addr.{Addr}
 use Rattle.pm_types.specs.declared.source.Change.{Change}
+use Rattle.pm_trains.specs.Trains.{Train, train_of}
 use Rattle.pm_view.specs.View.{Sources, Sets, Queues}
 use Rattle.pm_space.specs.declared.links.Links.{Links}
 
@@ -35,3 +37,12 @@ HasRoomOf (Some links) count = count ≤ links.queue.spare
 -- the car's queue has room for so many more changes
 abbrev pub HasRoom : Linked → ℕ → ℕ → Type 0
 HasRoom links car count = HasRoomOf (get links car) count
+
+-- where an address is given, the queue of its car has room for a change
+abbrev pub HasRoomFor : Linked → Option Addr → Type 0
+HasRoomFor links None = Unit {0}
+HasRoomFor links (Some a) = HasRoom links a.car 1
+
+-- each car that has a remembered set is in a train
+abbrev pub AreHoused : Sets → List Train → Type 0
+AreHoused sets trains = (car : ℕ) → IsSome (get sets car) → IsSome (train_of trains car)

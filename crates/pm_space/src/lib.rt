@@ -2,13 +2,18 @@
 //! and the write barrier.
 #![tactic(auto)]
 
+mod barrier;
 mod held;
 mod links;
 mod parts;
+mod setting;
 mod sources;
 mod space;
+mod spreading;
 
+pub use barrier::{make_room, tell_all};
 pub use held::Held;
 pub use links::{LinkTable, Links};
 pub use parts::Parts;
 pub use space::Space;
+pub use spreading::spread;

@@ -1,4 +1,4 @@
-ghost use Rattle.std.specs.Prelude.{◌≡◌, ◌<◌, ◌≤◌, ◌+◌, ◌==◌, ◌*◌, ℕ, cond, OnOk, OnErr, None};
+ghost use Rattle.std.specs.Prelude.{◌≡◌, ◌+◌, ◌==◌, ℕ, cond, OnOk, is_some};
 ghost use Rattle.std.specs.FinMap as map;
 ghost use Rattle.pm_view.specs.Barrier.{pushed};
 ghost use Rattle.pm_space.specs.Linked.{sets_of, queues_of, HasRoom};
@@ -45,5 +45,40 @@ impl LinkTable {
         LinkTable {
             links: BTreeMap::new(alloc),
         }
+    }
+
+    /// Whether the car has links.
+    pub fn has(&self, car: u64) -> bool
+        ensures { result ≡ is_some (map.get self.now car) }
+    {
+        self.links.contains_key(&car)
+    }
+
+    /// Makes room in the car's queue for at least this many more changes; where no such car is, none is
+    /// needed. What waits stays, and so does all room that was taken before, also after want of memory.
+    pub fn reserve(&mut self, car: u64, count: u64) -> Result<(), NoMemory>
+        ensures sets { sets_of self.new ≡ sets_of self.old }
+        ensures queues { queues_of self.new ≡ queues_of self.old }
+        ensures room { OnOk result (HasRoom self.new car count) }
+        ensures kept { (other more : ℕ) → HasRoom self.old other more → HasRoom self.new other more }
+    {
+        let Some(links) = self.links.get_mut(&car) else {
+            return Ok(());
+        };
+        links.queue.reserve(count)
+    }
+
+    /// Lets a change wait at the end of the car's queue, in room that was taken before; where no such car
+    /// is, nothing is done.
+    pub fn push(&mut self, car: u64, change: Change)
+        requires { HasRoom self.old car 1 }
+        ensures sets { sets_of self.new ≡ sets_of self.old }
+        ensures queues { queues_of self.new ≡ pushed (queues_of self.old) car (map.get (queues_of self.old) car) change }
+        ensures room { (other more : ℕ) → HasRoom self.old other (more + cond (car == other) 1 0) → HasRoom self.new other more }
+    {
+        let Some(links) = self.links.get_mut(&car) else {
+            return;
+        };
+        links.queue.push(change);
     }
 }

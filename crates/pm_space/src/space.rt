@@ -1,16 +1,17 @@
-ghost use Rattle.std.specs.Prelude.{◌≡◌, IfOk, None};
+ghost use Rattle.std.specs.Prelude.{◌≡◌, IfOk, OnOk, OnErr, None};
+ghost use Rattle.pm_view.specs.Seen.{seen, MayStore};
 ghost use Rattle.pm_view.specs.Law.{HeapLaw};
 ghost use Rattle.pm_view.specs.Reading.{Stands, stored, resolve};
-ghost use Rattle.pm_view.specs.Rows.{new_space};
-ghost use Rattle.pm_space.specs.Shown.{view};
+ghost use Rattle.pm_view.specs.Rows.{new_space, spread, HasValue};
+ghost use Rattle.pm_space.specs.Shown.{view, KeepsRest};
 ghost use Rattle.pm_space.specs.KeptOnce.{HeapLaw-prop};
 
 use crate::links::LinkTable;
 use crate::parts::Parts;
-use crate::sources;
+use crate::{sources, spreading};
 use pm_guard::Guard;
 use pm_handles::Handles;
-use pm_law_rows::a_new_space_stands_for_nothing;
+use pm_law_rows::{a_new_space_stands_for_nothing, a_source_is_set};
 use pm_place::Placement;
 use pm_roots::Roots;
 use pm_snap::Table;
@@ -66,6 +67,22 @@ impl<F: Drop> Space<F> {
         ensures { result ≡ stored (view self.now.parts) source }
     {
         sources::stored(&self.parts, source)
+    }
+
+    /// Sets the source by the write barrier: it stores the address, and each car that hears of that has one
+    /// more change waiting. No remembered set is touched, and what is frozen stays. The source stands; the
+    /// address is null or that of an object that stands, and not null for a root. After want of memory all
+    /// is as it was.
+    pub fn spread(&mut self, source: RefSource, to: Option<Addr>) -> Result<(), NoMemory>
+        requires stands { Stands (view self.old.parts) source }
+        requires value { HasValue source to }
+        requires target { MayStore (seen (view self.old.parts)) to }
+        ensures ok { OnOk result (view self.new.parts ≡ spread (view self.old.parts) source to) }
+        ensures err { OnErr result (view self.new.parts ≡ view self.old.parts) }
+        ensures rest { KeepsRest self.old.parts self.new.parts }
+    {
+        a_source_is_set();
+        spreading::spread(&mut self.parts, source, to)
     }
 
     /// What the collector is at.
