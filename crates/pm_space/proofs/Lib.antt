@@ -3,3 +3,4 @@ pub mod Fresh
 pub mod Linking
 pub mod Aside
 pub mod RootsSet
+pub mod CountingUp

@@ -1,3 +1,4 @@
 pub mod Linked
 pub mod Shown
 pub mod KeptOnce
+pub mod Counted

@@ -11,8 +11,8 @@ use pm_trains::{Trains, a_car_is_found_where_it_stands};
 use pm_types::{Addr, Change, NoMemory, RefSource};
 use pm_view::Phase;
 
-// Whether a car that is in a train is set aside.
-fn is_aside(trains: &Trains, phase: Phase, car: u64) -> bool
+/// Whether a car that is in a train is set aside.
+pub(crate) fn is_aside(trains: &Trains, phase: Phase, car: u64) -> bool
     requires { IsSome (train_of trains.now.trains car) }
     ensures { result ≡ aside_in phase trains.now.trains car }
 {

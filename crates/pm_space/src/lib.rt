@@ -3,6 +3,7 @@
 #![tactic(auto)]
 
 mod barrier;
+mod counting;
 mod held;
 mod links;
 mod parts;

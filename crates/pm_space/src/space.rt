@@ -3,12 +3,14 @@ ghost use Rattle.pm_view.specs.Seen.{seen, MayStore};
 ghost use Rattle.pm_view.specs.Law.{HeapLaw};
 ghost use Rattle.pm_view.specs.Reading.{Stands, stored, resolve};
 ghost use Rattle.pm_view.specs.Rows.{new_space, spread, HasValue};
+ghost use Rattle.pm_view.specs.Counts.{standing, old};
+ghost use Rattle.pm_space.specs.Counted.{capped};
 ghost use Rattle.pm_space.specs.Shown.{view, KeepsRest};
 ghost use Rattle.pm_space.specs.KeptOnce.{HeapLaw-prop};
 
 use crate::links::LinkTable;
 use crate::parts::Parts;
-use crate::{sources, spreading};
+use crate::{counting, sources, spreading};
 use pm_guard::Guard;
 use pm_handles::Handles;
 use pm_law_rows::{a_new_space_stands_for_nothing, a_source_is_set};
@@ -97,5 +99,20 @@ impl<F: Drop> Space<F> {
         ensures { result ≡ (view self.now.parts).completed }
     {
         self.parts.completed
+    }
+
+    /// How many objects stand. It looks at each car once.
+    pub fn standing(&self) -> u64
+        ensures { result ≡ capped (standing (view self.now.parts)) }
+    {
+        counting::standing(&self.parts)
+    }
+
+    /// How many objects stand in the trains that are numbered up to this one. It looks at each of their cars
+    /// once.
+    pub fn old(&self, youngest: u64) -> u64
+        ensures { result ≡ capped (old (view self.now.parts) youngest) }
+    {
+        counting::old(&self.parts, youngest)
     }
 }
