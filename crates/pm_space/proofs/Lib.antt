@@ -4,3 +4,4 @@ pub mod Linking
 pub mod Aside
 pub mod RootsSet
 pub mod CountingUp
+pub mod OpenedCars

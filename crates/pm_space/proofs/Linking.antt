@@ -1,10 +1,11 @@
 -- What is seen of links where those of one car were written.
-use Rattle.std.proofs.Common.{◌≡◌, ℕ, ◌≤◌, ◌+◌, ◌==◌, arith, Bool, true, false, cond, refl, ap, sym, subst, ◌∙◌, [], ◌∷◌, ◌++◌, Some, None, Result, Ok, Err, OnOk, ⊎_elim}
-use Rattle.std.specs.Ordering.{nat_cmp}
+use Rattle.std.proofs.Common.{◌≡◌, ℕ, ◌≤◌, ◌+◌, ◌==◌, arith, Bool, true, false, cond, refl, ap, sym, subst, ◌∙◌, [], ◌∷◌, ◌++◌, Option, Some, None, Result, Ok, Err, OnOk, ⊎_elim}
+use Rattle.std.specs.Ordering.{nat_cmp, eq_by_cmp}
 use Rattle.std.specs.Cmp.{nat_cmp_total}
 use Rattle.std.specs.Option.{option_map}
-use Rattle.std.specs.FinMap.{FinMap, from_entries, get, insert, same_map, nat_cmp-IsAntisymmetric}
+use Rattle.std.specs.FinMap.{FinMap, from_entries, get, insert, remove, get-remove, same_map, nat_cmp-IsAntisymmetric}
 use Rattle.std.specs.BTreeMap.{BTreeMap, UpdatesBy}
+use Rattle.std.proofs.lemmas.Bool.Decides.{nat_tests}
 use Rattle.std.proofs.lemmas.Bool.{cases_Bool, cond-true, cond-false, eqb-true, eq-eqb}
 use Rattle.pm_base.specs.Mapped.{mapped}
 use Rattle.pm_base.proofs.Mapped.{get-mapped, mapped-insert}
@@ -88,3 +89,29 @@ written m n v is car w u = insert_shown nat_cmp_total nat_cmp-IsAntisymmetric m 
 pub on_ok : {A E P Q : Type 0} (r : Result A E) → (P → Q) → OnOk r P → OnOk r Q
 on_ok (Ok x) f p = f p
 on_ok (Err e) f p = tt
+
+-- what is seen of links that were added
+pub part_added : {X : Type 0} (f : Links → X) (v : Linked) (car : ℕ) (w : Links) (x : X) → f w ≡ x → mapped f (insert v car w) ≡ insert (mapped f v) car x
+part_added f v car w x is = mapped-insert nat_cmp f nat_cmp_total nat_cmp-IsAntisymmetric v car w ∙ ap (insert (mapped f v) car) is
+
+-- room in the queue of links that were added
+pub room_added : (v : Linked) (car : ℕ) (w : Links) (count : ℕ) → count ≤ w.queue.spare → HasRoom (insert v car w) car count
+room_added v car w count fits = subst (λ o. HasRoomOf o count) (sym (at_insert v car w car ∙ cond-true _ _ _ (eq-eqb car car refl))) fits
+
+gone_again : {X : Type 0} (b : Bool) (w : X) (o : Option X) → (b ≡ true → o ≡ None) → cond b None (cond b (Some w) o) ≡ o
+gone_again true w o none = sym (none refl)
+gone_again false w o none = refl
+
+tied : (q k : ℕ) → eq_by_cmp nat_cmp q k ≡ (k == q)
+tied q k = grind (arith, nat_tests)
+
+pub at_remove : {X : Type 0} (m : FinMap nat_cmp X) (k q : ℕ) → get (remove m k) q ≡ cond (k == q) None (get m q)
+at_remove m k q = get-remove nat_cmp_total m k q ∙ ap (λ b. cond b None (get m q)) (tied q k)
+
+-- what was inserted under a key that was not used, and removed again
+pub insert_undone : {X : Type 0} (m : FinMap nat_cmp X) (k : ℕ) (w : X) → get m k ≡ None → remove (insert m k w) k ≡ m
+insert_undone m k w none =
+    same_map nat_cmp_total nat_cmp-IsAntisymmetric _ _ (λ q.
+    at_remove (insert m k w) k q
+    ∙ ap (cond (k == q) None) (at_insert m k w q)
+    ∙ gone_again (k == q) w (get m q) (λ here. ap (get m) (sym (eqb-true k q here)) ∙ none))

@@ -46,3 +46,7 @@ HasRoomFor links (Some a) = HasRoom links a.car 1
 -- each car that has a remembered set is in a train
 abbrev pub AreHoused : Sets → List Train → Type 0
 AreHoused sets trains = (car : ℕ) → IsSome (get sets car) → IsSome (train_of trains car)
+
+-- the queue of each car that had links has the room that it had
+abbrev pub KeepsRoom : Linked → Linked → Type 0
+KeepsRoom old new = (car count : ℕ) → IsSome (get old car) → HasRoom old car count → HasRoom new car count

@@ -1,4 +1,4 @@
-ghost use Rattle.std.specs.Prelude.{◌≡◌, ◌+◌, ◌==◌, ℕ, cond, OnOk, is_some};
+ghost use Rattle.std.specs.Prelude.{◌≡◌, ◌+◌, ◌==◌, ℕ, cond, [], OnOk, OnErr, None, is_some};
 ghost use Rattle.std.specs.FinMap as map;
 ghost use Rattle.pm_view.specs.Barrier.{pushed};
 ghost use Rattle.pm_space.specs.Linked.{sets_of, queues_of, HasRoom};
@@ -80,5 +80,31 @@ impl LinkTable {
             return;
         };
         links.queue.push(change);
+    }
+
+    /// Gives links to a car that has none: an empty remembered set, and an empty queue with room for so many
+    /// changes. After want of memory all is as it was.
+    pub fn add(&mut self, alloc: Global, car: u64, room: u64) -> Result<(), NoMemory>
+        requires { map.get self.old car ≡ None }
+        ensures sets { OnOk result (sets_of self.new ≡ map.insert (sets_of self.old) car map.empty) }
+        ensures queues { OnOk result (queues_of self.new ≡ map.insert (queues_of self.old) car []) }
+        ensures room { OnOk result (HasRoom self.new car room) }
+        ensures others { OnOk result (map.remove self.new car ≡ self.old) }
+        ensures err { OnErr result (self.new ≡ self.old) }
+    {
+        let mut queue = Queue::new(alloc);
+        queue.reserve(room)?;
+        let set = Remset::new(alloc);
+        match self.links.insert(car, Links { set, queue }) {
+            Ok(_) => Ok(()),
+            Err(_) => Err(NoMemory),
+        }
+    }
+
+    /// Takes the links of a car away. It takes no memory.
+    pub fn remove(&mut self, car: u64)
+        ensures { self.new ≡ map.remove self.old car }
+    {
+        self.links.remove(&car);
     }
 }
