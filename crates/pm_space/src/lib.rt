@@ -16,7 +16,7 @@ mod spreading;
 pub use barrier::{make_room, tell_all};
 pub use held::Held;
 pub use links::{LinkTable, Links};
-pub use opening::open_car;
+pub use opening::{open_car, open_car_in_new_train};
 pub use parts::Parts;
 pub use space::Space;
 pub use spreading::spread;

@@ -95,3 +95,32 @@ pub fn open_car<F>(
         }
     }
 }
+
+/// Opens a new train, in which nothing was born, with a car, as `open_car` opens one at the end of a train
+/// that stands, and answers the car's number. The youngest train has a car. After want of memory all is as
+/// it was.
+pub fn open_car_in_new_train<F>(
+    parts: &mut Parts<F>,
+    alloc: Global,
+    room: u64,
+) -> Result<u64, NoMemory>
+    requires youngest { HasCar parts.old.trains.trains (youngest parts.old.trains.trains) }
+    requires small { youngest parts.old.trains.trains < 2 ^ 62 }
+    requires linked { IsLinked (view parts.old) }
+    ensures vacant { IfOk result (IsVacant (view parts.old).cars) }
+    ensures ok { IfOk result (λ number. let opened = in_new_train (view parts.old) in view parts.new ≡ with_car opened (youngest opened.trains.trains) number) }
+    ensures prepared { IfOk result (λ number. IsPrepared parts.new number room) }
+    ensures err { OnErr result (view parts.new ≡ view parts.old) }
+    ensures kept { KeepsRoom parts.old.links parts.new.links }
+    ensures rest { KeepsRest parts.old parts.new }
+{
+    a_new_train_is_the_youngest();
+    let number = add_car(&mut parts.cars, &mut parts.links, alloc, room)?;
+    match parts.trains.append_new(alloc, number) {
+        Ok(_) => Ok(number),
+        Err(fault) => {
+            take_out(&mut parts.cars, &mut parts.links, number);
+            Err(fault)
+        }
+    }
+}
