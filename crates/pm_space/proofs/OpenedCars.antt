@@ -1,18 +1,21 @@
 -- A car that is opened.
-use Rattle.std.proofs.Common.{◌≡◌, ℕ, ◌<◌, ◌==◌, ◌||◌, not, arith, Bool, true, false, cond, refl, ap, sym, subst, ◌∙◌, List, [], Option, Some, None, IsSome, IsSomeAnd, is_some, ⊎_elim}
+use Rattle.std.proofs.Common.{◌≡◌, ℕ, ◌+◌, ◌<◌, ◌==◌, ◌||◌, not, arith, Bool, true, false, cond, refl, ap, sym, subst, ◌∙◌, List, [], Option, Some, None, IsSome, IsSomeAnd, is_some, ⊎_elim}
 use Rattle.std.specs.Ordering.{nat_cmp}
 use Rattle.std.specs.Cmp.{nat_cmp_total}
 use Rattle.std.specs.Option.{option_map}
 use Rattle.std.specs.FinMap.{FinMap, empty, get, insert, remove, nat_cmp-IsAntisymmetric}
 use Rattle.std.specs.FinSet.{FinSet}
 use Rattle.std.specs.FinSet as set
+use Rattle.std.proofs.lemmas.Bool.Decides.{nat_tests}
 use Rattle.std.proofs.lemmas.Bool.{cases_Bool, cond-true, cond-false, eqb-true, eq-eqb}
 use Rattle.std.proofs.lemmas.Grind.{common_steps}
 use Rattle.pm_base.specs.Mapped.{mapped}
 use Rattle.pm_base.proofs.Mapped.{get-mapped, mapped-insert}
 use Rattle.pm_types.specs.declared.source.Change.{Change}
 use Rattle.pm_cars.specs.Cars.{new_car}
-use Rattle.pm_trains.specs.Trains.{Trains, appended}
+use Rattle.pm_trains.specs.Trains.{Train, Trains, appended, rotated, youngest, cars_at, train_of}
+use Rattle.pm_trains.specs.Changes.{cars_with_open}
+use Rattle.pm_trains.proofs.Cars.{home_appended}
 use Rattle.pm_snap.specs.Snapped.{Snapped, with_value, without, is_ready, mark, IsLowestUnused}
 use Rattle.pm_snap.proofs.Shown.{none_is_not_some}
 use Rattle.pm_snap.proofs.KeySets.{contains_insert}
@@ -22,7 +25,7 @@ use Rattle.pm_view.specs.Rows.{with_car, IsVacant}
 use Rattle.pm_space.specs.declared.held.Held.{Held}
 use Rattle.pm_space.specs.declared.links.Links.{Links}
 use Rattle.pm_space.specs.Linked.{Linked, set_of, sets_of, HasRoomOf, HasRoom, KeepsRoom}
-use Rattle.pm_space.specs.Shown.{car_of, cars_of, empty_held}
+use Rattle.pm_space.specs.Shown.{car_of, cars_of, empty_held, IsLinked, in_new_train}
 use Rattle.pm_space.proofs.HeldCars.{get_car}
 use Rattle.pm_space.proofs.Linking.{at_remove, insert_undone}
 
@@ -93,3 +96,31 @@ kept_room old new number is = λ car count some room.
     (λ (here : (number == car) ≡ true). absurd (none_is_not_some (get old car) (sym (ap (λ m. get m car) is) ∙ at_remove new number car ∙ cond-true _ _ _ here) some))
     (λ (differs : (number == car) ≡ false). subst (λ o. HasRoomOf o count) (sym (ap (λ m. get m car) is) ∙ at_remove new number car ∙ cond-false _ _ _ differs) room)
     (cases_Bool (number == car))
+
+either_way : (m n : ℕ) → (m == n) ≡ (n == m)
+either_way m n = grind (arith, nat_tests)
+
+joined : {X Y : Type 0} (b : Bool) (x : X) (y : Y) (o : Option X) (p : Option Y) → is_some o ≡ is_some p → is_some (cond b (Some x) o) ≡ is_some (cond b (Some y) p)
+joined true x y o p same = refl
+joined false x y o p same = same
+
+-- where a car was opened, each car that stands is in a train and has links, as before
+pub linked_opened : (v : SpaceView) (train number : ℕ) → IsLinked v → IsSome (cars_at v.trains.trains train) → get v.cars number ≡ None → IsLinked (with_car v train number)
+linked_opened v train number linked stands free = record {
+  trains = λ car.
+      ap is_some (home_appended train number v.trains.trains stands (not_some _ (linked.trains number ∙ ap is_some free)) car)
+      ∙ ap (λ b. is_some (cond b (Some train) (train_of v.trains.trains car))) (either_way car number)
+      ∙ joined (number == car) train (new_car number) (train_of v.trains.trains car) (get v.cars car) (linked.trains car)
+      ∙ sym (ap is_some (at_insert v.cars number (new_car number) car));
+  sets = λ car.
+      ap is_some (at_insert v.sets number empty car)
+      ∙ joined (number == car) empty (new_car number) (get v.sets car) (get v.cars car) (linked.sets car)
+      ∙ sym (ap is_some (at_insert v.cars number (new_car number) car));
+}
+
+-- a new open train stands, and all is linked as before
+pub new_train_stands : (ts : List Train) (number : ℕ) → number ≡ youngest ts + 1 → cars_at (rotated ts) number ≡ cars_with_open ts number → IsSome (cars_at (rotated ts) number)
+new_train_stands ts number is law = subst IsSome (sym (law ∙ cond-true _ _ _ (eq-eqb number (youngest ts + 1) is))) refl
+
+pub linked_in_new_train : (v : SpaceView) → IsLinked v → ((car : ℕ) → train_of (rotated v.trains.trains) car ≡ train_of v.trains.trains car) → IsLinked (in_new_train v)
+linked_in_new_train v linked home = record { trains = λ car. ap is_some (home car) ∙ linked.trains car; sets = linked.sets }

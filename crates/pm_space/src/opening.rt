@@ -83,6 +83,7 @@ pub fn open_car<F>(
     ensures ok { IfOk result (λ number. view parts.new ≡ with_car (view parts.old) train number) }
     ensures prepared { IfOk result (λ number. IsPrepared parts.new number room) }
     ensures err { OnErr result (view parts.new ≡ view parts.old) }
+    ensures linked { IsLinked (view parts.new) }
     ensures kept { KeepsRoom parts.old.links parts.new.links }
     ensures rest { KeepsRest parts.old parts.new }
 {
@@ -111,9 +112,11 @@ pub fn open_car_in_new_train<F>(
     ensures ok { IfOk result (λ number. let opened = in_new_train (view parts.old) in view parts.new ≡ with_car opened (youngest opened.trains.trains) number) }
     ensures prepared { IfOk result (λ number. IsPrepared parts.new number room) }
     ensures err { OnErr result (view parts.new ≡ view parts.old) }
+    ensures linked { IsLinked (view parts.new) }
     ensures kept { KeepsRoom parts.old.links parts.new.links }
     ensures rest { KeepsRest parts.old parts.new }
 {
+    parts.trains.sound();
     a_new_train_is_the_youngest();
     let number = add_car(&mut parts.cars, &mut parts.links, alloc, room)?;
     match parts.trains.append_new(alloc, number) {

@@ -3,8 +3,8 @@ use Rattle.std.specs.FinMap.{get}
 use Rattle.pm_snap.specs.Snapped.{is_ready, without}
 use Rattle.pm_space.specs.declared.held.Held.{Held}
 use Rattle.pm_space.specs.Linked.{sets_of, queues_of}
-use Rattle.pm_space.specs.Shown.{view, cars_of, empty_held}
-use Rattle.pm_space.proofs.OpenedCars.{unlinked, not_some, free_car, lowest_vacant, given, has_birth, ready, cars_added, cars_undone, opened_view, same_view, kept_room}
+use Rattle.pm_space.specs.Shown.{view, cars_of, empty_held, IsLinked}
+use Rattle.pm_space.proofs.OpenedCars.{unlinked, not_some, free_car, lowest_vacant, given, has_birth, ready, cars_added, cars_undone, opened_view, same_view, kept_room, linked_opened}
 use Rattle.pm_space.proofs.opening.open_car.Goals as goal
 
 pub add_car-requires : goal.add_car-requires
@@ -47,3 +47,10 @@ returns-in-Err-clause-err g c =
     same_view (view c.args.parts.now) _ _ _ _
     (ap cars_of (c.take_out.ensures.cars ∙ ap (λ t. without t c.in_ok-number.number) c.in_ok-number.ensures.cars) ∙ cars_undone c.args.parts.now.cars c.in_ok-number.number (empty_held c.in_ok-number.number) c.in_ok-number.ensures.lowest.unused)
     (ap sets_of links) (ap queues_of links) c.in-Err.ensures.err
+
+pub returns-in-Ok-clause-linked : goal.returns-in-Ok-clause-linked
+returns-in-Ok-clause-linked g c =
+    subst IsLinked (sym (returns-in-Ok-clause-ok g c)) (linked_opened (view c.args.parts.now) c.args.train c.in_ok-number.number c.requires.linked c.requires.train (returns-in-Ok-clause-vacant g c).vacant)
+
+pub returns-in-Err-clause-linked : goal.returns-in-Err-clause-linked
+returns-in-Err-clause-linked g c = subst IsLinked (sym (returns-in-Err-clause-err g c)) c.requires.linked

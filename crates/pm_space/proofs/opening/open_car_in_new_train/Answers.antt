@@ -4,8 +4,8 @@ use Rattle.pm_snap.specs.Snapped.{is_ready, without}
 use Rattle.pm_trains.specs.Trains.{appended, rotated, youngest}
 use Rattle.pm_space.specs.declared.held.Held.{Held}
 use Rattle.pm_space.specs.Linked.{sets_of, queues_of}
-use Rattle.pm_space.specs.Shown.{view, cars_of, empty_held, in_new_train}
-use Rattle.pm_space.proofs.OpenedCars.{unlinked, not_some, free_car, lowest_vacant, given, has_birth, ready, cars_added, cars_undone, opened_view, same_view, kept_room}
+use Rattle.pm_space.specs.Shown.{view, cars_of, empty_held, in_new_train, IsLinked}
+use Rattle.pm_space.proofs.OpenedCars.{unlinked, not_some, free_car, lowest_vacant, given, has_birth, ready, cars_added, cars_undone, opened_view, same_view, kept_room, linked_opened, linked_in_new_train, new_train_stands}
 use Rattle.pm_space.proofs.opening.open_car_in_new_train.Goals as goal
 
 pub add_car-requires : goal.add_car-requires
@@ -51,3 +51,17 @@ returns-in-Err-clause-err g c =
     same_view (view c.args.parts.now) _ _ _ _
     (ap cars_of (c.take_out.ensures.cars ∙ ap (λ t. without t c.in_ok-number.number) c.in_ok-number.ensures.cars) ∙ cars_undone c.args.parts.now.cars c.in_ok-number.number (empty_held c.in_ok-number.number) c.in_ok-number.ensures.lowest.unused)
     (ap sets_of links) (ap queues_of links) c.in-Err.ensures.err
+
+pub returns-in-Ok-clause-linked : goal.returns-in-Ok-clause-linked
+returns-in-Ok-clause-linked g c =
+    let v = view c.args.parts.now in
+    let ts = c.args.parts.now.trains.trains in
+    let last = c.a_new_train_is_the_youngest.ensures.youngest ts in
+    subst IsLinked (sym (returns-in-Ok-clause-ok g c))
+    (linked_opened (in_new_train v) (youngest (rotated ts)) c.in_ok-number.number
+    (linked_in_new_train v c.requires.linked (c.a_new_train_is_the_youngest.ensures.home ts))
+    (new_train_stands ts (youngest (rotated ts)) last (c.a_new_train_is_the_youngest.ensures.cars c.args.parts.now.trains (youngest (rotated ts)) c.sound.ensures))
+    (returns-in-Ok-clause-vacant g c).vacant)
+
+pub returns-in-Err-clause-linked : goal.returns-in-Err-clause-linked
+returns-in-Err-clause-linked g c = subst IsLinked (sym (returns-in-Err-clause-err g c)) c.requires.linked
