@@ -5,3 +5,4 @@ pub mod Aside
 pub mod RootsSet
 pub mod CountingUp
 pub mod OpenedCars
+pub mod Rooms

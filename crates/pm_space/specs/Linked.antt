@@ -1,5 +1,6 @@
 -- Remembered sets and queues of cars, as a space shows them.
 use Rattle.std.specs.Prelude.{ℕ, ◌+◌, ◌≤◌, ◌==◌, cond, List, Option, Some, None, IsSome}
+use Rattle.std.specs.List.{sum_by}
 use Rattle.std.specs.Ordering.{nat_cmp}
 use Rattle.std.specs.FinMap.{FinMap, get}
 use Rattle.pm_base.specs.Mapped.{mapped}
@@ -47,6 +48,10 @@ HasRoomFor links (Some a) = HasRoom links a.car 1
 abbrev pub told_by : ℕ → Option Addr → ℕ
 told_by car None = 0
 told_by car (Some a) = cond (a.car == car) 1 0
+
+-- how often a car stands in a list
+abbrev pub times : ℕ → List ℕ → ℕ
+times car cars = sum_by (λ c. cond (c == car) 1 0) cars
 
 -- each car that has a remembered set is in a train
 abbrev pub AreHoused : Sets → List Train → Type 0

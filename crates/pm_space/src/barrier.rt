@@ -1,4 +1,4 @@
-ghost use Rattle.std.specs.Prelude.{◌≡◌, ℕ, ◌+◌, ◌==◌, ◌&&◌, [], not, cond, is_some, if◌then◌else◌, OnOk, IsSome, None};
+ghost use Rattle.std.specs.Prelude.{◌≡◌, ℕ, ◌+◌, ◌==◌, ◌&&◌, [], not, cond, is_some, if◌then◌else◌, IsSome, None};
 ghost use Rattle.std.specs.FinMap as map;
 ghost use Rattle.pm_trains.specs.Trains.{train_of};
 ghost use Rattle.pm_view.specs.Sources.{outside};
@@ -8,7 +8,7 @@ ghost use Rattle.pm_space.specs.Linked.{sets_of, queues_of, HasRoom, HasRoomFor,
 
 use crate::links::LinkTable;
 use pm_trains::{Trains, a_car_is_found_where_it_stands};
-use pm_types::{Addr, Change, NoMemory, RefSource};
+use pm_types::{Addr, Change, RefSource};
 use pm_view::Phase;
 
 /// Whether a car that is in a train is set aside.
@@ -143,34 +143,4 @@ pub fn tell_all(
 {
     tell_old(links, trains, phase, source, old, new);
     tell_new(links, trains, phase, source, new);
-}
-
-// Makes room for a change in the queue of the address's car.
-fn make_room_for(links: &mut LinkTable, at: Option<Addr>) -> Result<(), NoMemory>
-    ensures sets { sets_of links.new ≡ sets_of links.old }
-    ensures queues { queues_of links.new ≡ queues_of links.old }
-    ensures room { OnOk result (HasRoomFor links.new at) }
-    ensures kept { (other more : ℕ) → HasRoom links.old other more → HasRoom links.new other more }
-{
-    match at {
-        Some(at) => links.reserve(at.car, 1),
-        None => Ok(()),
-    }
-}
-
-/// Makes room for what is told where a source goes from the old address to the new one. What waits stays,
-/// and so does all room that was made before, also after want of memory.
-pub fn make_room(
-    links: &mut LinkTable,
-    old: Option<Addr>,
-    new: Option<Addr>,
-) -> Result<(), NoMemory>
-    ensures sets { sets_of links.new ≡ sets_of links.old }
-    ensures queues { queues_of links.new ≡ queues_of links.old }
-    ensures old_room { OnOk result (HasRoomFor links.new old) }
-    ensures new_room { OnOk result (HasRoomFor links.new new) }
-    ensures kept { (other more : ℕ) → HasRoom links.old other more → HasRoom links.new other more }
-{
-    make_room_for(links, old)?;
-    make_room_for(links, new)
 }

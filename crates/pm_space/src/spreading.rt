@@ -3,8 +3,9 @@ ghost use Rattle.pm_view.specs.Rows.{spread, HasValue};
 ghost use Rattle.pm_space.specs.Linked.{sets_of, AreHoused};
 ghost use Rattle.pm_space.specs.Shown.{view, IsThere, KeepsRest};
 
-use crate::barrier::{make_room, tell_all};
+use crate::barrier::tell_all;
 use crate::parts::Parts;
+use crate::room::make_room;
 use crate::setting::set;
 use crate::sources::stored;
 use pm_types::{Addr, NoMemory, RefSource};
