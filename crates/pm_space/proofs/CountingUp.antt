@@ -1,16 +1,15 @@
 -- Objects counted car by car and train by train.
-use Rattle.std.proofs.Common.{◌≡◌, ℕ, ◌<◌, ◌≤◌, ◌+◌, ◌==◌, ◌↔◌, arith, min, Bool, true, false, cond, nat_le, refl, ap, sym, subst, ◌∙◌, List, [], ◌∷◌, length, map, take, get_or, slice_index, zero, suc, Option, Some, None, IsSome, IsSomeAnd, IsTrue, ⊎_elim}
+use Rattle.std.proofs.Common.{◌≡◌, ℕ, ◌<◌, ◌+◌, ◌==◌, ◌↔◌, arith, min, cond, nat_le, refl, ap, sym, subst, ◌∙◌, List, [], ◌∷◌, length, map, take, get_or, slice_index, zero, suc, Some, IsSome, IsSomeAnd, IsTrue}
 use Rattle.std.specs.List.{sum_by, list_any}
 use Rattle.std.proofs.lemmas.List.{get_or-map}
 use Rattle.std.proofs.lemmas.List.Folds.{list_any_at}
-use Rattle.std.proofs.lemmas.List.Sums.{sum_by-cons, sum_by_more}
 use Rattle.std.proofs.lemmas.Bool.{eq-eqb}
 use Rattle.pm_trains.specs.Trains.{Train, cars_at, train_of}
 use Rattle.pm_trains.specs.Sound.{Rise}
 use Rattle.pm_trains.specs.Changes.{StandsIn}
 use Rattle.pm_trains.proofs.Numbers.{cars_there}
 use Rattle.pm_view.specs.View.{SpaceView}
-use Rattle.pm_view.specs.Counts.{standing_of, standing_in, old_in}
+use Rattle.pm_view.specs.Counts.{standing_of, old_in}
 use Rattle.pm_space.specs.Counted.{capped}
 
 -- a count and one more thing to count

@@ -6,3 +6,4 @@ pub mod RootsSet
 pub mod CountingUp
 pub mod OpenedCars
 pub mod Rooms
+pub mod Leading

@@ -4,14 +4,11 @@ use Rattle.std.specs.Ordering.{nat_cmp}
 use Rattle.std.specs.Cmp.{nat_cmp_total}
 use Rattle.std.specs.Option.{option_map}
 use Rattle.std.specs.FinMap.{FinMap, empty, get, insert, remove, nat_cmp-IsAntisymmetric}
-use Rattle.std.specs.FinSet.{FinSet}
 use Rattle.std.specs.FinSet as set
 use Rattle.std.proofs.lemmas.Bool.Decides.{nat_tests}
-use Rattle.std.proofs.lemmas.Bool.{cases_Bool, cond-true, cond-false, eqb-true, eq-eqb}
-use Rattle.std.proofs.lemmas.Grind.{common_steps}
+use Rattle.std.proofs.lemmas.Bool.{cases_Bool, cond-true, cond-false, eq-eqb}
 use Rattle.pm_base.specs.Mapped.{mapped}
 use Rattle.pm_base.proofs.Mapped.{get-mapped, mapped-insert}
-use Rattle.pm_types.specs.declared.source.Change.{Change}
 use Rattle.pm_cars.specs.Cars.{new_car}
 use Rattle.pm_trains.specs.Trains.{Train, Trains, appended, rotated, youngest, cars_at, train_of}
 use Rattle.pm_trains.specs.Changes.{cars_with_open}
@@ -23,8 +20,7 @@ use Rattle.pm_law_rows.proofs.News.{at_insert}
 use Rattle.pm_view.specs.View.{Cars, Sets, Queues, SpaceView}
 use Rattle.pm_view.specs.Rows.{with_car, IsVacant}
 use Rattle.pm_space.specs.declared.held.Held.{Held}
-use Rattle.pm_space.specs.declared.links.Links.{Links}
-use Rattle.pm_space.specs.Linked.{Linked, set_of, sets_of, HasRoomOf, HasRoom, KeepsRoom}
+use Rattle.pm_space.specs.Linked.{Linked, set_of, sets_of, HasRoomOf, KeepsRoom}
 use Rattle.pm_space.specs.Shown.{car_of, cars_of, empty_held, IsLinked, in_new_train}
 use Rattle.pm_space.proofs.HeldCars.{get_car}
 use Rattle.pm_space.proofs.Linking.{at_remove, insert_undone}

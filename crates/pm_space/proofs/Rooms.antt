@@ -1,7 +1,7 @@
 -- Room for as many changes as cars stand in a list.
-use Rattle.std.proofs.Common.{◌≡◌, ℕ, ◌<◌, ◌≤◌, ◌+◌, ◌==◌, arith, Bool, true, false, cond, refl, ap, sym, subst, ◌∙◌, List, length, take, get_or, Option, Some, None, ⊎_elim}
+use Rattle.std.proofs.Common.{◌≡◌, ℕ, ◌<◌, ◌≤◌, ◌+◌, ◌==◌, arith, Bool, true, false, cond, refl, ap, sym, subst, ◌∙◌, List, length, take, get_or, Option, Some, ⊎_elim}
 use Rattle.std.specs.Option.{unwrap_or}
-use Rattle.std.proofs.lemmas.Bool.{cases_Bool, cond-true, cond-false, eqb-true, eq-eqb}
+use Rattle.std.proofs.lemmas.Bool.{cases_Bool, cond-true, cond-false, eqb-true}
 use Rattle.std.proofs.lemmas.Bool.Decides.{nat_tests}
 use Rattle.std.proofs.lemmas.List.Sums.{sum_by_more, count_by-le-length}
 use Rattle.std.proofs.lemmas.List.{length-take}

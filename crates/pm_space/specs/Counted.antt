@@ -1,5 +1,5 @@
 -- Counts of objects as numbers of 64 bits.
-use Rattle.std.specs.Prelude.{◌≡◌, ℕ, ◌<◌, min, List, length, get_or, IsSome}
+use Rattle.std.specs.Prelude.{ℕ, ◌<◌, min, List, length, get_or, IsSome}
 use Rattle.pm_trains.specs.Trains.{Train, train_of}
 
 -- a count, or the greatest number of 64 bits where it is more

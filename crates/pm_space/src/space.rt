@@ -1,5 +1,6 @@
-ghost use Rattle.std.specs.Prelude.{◌≡◌, IfOk, OnOk, OnErr, None};
-ghost use Rattle.pm_view.specs.Seen.{seen, MayStore};
+ghost use Rattle.std.specs.Prelude.{◌≡◌, IfOk, OnOk, OnErr, Some, None};
+ghost use Rattle.pm_types.specs.declared.source.RefSource.{RefSource};
+ghost use Rattle.pm_view.specs.Seen.{seen, IsLive, MayStore};
 ghost use Rattle.pm_view.specs.Law.{HeapLaw};
 ghost use Rattle.pm_view.specs.Reading.{Stands, stored, resolve};
 ghost use Rattle.pm_view.specs.Rows.{new_space, spread, HasValue};
@@ -56,9 +57,11 @@ impl<F: Drop> Space<F> {
         })
     }
 
-    /// Where an address leads: to the new place of the object where it moved away, and else to itself.
+    /// Where an address leads: to the new place of the object where it moved away, and else to itself. An
+    /// address that a source stores leads to an object that stands.
     pub fn resolve(&self, at: Addr) -> Addr
-        ensures { result ≡ resolve (view self.now.parts) at }
+        ensures place { result ≡ resolve (view self.now.parts) at }
+        ensures live { (source : RefSource) → Stands (view self.now.parts) source → stored (view self.now.parts) source ≡ Some at → IsLive (seen (view self.now.parts)) result }
     {
         sources::resolve(&self.parts.cars, at)
     }

@@ -1,4 +1,4 @@
-use Rattle.std.proofs.Common.{◌<◌, arith, ap, ◌+◌, ◌∙◌, get_or}
+use Rattle.std.proofs.Common.{arith, ap, ◌+◌, ◌∙◌, get_or}
 use Rattle.std.specs.Ordering.{nat_cmp}
 use Rattle.std.specs.BTreeMap as tree
 use Rattle.pm_space.proofs.Rooms.{few_times, counted_more, room_more}
