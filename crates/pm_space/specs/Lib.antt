@@ -1,0 +1,4 @@
+pub mod Linked
+pub mod Shown
+pub mod KeptOnce
+pub mod Counted

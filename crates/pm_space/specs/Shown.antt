@@ -1,0 +1,78 @@
+-- What contracts see of the parts of a space.
+use Rattle.std.specs.Prelude.{◌≡◌, ℕ, ◌<◌, true, IsSome, IsSomeAnd, is_some}
+use Rattle.std.specs.FinMap.{get}
+use Rattle.std.specs.List.{slice_get}
+use Rattle.std.specs.Option.{option_and_then}
+use Rattle.pm_base.specs.Mapped.{mapped}
+use Rattle.pm_types.specs.declared.limits.TheConstants.{CLIENTS, REGISTERS}
+use Rattle.pm_types.specs.declared.address.Addr.{Addr}
+use Rattle.pm_types.specs.declared.object.Object.{Object}
+use Rattle.pm_types.specs.declared.source.RefSource.{RefSource}
+use Rattle.pm_types.specs.declared.source.RefSource.TheVariants.{Root, Handle, Field}
+use Rattle.pm_cars.specs.Cars.{Car, new_car}
+use Rattle.pm_roots.specs.Bindings.{address_at}
+use Rattle.pm_view.specs.View.{Cars, SpaceView}
+use Rattle.pm_view.specs.Reading.{object_at}
+use Rattle.pm_snap.specs.Snapped.{Snapped, is_ready}
+use Rattle.pm_trains.specs.Trains.{train_of, rotated}
+use Rattle.pm_space.specs.declared.held.Held.{Held}
+use Rattle.pm_space.specs.declared.parts.Parts.{Parts}
+use Rattle.pm_space.specs.Linked.{sets_of, queues_of, HasRoom}
+
+-- a car that is held, without its room
+abbrev pub car_of : Held → Car
+car_of held = held.car.car
+
+-- a car with no slot and with room for one birth
+abbrev pub empty_held : ℕ → Held
+empty_held number = record { car = record { car = new_car number; spare = 1 } }
+
+-- the cars that a table holds now
+abbrev pub cars_of : Snapped Held → Cars
+cars_of table = mapped car_of table.current
+
+-- What is seen of a space, without the room that is kept ahead, the frozen cars and the chooser.
+abbrev pub view : {F : Type 0} → Parts F → SpaceView
+view parts = record {
+  cars = cars_of parts.cars;
+  sets = sets_of parts.links;
+  queues = queues_of parts.links;
+  trains = parts.trains;
+  roots = parts.roots;
+  registers = parts.handles;
+  anchor = parts.guard;
+  phase = parts.phase;
+  next = parts.next;
+  completed = parts.completed;
+}
+
+-- the frozen cars and the chooser, which a view does not have, stay as they are
+pub record KeepsRest {F : Type 0} (old new : Parts F) : Type 0 where
+  pub frozen : new.cars.frozen ≡ old.cars.frozen
+  pub place : new.place ≡ old.place
+
+-- the object at this address has a field of this index
+abbrev pub HasFieldAt : Cars → Addr → ℕ → Type 0
+HasFieldAt cars a index = IsSome (option_and_then (λ (o : Object). slice_get o.fields index) (object_at cars a))
+
+-- A source is there: a root where its number is bound, a register where there is one, also empty, and a field where
+-- an object has it, also one that is set aside.
+abbrev pub IsThere : SpaceView → RefSource → Type 0
+IsThere view (Root number) = IsSome (address_at view.roots number)
+IsThere view (Handle client register) = (client < CLIENTS) × (register < REGISTERS)
+IsThere view (Field a index) = HasFieldAt view.cars a index
+
+-- each car that stands is in a train and has links, and no other number is or has
+pub record IsLinked (view : SpaceView) : Type 0 where
+  pub trains : (car : ℕ) → is_some (train_of view.trains.trains car) ≡ is_some (get view.cars car)
+  pub sets : (car : ℕ) → is_some (get view.sets car) ≡ is_some (get view.cars car)
+
+-- a car that was opened is ready, and has room for a birth, and its queue for so many changes
+pub record IsPrepared {F : Type 0} (parts : Parts F) (number room : ℕ) : Type 0 where
+  pub ready : is_ready parts.cars number ≡ true
+  pub birth : IsSomeAnd (get parts.cars.current number) (λ (held : Held). 0 < held.car.spare)
+  pub changes : HasRoom parts.links number room
+
+-- the space with a new open train, in which nothing was born
+abbrev pub in_new_train : SpaceView → SpaceView
+in_new_train view = record view { trains = record { trains = rotated view.trains.trains; births = 0 } }

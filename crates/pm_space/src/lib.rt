@@ -1,0 +1,24 @@
+//! The space of objects: its cars with their remembered sets and queues, its trains, names and registers,
+//! and the write barrier.
+#![tactic(auto)]
+
+mod barrier;
+mod counting;
+mod held;
+mod links;
+mod opening;
+mod parts;
+mod room;
+mod setting;
+mod sources;
+mod space;
+mod spreading;
+
+pub use barrier::tell_all;
+pub use held::Held;
+pub use links::{LinkTable, Links};
+pub use opening::{open_car, open_car_in_new_train};
+pub use parts::Parts;
+pub use room::{make_room, make_room_for_each};
+pub use space::Space;
+pub use spreading::spread;
