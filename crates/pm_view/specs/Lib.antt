@@ -8,3 +8,6 @@ pub mod Law
 pub mod Barrier
 pub mod Rows
 pub mod Represents
+pub mod Candidates
+pub mod Collecting
+pub mod Events

@@ -1,0 +1,7 @@
+pub mod Small
+pub mod Finds
+pub mod MeansSame
+pub mod SetAside
+pub mod Phased
+pub mod Comes
+pub mod PhaseRows

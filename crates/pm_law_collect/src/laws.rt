@@ -1,0 +1,28 @@
+//! The rows of the collector: each keeps the heap law, and every world that the space stands for stays.
+//! Each function's contract is the law, and the function does nothing.
+
+ghost use Rattle.std.specs.Prelude.{◌≡◌, ℕ};
+ghost use Rattle.pm_types.specs.declared.address.Addr.{Addr};
+ghost use Rattle.pm_model.specs.World.{World};
+ghost use Rattle.pm_view.specs.View.{SpaceView};
+ghost use Rattle.pm_view.specs.Law.{HeapLaw};
+ghost use Rattle.pm_view.specs.Represents.{Represents};
+ghost use Rattle.pm_view.specs.Events.{Row, select, doom, start, finish, next_row, after, MayPick};
+
+/// A law of phases: where a train is selected or doomed, or a car begins to be emptied or to be swept, the
+/// heap law is kept, and every world that the space stands for stays.
+pub fn a_phase_begins()
+    ensures selected { (view : SpaceView) (train picked number : ℕ) → HeapLaw view → next_row view ≡ select train → HeapLaw (after view picked number (select train)) }
+    ensures selected_world { (view : SpaceView) (world : World) (train picked number : ℕ) → HeapLaw view → next_row view ≡ select train → Represents view world
+        → Represents (after view picked number (select train)) world }
+    ensures doomed { (view : SpaceView) (train picked number : ℕ) → HeapLaw view → next_row view ≡ doom train → HeapLaw (after view picked number (doom train)) }
+    ensures doomed_world { (view : SpaceView) (world : World) (train picked number : ℕ) → HeapLaw view → next_row view ≡ doom train → Represents view world
+        → Represents (after view picked number (doom train)) world }
+    ensures started { (view : SpaceView) (car picked number : ℕ) (a : Addr) → HeapLaw view → next_row view ≡ start car a → MayPick view picked (start car a)
+        → HeapLaw (after view picked number (start car a)) }
+    ensures started_world { (view : SpaceView) (world : World) (car picked number : ℕ) (a : Addr) → HeapLaw view → next_row view ≡ start car a → MayPick view picked (start car a)
+        → Represents view world → Represents (after view picked number (start car a)) world }
+    ensures finished { (view : SpaceView) (car picked number : ℕ) → HeapLaw view → next_row view ≡ finish car → HeapLaw (after view picked number (finish car)) }
+    ensures finished_world { (view : SpaceView) (world : World) (car picked number : ℕ) → HeapLaw view → next_row view ≡ finish car → Represents view world
+        → Represents (after view picked number (finish car)) world }
+{}

@@ -1,0 +1,6 @@
+//! Laws of the collector's rows: each keeps the heap law and what a space stands for.
+#![tactic(auto)]
+
+mod laws;
+
+pub use laws::a_phase_begins;
