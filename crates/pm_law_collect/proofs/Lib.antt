@@ -5,3 +5,4 @@ pub mod SetAside
 pub mod Phased
 pub mod Comes
 pub mod PhaseRows
+pub mod Requeued

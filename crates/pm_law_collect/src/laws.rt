@@ -7,7 +7,7 @@ ghost use Rattle.pm_model.specs.World.{World};
 ghost use Rattle.pm_view.specs.View.{SpaceView};
 ghost use Rattle.pm_view.specs.Law.{HeapLaw};
 ghost use Rattle.pm_view.specs.Represents.{Represents};
-ghost use Rattle.pm_view.specs.Events.{Row, select, doom, start, finish, next_row, after, MayPick};
+ghost use Rattle.pm_view.specs.Events.{select, apply, doom, start, finish, next_row, after, MayPick};
 
 /// A law of phases: where a train is selected or doomed, or a car begins to be emptied or to be swept, the
 /// heap law is kept, and every world that the space stands for stays.
@@ -25,4 +25,11 @@ pub fn a_phase_begins()
     ensures finished { (view : SpaceView) (car picked number : ℕ) → HeapLaw view → next_row view ≡ finish car → HeapLaw (after view picked number (finish car)) }
     ensures finished_world { (view : SpaceView) (world : World) (car picked number : ℕ) → HeapLaw view → next_row view ≡ finish car → Represents view world
         → Represents (after view picked number (finish car)) world }
+{}
+
+/// A law of changes: where a car's front change is applied, the heap law is kept, every world that the space
+/// stands for stays, and each effective set gives what it gave.
+pub fn a_change_is_applied()
+    ensures law { (view : SpaceView) (car picked number : ℕ) → HeapLaw view → HeapLaw (after view picked number (apply car)) }
+    ensures world { (view : SpaceView) (world : World) (car picked number : ℕ) → HeapLaw view → Represents view world → Represents (after view picked number (apply car)) world }
 {}
