@@ -6,3 +6,5 @@ pub mod Phased
 pub mod Comes
 pub mod PhaseRows
 pub mod Requeued
+pub mod FixRow
+pub mod FieldNews

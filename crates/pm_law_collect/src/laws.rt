@@ -3,11 +3,12 @@
 
 ghost use Rattle.std.specs.Prelude.{◌≡◌, ℕ};
 ghost use Rattle.pm_types.specs.declared.address.Addr.{Addr};
+ghost use Rattle.pm_types.specs.declared.source.RefSource.{RefSource};
 ghost use Rattle.pm_model.specs.World.{World};
 ghost use Rattle.pm_view.specs.View.{SpaceView};
 ghost use Rattle.pm_view.specs.Law.{HeapLaw};
 ghost use Rattle.pm_view.specs.Represents.{Represents};
-ghost use Rattle.pm_view.specs.Events.{select, apply, doom, start, finish, next_row, after, MayPick};
+ghost use Rattle.pm_view.specs.Events.{select, apply, doom, start, fix, finish, next_row, after, MayPick};
 
 /// A law of phases: where a train is selected or doomed, or a car begins to be emptied or to be swept, the
 /// heap law is kept, and every world that the space stands for stays.
@@ -32,4 +33,13 @@ pub fn a_phase_begins()
 pub fn a_change_is_applied()
     ensures law { (view : SpaceView) (car picked number : ℕ) → HeapLaw view → HeapLaw (after view picked number (apply car)) }
     ensures world { (view : SpaceView) (world : World) (car picked number : ℕ) → HeapLaw view → Represents view world → Represents (after view picked number (apply car)) world }
+{}
+
+/// A law of sources that name where an object was: where one is fixed, the heap law is kept, and every world that
+/// the space stands for stays, so nothing newer that a client stored is written over.
+pub fn a_source_is_fixed()
+    ensures law { (view : SpaceView) (car picked number : ℕ) (source : RefSource) (to : Addr) → HeapLaw view → next_row view ≡ fix car source to
+        → HeapLaw (after view picked number (fix car source to)) }
+    ensures world { (view : SpaceView) (world : World) (car picked number : ℕ) (source : RefSource) (to : Addr) → HeapLaw view → next_row view ≡ fix car source to
+        → Represents view world → Represents (after view picked number (fix car source to)) world }
 {}
