@@ -33,9 +33,9 @@ module _ (e : ℕ) (y : RefSource) (tell : ℕ → Option Addr → List (ℕ × 
       ∙ ap (folded step (n + 1) fs) (one n f set)
 
   -- the effective set of a car that has both a set and a queue, or neither, and hears only where it stands
-  pub effective_fields : (set : Option Sources) (queue : Option (List Change)) (fs : List (Option Addr)) → is_some set ≡ is_some queue → (is_some queue ≡ false → (o : Option ℕ) → folded step 0 fs o ≡ o)
+  pub effective_fields : (set : Option Sources) (queue : Option (List Change)) (fs : List (Option Addr)) → is_some set ≡ is_some queue → (is_some queue ≡ false → folded step 0 fs None ≡ None)
       → effective_in set (option_map (λ q. q ++ news e (field_news tell 0 fs)) queue) y ≡ folded step 0 fs (effective_in set queue y)
-  effective_fields None None fs both deaf = sym (deaf refl None)
+  effective_fields None None fs both deaf = sym (deaf refl)
   effective_fields None (Some q) fs both deaf = absurd (true≢false (sym both))
   effective_fields (Some set) None fs both deaf = absurd (true≢false both)
   effective_fields (Some set) (Some q) fs both deaf = ap (λ s. get s y) (applied-both set q (news e (field_news tell 0 fs))) ∙ applied_fields 0 fs (applied set q)

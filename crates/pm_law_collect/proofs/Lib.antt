@@ -8,3 +8,7 @@ pub mod PhaseRows
 pub mod Requeued
 pub mod FixRow
 pub mod FieldNews
+pub mod Agree
+pub mod SweptSeen
+pub mod Withdrawn
+pub mod SweepRow

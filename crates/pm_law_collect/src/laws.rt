@@ -8,7 +8,7 @@ ghost use Rattle.pm_model.specs.World.{World};
 ghost use Rattle.pm_view.specs.View.{SpaceView};
 ghost use Rattle.pm_view.specs.Law.{HeapLaw};
 ghost use Rattle.pm_view.specs.Represents.{Represents};
-ghost use Rattle.pm_view.specs.Events.{select, apply, doom, start, fix, finish, next_row, after, MayPick};
+ghost use Rattle.pm_view.specs.Events.{select, apply, doom, start, fix, finish, sweep, next_row, after, MayPick};
 
 /// A law of phases: where a train is selected or doomed, or a car begins to be emptied or to be swept, the
 /// heap law is kept, and every world that the space stands for stays.
@@ -42,4 +42,12 @@ pub fn a_source_is_fixed()
         → HeapLaw (after view picked number (fix car source to)) }
     ensures world { (view : SpaceView) (world : World) (car picked number : ℕ) (source : RefSource) (to : Addr) → HeapLaw view → next_row view ≡ fix car source to
         → Represents view world → Represents (after view picked number (fix car source to)) world }
+{}
+
+/// A law of sweeping: where an object that nothing reaches is dropped and its references are withdrawn, the heap law
+/// is kept, and every world that the space stands for stays.
+pub fn an_object_is_swept()
+    ensures law { (view : SpaceView) (a : Addr) (picked number : ℕ) → HeapLaw view → next_row view ≡ sweep a → HeapLaw (after view picked number (sweep a)) }
+    ensures world { (view : SpaceView) (world : World) (a : Addr) (picked number : ℕ) → HeapLaw view → next_row view ≡ sweep a → Represents view world
+        → Represents (after view picked number (sweep a)) world }
 {}
