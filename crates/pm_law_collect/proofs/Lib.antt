@@ -12,3 +12,6 @@ pub mod Agree
 pub mod SweptSeen
 pub mod Withdrawn
 pub mod SweepRow
+pub mod FreedSeen
+pub mod FirstGone
+pub mod FreeRow

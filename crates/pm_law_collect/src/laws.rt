@@ -8,7 +8,7 @@ ghost use Rattle.pm_model.specs.World.{World};
 ghost use Rattle.pm_view.specs.View.{SpaceView};
 ghost use Rattle.pm_view.specs.Law.{HeapLaw};
 ghost use Rattle.pm_view.specs.Represents.{Represents};
-ghost use Rattle.pm_view.specs.Events.{select, apply, doom, start, fix, finish, sweep, next_row, after, MayPick};
+ghost use Rattle.pm_view.specs.Events.{select, apply, doom, start, fix, finish, sweep, free, free_doomed, next_row, after, MayPick};
 
 /// A law of phases: where a train is selected or doomed, or a car begins to be emptied or to be swept, the
 /// heap law is kept, and every world that the space stands for stays.
@@ -50,4 +50,16 @@ pub fn an_object_is_swept()
     ensures law { (view : SpaceView) (a : Addr) (picked number : ℕ) → HeapLaw view → next_row view ≡ sweep a → HeapLaw (after view picked number (sweep a)) }
     ensures world { (view : SpaceView) (world : World) (a : Addr) (picked number : ℕ) → HeapLaw view → next_row view ≡ sweep a → Represents view world
         → Represents (after view picked number (sweep a)) world }
+{}
+
+/// A law of cars that go: where a car that was swept goes, alone or as one of a doomed train, the heap law is kept,
+/// and every world that the space stands for stays; its number may be given again at once.
+pub fn a_car_is_freed()
+    ensures law { (view : SpaceView) (car picked number : ℕ) → HeapLaw view → next_row view ≡ free car → HeapLaw (after view picked number (free car)) }
+    ensures world { (view : SpaceView) (world : World) (car picked number : ℕ) → HeapLaw view → next_row view ≡ free car → Represents view world
+        → Represents (after view picked number (free car)) world }
+    ensures doomed { (view : SpaceView) (train car picked number : ℕ) → HeapLaw view → next_row view ≡ free_doomed train car
+        → HeapLaw (after view picked number (free_doomed train car)) }
+    ensures doomed_world { (view : SpaceView) (world : World) (train car picked number : ℕ) → HeapLaw view → next_row view ≡ free_doomed train car
+        → Represents view world → Represents (after view picked number (free_doomed train car)) world }
 {}

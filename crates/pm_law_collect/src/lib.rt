@@ -3,4 +3,4 @@
 
 mod laws;
 
-pub use laws::{a_change_is_applied, a_phase_begins, a_source_is_fixed, an_object_is_swept};
+pub use laws::{a_car_is_freed, a_change_is_applied, a_phase_begins, a_source_is_fixed, an_object_is_swept};
