@@ -15,3 +15,7 @@ pub mod SweepRow
 pub mod FreedSeen
 pub mod FirstGone
 pub mod FreeRow
+pub mod MoveSeen
+pub mod PutAway
+pub mod MoveNews
+pub mod MoveRow
