@@ -232,7 +232,7 @@ module _ (view : SpaceView) (T c : ℕ) (rest : List ℕ) (p : Phase) (completed
 
 -- ---- the car that was emptied and swept
 
-first_cars : (o : Option (List ℕ)) (c : ℕ) → option_and_then (λ (cars : List ℕ). slice_get cars 0) o ≡ Some c → (rest : List ℕ) × (o ≡ Some (c ∷ rest))
+pub first_cars : (o : Option (List ℕ)) (c : ℕ) → option_and_then (λ (cars : List ℕ). slice_get cars 0) o ≡ Some c → (rest : List ℕ) × (o ≡ Some (c ∷ rest))
 first_cars None c is = cc
 first_cars (Some []) c is = cc
 first_cars (Some (d ∷ rest)) c is = (rest, ap (λ x. Some (x ∷ rest)) (some_same d c is))

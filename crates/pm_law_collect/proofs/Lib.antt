@@ -19,3 +19,6 @@ pub mod MoveSeen
 pub mod PutAway
 pub mod MoveNews
 pub mod MoveRow
+pub mod PutRow
+pub mod MoveRows
+pub mod Event

@@ -15,6 +15,7 @@ use Rattle.pm_view.specs.declared.phase.Phase.{Phase}
 use Rattle.pm_view.specs.declared.phase.Phase.TheVariants.{Idle, Draining, Moving, Sweeping, Doomed}
 use Rattle.pm_view.specs.View.{SpaceView}
 use Rattle.pm_view.specs.Reading.{slot_at, cars_of}
+use Rattle.pm_view.specs.Rows.{IsVacant}
 use Rattle.pm_view.specs.Candidates.{set_of, queue_of, least_outside, referenced_car, candidates}
 use Rattle.pm_view.specs.Collecting.{selected, doomed, started, finished, applied_in, fixed, moved, swept, without_car, completing, freed_of_train}
 
@@ -174,3 +175,10 @@ abbrev pub MayPick : SpaceView → ℕ → Row → Type 0
 MayPick view picked (start car a) = MayNote view view.anchor a picked
 MayPick view picked (move_out a) = IsTrue (is_among picked (ways_out view a))
 MayPick view picked row = Unit {0}
+
+-- where an event makes a new car its number is the least that no car has
+abbrev pub MayPlace : SpaceView → ℕ → Row → Type 0
+MayPlace view number (move_anchor a to) = IsVacant view.cars number
+MayPlace view number (move_out a) = IsVacant view.cars number
+MayPlace view number (move_on a train) = IsVacant view.cars number
+MayPlace view number row = Unit {0}

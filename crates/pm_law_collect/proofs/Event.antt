@@ -1,0 +1,29 @@
+-- Whatever event of the collector comes next, the heap law is kept, and what the space stands for.
+use Rattle.std.proofs.Common.{◌≡◌, ℕ}
+use Rattle.pm_types.specs.declared.address.Addr.{Addr}
+use Rattle.pm_view.specs.View.{SpaceView}
+use Rattle.pm_view.specs.Law.{HeapLaw}
+use Rattle.pm_view.specs.Events.{Row, nothing, select, apply, doom, start, fix, move_anchor, move_out, move_on, finish, sweep, free, free_doomed, next_row, after, MayPick, MayPlace}
+use Rattle.pm_law_collect.proofs.MeansSame.{Keeps}
+use Rattle.pm_law_collect.proofs.Comes.{comes_where}
+use Rattle.pm_law_collect.proofs.PhaseRows.{selected_keeps, doomed_keeps, started_keeps, finished_keeps}
+use Rattle.pm_law_collect.proofs.Requeued.{unchanged_keeps, applied_keeps}
+use Rattle.pm_law_collect.proofs.FixRow.{fixed_keeps}
+use Rattle.pm_law_collect.proofs.MoveRows.{anchor_moves, object_moves_out, object_moves_on}
+use Rattle.pm_law_collect.proofs.SweepRow.{swept_keeps}
+use Rattle.pm_law_collect.proofs.FreeRow.{freed_keeps, freed_doomed_keeps}
+
+pub event_keeps : (view : SpaceView) (picked number : ℕ) (row : Row) → HeapLaw view → next_row view ≡ row → MayPick view picked row → MayPlace view number row → Keeps view (after view picked number row)
+event_keeps view picked number nothing law next may vacant = unchanged_keeps view law
+event_keeps view picked number (select train) law next may vacant = selected_keeps view train law (comes_where view (select train) next)
+event_keeps view picked number (apply car) law next may vacant = applied_keeps view car law
+event_keeps view picked number (doom train) law next may vacant = doomed_keeps view train law (comes_where view (doom train) next)
+event_keeps view picked number (start car a) law next may vacant = started_keeps view car a picked law (comes_where view (start car a) next) may
+event_keeps view picked number (fix car source to) law next may vacant = fixed_keeps view car source to law (comes_where view (fix car source to) next)
+event_keeps view picked number (move_anchor a to) law next may vacant = anchor_moves view a to number law (comes_where view (move_anchor a to) next) vacant
+event_keeps view picked number (move_out a) law next may vacant = object_moves_out view a picked number law (comes_where view (move_out a) next) may vacant
+event_keeps view picked number (move_on a train) law next may vacant = object_moves_on view a train number law (comes_where view (move_on a train) next) vacant
+event_keeps view picked number (finish car) law next may vacant = finished_keeps view car law (comes_where view (finish car) next)
+event_keeps view picked number (sweep a) law next may vacant = swept_keeps view a law (comes_where view (sweep a) next)
+event_keeps view picked number (free car) law next may vacant = freed_keeps view car law (comes_where view (free car) next)
+event_keeps view picked number (free_doomed train car) law next may vacant = freed_doomed_keeps view train car law (comes_where view (free_doomed train car) next)
