@@ -11,7 +11,7 @@ use Rattle.pm_law_collect.proofs.Requeued.{unchanged_keeps, applied_keeps}
 use Rattle.pm_law_collect.proofs.FixRow.{fixed_keeps}
 use Rattle.pm_law_collect.proofs.MoveRows.{anchor_moves, object_moves_out, object_moves_on}
 use Rattle.pm_law_collect.proofs.SweepRow.{swept_keeps}
-use Rattle.pm_law_collect.proofs.FreeRow.{freed_keeps, freed_doomed_keeps}
+use Rattle.pm_law_collect.proofs.FreeRow.{freed_goes, freed_doomed_goes}
 
 pub event_keeps : (view : SpaceView) (picked number : ℕ) (row : Row) → HeapLaw view → next_row view ≡ row → MayPick view picked row → MayPlace view number row → Keeps view (after view picked number row)
 event_keeps view picked number nothing law next may vacant = unchanged_keeps view law
@@ -25,5 +25,5 @@ event_keeps view picked number (move_out a) law next may vacant = object_moves_o
 event_keeps view picked number (move_on a train) law next may vacant = object_moves_on view a train number law (comes_where view (move_on a train) next) vacant
 event_keeps view picked number (finish car) law next may vacant = finished_keeps view car law (comes_where view (finish car) next)
 event_keeps view picked number (sweep a) law next may vacant = swept_keeps view a law (comes_where view (sweep a) next)
-event_keeps view picked number (free car) law next may vacant = freed_keeps view car law (comes_where view (free car) next)
-event_keeps view picked number (free_doomed train car) law next may vacant = freed_doomed_keeps view train car law (comes_where view (free_doomed train car) next)
+event_keeps view picked number (free car) law next may vacant = (freed_goes view car law (comes_where view (free car) next)).0
+event_keeps view picked number (free_doomed train car) law next may vacant = (freed_doomed_goes view train car law (comes_where view (free_doomed train car) next)).0

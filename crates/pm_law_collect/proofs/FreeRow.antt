@@ -23,7 +23,7 @@ use Rattle.pm_view.specs.declared.phase.Phase.{Phase}
 use Rattle.pm_view.specs.declared.phase.Phase.TheVariants.{Idle, Draining, Moving, Sweeping, Doomed}
 use Rattle.pm_view.specs.Sources.{lies_in}
 use Rattle.pm_view.specs.View.{Sources, SpaceView}
-use Rattle.pm_view.specs.Reading.{slot_at, object_at, field_of, stored, cars_of, aside_in, from_in, is_aside, is_from}
+use Rattle.pm_view.specs.Reading.{slot_at, object_at, id_at, field_of, stored, cars_of, aside_in, from_in, is_aside, is_from}
 use Rattle.pm_view.specs.Effective.{effective, effective_in}
 use Rattle.pm_view.specs.Counts.{standing_in, live_in}
 use Rattle.pm_view.specs.Seen.{seen}
@@ -41,6 +41,7 @@ use Rattle.pm_law_collect.proofs.Phased.{same_sums}
 use Rattle.pm_law_collect.proofs.FreedSeen.{IsFreedSeen, law_after_free}
 use Rattle.pm_law_collect.proofs.Agree.{Agrees, agrees_means}
 use Rattle.pm_law_collect.proofs.SweepRow.{at_remove}
+use Rattle.pm_law_collect.proofs.Stays.{Stays, none}
 use Rattle.pm_law_collect.proofs.FirstGone.{bool_same, home_less, youngest_less, others_less, open_less, own_less, among_less, oldest_less}
 
 -- a car with no Live slot has no object
@@ -59,6 +60,10 @@ no_object view c none slot = by_car (get view.cars c) none
     by_car : (o : Option Car) → option_and_then (λ (it : Car). option_map (λ (e : ℕ × Slot). e.0) (find (λ (e : ℕ × Slot). holds_object e.1) (entries it.slots))) o ≡ None → object_of (slot_of o slot) ≡ None
     by_car None none = refl
     by_car (Some car) none = not_object (get car.slots slot) (λ w is. no_entry nat_cmp_total nat_cmp-IsAntisymmetric (λ (e : ℕ × Slot). holds_object e.1) car.slots (none_mapped _ none) slot w is)
+
+-- what is kept where a car goes
+abbrev Goes : SpaceView → SpaceView → Type 0
+Goes view t = Keeps view t × Stays view t None none
 
 -- a car goes, and the phase may be another one
 pub record IsGoing (view : SpaceView) (T c : ℕ) (rest : List ℕ) (p : Phase) : Type 0 where
@@ -230,6 +235,23 @@ module _ (view : SpaceView) (T c : ℕ) (rest : List ℕ) (p : Phase) (completed
         next = refl;
       }))
 
+  -- each object that stands, stood, and in the same train
+  going_stays : Stays view t None none
+  going_stays = record {
+    forth = λ id a still ends at.
+        let apart = free_apart a.car at.kept in
+        (record { kept = aside_apart a.car apart ∙ at.kept; here = ap (λ o. option_map (λ (o : Object). o.id) (object_of o)) (same_slot a apart) ∙ at.here }, home_then a.car ∙ cond-false _ _ _ apart);
+    back = λ id a still at.
+        let apart = id_apart a id at.here in
+        (record { kept = sym (aside_apart a.car apart) ∙ at.kept; here = sym (ap (λ o. option_map (λ (o : Object). o.id) (object_of o)) (same_slot a apart)) ∙ at.here }, sym (home_then a.car ∙ cond-false _ _ _ apart));
+  }
+    where
+      id_apart : (a : Addr) (id : ℕ) → id_at t a ≡ Some id → (a.car == c) ≡ false
+      id_apart a id here = false_from_ne_true (a.car == c) (λ same. none_some id (sym (ap (λ o. option_map (λ (o : Object). o.id) (object_of o)) (no_slot a same)) ∙ here))
+
+  pub going_goes : Goes view t
+  going_goes = (going_keeps, going_stays)
+
 -- ---- the car that was emptied and swept
 
 pub first_cars : (o : Option (List ℕ)) (c : ℕ) → option_and_then (λ (cars : List ℕ). slice_get cars 0) o ≡ Some c → (rest : List ℕ) × (o ≡ Some (c ∷ rest))
@@ -277,10 +299,10 @@ module _ (view : SpaceView) (car : ℕ) (law : HeapLaw view) (is : IsFreeing vie
   }
 
   -- the car that was swept goes
-  pub freed_keeps : Keeps view (completing (without_car view (home view car) car))
-  freed_keeps =
+  pub freed_goes : Goes view (completing (without_car view (home view car) car))
+  freed_goes =
       let cars = first_cars (cars_at view.trains.trains front.train) car front.first in
-      subst (λ T. Keeps view (completing (without_car view T car))) (sym at_home) (going_keeps view front.train car cars.0 Idle (view.completed + 1) law (freeing cars.0 cars.1))
+      subst (λ T. Goes view (completing (without_car view T car))) (sym at_home) (going_goes view front.train car cars.0 Idle (view.completed + 1) law (freeing cars.0 cars.1))
 
 -- ---- a car of a doomed train
 
@@ -345,18 +367,18 @@ module _ (view : SpaceView) (T car : ℕ) (law : HeapLaw view) (is : IsFreeingDo
         alone true false same = absurd (true≢false same)
         alone false d same = refl
 
-    by_rest : (xs : List ℕ) → rest ≡ xs → Keeps view (if length (car ∷ xs) == 1 then completing (without_car view T car) else without_car view T car)
-    by_rest [] none = going_keeps view T car rest Idle (view.completed + 1) law (going_last none)
+    by_rest : (xs : List ℕ) → rest ≡ xs → Goes view (if length (car ∷ xs) == 1 then completing (without_car view T car) else without_car view T car)
+    by_rest [] none = going_goes view T car rest Idle (view.completed + 1) law (going_last none)
     by_rest (d ∷ more) some =
-        subst (λ b. Keeps view (if b then completing (without_car view T car) else without_car view T car)) (sym (two more))
-        (going_keeps view T car rest view.phase view.completed law (going_on d more some))
+        subst (λ b. Goes view (if b then completing (without_car view T car) else without_car view T car)) (sym (two more))
+        (going_goes view T car rest view.phase view.completed law (going_on d more some))
       where
         two : (xs : List ℕ) → (length (car ∷ d ∷ xs) == 1) ≡ false
         two xs = grind (arith, nat_tests)
 
-    freed_car : Keeps view (freed_of_train view T car)
-    freed_car = subst (λ xs. Keeps view (if length xs == 1 then completing (without_car view T car) else without_car view T car)) (sym cars_is) (by_rest rest refl)
+    freed_car : Goes view (freed_of_train view T car)
+    freed_car = subst (λ xs. Goes view (if length xs == 1 then completing (without_car view T car) else without_car view T car)) (sym cars_is) (by_rest rest refl)
 
   -- a car of a doomed train goes
-  pub freed_doomed_keeps : Keeps view (freed_of_train view T car)
-  freed_doomed_keeps = let cars = first_cars (cars_at view.trains.trains T) car is.doomed.first in freed_car cars.0 cars.1
+  pub freed_doomed_goes : Goes view (freed_of_train view T car)
+  freed_doomed_goes = let cars = first_cars (cars_at view.trains.trains T) car is.doomed.first in freed_car cars.0 cars.1

@@ -14,6 +14,7 @@ pub mod Withdrawn
 pub mod SweepRow
 pub mod FreedSeen
 pub mod FirstGone
+pub mod Stays
 pub mod FreeRow
 pub mod MoveSeen
 pub mod PutAway
