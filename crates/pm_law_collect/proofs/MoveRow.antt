@@ -17,6 +17,7 @@ use Rattle.pm_types.specs.declared.source.Change.{Change}
 use Rattle.pm_cars.specs.Cars.{Car, object_of, look_of, with_birth, with_slot}
 use Rattle.pm_cars.specs.declared.look.Look.{Look}
 use Rattle.pm_cars.specs.declared.look.Look.TheVariants as looks
+use Rattle.pm_trains.specs.Trains.{train_of}
 use Rattle.pm_roots.specs.Bindings.{address_at, AllNumbersDiffer}
 use Rattle.pm_view.specs.declared.phase.Phase.TheVariants.{Moving}
 use Rattle.pm_view.specs.Sources.{same_address, is_field_at, slot_in}
@@ -24,6 +25,7 @@ use Rattle.pm_view.specs.View.{SpaceView}
 use Rattle.pm_view.specs.Reading.{slot_at, object_at, field_of, stored, followed, resolve, id_at, named_by, aside_in, is_aside, is_from}
 use Rattle.pm_view.specs.Effective.{effective, effective_in}
 use Rattle.pm_view.specs.Barrier.{news, told}
+use Rattle.pm_view.specs.Counts.{IsPlaced}
 use Rattle.pm_view.specs.Seen.{seen, kept, IsLive}
 use Rattle.pm_view.specs.Seen as seen_words
 use Rattle.pm_view.specs.Law.{IsAt, IsFront, IsAnchor, IsNamed, HeapLaw}
@@ -42,6 +44,7 @@ use Rattle.pm_law_rows.proofs.Spread.{leads_to_car, live_to_car, not_in}
 use Rattle.pm_law_rows.proofs.SpreadKept.{reshaped_object}
 use Rattle.pm_law_collect.proofs.Small.{some_same, none_some, turned}
 use Rattle.pm_law_collect.proofs.MeansSame.{MeansSame, IsSameAs, Keeps, keeps}
+use Rattle.pm_law_collect.proofs.Stays.{Stays, none}
 use Rattle.pm_law_collect.proofs.Withdrawn.{same_itself}
 use Rattle.pm_law_collect.proofs.MoveNews.{moved_from, moved_to, moved_apart}
 use Rattle.pm_law_collect.proofs.MoveSeen.{resolved, IsMove, MayMove, law_after_move, go_live}
@@ -67,6 +70,10 @@ flat_mapped go (Some o) = refl
 told_some : (o : Option (List Change)) (n : List Change) → is_some (option_map (λ q. q ++ n) o) ≡ is_some o
 told_some None n = refl
 told_some (Some q) n = refl
+
+-- what holds where the object at an address moves to a train
+abbrev pub GoesTo : SpaceView → Addr → ℕ → SpaceView → Type 0
+GoesTo view from y t = Keeps view t × Stays view t (id_at view from) none × ((id : ℕ) → id_at view from ≡ Some id → IsPlaced t id y)
 
 module _ (view put : SpaceView) (from : Addr) (c : ℕ) (old car : Car) (object : Object) (law : HeapLaw view) (is : IsPut view put from c old car object)
     (anchors : (a : Addr) (to : ℕ) → put.anchor ≡ Some (a, to) → IsAnchor view a to × ((from.car == a.car) ≡ false)) where
@@ -363,3 +370,44 @@ module _ (view put : SpaceView) (from : Addr) (c : ℕ) (old car : Car) (object 
 
   pub moved_keeps : Keeps view t
   moved_keeps = keeps view t moved_keeps_law moved_means_same
+
+  -- ---- where objects stand
+
+  same_id : (a : Addr) → same_address from a ≡ false → same_address to a ≡ false → id_at t a ≡ id_at view a
+  same_id a not_from not_to = ap (option_map (λ (o : Object). o.id)) (other_object a not_from not_to)
+
+  id_from : id_at view from ≡ Some object.id
+  id_from = ap (option_map (λ (o : Object). o.id)) old_object
+
+  not_here : (id : ℕ) (a : Addr) → (id_at view from ≡ Some id → ⊥) → id_at view a ≡ Some id → same_address from a ≡ false
+  not_here id a still at = false_from_ne_true (same_address from a) (λ one. still (ap (id_at view) (same_address-true from a one) ∙ at))
+
+  some_car : (o : Option Car) (slot id : ℕ) → option_map (λ (o : Object). o.id) (object_of (slot_of o slot)) ≡ Some id → IsSome o
+  some_car None slot id at = cc
+  some_car (Some car) slot id at = refl
+
+  not_new_id : (id : ℕ) (a : Addr) → id_at view a ≡ Some id → same_address to a ≡ false
+  not_new_id id a at = false_from_ne_true (same_address to a) (λ one. none_some id (sym (ap (λ o. option_map (λ (o : Object). o.id) (object_of o)) (nothing_there view put from c old car object law is)) ∙ ap (id_at view) (same_address-true to a one) ∙ at))
+
+  pub moved_stays : Stays view t (id_at view from) none
+  moved_stays = record {
+    forth = λ id a still ends at.
+        (record { kept = none_aside_then view put from c old car object law is a.car; here = same_id a (not_here id a still at.here) (not_new_id id a at.here) ∙ at.here },
+         is.homes a.car (some_car (get view.cars a.car) a.slot id at.here));
+    back = λ id a still at.
+        let not_to : same_address to a ≡ false = false_from_ne_true (same_address to a) (λ one. still (id_from ∙ sym (ap (option_map (λ (o : Object). o.id)) (object_then to ∙ cond-true _ _ _ (same_itself to))) ∙ ap (id_at t) (same_address-true to a one) ∙ at.here)) in
+        let not_from : same_address from a ≡ false = false_from_ne_true (same_address from a) (λ one. none_some id (sym (ap (option_map (λ (o : Object). o.id)) (object_then from ∙ cond-false _ _ _ apart_back ∙ ap object_of (old_moved view put from c old car object law is))) ∙ ap (id_at t) (same_address-true from a one) ∙ at.here)) in
+        let was : id_at view a ≡ Some id = sym (same_id a not_from not_to) ∙ at.here in
+        (record { kept = none_aside view put from c old car object law is a.car; here = was }, sym (is.homes a.car (some_car (get view.cars a.car) a.slot id was)));
+  }
+
+  -- the object that moves stands in its new train
+  pub moved_lands : (y : ℕ) → train_of put.trains.trains c ≡ Some y → (id : ℕ) → id_at view from ≡ Some id → IsPlaced t id y
+  moved_lands y lands id at = (
+    to,
+    record { kept = none_aside_then view put from c old car object law is c; here = ap (option_map (λ (o : Object). o.id)) (object_then to ∙ cond-true _ _ _ (same_itself to)) ∙ sym id_from ∙ at },
+    lands,
+  )
+
+  pub moved_goes : (y : ℕ) → train_of put.trains.trains c ≡ Some y → GoesTo view from y t
+  moved_goes y lands = (moved_keeps, moved_stays, moved_lands y lands)

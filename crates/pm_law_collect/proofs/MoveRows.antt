@@ -30,14 +30,13 @@ use Rattle.pm_law_rows.proofs.OpenTrain.{first_home, tail_home}
 use Rattle.pm_law_rows.proofs.Born.{room_fits, small_room}
 use Rattle.pm_law_collect.proofs.Small.{some_same, some_pair, none_some, turned}
 use Rattle.pm_law_collect.proofs.Finds.{no_entry, found_entry}
-use Rattle.pm_law_collect.proofs.MeansSame.{Keeps}
 use Rattle.pm_law_collect.proofs.Comes.{IsEmptied, IsMovingAnchor, IsMovingOut, IsMovingOn}
 use Rattle.pm_law_collect.proofs.PhaseRows.{emptied_aside, emptied_from, emptied_front, emptied_set, remembered_leads, pick_stands}
 use Rattle.pm_law_collect.proofs.FirstGone.{among_less, own_less}
 use Rattle.pm_law_collect.proofs.FreeRow.{IsFrontOf, front_of, first_cars}
 use Rattle.pm_law_collect.proofs.PutAway.{next_place}
-use Rattle.pm_law_collect.proofs.MoveRow.{moved_keeps}
-use Rattle.pm_law_collect.proofs.PutRow.{in_tail, tail_put, in_new, new_put}
+use Rattle.pm_law_collect.proofs.MoveRow.{GoesTo, moved_goes}
+use Rattle.pm_law_collect.proofs.PutRow.{in_tail, tail_put, in_new, new_put, new_lands}
 
 -- what is asked of a move: the object lies in the from-car, the train stands and its tail is not the from-car
 pub record IsMoveTo (view : SpaceView) (from : Addr) (y : ℕ) (object : Object) : Type 0 where
@@ -55,43 +54,43 @@ module _ (view : SpaceView) (from : Addr) (y number : ℕ) (object : Object) (an
   put_by d = record (settled (put_away view from d y number object) from (place_in view.cars d number) object) { anchor = anchor }
 
   module _ (old : Car) (is_old : get view.cars from.car ≡ Some old) (live : get old.slots from.slot ≡ Some (Live object)) where
-    into_new : Keeps view (put_by None)
+    into_new : GoesTo view from y (put_by None)
     into_new =
-        moved_keeps view (in_new view from old object law is.moving is_old live number y anchor vacant.vacant vacant.from_one small is.stands) from number old (new_car number) object law
-        (new_put view from old object law is.moving is_old live number y anchor vacant.vacant vacant.from_one small is.stands) anchors
+        moved_goes view (in_new view from old object law is.moving is_old live number y anchor vacant.vacant vacant.from_one small is.stands) from number old (new_car number) object law
+        (new_put view from old object law is.moving is_old live number y anchor vacant.vacant vacant.from_one small is.stands) anchors y (new_lands view from old object law is.moving is_old live number y anchor vacant.vacant vacant.from_one small is.stands)
 
-    into_tail : (c : ℕ) (car : Car) → get view.cars c ≡ Some car → tail view.trains.trains y ≡ Some c → has_room car (object_room object) ≡ true → Keeps view (put_by (Some c))
+    into_tail : (c : ℕ) (car : Car) → get view.cars c ≡ Some car → tail view.trains.trains y ≡ Some c → has_room car (object_room object) ≡ true → GoesTo view from y (put_by (Some c))
     into_tail c car found last room =
-        subst (λ p. Keeps view (record (settled (put_away view from (Some c) y number object) from p object) { anchor = anchor })) (λ i. record { car = c; slot = next_of (sym found i) })
-        (moved_keeps view (in_tail view from old object law is.moving is_old live c y number car anchor found (room_fits car (object_room object) room) (is.tail_apart c last)) from c old car object law
-        (tail_put view from old object law is.moving is_old live c y number car anchor found (room_fits car (object_room object) room) (is.tail_apart c last)) anchors)
+        subst (λ p. GoesTo view from y (record (settled (put_away view from (Some c) y number object) from p object) { anchor = anchor })) (λ i. record { car = c; slot = next_of (sym found i) })
+        (moved_goes view (in_tail view from old object law is.moving is_old live c y number car anchor found (room_fits car (object_room object) room) (is.tail_apart c last)) from c old car object law
+        (tail_put view from old object law is.moving is_old live c y number car anchor found (room_fits car (object_room object) room) (is.tail_apart c last)) anchors y (tail_home view.trains.trains y c law.built.trains.single last))
 
-    by_car : (e c : ℕ) → tail view.trains.trains y ≡ Some e → (o : Option Car) → get view.cars e ≡ o → option_and_then (λ (car : Car). if has_room car (object_room object) then Some e else None) o ≡ Some c → Keeps view (put_by (Some c))
+    by_car : (e c : ℕ) → tail view.trains.trains y ≡ Some e → (o : Option Car) → get view.cars e ≡ o → option_and_then (λ (car : Car). if has_room car (object_room object) then Some e else None) o ≡ Some c → GoesTo view from y (put_by (Some c))
     by_car e c last None found goes = cc
     by_car e c last (Some car) found goes = by_test (has_room car (object_room object)) refl goes
       where
-        by_test : (b : Bool) → has_room car (object_room object) ≡ b → (if b then Some e else None) ≡ Some c → Keeps view (put_by (Some c))
+        by_test : (b : Bool) → has_room car (object_room object) ≡ b → (if b then Some e else None) ≡ Some c → GoesTo view from y (put_by (Some c))
         by_test true room goes = let same = some_same e c goes in into_tail c car (ap (get view.cars) (sym same) ∙ found) (last ∙ ap Some same) room
         by_test false room goes = absurd (none_some c goes)
 
-    by_tail : (c : ℕ) (o : Option ℕ) → tail view.trains.trains y ≡ o → option_and_then (if_fits view (object_room object)) o ≡ Some c → Keeps view (put_by (Some c))
+    by_tail : (c : ℕ) (o : Option ℕ) → tail view.trains.trains y ≡ o → option_and_then (if_fits view (object_room object)) o ≡ Some c → GoesTo view from y (put_by (Some c))
     by_tail c None last goes = absurd (none_some c goes)
     by_tail c (Some e) last goes = by_car e c last (get view.cars e) refl goes
 
-    by_place : (d : Option ℕ) → tail_for view y (object_room object) ≡ d → Keeps view (put_by d)
+    by_place : (d : Option ℕ) → tail_for view y (object_room object) ≡ d → GoesTo view from y (put_by d)
     by_place None goes = into_new
     by_place (Some c) goes = by_tail c (tail view.trains.trains y) refl goes
 
-  by_old : (o : Option Car) → get view.cars from.car ≡ o → slot_of o from.slot ≡ Some (Live object) → Keeps view (put_by (tail_for view y (object_room object)))
+  by_old : (o : Option Car) → get view.cars from.car ≡ o → slot_of o from.slot ≡ Some (Live object) → GoesTo view from y (put_by (tail_for view y (object_room object)))
   by_old None is_old live = absurd (none_some (Live object) live)
   by_old (Some old) is_old live = by_place old is_old live (tail_for view y (object_room object)) refl
 
-  object_goes : Keeps view (record (moved_object view from y number object) { anchor = anchor })
+  object_goes : GoesTo view from y (record (moved_object view from y number object) { anchor = anchor })
   object_goes = by_old (get view.cars from.car) refl (live_slot (slot_at view.cars from) object is.here)
 
   -- the object moves, and this anchor stands then
-  pub goes : Keeps view (record (moved view from y number) { anchor = anchor })
-  goes = subst (λ o. Keeps view (record (moved_some view from y number o) { anchor = anchor })) (sym is.here) object_goes
+  pub goes : GoesTo view from y (record (moved view from y number) { anchor = anchor })
+  goes = subst (λ o. GoesTo view from y (record (moved_some view from y number o) { anchor = anchor })) (sym is.here) object_goes
 
 -- a move leaves the anchor
 module _ (view : SpaceView) (from : Addr) (y number : ℕ) where
@@ -185,7 +184,7 @@ module _ (view : SpaceView) (a : Addr) (to number : ℕ) (law : HeapLaw view) (i
   to_apart : (to == (front view is.car law is.emptied).train) ≡ false
   to_apart = false_from_ne_true (to == (front view is.car law is.emptied).train) (λ same. anchored_there.leaves ((front view is.car law is.emptied).old.0 ∙ ap Some (sym (eqb-true to _ same))))
 
-  pub anchor_moves : Keeps view (record (moved view a to number) { anchor = None })
+  pub anchor_moves : GoesTo view a to (record (moved view a to number) { anchor = None })
   anchor_moves =
       let object = some_is (object_at view.cars a) anchored_there.live in
       goes view a to number object.0 None law
@@ -217,10 +216,10 @@ module _ (view : SpaceView) (a : Addr) (picked number : ℕ) (law : HeapLaw view
   out_pick : IsSome (cars_at view.trains.trains picked) × ((picked == out_front.train) ≡ false)
   out_pick = pick_stands view law out_front.train picked a out_front.old (subst (λ n. IsTrue (is_among picked (candidates view n a))) (ap (home view) out_car ∙ home_is view is.car law is.emptied) may)
 
-  pub object_moves_out : Keeps view (moved view a picked number)
+  pub object_moves_out : GoesTo view a picked (moved view a picked number)
   object_moves_out =
       let object = some_is (object_at view.cars a) out_object in
-      subst (Keeps view) (anchor_left view a picked number)
+      subst (GoesTo view a picked) (anchor_left view a picked number)
       (goes view a picked number object.0 view.anchor law
       (record {
         moving = is.emptied.moving ∙ ap Moving (sym out_car);
@@ -309,10 +308,10 @@ module _ (view : SpaceView) (a : Addr) (train number : ℕ) (law : HeapLaw view)
   on_tail : (c : ℕ) → tail view.trains.trains on_front.train ≡ Some c → (is.car == c) ≡ false
   on_tail c last = tail_rest cars.0 among_rest c (sym (ap (option_and_then (λ (cars : List ℕ). slice_get cars (length cars - 1))) cars.1) ∙ last)
 
-  pub object_moves_on : Keeps view (moved view a train number)
+  pub object_moves_on : GoesTo view a train (moved view a train number)
   object_moves_on =
       let object = some_is (object_at view.cars a) on_object in
-      subst (Keeps view) (anchor_left view a train number)
+      subst (GoesTo view a train) (anchor_left view a train number)
       (goes view a train number object.0 view.anchor law
       (record {
         moving = is.emptied.moving ∙ ap Moving (sym on_car);

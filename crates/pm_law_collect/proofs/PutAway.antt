@@ -56,6 +56,8 @@ pub record IsPut (view put : SpaceView) (from : Addr) (c : ℕ) (old car : Car) 
   pub roots : put.roots ≡ view.roots
   pub registers : put.registers ≡ view.registers
   pub next : put.next ≡ view.next
+  -- a car that stood is in the train in which it was
+  pub homes : (e : ℕ) → IsSome (get view.cars e) → train_of put.trains.trains e ≡ train_of view.trains.trains e
   -- an anchor in another car keeps its trains
   pub old_train : (a : Addr) (to : ℕ) → IsAnchor view a to → train_of put.trains.trains a.car ≡ oldest put.trains.trains
   pub goal : (a : Addr) (to : ℕ) → IsAnchor view a to → IsSome (cars_at put.trains.trains to)

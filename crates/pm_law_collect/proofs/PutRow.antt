@@ -201,6 +201,7 @@ module _ (view : SpaceView) (from : Addr) (old : Car) (object : Object) (law : H
           roots = refl;
           registers = refl;
           next = refl;
+          homes = λ e some. refl;
           old_train = λ a to was. was.old;
           goal = λ a to was. was.stands;
           leaves = λ a to was. was.leaves;
@@ -297,7 +298,11 @@ module _ (view : SpaceView) (from : Addr) (old : Car) (object : Object) (law : H
       roots = refl;
       registers = refl;
       next = refl;
+      homes = λ e some. new_home e ∙ cond-false _ _ _ (false_from_ne_true (e == c) (λ same. true≢false (sym some ∙ ap (λ e. is_some (get view.cars e)) (eqb-true e c same) ∙ ap is_some vacant)));
       old_train = λ a to was. new_home a.car ∙ cond-false _ _ _ (anchor_apart a to was) ∙ was.old ∙ sym oldest_same;
       goal = λ a to was. stands_appended ts y c to ∙ was.stands;
       leaves = λ a to was. subst (λ o. o ≢ Some to) (sym oldest_same) was.leaves;
     }
+
+    pub new_lands : train_of in_new.trains.trains c ≡ Some y
+    new_lands = new_home c ∙ cond-true _ _ _ (eq-eqb c c refl)

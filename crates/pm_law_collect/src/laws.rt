@@ -1,11 +1,15 @@
 //! The events of the collector. Each function's contract is a law, and the function does nothing.
 
-ghost use Rattle.std.specs.Prelude.{◌≡◌, ℕ};
+ghost use Rattle.std.specs.Prelude.{◌≡◌, ◌≢◌, ℕ, false, Some};
+ghost use Rattle.pm_types.specs.declared.address.Addr.{Addr};
+ghost use Rattle.pm_trains.specs.Trains.{train_of};
 ghost use Rattle.pm_model.specs.World.{World};
+ghost use Rattle.pm_model.specs.Reachability.{IsReachable};
 ghost use Rattle.pm_view.specs.View.{SpaceView};
 ghost use Rattle.pm_view.specs.Law.{HeapLaw};
-ghost use Rattle.pm_view.specs.Represents.{Represents};
-ghost use Rattle.pm_view.specs.Events.{Row, next_row, after, MayPick, MayPlace};
+ghost use Rattle.pm_view.specs.Counts.{IsStanding, IsStandingAt, IsPlaced};
+ghost use Rattle.pm_view.specs.Represents.{IsHeld, Represents};
+ghost use Rattle.pm_view.specs.Events.{Row, next_row, after, MayPick, MayPlace, moving_id, goal_of, ended_by};
 
 /// A law of every event of the collector: whichever comes next, and whatever train is picked where one is, the heap
 /// law is kept, and every world that the space stands for stays. So no event changes what a client is answered, and
@@ -15,4 +19,18 @@ pub fn an_event_keeps_the_law_and_the_worlds()
         → HeapLaw (after view picked number row) }
     ensures world { (view : SpaceView) (world : World) (row : Row) (picked number : ℕ) → HeapLaw view → next_row view ≡ row → MayPick view picked row → MayPlace view number row
         → Represents view world → Represents (after view picked number row) world }
+{}
+
+/// A law of places: an event changes the place of at most one object, and lets no object begin to stand. Only where a
+/// train is doomed, or the sweeping of a car begins, do objects end to stand, and the world reaches none of them.
+pub fn an_event_moves_one_object_at_most()
+    ensures moved { (view : SpaceView) (row : Row) (picked number id : ℕ) → HeapLaw view → next_row view ≡ row → MayPick view picked row → MayPlace view number row
+        → moving_id view row ≡ Some id → IsPlaced (after view picked number row) id (goal_of picked row) }
+    ensures before { (view : SpaceView) (row : Row) (picked number id train : ℕ) → HeapLaw view → next_row view ≡ row → MayPick view picked row → MayPlace view number row
+        → moving_id view row ≢ Some id → IsPlaced (after view picked number row) id train → IsPlaced view id train }
+    ensures after { (view : SpaceView) (row : Row) (picked number id train : ℕ) (a : Addr) → HeapLaw view → next_row view ≡ row → MayPick view picked row → MayPlace view number row
+        → moving_id view row ≢ Some id → IsStandingAt view id a → train_of view.trains.trains a.car ≡ Some train
+        → ended_by (after view picked number row) row a.car ≡ false → IsPlaced (after view picked number row) id train }
+    ensures reached { (view : SpaceView) (world : World) (row : Row) (picked number id : ℕ) → HeapLaw view → next_row view ≡ row → MayPick view picked row → MayPlace view number row
+        → Represents view world → IsReachable world.heap (IsHeld world) id → IsStanding (after view picked number row) id }
 {}

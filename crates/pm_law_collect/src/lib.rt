@@ -3,4 +3,4 @@
 
 mod laws;
 
-pub use laws::an_event_keeps_the_law_and_the_worlds;
+pub use laws::{an_event_keeps_the_law_and_the_worlds, an_event_moves_one_object_at_most};

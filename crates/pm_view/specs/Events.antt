@@ -14,7 +14,7 @@ use Rattle.pm_trains.specs.Trains.{train_of, first_car, is_among, oldest}
 use Rattle.pm_view.specs.declared.phase.Phase.{Phase}
 use Rattle.pm_view.specs.declared.phase.Phase.TheVariants.{Idle, Draining, Moving, Sweeping, Doomed}
 use Rattle.pm_view.specs.View.{SpaceView}
-use Rattle.pm_view.specs.Reading.{slot_at, cars_of}
+use Rattle.pm_view.specs.Reading.{slot_at, id_at, cars_of, is_aside}
 use Rattle.pm_view.specs.Rows.{IsVacant}
 use Rattle.pm_view.specs.Candidates.{set_of, queue_of, least_outside, referenced_car, candidates}
 use Rattle.pm_view.specs.Collecting.{selected, doomed, started, finished, applied_in, fixed, moved, swept, without_car, completing, freed_of_train}
@@ -182,3 +182,22 @@ MayPlace view number (move_anchor a to) = IsVacant view.cars number
 MayPlace view number (move_out a) = IsVacant view.cars number
 MayPlace view number (move_on a train) = IsVacant view.cars number
 MayPlace view number row = Unit {0}
+
+-- the identity of the object that an event moves
+abbrev pub moving_id : SpaceView → Row → Option ℕ
+moving_id view (move_anchor a to) = id_at view a
+moving_id view (move_out a) = id_at view a
+moving_id view (move_on a train) = id_at view a
+moving_id view row = None
+
+-- the train to which an event moves an object
+abbrev pub goal_of : ℕ → Row → ℕ
+goal_of picked (move_anchor a to) = to
+goal_of picked (move_on a train) = train
+goal_of picked row = picked
+
+-- the cars whose objects end to stand by an event: those that are set aside then, where it dooms a train or ends a car
+abbrev pub ended_by : SpaceView → Row → ℕ → Bool
+ended_by now (doom train) car = is_aside now car
+ended_by now (finish from) car = is_aside now car
+ended_by now row car = false
