@@ -1,5 +1,5 @@
 -- What holds of a space where a row comes next.
-use Rattle.std.proofs.Common.{◌≡◌, ◌⊎◌, inl, inr, ℕ, refl, subst, List, [], ◌∷◌, Option, Some, None}
+use Rattle.std.proofs.Common.{◌≡◌, ◌⊎◌, inl, inr, ℕ, true, refl, ap, subst, List, [], ◌∷◌, Option, Some, None}
 use Rattle.pm_types.specs.declared.address.Addr.{Addr}
 use Rattle.pm_types.specs.declared.source.RefSource.{RefSource}
 use Rattle.pm_types.specs.declared.source.Change.{Change}
@@ -8,7 +8,7 @@ use Rattle.pm_view.specs.declared.phase.Phase.{Phase}
 use Rattle.pm_view.specs.declared.phase.Phase.TheVariants.{Idle, Draining, Moving, Sweeping, Doomed}
 use Rattle.pm_view.specs.View.{SpaceView}
 use Rattle.pm_view.specs.Candidates.{queue_of, least_outside}
-use Rattle.pm_view.specs.Events.{Row, nothing, select, apply, doom, start, fix, move_anchor, move_out, move_on, finish, sweep, free, free_doomed, changed_car, to_note, to_fix, anchor_in, least, lowest_live, named_in, home, idle_row, draining_row, moving_row, sweeping_row, doomed_row, doomed_rows, row_in, next_row}
+use Rattle.pm_view.specs.Events.{Row, nothing, select, apply, doom, start, fix, move_anchor, move_out, move_on, finish, sweep, free, free_doomed, has_change, changed_car, to_note, to_fix, anchor_in, least, lowest_live, named_in, home, idle_row, draining_row, moving_row, sweeping_row, doomed_row, doomed_rows, row_in, next_row}
 
 pub record IsSelecting (view : SpaceView) (train : ℕ) : Type 0 where
   pub idle : view.phase ≡ Idle
@@ -19,6 +19,10 @@ pub record IsDrained (view : SpaceView) (train : ℕ) (noted : Option Addr) : Ty
   pub draining : view.phase ≡ Draining train
   pub applied : changed_car view train ≡ None
   pub found : to_note view train ≡ noted
+
+-- a car has a queued change: the first of a train that is drained, or the one that is emptied
+abbrev pub IsChanged : SpaceView → ℕ → Type 0
+IsChanged view car = ((train : ℕ) × (view.phase ≡ Draining train) × (changed_car view train ≡ Some car)) ⊎ ((view.phase ≡ Moving car) × (has_change (queue_of view car) ≡ true))
 
 pub record IsStarting (view : SpaceView) (car : ℕ) (a : Addr) : Type 0 where
   pub train : ℕ
@@ -84,7 +88,7 @@ pub record IsFreeingDoomed (view : SpaceView) (train car : ℕ) : Type 0 where
 abbrev pub Comes : SpaceView → Row → Type 0
 Comes view nothing = Unit {0}
 Comes view (select train) = IsSelecting view train
-Comes view (apply car) = Unit {0}
+Comes view (apply car) = IsChanged view car
 Comes view (doom train) = IsDrained view train None
 Comes view (start car a) = IsStarting view car a
 Comes view (fix car source to) = IsEmptied view car (Some (source, to))
@@ -102,14 +106,14 @@ module _ (view : SpaceView) where
   idle_comes at (Some train) is = record { idle = at; oldest = is }
 
   draining_comes : (train : ℕ) → view.phase ≡ Draining train → (f c : Option ℕ) (n : Option Addr) → first_car view.trains.trains train ≡ f → changed_car view train ≡ c → to_note view train ≡ n → Comes view (draining_row train f c n)
-  draining_comes train at f (Some car) n first changed noted = tt
+  draining_comes train at f (Some car) n first changed noted = inl (train, at, changed)
   draining_comes train at f None None first changed noted = record { draining = at; applied = changed; found = noted }
   draining_comes train at None None (Some a) first changed noted = tt
   draining_comes train at (Some car) None (Some a) first changed noted = record { train = train; drained = record { draining = at; applied = changed; found = noted }; first = first }
 
   moving_comes : (car : ℕ) → view.phase ≡ Moving car → (q : List Change) (s : Option (RefSource × Addr)) (a : Option (Addr × ℕ)) (e f : Option (RefSource × ℕ)) → queue_of view car ≡ q → to_fix view car ≡ s → anchor_in car view.anchor ≡ a
       → least_outside view (home view car) car ≡ e → least view car ≡ f → Comes view (moving_row car (home view car) q s a e f)
-  moving_comes car at (change ∷ changes) s a e f queue stale anchor outside other = tt
+  moving_comes car at (change ∷ changes) s a e f queue stale anchor outside other = inr (at, ap has_change queue)
   moving_comes car at [] (Some x) a e f queue stale anchor outside other = record { moving = at; applied = queue; goes = stale }
   moving_comes car at [] None (Some a) e f queue stale anchor outside other = record { car = car; emptied = record { moving = at; applied = queue; goes = stale }; anchor = anchor }
   moving_comes car at [] None None (Some e) f queue stale anchor outside other = record { car = car; emptied = record { moving = at; applied = queue; goes = stale }; none = anchor; entry = e; outside = outside; here = refl }

@@ -5,7 +5,7 @@ use Rattle.std.specs.List.{slice_get}
 use Rattle.std.specs.FinMap.{get, insert, remove, empty, get-empty, get-remove}
 use Rattle.std.specs.Cmp.{eq_by_cmp_equiv}
 use Rattle.std.proofs.lemmas.Bool.{eqb-true, eq-eqb, and_from, and_parts, cond-true, cond-false, both_ways, true≢false, false_from_ne_true, not_from_false}
-use Rattle.std.proofs.lemmas.List.{map-set}
+use Rattle.std.proofs.lemmas.List.{append-nil, map-set}
 use Rattle.std.proofs.lemmas.Option.{slice_get-map}
 use Rattle.pm_base.proofs.Mapped.{get-mapped}
 use Rattle.pm_types.specs.Orders.{name_cmp, source_cmp}
@@ -17,7 +17,7 @@ use Rattle.pm_types.specs.declared.object.Slot.TheVariants.{Live, Moved}
 use Rattle.pm_types.specs.declared.source.RefSource.{RefSource}
 use Rattle.pm_types.specs.declared.source.RefSource.TheVariants.{Root, Handle, Field}
 use Rattle.pm_types.specs.declared.source.Change.{Change}
-use Rattle.pm_cars.specs.Cars.{look_of, with_field, object_of}
+use Rattle.pm_cars.specs.Cars.{Car, look_of, with_field, object_of}
 use Rattle.pm_cars.specs.declared.look.Look.{Look}
 use Rattle.pm_cars.specs.declared.look.Look.TheVariants as looks
 use Rattle.pm_roots.specs.Bindings.{address_at}
@@ -28,6 +28,7 @@ use Rattle.pm_view.specs.Effective.{effective, effective_in}
 use Rattle.pm_view.specs.Barrier.{barrier, entered, news, told}
 use Rattle.pm_view.specs.Seen.{seen, kept, IsLive}
 use Rattle.pm_view.specs.Seen as seen_words
+use Rattle.pm_view.specs.Counts.{live_in}
 use Rattle.pm_view.specs.Law.{HeapLaw}
 use Rattle.pm_view.specs.Represents.{names, meaning}
 use Rattle.pm_view.specs.Rows.{readdressed, with_stored, spread, HasValue}
@@ -37,6 +38,7 @@ use Rattle.pm_view.specs.Events.{named_in, went, has_gone, least_stale, to_fix}
 use Rattle.pm_law_rows.proofs.SameSource.{source_ties, same_address-true}
 use Rattle.pm_law_rows.proofs.Spreading.{by_slots, hears, heard_change, changed}
 use Rattle.pm_law_rows.proofs.News.{at_insert, get-told, as_changes, effective-told, news_of_barrier}
+use Rattle.pm_law_rows.proofs.Shapes.{IsShapedAt}
 use Rattle.pm_law_rows.proofs.Places.{object_after}
 use Rattle.pm_law_rows.proofs.Stored.{register_after}
 use Rattle.pm_law_rows.proofs.Spread.{is_spread, live_to_car, not_in}
@@ -360,3 +362,34 @@ module _ (view : SpaceView) (car : ℕ) (x : RefSource) (to : Addr) (law : HeapL
   -- a source is fixed
   pub fixed_keeps : Keeps view fix
   fixed_keeps = keeps view fix (requeued_keeps_law there sets_now queues_now (spread_keeps_law view x (Some to) law at (has_value x) leads_moved.1) fixing) fix_means_same
+
+  -- ---- the work that is left
+
+  pub fix_queue : queue_of fix car ≡ queue_of view car
+  fix_queue =
+      ap (λ o. unwrap_or o [])
+      (get-told view.queues (barrier (is_aside view) x None (Some to)) car
+       ∙ ap (λ n. option_map (λ q. q ++ n) (get view.queues car)) (news_of_barrier (is_aside view) x None (Some to) car ∙ ap (as_changes x) own_unheard)
+       ∙ no_more (get view.queues car))
+    where
+      no_more : (o : Option (List Change)) → option_map (λ q. q ++ []) o ≡ o
+      no_more None = refl
+      no_more (Some q) = ap Some (append-nil q)
+
+  pub fix_set : set_of fix car ≡ remove (set_of view car) x
+  fix_set = ap (λ o. unwrap_or o empty) (sets_at car ∙ cond-true _ _ _ (eq-eqb car car refl))
+
+  pub fix_held : IsSome (get (set_of view car) x)
+  fix_held = ap is_some stale.held
+
+  pub fix_live : live_in (get fix.cars car) ≡ live_in (get view.cars car)
+  fix_live = by_shape (get view.cars car) (get fix.cars car) ((reshaped_spread view x (Some to)).cars car)
+    where
+      by_shape : (o p : Option Car) → IsShapedAt o p → live_in p ≡ live_in o
+      by_shape None None shaped = refl
+      by_shape None (Some d) shaped = absurd shaped
+      by_shape (Some c) None shaped = absurd shaped
+      by_shape (Some c) (Some d) shaped = shaped.live
+
+  pub fix_phase : fix.phase ≡ view.phase
+  fix_phase = (reshaped_spread view x (Some to)).phase

@@ -1,12 +1,12 @@
 -- An object that moves: the heap law is kept, and what the space stands for.
 use Rattle.std.proofs.Common.{◌≡◌, ◌≢◌, ◌⊎◌, inl, inr, ⊎_elim, ℕ, zero, suc, ◌+◌, ◌<◌, ◌≤◌, ◌==◌, ◌&&◌, Bool, true, false, cond, not, refl, ap, sym, subst, ◌∙◌, List, [], ◌∷◌, ◌++◌, map, length, Option, Some, None, arith, is_some}
-use Rattle.std.specs.Option.{IsSome, option_map, option_and_then, option_flatten}
+use Rattle.std.specs.Option.{IsSome, option_map, option_and_then, option_flatten, unwrap_or}
 use Rattle.std.specs.List.{slice_get, sum_by}
-use Rattle.std.specs.FinMap.{get, len}
+use Rattle.std.specs.FinMap.{get, len, empty}
 use Rattle.std.proofs.lemmas.Bool.{eqb-true, eq-eqb, cond-true, cond-false, cases_Bool, both_ways, true≢false, false_from_ne_true, not_from_false}
-use Rattle.std.proofs.lemmas.List.{length-map}
+use Rattle.std.proofs.lemmas.List.{length-map, length-append}
 use Rattle.std.proofs.lemmas.Option.{slice_get-map}
-use Rattle.pm_types.specs.declared.limits.TheConstants.{ROOTS}
+use Rattle.pm_types.specs.declared.limits.TheConstants.{ROOTS, FIELDS}
 use Rattle.pm_types.specs.declared.address.Addr.{Addr}
 use Rattle.pm_types.specs.declared.object.Object.{Object}
 use Rattle.pm_types.specs.declared.object.Slot.{Slot}
@@ -14,7 +14,7 @@ use Rattle.pm_types.specs.declared.object.Slot.TheVariants.{Live, Moved}
 use Rattle.pm_types.specs.declared.source.RefSource.{RefSource}
 use Rattle.pm_types.specs.declared.source.RefSource.TheVariants.{Root, Handle, Field}
 use Rattle.pm_types.specs.declared.source.Change.{Change}
-use Rattle.pm_cars.specs.Cars.{Car, object_of, look_of, with_birth, with_slot}
+use Rattle.pm_cars.specs.Cars.{Car, one_live, live_count, object_of, look_of, with_birth, with_slot}
 use Rattle.pm_cars.specs.declared.look.Look.{Look}
 use Rattle.pm_cars.specs.declared.look.Look.TheVariants as looks
 use Rattle.pm_trains.specs.Trains.{train_of}
@@ -24,19 +24,20 @@ use Rattle.pm_view.specs.Sources.{same_address, is_field_at, slot_in}
 use Rattle.pm_view.specs.View.{SpaceView}
 use Rattle.pm_view.specs.Reading.{slot_at, object_at, field_of, stored, followed, resolve, id_at, named_by, aside_in, is_aside, is_from}
 use Rattle.pm_view.specs.Effective.{effective, effective_in}
-use Rattle.pm_view.specs.Barrier.{news, told}
-use Rattle.pm_view.specs.Counts.{IsPlaced}
+use Rattle.pm_view.specs.Barrier.{left, entered, news, told}
+use Rattle.pm_view.specs.Counts.{IsPlaced, live_in}
 use Rattle.pm_view.specs.Seen.{seen, kept, IsLive}
 use Rattle.pm_view.specs.Seen as seen_words
 use Rattle.pm_view.specs.Law.{IsAt, IsFront, IsAnchor, IsNamed, HeapLaw}
 use Rattle.pm_view.specs.Represents.{names, meaning}
 use Rattle.pm_view.specs.Rows.{with_object}
+use Rattle.pm_view.specs.Candidates.{set_of, queue_of}
 use Rattle.pm_view.specs.Collecting.{field_news, move_news, settled}
 use Rattle.pm_law_rows.proofs.SameSource.{same_address-true}
-use Rattle.pm_law_rows.proofs.Spreading.{heard_change, changed}
-use Rattle.pm_law_rows.proofs.News.{get-told}
+use Rattle.pm_law_rows.proofs.Spreading.{hears, heard_change, changed}
+use Rattle.pm_law_rows.proofs.News.{news-append, as_changes, get-told}
 use Rattle.pm_law_rows.proofs.Places.{slot_of, object_after}
-use Rattle.pm_law_rows.proofs.Shapes.{IsShaped}
+use Rattle.pm_law_rows.proofs.Shapes.{IsShaped, IsShapedAt}
 use Rattle.pm_law_rows.proofs.Built.{IsReshaped, built_still}
 use Rattle.pm_law_rows.proofs.Meaning.{named_same}
 use Rattle.pm_law_rows.proofs.Numbers.{found_by_number}
@@ -45,10 +46,10 @@ use Rattle.pm_law_rows.proofs.SpreadKept.{reshaped_object}
 use Rattle.pm_law_collect.proofs.Small.{some_same, none_some, turned}
 use Rattle.pm_law_collect.proofs.MeansSame.{MeansSame, IsSameAs, Keeps, keeps}
 use Rattle.pm_law_collect.proofs.Stays.{Stays, none}
-use Rattle.pm_law_collect.proofs.Withdrawn.{same_itself}
-use Rattle.pm_law_collect.proofs.MoveNews.{moved_from, moved_to, moved_apart}
+use Rattle.pm_law_collect.proofs.Withdrawn.{same_itself, news_of_left}
+use Rattle.pm_law_collect.proofs.MoveNews.{news_of_entered, moved_from, moved_to, moved_apart}
 use Rattle.pm_law_collect.proofs.MoveSeen.{resolved, IsMove, MayMove, law_after_move, go_live}
-use Rattle.pm_law_collect.proofs.PutAway.{next_place, IsPut, slot_put, nothing_there, places_apart, was_here, old_moved, new_live, other_slot, none_aside, none_aside_then, from_is, from_then, either_object, put_built, apart_false}
+use Rattle.pm_law_collect.proofs.PutAway.{next_place, IsPut, slot_put, nothing_there, places_apart, was_here, old_moved, new_live, other_slot, none_aside, none_aside_then, from_is, from_then, either_object, put_built, apart_false, total_set}
 
 followed_is : (o : Option Slot) (a : Addr) → followed o a ≡ resolved (look_of o) a
 followed_is None a = refl
@@ -71,9 +72,16 @@ told_some : (o : Option (List Change)) (n : List Change) → is_some (option_map
 told_some None n = refl
 told_some (Some q) n = refl
 
+-- the from-car has an object less, remembers what it remembered, and heard of no more fields than the object has
+pub record IsLighter (view : SpaceView) (from : Addr) (t : SpaceView) : Type 0 where
+  pub objects : live_in (get t.cars from.car) + 1 ≡ live_in (get view.cars from.car)
+  pub set : set_of t from.car ≡ set_of view from.car
+  pub queue : queue_of view from.car ≡ [] → length (queue_of t from.car) ≤ 255
+  pub phase : t.phase ≡ view.phase
+
 -- what holds where the object at an address moves to a train
 abbrev pub GoesTo : SpaceView → Addr → ℕ → SpaceView → Type 0
-GoesTo view from y t = Keeps view t × Stays view t (id_at view from) none × ((id : ℕ) → id_at view from ≡ Some id → IsPlaced t id y)
+GoesTo view from y t = Keeps view t × Stays view t (id_at view from) none × ((id : ℕ) → id_at view from ≡ Some id → IsPlaced t id y) × IsLighter view from t
 
 module _ (view put : SpaceView) (from : Addr) (c : ℕ) (old car : Car) (object : Object) (law : HeapLaw view) (is : IsPut view put from c old car object)
     (anchors : (a : Addr) (to : ℕ) → put.anchor ≡ Some (a, to) → IsAnchor view a to × ((from.car == a.car) ≡ false)) where
@@ -409,5 +417,62 @@ module _ (view put : SpaceView) (from : Addr) (c : ℕ) (old car : Car) (object 
     lands,
   )
 
+  -- ---- the work that is left
+
+  -- the from-car hears at most once of each field
+  own_news : (n : ℕ) (fs : List (Option Addr)) → length (news from.car (field_news (move_news put from to) n fs)) ≤ length fs
+  own_news n [] = omega arith
+  own_news n (f ∷ fs) =
+      let rest = own_news (n + 1) fs in
+      let left_none = of_left (hears_not n) n f in
+      let entered_one = of_entered n f in
+      let both : length (news from.car (move_news put from to n f)) ≤ 1 = subst (λ cs. length cs ≤ 1) (sym (news-append from.car (left (is_aside put) (Field from n) f) (entered (is_aside put) (Field to n) (option_map go f)) ∙ ap (λ cs. cs ++ news from.car (entered (is_aside put) (Field to n) (option_map go f))) left_none)) entered_one in
+      let all = ap length (news-append from.car (move_news put from to n f) (field_news (move_news put from to) (n + 1) fs)) ∙ length-append (news from.car (move_news put from to n f)) (news from.car (field_news (move_news put from to) (n + 1) fs)) in
+      omega arith
+    where
+      hears_not : (n : ℕ) → hears (is_aside put) (Field from n) from.car ≡ false
+      hears_not n = ap (λ b. not b && not (is_aside put from.car)) (eq-eqb from.car from.car refl)
+
+      of_left : (h : hears (is_aside put) (Field from n) from.car ≡ false) (n : ℕ) (f : Option Addr) → news from.car (left (is_aside put) (Field from n) f) ≡ []
+      of_left h n f = news_of_left (is_aside put) (Field from n) f from.car ∙ ap (as_changes (Field from n)) (cond-false _ _ _ (ap (λ b. not b && not (is_aside put from.car)) (eq-eqb from.car from.car refl)))
+
+      one_change : (x : RefSource) (w : Option (Option ℕ)) → length (as_changes x w) ≤ 1
+      one_change x None = omega arith
+      one_change x (Some slot) = omega arith
+
+      of_entered : (n : ℕ) (f : Option Addr) → length (news from.car (entered (is_aside put) (Field to n) (option_map go f))) ≤ 1
+      of_entered n f = subst (λ cs. length cs ≤ 1) (sym (news_of_entered (is_aside put) (Field to n) (option_map go f) from.car)) (one_change (Field to n) _)
+
+  own_queue : queue_of view from.car ≡ [] → length (queue_of t from.car) ≤ length object.fields
+  own_queue none = subst (λ o. length (unwrap_or o []) ≤ length object.fields) (sym (get-told put.queues changes from.car ∙ ap (option_map (λ q. q ++ news from.car changes)) is.own_queue)) (by_queue (get view.queues from.car) none)
+    where
+      by_queue : (o : Option (List Change)) → unwrap_or o [] ≡ [] → length (unwrap_or (option_map (λ q. q ++ news from.car changes) o) []) ≤ length object.fields
+      by_queue None none = omega arith
+      by_queue (Some []) none = own_news 0 object.fields
+      by_queue (Some (c ∷ cs)) none = cc
+
+  put_live : live_in (get t.cars from.car) + 1 ≡ live_in (get view.cars from.car)
+  put_live =
+      let shape = by_shape (get put.cars from.car) (get t.cars from.car) (same.cars from.car) in
+      let now : get put.cars from.car ≡ Some (with_slot old from.slot (Moved to)) = is.cars from.car ∙ cond-true _ _ _ (eq-eqb from.car from.car refl) in
+      let sums = total_set one_live old.slots from.slot (Live object) (Moved to) is.live in
+      let first : live_in (get t.cars from.car) ≡ live_count (with_slot old from.slot (Moved to)) = shape ∙ ap live_in now in
+      let second : live_in (get view.cars from.car) ≡ live_count old = ap live_in is.stood in
+      omega arith
+    where
+      by_shape : (o p : Option Car) → IsShapedAt o p → live_in p ≡ live_in o
+      by_shape None None shaped = refl
+      by_shape None (Some d) shaped = absurd shaped
+      by_shape (Some c) None shaped = absurd shaped
+      by_shape (Some c) (Some d) shaped = shaped.live
+
+  pub moved_lighter : IsLighter view from t
+  moved_lighter = record {
+    objects = put_live;
+    set = ap (λ o. unwrap_or o empty) is.own_set;
+    queue = λ none. let few = own_queue none in let limit = (law.built.objects from object old_object).fields in let most : FIELDS ≤ 255 = omega arith in omega arith;
+    phase = is.phase;
+  }
+
   pub moved_goes : (y : ℕ) → train_of put.trains.trains c ≡ Some y → GoesTo view from y t
-  moved_goes y lands = (moved_keeps, moved_stays, moved_lands y lands)
+  moved_goes y lands = (moved_keeps, moved_stays, moved_lands y lands, moved_lighter)

@@ -56,6 +56,9 @@ pub record IsPut (view put : SpaceView) (from : Addr) (c : ℕ) (old car : Car) 
   pub roots : put.roots ≡ view.roots
   pub registers : put.registers ≡ view.registers
   pub next : put.next ≡ view.next
+  -- the from-car's set and queue stay
+  pub own_set : get put.sets from.car ≡ get view.sets from.car
+  pub own_queue : get put.queues from.car ≡ get view.queues from.car
   -- a car that stood is in the train in which it was
   pub homes : (e : ℕ) → IsSome (get view.cars e) → train_of put.trains.trains e ≡ train_of view.trains.trains e
   -- an anchor in another car keeps its trains
@@ -77,7 +80,7 @@ total_new f slots k w none =
     let zero_held = counted_none f (get slots k) none in
     omega arith
 
-total_set : (f : Slot → ℕ) (slots : Slots) (k : ℕ) (v w : Slot) → get slots k ≡ Some v → total f (insert slots k w) + f v ≡ total f slots + f w
+pub total_set : (f : Slot → ℕ) (slots : Slots) (k : ℕ) (v w : Slot) → get slots k ≡ Some v → total f (insert slots k w) + f v ≡ total f slots + f w
 total_set f slots k v w some =
     let law = total_insert f slots k w in
     let held = counted_some f (get slots k) v some in

@@ -201,6 +201,8 @@ module _ (view : SpaceView) (from : Addr) (old : Car) (object : Object) (law : H
           roots = refl;
           registers = refl;
           next = refl;
+          own_set = refl;
+          own_queue = refl;
           homes = λ e some. refl;
           old_train = λ a to was. was.old;
           goal = λ a to was. was.stands;
@@ -298,6 +300,8 @@ module _ (view : SpaceView) (from : Addr) (old : Car) (object : Object) (law : H
       roots = refl;
       registers = refl;
       next = refl;
+      own_set = at_insert view.sets c empty from.car ∙ cond-false _ _ _ (turned c from.car ∙ new_apart);
+      own_queue = at_insert view.queues c [] from.car ∙ cond-false _ _ _ (turned c from.car ∙ new_apart);
       homes = λ e some. new_home e ∙ cond-false _ _ _ (false_from_ne_true (e == c) (λ same. true≢false (sym some ∙ ap (λ e. is_some (get view.cars e)) (eqb-true e c same) ∙ ap is_some vacant)));
       old_train = λ a to was. new_home a.car ∙ cond-false _ _ _ (anchor_apart a to was) ∙ was.old ∙ sym oldest_same;
       goal = λ a to was. stands_appended ts y c to ∙ was.stands;

@@ -11,3 +11,4 @@ pub mod Represents
 pub mod Candidates
 pub mod Collecting
 pub mod Events
+pub mod Work
