@@ -23,3 +23,4 @@ pub mod MoveRow
 pub mod PutRow
 pub mod MoveRows
 pub mod Event
+pub mod WorkRows
