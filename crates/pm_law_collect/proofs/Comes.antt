@@ -84,9 +84,14 @@ pub record IsFreeingDoomed (view : SpaceView) (train car : ℕ) : Type 0 where
   pub doomed : IsFirstDoomed view train car
   pub empty : lowest_live view car ≡ None
 
+-- no collection is in progress and no train has a car, or the train of the phase has none
+abbrev pub IsNothing : SpaceView → Type 0
+IsNothing view =
+    ((view.phase ≡ Idle) × (oldest view.trains.trains ≡ None)) ⊎ ((train : ℕ) × ((view.phase ≡ Draining train) ⊎ (view.phase ≡ Doomed train)) × (first_car view.trains.trains train ≡ None))
+
 -- what holds where a row comes next
 abbrev pub Comes : SpaceView → Row → Type 0
-Comes view nothing = Unit {0}
+Comes view nothing = IsNothing view
 Comes view (select train) = IsSelecting view train
 Comes view (apply car) = IsChanged view car
 Comes view (doom train) = IsDrained view train None
@@ -102,13 +107,13 @@ Comes view (free_doomed train car) = IsFreeingDoomed view train car
 
 module _ (view : SpaceView) where
   idle_comes : view.phase ≡ Idle → (o : Option ℕ) → oldest view.trains.trains ≡ o → Comes view (idle_row o)
-  idle_comes at None is = tt
+  idle_comes at None is = inl (at, is)
   idle_comes at (Some train) is = record { idle = at; oldest = is }
 
   draining_comes : (train : ℕ) → view.phase ≡ Draining train → (f c : Option ℕ) (n : Option Addr) → first_car view.trains.trains train ≡ f → changed_car view train ≡ c → to_note view train ≡ n → Comes view (draining_row train f c n)
   draining_comes train at f (Some car) n first changed noted = inl (train, at, changed)
   draining_comes train at f None None first changed noted = record { draining = at; applied = changed; found = noted }
-  draining_comes train at None None (Some a) first changed noted = tt
+  draining_comes train at None None (Some a) first changed noted = inr (train, inl at, first)
   draining_comes train at (Some car) None (Some a) first changed noted = record { train = train; drained = record { draining = at; applied = changed; found = noted }; first = first }
 
   moving_comes : (car : ℕ) → view.phase ≡ Moving car → (q : List Change) (s : Option (RefSource × Addr)) (a : Option (Addr × ℕ)) (e f : Option (RefSource × ℕ)) → queue_of view car ≡ q → to_fix view car ≡ s → anchor_in car view.anchor ≡ a
@@ -130,7 +135,7 @@ module _ (view : SpaceView) where
   doomed_comes train car at (Some slot) low = record { swept = inr (train, at); low = low }
 
   doomed_cars : (train : ℕ) → view.phase ≡ Doomed train → (o : Option ℕ) → first_car view.trains.trains train ≡ o → Comes view (doomed_rows view train o)
-  doomed_cars train at None first = tt
+  doomed_cars train at None first = inr (train, inr at, first)
   doomed_cars train at (Some car) first = doomed_comes train car (record { doomed = at; first = first }) (lowest_live view car) refl
 
   phase_comes : (p : Phase) → view.phase ≡ p → Comes view (row_in view p)

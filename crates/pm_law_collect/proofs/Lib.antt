@@ -24,3 +24,5 @@ pub mod PutRow
 pub mod MoveRows
 pub mod Event
 pub mod WorkRows
+pub mod WorkEnds
+pub mod Nothing

@@ -178,6 +178,9 @@ module _ (view : SpaceView) (a : Addr) (to number : ℕ) (law : HeapLaw view) (i
   stands : (view.anchor ≡ Some (a, to)) × (a.car ≡ is.car)
   stands = anchor_is view.anchor is.anchor
 
+  pub anchor_car : a.car ≡ is.car
+  anchor_car = stands.1
+
   anchored_there : IsAnchor view a to
   anchored_there = law.anchor a to stands.0
 
