@@ -26,3 +26,4 @@ pub mod Event
 pub mod WorkRows
 pub mod WorkEnds
 pub mod Nothing
+pub mod Picks
