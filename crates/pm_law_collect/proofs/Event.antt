@@ -1,7 +1,15 @@
 -- Whatever event of the collector comes next, the heap law is kept, and what the space stands for.
-use Rattle.std.proofs.Common.{◌≡◌, ℕ, ◌+◌, ◌≤◌, Bool, false, ap, sym, ◌∙◌, Option, Some, arith}
+use Rattle.std.proofs.Common.{◌≡◌, ℕ, ◌+◌, ◌≤◌, ◌==◌, if◌then◌else◌, Bool, true, false, List, [], ◌∷◌, length, ap, sym, ◌∙◌, Option, Some, None, arith}
 use Rattle.pm_types.specs.declared.address.Addr.{Addr}
-use Rattle.pm_trains.specs.Trains.{train_of}
+use Rattle.std.proofs.lemmas.Bool.{true≢false}
+use Rattle.pm_types.specs.declared.object.Object.{Object}
+use Rattle.pm_types.specs.declared.source.RefSource.{RefSource}
+use Rattle.pm_types.specs.declared.source.RefSource.TheVariants.{Root, Handle, Field}
+use Rattle.pm_types.specs.declared.source.Change.{Change}
+use Rattle.pm_trains.specs.Trains.{train_of, tail}
+use Rattle.pm_view.specs.Reading.{object_at, cars_of}
+use Rattle.pm_view.specs.Rows.{with_stored}
+use Rattle.pm_view.specs.Collecting.{anchored, applied_front, swept_some, without_car, completing}
 use Rattle.pm_view.specs.View.{SpaceView}
 use Rattle.pm_view.specs.Counts.{IsStandingAt, IsPlaced}
 use Rattle.pm_view.specs.Law.{HeapLaw}
@@ -10,7 +18,7 @@ use Rattle.pm_view.specs.declared.phase.Phase.TheVariants.{Idle, Moving}
 use Rattle.pm_view.specs.Work.{work, lowers}
 use Rattle.pm_law_collect.proofs.WorkRows.{applied_lowers, doomed_lowers, started_lowers, finished_lowers, fixed_lowers, moved_lowers}
 use Rattle.pm_law_collect.proofs.WorkEnds.{swept_lowers, freed_lowers}
-use Rattle.pm_view.specs.Events.{Row, nothing, select, apply, doom, start, fix, move_anchor, move_out, move_on, finish, sweep, free, free_doomed, next_row, after, MayPick, MayPlace, moving_id, goal_of, ended_by}
+use Rattle.pm_view.specs.Events.{Row, nothing, select, apply, doom, start, fix, move_anchor, move_out, move_on, finish, sweep, free, free_doomed, next_row, after, MayPick, MayPlace, moving_id, goal_of, ended_by, clears, MovesTo}
 use Rattle.pm_law_collect.proofs.MeansSame.{Keeps}
 use Rattle.pm_law_collect.proofs.Small.{none_some}
 use Rattle.pm_law_collect.proofs.Stays.{Stays, none, stays_itself, selected_stays, doomed_stays, started_stays, finished_stays, applied_stays, fixed_stays, swept_stays}
@@ -18,7 +26,7 @@ use Rattle.pm_law_collect.proofs.Comes.{comes_where}
 use Rattle.pm_law_collect.proofs.PhaseRows.{selected_keeps, doomed_keeps, started_keeps, finished_keeps}
 use Rattle.pm_law_collect.proofs.Requeued.{unchanged_keeps, applied_keeps}
 use Rattle.pm_law_collect.proofs.FixRow.{fixed_keeps}
-use Rattle.pm_law_collect.proofs.MoveRows.{anchor_car, anchor_moves, object_moves_out, object_moves_on}
+use Rattle.pm_law_collect.proofs.MoveRows.{same_some, anchor_tail, out_tail, train_tail, anchor_car, anchor_moves, object_moves_out, object_moves_on}
 use Rattle.pm_law_collect.proofs.SweepRow.{swept_keeps}
 use Rattle.pm_law_collect.proofs.FreeRow.{freed_goes, freed_doomed_goes}
 
@@ -105,3 +113,56 @@ event_lowers view picked number (finish car) law next may vacant busy still = fi
 event_lowers view picked number (sweep a) law next may vacant busy still = swept_lowers view a (comes_where view (sweep a) next)
 event_lowers view picked number (free car) law next may vacant busy still = absurd (omega (arith, still))
 event_lowers view picked number (free_doomed train car) law next may vacant busy still = freed_lowers view train car law (comes_where view (free_doomed train car) next) still
+
+-- no object moves to the car in which it lies
+pub event_tails : (view : SpaceView) (picked number : ℕ) (row : Row) → HeapLaw view → next_row view ≡ row → MayPick view picked row → MayPlace view number row
+    → (a : Addr) (train c : ℕ) → MovesTo picked row a train → tail view.trains.trains train ≡ Some c → (a.car == c) ≡ false
+event_tails view picked number nothing law next may vacant b train c moves last = absurd moves
+event_tails view picked number (select n) law next may vacant b train c moves last = absurd moves
+event_tails view picked number (apply car) law next may vacant b train c moves last = absurd moves
+event_tails view picked number (doom n) law next may vacant b train c moves last = absurd moves
+event_tails view picked number (start car a) law next may vacant b train c moves last = absurd moves
+event_tails view picked number (fix car source to) law next may vacant b train c moves last = absurd moves
+event_tails view picked number (move_anchor a to) law next may vacant b train c moves last =
+    ap (λ (b : Addr). b.car == c) moves.0 ∙ anchor_tail view a to number law (comes_where view (move_anchor a to) next) vacant c (ap (tail view.trains.trains) (sym moves.1) ∙ last)
+event_tails view picked number (move_out a) law next may vacant b train c moves last =
+    ap (λ (b : Addr). b.car == c) moves.0 ∙ out_tail view a picked number law (comes_where view (move_out a) next) may vacant c (ap (tail view.trains.trains) (sym moves.1) ∙ last)
+event_tails view picked number (move_on a n) law next may vacant b train c moves last =
+    ap (λ (b : Addr). b.car == c) moves.0 ∙ train_tail view a n number law (comes_where view (move_on a n) next) vacant c (ap (tail view.trains.trains) (sym moves.1) ∙ last)
+event_tails view picked number (finish car) law next may vacant b train c moves last = absurd moves
+event_tails view picked number (sweep a) law next may vacant b train c moves last = absurd moves
+event_tails view picked number (free car) law next may vacant b train c moves last = absurd moves
+event_tails view picked number (free_doomed n car) law next may vacant b train c moves last = absurd moves
+
+-- an anchor stands as it was noted until it moves or its train is doomed
+pub anchor_stays : (view : SpaceView) (picked number : ℕ) (row : Row) (anchor : Addr × ℕ) → clears row ≡ false → view.anchor ≡ Some anchor → (after view picked number row).anchor ≡ Some anchor
+anchor_stays view picked number nothing anchor keeps stands = stands
+anchor_stays view picked number (select train) anchor keeps stands = stands
+anchor_stays view picked number (apply car) anchor keeps stands = by_queue (queue_of view car)
+  where
+    by_queue : (q : List Change) → (applied_front view car q).anchor ≡ Some anchor
+    by_queue [] = stands
+    by_queue (c ∷ cs) = stands
+anchor_stays view picked number (doom train) anchor keeps stands = absurd (true≢false keeps)
+anchor_stays view picked number (start car a) anchor keeps stands = ap (λ o. anchored o a picked) stands
+anchor_stays view picked number (fix car source to) anchor keeps stands = by_source source
+  where
+    by_source : (x : RefSource) → (with_stored view x (Some to)).anchor ≡ Some anchor
+    by_source (Root n) = stands
+    by_source (Handle c r) = stands
+    by_source (Field a i) = stands
+anchor_stays view picked number (move_anchor a to) anchor keeps stands = absurd (true≢false keeps)
+anchor_stays view picked number (move_out a) anchor keeps stands = same_some view a picked number (object_at view.cars a) ∙ stands
+anchor_stays view picked number (move_on a train) anchor keeps stands = same_some view a train number (object_at view.cars a) ∙ stands
+anchor_stays view picked number (finish car) anchor keeps stands = stands
+anchor_stays view picked number (sweep a) anchor keeps stands = by_object (object_at view.cars a)
+  where
+    by_object : (o : Option Object) → (swept_some view a o).anchor ≡ Some anchor
+    by_object None = stands
+    by_object (Some object) = stands
+anchor_stays view picked number (free car) anchor keeps stands = stands
+anchor_stays view picked number (free_doomed train car) anchor keeps stands = by_last (length (cars_of view.trains.trains train) == 1)
+  where
+    by_last : (b : Bool) → (if b then completing (without_car view train car) else without_car view train car).anchor ≡ Some anchor
+    by_last true = stands
+    by_last false = stands

@@ -98,7 +98,7 @@ module _ (view : SpaceView) (from : Addr) (y number : ℕ) where
   same_put None object = refl
   same_put (Some c) object = refl
 
-  same_some : (o : Option Object) → (moved_some view from y number o).anchor ≡ view.anchor
+  pub same_some : (o : Option Object) → (moved_some view from y number o).anchor ≡ view.anchor
   same_some None = refl
   same_some (Some object) = same_put (tail_for view y (object_room object)) object
 
@@ -187,6 +187,9 @@ module _ (view : SpaceView) (a : Addr) (to number : ℕ) (law : HeapLaw view) (i
   to_apart : (to == (front view is.car law is.emptied).train) ≡ false
   to_apart = false_from_ne_true (to == (front view is.car law is.emptied).train) (λ same. anchored_there.leaves ((front view is.car law is.emptied).old.0 ∙ ap Some (sym (eqb-true to _ same))))
 
+  pub anchor_tail : (c : ℕ) → tail view.trains.trains to ≡ Some c → (a.car == c) ≡ false
+  anchor_tail c last = ap (λ n. n == c) stands.1 ∙ other_tail view is.car law is.emptied to to_apart c last
+
   pub anchor_moves : GoesTo view a to (record (moved view a to number) { anchor = None })
   anchor_moves =
       let object = some_is (object_at view.cars a) anchored_there.live in
@@ -195,7 +198,7 @@ module _ (view : SpaceView) (a : Addr) (to number : ℕ) (law : HeapLaw view) (i
         moving = is.emptied.moving ∙ ap Moving (sym stands.1);
         here = object.1;
         stands = anchored_there.stands;
-        tail_apart = λ c last. ap (λ n. n == c) stands.1 ∙ other_tail view is.car law is.emptied to to_apart c last;
+        tail_apart = anchor_tail;
       })
       vacant (λ b n none. absurd (clash b n none))
     where
@@ -219,6 +222,9 @@ module _ (view : SpaceView) (a : Addr) (picked number : ℕ) (law : HeapLaw view
   out_pick : IsSome (cars_at view.trains.trains picked) × ((picked == out_front.train) ≡ false)
   out_pick = pick_stands view law out_front.train picked a out_front.old (subst (λ n. IsTrue (is_among picked (candidates view n a))) (ap (home view) out_car ∙ home_is view is.car law is.emptied) may)
 
+  pub out_tail : (c : ℕ) → tail view.trains.trains picked ≡ Some c → (a.car == c) ≡ false
+  out_tail c last = ap (λ n. n == c) out_car ∙ other_tail view is.car law is.emptied picked out_pick.1 c last
+
   pub object_moves_out : GoesTo view a picked (moved view a picked number)
   object_moves_out =
       let object = some_is (object_at view.cars a) out_object in
@@ -228,7 +234,7 @@ module _ (view : SpaceView) (a : Addr) (picked number : ℕ) (law : HeapLaw view
         moving = is.emptied.moving ∙ ap Moving (sym out_car);
         here = object.1;
         stands = out_pick.0;
-        tail_apart = λ c last. ap (λ n. n == c) out_car ∙ other_tail view is.car law is.emptied picked out_pick.1 c last;
+        tail_apart = out_tail;
       })
       vacant (λ b n found. (law.anchor b n found, ap (λ m. m == b.car) out_car ∙ anchor_elsewhere view is.car law is.emptied is.none b n found)))
 
@@ -311,6 +317,9 @@ module _ (view : SpaceView) (a : Addr) (train number : ℕ) (law : HeapLaw view)
   on_tail : (c : ℕ) → tail view.trains.trains on_front.train ≡ Some c → (is.car == c) ≡ false
   on_tail c last = tail_rest cars.0 among_rest c (sym (ap (option_and_then (λ (cars : List ℕ). slice_get cars (length cars - 1))) cars.1) ∙ last)
 
+  pub train_tail : (c : ℕ) → tail view.trains.trains train ≡ Some c → (a.car == c) ≡ false
+  train_tail c last = ap (λ n. n == c) on_car ∙ on_tail c (ap (tail view.trains.trains) (sym train_is) ∙ last)
+
   pub object_moves_on : GoesTo view a train (moved view a train number)
   object_moves_on =
       let object = some_is (object_at view.cars a) on_object in
@@ -320,6 +329,6 @@ module _ (view : SpaceView) (a : Addr) (train number : ℕ) (law : HeapLaw view)
         moving = is.emptied.moving ∙ ap Moving (sym on_car);
         here = object.1;
         stands = subst (λ n. IsSome (cars_at view.trains.trains n)) (sym train_is) (ap is_some cars.1);
-        tail_apart = λ c last. ap (λ n. n == c) on_car ∙ on_tail c (ap (tail view.trains.trains) (sym train_is) ∙ last);
+        tail_apart = train_tail;
       })
       vacant (λ b n found. (law.anchor b n found, ap (λ m. m == b.car) on_car ∙ anchor_elsewhere view is.car law is.emptied is.none b n found)))

@@ -3,7 +3,7 @@
 ghost use Rattle.std.specs.Prelude.{◌≡◌, ◌≢◌, ℕ, ◌+◌, ◌<◌, ◌≤◌, ◌==◌, false, length, Some, None, IsSome, IsTrue};
 ghost use Rattle.pm_types.specs.declared.address.Addr.{Addr};
 ghost use Rattle.std.specs.FinMap.{get};
-ghost use Rattle.pm_trains.specs.Trains.{cars_at, is_among, train_of};
+ghost use Rattle.pm_trains.specs.Trains.{cars_at, is_among, tail, train_of};
 ghost use Rattle.pm_model.specs.World.{World};
 ghost use Rattle.pm_model.specs.Reachability.{IsReachable};
 ghost use Rattle.pm_view.specs.View.{SpaceView};
@@ -12,7 +12,7 @@ ghost use Rattle.pm_view.specs.Counts.{IsStanding, IsStandingAt, IsPlaced};
 ghost use Rattle.pm_view.specs.Represents.{IsHeld, Represents};
 ghost use Rattle.pm_view.specs.declared.phase.Phase.TheVariants.{Idle};
 ghost use Rattle.pm_view.specs.Work.{work, lowers};
-ghost use Rattle.pm_view.specs.Events.{Row, nothing, start, move_out, next_row, after, ways_out, home, MayPick, MayPlace, moving_id, goal_of, ended_by};
+ghost use Rattle.pm_view.specs.Events.{Row, nothing, start, move_out, next_row, after, ways_out, home, MayPick, MayPlace, moving_id, goal_of, ended_by, clears, MovesTo};
 
 /// A law of every event of the collector: whichever comes next, and whatever train is picked where one is, the heap
 /// law is kept, and every world that the space stands for stays. So no event changes what a client is answered, and
@@ -58,4 +58,13 @@ pub fn there_is_a_train_to_pick()
         → IsSome (cars_at view.trains.trains train) × ((train == home view a.car) ≡ false) }
     ensures moved_to { (view : SpaceView) (train : ℕ) (a : Addr) → HeapLaw view → next_row view ≡ move_out a → IsTrue (is_among train (ways_out view a))
         → IsSome (cars_at view.trains.trains train) × ((train == home view a.car) ≡ false) }
+{}
+
+/// A law of anchors: one that stands keeps its object and its train, until it moves there or its train is doomed.
+/// And a law of moves: no object moves to the end of the car in which it lies.
+pub fn an_anchor_stands_until_it_moves()
+    ensures anchor { (view : SpaceView) (row : Row) (picked number : ℕ) (anchor : Addr × ℕ) → clears row ≡ false → view.anchor ≡ Some anchor
+        → (after view picked number row).anchor ≡ Some anchor }
+    ensures tail { (view : SpaceView) (row : Row) (picked number train car : ℕ) (a : Addr) → HeapLaw view → next_row view ≡ row → MayPick view picked row → MayPlace view number row
+        → MovesTo picked row a train → tail view.trains.trains train ≡ Some car → (a.car == car) ≡ false }
 {}

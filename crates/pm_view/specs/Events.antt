@@ -1,5 +1,5 @@
 -- Which event of the collector comes next, and the whole space after it.
-use Rattle.std.specs.Prelude.{ℕ, Bool, true, false, ◌==◌, cond, if◌then◌else◌, List, [], ◌∷◌, length, Option, Some, None, IsTrue, option_map, option_and_then}
+use Rattle.std.specs.Prelude.{◌≡◌, ℕ, Bool, true, false, ◌==◌, cond, if◌then◌else◌, List, [], ◌∷◌, length, Option, Some, None, IsTrue, option_map, option_and_then}
 use Rattle.std.specs.Option.{unwrap_or}
 use Rattle.std.specs.List.{find}
 use Rattle.std.specs.FinMap.{get, entries}
@@ -201,3 +201,16 @@ abbrev pub ended_by : SpaceView → Row → ℕ → Bool
 ended_by now (doom train) car = is_aside now car
 ended_by now (finish from) car = is_aside now car
 ended_by now row car = false
+
+-- the event clears an anchor
+abbrev pub clears : Row → Bool
+clears (doom train) = true
+clears (move_anchor a to) = true
+clears row = false
+
+-- the event moves the object at this address to this train
+abbrev pub MovesTo : ℕ → Row → Addr → ℕ → Type 0
+MovesTo picked (move_anchor a to) b train = (b ≡ a) × (train ≡ to)
+MovesTo picked (move_out a) b train = (b ≡ a) × (train ≡ picked)
+MovesTo picked (move_on a to) b train = (b ≡ a) × (train ≡ to)
+MovesTo picked row b train = ⊥
