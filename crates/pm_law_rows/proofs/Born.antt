@@ -42,7 +42,7 @@ use Rattle.pm_model.specs.World.{World, changing}
 use Rattle.pm_view.specs.Represents.{meaning, Represents}
 
 -- a car of a train is among the train's cars
-home_among : (ts : List Train) (n c : ℕ) → line.Rise 0 ts → train_of ts c ≡ Some n → is_among c (cars_of ts n) ≡ true
+pub home_among : (ts : List Train) (n c : ℕ) → line.Rise 0 ts → train_of ts c ≡ Some n → is_among c (cars_of ts n) ≡ true
 home_among ts n c rising home = by_case (cars_at ts n) (home_has 0 c n ts rising home)
   where
     by_case : (o : Option (List ℕ)) → IsSomeAnd o (λ cars. IsTrue (is_among c cars)) → is_among c (unwrap_or o []) ≡ true
@@ -64,7 +64,7 @@ room_fits car room has =
     let both = and_parts (nat_le (used car + room) 16384) (nat_le car.next 65535) has in
     (leb-true (used car + room) 16384 both.0, leb-true car.next 65535 both.1)
 
-stood : (cars : Cars) (c e : ℕ) (car d : Car) (b : Bool) → (c == e) ≡ b → get cars c ≡ Some car → is_some (cond b (Some d) (get cars e)) ≡ is_some (get cars e)
+pub stood : (cars : Cars) (c e : ℕ) (car d : Car) (b : Bool) → (c == e) ≡ b → get cars c ≡ Some car → is_some (cond b (Some d) (get cars e)) ≡ is_some (get cars e)
 stood cars c e car d true same is = sym (ap (λ e. is_some (get cars e)) (sym (eqb-true c e same)) ∙ ap is_some is)
 stood cars c e car d false same is = refl
 
@@ -152,21 +152,21 @@ module _ (view : SpaceView) (c number : ℕ) (car : Car) (object : stored_object
 -- ---- in a new car at the end of the open train
 
 -- a car with no slot has no room taken, and no object
-new_counts : (c : ℕ) → (live_count (new_car c) ≡ 0) × (moved_count (new_car c) ≡ 0) × (used (new_car c) ≡ 14)
+pub new_counts : (c : ℕ) → (live_count (new_car c) ≡ 0) × (moved_count (new_car c) ≡ 0) × (used (new_car c) ≡ 14)
 new_counts c = (total_empty one_live, total_empty one_moved, ap (λ n. 14 + n) (total_empty slot_room))
 
-new_sound : (c : ℕ) → IsSound (new_car c)
+pub new_sound : (c : ℕ) → IsSound (new_car c)
 new_sound c = record { room = subst (λ n. n ≤ 16384) (sym (new_counts c).2) (omega arith); next = omega arith; below = λ slot after. get-empty nat_cmp slot }
 
-some_empty : (b : Bool) {A : Type 0} (x : A) (o : Option A) → is_some (cond b (Some x) o) ≡ (b || is_some o)
+pub some_empty : (b : Bool) {A : Type 0} (x : A) (o : Option A) → is_some (cond b (Some x) o) ≡ (b || is_some o)
 some_empty true x o = refl
 some_empty false x o = refl
 
-empty_effective : (b : Bool) (sets : Option Sources) (queues : Option (List Change)) (x : RefSource) → (b ≡ true → sets ≡ None) → effective_in (cond b (Some empty) sets) (cond b (Some []) queues) x ≡ effective_in sets queues x
+pub empty_effective : (b : Bool) (sets : Option Sources) (queues : Option (List Change)) (x : RefSource) → (b ≡ true → sets ≡ None) → effective_in (cond b (Some empty) sets) (cond b (Some []) queues) x ≡ effective_in sets queues x
 empty_effective true sets queues x none = get-empty source_cmp x ∙ ap (λ s. effective_in s queues x) (sym (none refl))
 empty_effective false sets queues x none = refl
 
-none_from_some : {A : Type 0} (o : Option A) → is_some o ≡ false → o ≡ None
+pub none_from_some : {A : Type 0} (o : Option A) → is_some o ≡ false → o ≡ None
 none_from_some None no_one = refl
 none_from_some (Some x) no_one = absurd (true≢false no_one)
 
@@ -315,7 +315,7 @@ module _ (view : SpaceView) (c : ℕ) (object : stored_objects.Object) (law : He
 -- ---- a birth, wherever it is
 
 -- the open train stands
-youngest_stands : (ts : List Train) → line.Rise 0 ts → 0 < length ts → IsSome (cars_at ts (youngest ts))
+pub youngest_stands : (ts : List Train) → line.Rise 0 ts → 0 < length ts → IsSome (cars_at ts (youngest ts))
 youngest_stands ts rising some = youngest_from 0 ts rising some
   where
     youngest_from : (low : ℕ) (ts : List Train) → line.Rise low ts → 0 < length ts → IsSome (cars_at ts (last_number low ts))
@@ -350,7 +350,7 @@ from_birth view t c car object law may birth trains = record {
   trains = trains;
 }
 
-small_room : (object : stored_objects.Object) → length object.fields ≤ FIELDS → length object.bytes ≤ OBJECT_BYTES → object_room object ≤ 16370
+pub small_room : (object : stored_objects.Object) → length object.fields ≤ FIELDS → length object.bytes ≤ OBJECT_BYTES → object_room object ≤ 16370
 small_room object fields bytes = let f : FIELDS ≤ 255 = omega arith in let b : OBJECT_BYTES ≤ 4096 = omega arith in omega (arith, fields, bytes, f, b)
 
 module _ (view : SpaceView) (number : ℕ) (object : stored_objects.Object) (law : HeapLaw view) (may : MayBeBorn view object) (vacant : IsVacant view.cars number) (births : view.trains.births < 1024) where

@@ -10,3 +10,7 @@ pub mod Rows
 pub mod Represents
 pub mod Commands
 pub mod Objects
+pub mod Candidates
+pub mod Collecting
+pub mod Events
+pub mod Work
