@@ -1,5 +1,5 @@
 -- Remembered sets and queues of cars, as a space shows them.
-use Rattle.std.specs.Prelude.{ℕ, ◌+◌, ◌≤◌, ◌==◌, cond, List, Option, Some, None, IsSome}
+use Rattle.std.specs.Prelude.{◌≡◌, ℕ, ◌+◌, ◌≤◌, ◌==◌, ◌&&◌, Bool, not, cond, if◌then◌else◌, List, [], Option, Some, None, IsSome}
 use Rattle.std.specs.List.{sum_by}
 use Rattle.std.specs.Ordering.{nat_cmp}
 use Rattle.std.specs.FinMap.{FinMap, get}
@@ -7,6 +7,9 @@ use Rattle.pm_base.specs.Mapped.{mapped}
 use Rattle.pm_types.specs.declared.address.Addr.{Addr}
 use Rattle.pm_types.specs.declared.source.Change.{Change}
 use Rattle.pm_trains.specs.Trains.{Train, train_of}
+use Rattle.pm_types.specs.declared.source.RefSource.{RefSource}
+use Rattle.pm_view.specs.Sources.{outside}
+use Rattle.pm_view.specs.Barrier.{told, left, in_one_car}
 use Rattle.pm_view.specs.View.{Sources, Sets, Queues}
 use Rattle.pm_space.specs.declared.links.Links.{Links}
 
@@ -64,3 +67,15 @@ KeepsRoom old new = (car count : ℕ) → IsSome (get old car) → HasRoom old c
 -- of the room that the queues had, so many changes were used at most
 abbrev pub UsesRoom : Linked → Linked → (ℕ → ℕ) → Type 0
 UsesRoom old new used = (car count : ℕ) → HasRoom old car (count + used car) → HasRoom new car count
+
+-- the queues heard of these changes, and of no others
+abbrev pub Tells : Linked → Linked → List (ℕ × Change) → Type 0
+Tells old new changes = queues_of new ≡ told (queues_of old) changes
+
+-- a car hears of the source: the source lies outside it, and it is not set aside
+abbrev pub is_heard : (ℕ → Bool) → RefSource → ℕ → Bool
+is_heard aside source car = outside car source && not (aside car)
+
+-- what the old address's car is told, unless the new address lies in it too
+abbrev pub left_for_another : (ℕ → Bool) → RefSource → Option Addr → Option Addr → List (ℕ × Change)
+left_for_another aside source old new = if in_one_car old new then [] else left aside source old

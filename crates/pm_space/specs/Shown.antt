@@ -1,5 +1,5 @@
 -- What contracts see of the parts of a space.
-use Rattle.std.specs.Prelude.{◌≡◌, ℕ, ◌<◌, true, IsSome, IsSomeAnd, is_some}
+use Rattle.std.specs.Prelude.{◌≡◌, ℕ, ◌<◌, true, Some, IsSome, IsSomeAnd, is_some}
 use Rattle.std.specs.FinMap.{get}
 use Rattle.std.specs.List.{slice_get}
 use Rattle.std.specs.Option.{option_and_then}
@@ -12,9 +12,11 @@ use Rattle.pm_types.specs.declared.source.RefSource.TheVariants.{Root, Handle, F
 use Rattle.pm_cars.specs.Cars.{Car, new_car}
 use Rattle.pm_roots.specs.Bindings.{address_at}
 use Rattle.pm_view.specs.View.{Cars, SpaceView}
-use Rattle.pm_view.specs.Reading.{object_at}
+use Rattle.pm_view.specs.Reading.{object_at, stored, Stands}
+use Rattle.pm_view.specs.Seen.{seen, IsLive}
+use Rattle.pm_view.specs.Rows.{with_car}
 use Rattle.pm_snap.specs.Snapped.{Snapped, is_ready}
-use Rattle.pm_trains.specs.Trains.{train_of, rotated}
+use Rattle.pm_trains.specs.Trains.{train_of, rotated, youngest}
 use Rattle.pm_space.specs.declared.held.Held.{Held}
 use Rattle.pm_space.specs.declared.parts.Parts.{Parts}
 use Rattle.pm_space.specs.Linked.{sets_of, queues_of, HasRoom}
@@ -76,3 +78,11 @@ pub record IsPrepared {F : Type 0} (parts : Parts F) (number room : ℕ) : Type 
 -- the space with a new open train, in which nothing was born
 abbrev pub in_new_train : SpaceView → SpaceView
 in_new_train view = record view { trains = record { trains = rotated view.trains.trains; births = 0 } }
+
+-- that space, with a new car of this number in the new train
+abbrev pub with_car_in_new_train : SpaceView → ℕ → SpaceView
+with_car_in_new_train view number = with_car (in_new_train view) (youngest (rotated view.trains.trains)) number
+
+-- where a source that stands stores the first address, the second is that of an object that stands
+abbrev pub LeadsWhereStored : SpaceView → Addr → Addr → Type 0
+LeadsWhereStored view at to = (source : RefSource) → Stands view source → stored view source ≡ Some at → IsLive (seen view) to

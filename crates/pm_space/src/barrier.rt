@@ -1,10 +1,10 @@
-ghost use Rattle.std.specs.Prelude.{◌≡◌, ℕ, ◌+◌, ◌==◌, ◌&&◌, [], not, cond, is_some, if◌then◌else◌, IsSome, None};
+ghost use Rattle.std.specs.Prelude.{◌≡◌, ◌+◌, ◌==◌, ◌&&◌, cond, is_some, IsSome};
 ghost use Rattle.std.specs.FinMap as map;
 ghost use Rattle.pm_trains.specs.Trains.{train_of};
 ghost use Rattle.pm_view.specs.Sources.{outside};
 ghost use Rattle.pm_view.specs.Reading.{aside_in};
-ghost use Rattle.pm_view.specs.Barrier.{heard, left, entered, barrier, in_one_car, told};
-ghost use Rattle.pm_space.specs.Linked.{sets_of, queues_of, HasRoom, HasRoomFor, AreHoused, told_by, UsesRoom};
+ghost use Rattle.pm_view.specs.Barrier.{heard, entered, barrier, in_one_car};
+ghost use Rattle.pm_space.specs.Linked.{sets_of, HasRoom, HasRoomFor, AreHoused, told_by, UsesRoom, Tells, is_heard, left_for_another};
 
 use crate::links::LinkTable;
 use pm_trains::{Trains, a_car_is_found_where_it_stands};
@@ -41,7 +41,7 @@ fn is_outside(source: RefSource, car: u64) -> bool
 // Whether there is such a car, and it hears of the source.
 fn hears(links: &LinkTable, trains: &Trains, phase: Phase, source: RefSource, car: u64) -> bool
     requires { AreHoused (sets_of links.now) trains.now.trains }
-    ensures { result ≡ (is_some (map.get links.now car) && (outside car source && not (aside_in phase trains.now.trains car))) }
+    ensures { result ≡ (is_some (map.get links.now car) && is_heard (aside_in phase trains.now.trains) source car) }
 {
     if !links.has(car) {
         return false;
@@ -62,8 +62,8 @@ fn tell(
     requires housed { AreHoused (sets_of links.old) trains.now.trains }
     requires room { HasRoom links.old car 1 }
     ensures sets { sets_of links.new ≡ sets_of links.old }
-    ensures queues { queues_of links.new ≡ told (queues_of links.old) (heard (aside_in phase trains.now.trains) source car slot) }
-    ensures room { (other more : ℕ) → HasRoom links.old other (more + cond (car == other) 1 0) → HasRoom links.new other more }
+    ensures queues { Tells links.old links.new (heard (aside_in phase trains.now.trains) source car slot) }
+    ensures room { UsesRoom links.old links.new (λ other. cond (car == other) 1 0) }
 {
     if hears(links, trains, phase, source, car) {
         links.push(car, Change { source, slot });
@@ -92,7 +92,7 @@ fn tell_old(
     requires housed { AreHoused (sets_of links.old) trains.now.trains }
     requires room { HasRoomFor links.old old }
     ensures sets { sets_of links.new ≡ sets_of links.old }
-    ensures queues { queues_of links.new ≡ told (queues_of links.old) (if in_one_car old new then [] else left (aside_in phase trains.now.trains) source old) }
+    ensures queues { Tells links.old links.new (left_for_another (aside_in phase trains.now.trains) source old new) }
     ensures room { HasRoomFor links.old new → HasRoomFor links.new new }
     ensures used { UsesRoom links.old links.new (λ car. told_by car old) }
 {
@@ -115,7 +115,7 @@ fn tell_new(
     requires housed { AreHoused (sets_of links.old) trains.now.trains }
     requires room { HasRoomFor links.old new }
     ensures sets { sets_of links.new ≡ sets_of links.old }
-    ensures queues { queues_of links.new ≡ told (queues_of links.old) (entered (aside_in phase trains.now.trains) source new) }
+    ensures queues { Tells links.old links.new (entered (aside_in phase trains.now.trains) source new) }
     ensures used { UsesRoom links.old links.new (λ car. told_by car new) }
 {
     if let Some(at) = new {
@@ -138,7 +138,7 @@ pub fn tell_all(
     requires old_room { HasRoomFor links.old old }
     requires new_room { HasRoomFor links.old new }
     ensures sets { sets_of links.new ≡ sets_of links.old }
-    ensures queues { queues_of links.new ≡ told (queues_of links.old) (barrier (aside_in phase trains.now.trains) source old new) }
+    ensures queues { Tells links.old links.new (barrier (aside_in phase trains.now.trains) source old new) }
     ensures used { UsesRoom links.old links.new (λ car. told_by car old + told_by car new) }
 {
     tell_old(links, trains, phase, source, old, new);

@@ -1,8 +1,7 @@
-ghost use Rattle.std.specs.Prelude.{◌≡◌, ◌+◌, ◌==◌, ℕ, cond, [], OnOk, OnErr, None, is_some};
+ghost use Rattle.std.specs.Prelude.{◌≡◌, ◌+◌, ◌==◌, ℕ, cond, [], ◌∷◌, OnOk, OnErr, None, is_some};
 ghost use Rattle.std.specs.Option.{option_copied};
 ghost use Rattle.std.specs.FinMap as map;
-ghost use Rattle.pm_view.specs.Barrier.{pushed};
-ghost use Rattle.pm_space.specs.Linked.{sets_of, queues_of, HasRoom};
+ghost use Rattle.pm_space.specs.Linked.{sets_of, queues_of, HasRoom, UsesRoom, Tells};
 
 use pm_delta::Queue;
 use pm_remset::Remset;
@@ -81,8 +80,8 @@ impl LinkTable {
     pub fn push(&mut self, car: u64, change: Change)
         requires { HasRoom self.old car 1 }
         ensures sets { sets_of self.new ≡ sets_of self.old }
-        ensures queues { queues_of self.new ≡ pushed (queues_of self.old) car (map.get (queues_of self.old) car) change }
-        ensures room { (other more : ℕ) → HasRoom self.old other (more + cond (car == other) 1 0) → HasRoom self.new other more }
+        ensures queues { Tells self.old self.new ((car, change) ∷ []) }
+        ensures room { UsesRoom self.old self.new (λ other. cond (car == other) 1 0) }
     {
         let Some(links) = self.links.get_mut(&car) else {
             return;

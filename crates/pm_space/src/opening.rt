@@ -4,7 +4,7 @@ ghost use Rattle.pm_snap.specs.Snapped.{with_value, without, is_ready, IsLowestU
 ghost use Rattle.pm_trains.specs.Trains.{cars_at, youngest, HasCar};
 ghost use Rattle.pm_view.specs.Rows.{with_car, IsVacant};
 ghost use Rattle.pm_space.specs.Linked.{sets_of, queues_of, HasRoom, KeepsRoom};
-ghost use Rattle.pm_space.specs.Shown.{view, empty_held, IsLinked, IsPrepared, in_new_train, KeepsRest};
+ghost use Rattle.pm_space.specs.Shown.{view, empty_held, IsLinked, IsPrepared, with_car_in_new_train, KeepsRest};
 
 use crate::held::Held;
 use crate::links::LinkTable;
@@ -109,7 +109,7 @@ pub fn open_car_in_new_train<F>(
     requires small { youngest parts.old.trains.trains < 2 ^ 62 }
     requires linked { IsLinked (view parts.old) }
     ensures vacant { IfOk result (IsVacant (view parts.old).cars) }
-    ensures ok { IfOk result (λ number. let opened = in_new_train (view parts.old) in view parts.new ≡ with_car opened (youngest opened.trains.trains) number) }
+    ensures ok { IfOk result (λ number. view parts.new ≡ with_car_in_new_train (view parts.old) number) }
     ensures prepared { IfOk result (λ number. IsPrepared parts.new number room) }
     ensures err { OnErr result (view parts.new ≡ view parts.old) }
     ensures linked { IsLinked (view parts.new) }

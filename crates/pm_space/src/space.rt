@@ -1,12 +1,11 @@
-ghost use Rattle.std.specs.Prelude.{◌≡◌, IfOk, OnOk, OnErr, Some, None};
-ghost use Rattle.pm_types.specs.declared.source.RefSource.{RefSource};
-ghost use Rattle.pm_view.specs.Seen.{seen, IsLive, MayStore};
+ghost use Rattle.std.specs.Prelude.{◌≡◌, IfOk, OnOk, OnErr, None};
+ghost use Rattle.pm_view.specs.Seen.{seen, MayStore};
 ghost use Rattle.pm_view.specs.Law.{HeapLaw};
 ghost use Rattle.pm_view.specs.Reading.{Stands, stored, resolve};
 ghost use Rattle.pm_view.specs.Rows.{new_space, spread, HasValue};
 ghost use Rattle.pm_view.specs.Counts.{standing, old};
 ghost use Rattle.pm_space.specs.Counted.{capped};
-ghost use Rattle.pm_space.specs.Shown.{view, KeepsRest};
+ghost use Rattle.pm_space.specs.Shown.{view, LeadsWhereStored, KeepsRest};
 ghost use Rattle.pm_space.specs.KeptOnce.{HeapLaw-prop};
 
 use crate::links::LinkTable;
@@ -61,7 +60,7 @@ impl<F: Drop> Space<F> {
     /// address that a source stores leads to an object that stands.
     pub fn resolve(&self, at: Addr) -> Addr
         ensures place { result ≡ resolve (view self.now.parts) at }
-        ensures live { (source : RefSource) → Stands (view self.now.parts) source → stored (view self.now.parts) source ≡ Some at → IsLive (seen (view self.now.parts)) result }
+        ensures live { LeadsWhereStored (view self.now.parts) at result }
     {
         sources::resolve(&self.parts.cars, at)
     }
