@@ -54,7 +54,7 @@ module _ (ts : List Train) (T c : ℕ) (rest : List ℕ) (rising : line.Rise 0 t
   own_less =
       ap (λ o. unwrap_or o [])
       (cars_removed ts T T rising rising_less filled ∙ cond-true _ _ _ (eq-eqb T T refl)
-       ∙ (λ i. option_and_then (λ (cars : List ℕ). left_standing (old.1 i) (drop 1 cars)) (cars i)))
+      ∙ (λ i. option_and_then (λ (cars : List ℕ). left_standing (old.1 i) (drop 1 cars)) (cars i)))
       ∙ by_rest rest
     where
       by_rest : (xs : List ℕ) → unwrap_or (left_standing false xs) [] ≡ xs

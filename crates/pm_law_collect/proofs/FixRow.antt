@@ -224,9 +224,9 @@ module _ (view : SpaceView) (car : ℕ) (x : RefSource) (to : Addr) (law : HeapL
   same_effect e z true same =
       subst (λ e. effective_in (get sets_now e) (get queues_now e) z ≡ cond (same_source x z) (changed (heard_change (is_aside view) x (Some old) (Some to) e) (effective view e z)) (effective view e z)) (eqb-true car e same)
       (effective_now car z
-       ∙ (λ i. cond (same_source x z) (changed (own_unheard i) (own_effective z i)) (own_effective z i))
-       ∙ twice (same_source x z) (effective view car z)
-       ∙ (λ i. cond (same_source x z) (changed (sym own_heard i) (effective view car z)) (effective view car z)))
+      ∙ (λ i. cond (same_source x z) (changed (own_unheard i) (own_effective z i)) (own_effective z i))
+      ∙ twice (same_source x z) (effective view car z)
+      ∙ (λ i. cond (same_source x z) (changed (sym own_heard i) (effective view car z)) (effective view car z)))
   same_effect e z false apart =
       let sets_same : get sets_now e ≡ get view.sets e = sets_at e ∙ cond-false _ _ _ apart in
       effective_now e z
@@ -253,7 +253,7 @@ module _ (view : SpaceView) (car : ℕ) (x : RefSource) (to : Addr) (law : HeapL
         ap is_some (get-told view.queues (entered (is_aside view) x (Some to)) e) ∙ told_some (get view.queues e) (news e (entered (is_aside view) x (Some to)))
         ∙ sym (ap (λ m. is_some (get m e)) (queues_stored x))
         ∙ sym (ap is_some (get-told (with_stored view x (Some to)).queues (barrier (is_aside (with_stored view x (Some to))) x (stored view x) (Some to)) e)
-               ∙ told_some (get (with_stored view x (Some to)).queues e) (news e (barrier (is_aside (with_stored view x (Some to))) x (stored view x) (Some to))));
+        ∙ told_some (get (with_stored view x (Some to)).queues e) (news e (barrier (is_aside (with_stored view x (Some to))) x (stored view x) (Some to))));
     effective = λ e z.
         same_effect e z (car == e) refl
         ∙ ap (λ o. cond (same_source x z) (changed (heard_change (is_aside view) x o (Some to) e) (effective view e z)) (effective view e z)) (sym leads.0)
@@ -369,8 +369,8 @@ module _ (view : SpaceView) (car : ℕ) (x : RefSource) (to : Addr) (law : HeapL
   fix_queue =
       ap (λ o. unwrap_or o [])
       (get-told view.queues (barrier (is_aside view) x None (Some to)) car
-       ∙ ap (λ n. option_map (λ q. q ++ n) (get view.queues car)) (news_of_barrier (is_aside view) x None (Some to) car ∙ ap (as_changes x) own_unheard)
-       ∙ no_more (get view.queues car))
+      ∙ ap (λ n. option_map (λ q. q ++ n) (get view.queues car)) (news_of_barrier (is_aside view) x None (Some to) car ∙ ap (as_changes x) own_unheard)
+      ∙ no_more (get view.queues car))
     where
       no_more : (o : Option (List Change)) → option_map (λ q. q ++ []) o ≡ o
       no_more None = refl

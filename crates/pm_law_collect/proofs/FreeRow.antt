@@ -177,9 +177,9 @@ module _ (view : SpaceView) (T c : ℕ) (rest : List ℕ) (p : Phase) (completed
       let in_train : train_of ts a.car ≡ Some T = was.old ∙ is.old.0 in
       let there : train_of t.trains.trains a.car ≡ Some T = home_then a.car ∙ cond-false _ _ _ apart ∙ in_train in
       let among : is_among a.car rest ≡ true =
-          ap (is_among a.car) (sym (own_less ts T c rest rising law.built.trains.filled law.built.trains.single is.old is.cars))
-          ∙ among_less ts T c rest rising law.built.trains.filled law.built.trains.single is.old is.cars a.car
-          ∙ (λ i. home_among ts T a.car rising in_train i && not (apart i)) in
+      ap (is_among a.car) (sym (own_less ts T c rest rising law.built.trains.filled law.built.trains.single is.old is.cars))
+      ∙ among_less ts T c rest rising law.built.trains.filled law.built.trains.single is.old is.cars a.car
+      ∙ (λ i. home_among ts T a.car rising in_train i && not (apart i)) in
       let old_then : oldest t.trains.trains ≡ Some T = still_old rest among is.cars in
       record {
         live = ap (λ o. is_some (object_of o)) (same_slot a apart) ∙ was.live;

@@ -56,7 +56,7 @@ module _ (aside : ℕ → Bool) (from to : Addr) (go : Addr → Addr) (fs : List
   moved_apart y not_from not_to =
       effective_fields e y tell (λ n f o. o)
       (λ n f s. two y n f s
-          ∙ (λ i. cond (apart_source to n y not_to i) (changed (comes n f) (cond (apart_source from n y not_from i) (changed (leaves n f) (get s y)) (get s y))) (cond (apart_source from n y not_from i) (changed (leaves n f) (get s y)) (get s y))))
+      ∙ (λ i. cond (apart_source to n y not_to i) (changed (comes n f) (cond (apart_source from n y not_from i) (changed (leaves n f) (get s y)) (get s y))) (cond (apart_source from n y not_from i) (changed (leaves n f) (get s y)) (get s y))))
       set queue fs both (λ none. folded_none (λ n f o. o) (λ n f o. refl) 0 fs None)
       ∙ folded_none (λ n f o. o) (λ n f o. refl) 0 fs (effective_in set queue y)
 

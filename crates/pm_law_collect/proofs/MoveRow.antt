@@ -399,9 +399,10 @@ module _ (view put : SpaceView) (from : Addr) (c : ℕ) (old car : Car) (object 
 
   pub moved_stays : Stays view t (id_at view from) none
   moved_stays = record {
-    forth = λ id a still ends at.
-        (record { kept = none_aside_then view put from c old car object law is a.car; here = same_id a (not_here id a still at.here) (not_new_id id a at.here) ∙ at.here },
-         is.homes a.car (some_car (get view.cars a.car) a.slot id at.here));
+    forth = λ id a still ends at. (
+      record { kept = none_aside_then view put from c old car object law is a.car; here = same_id a (not_here id a still at.here) (not_new_id id a at.here) ∙ at.here },
+      is.homes a.car (some_car (get view.cars a.car) a.slot id at.here),
+    );
     back = λ id a still at.
         let not_to : same_address to a ≡ false = false_from_ne_true (same_address to a) (λ one. still (id_from ∙ sym (ap (option_map (λ (o : Object). o.id)) (object_then to ∙ cond-true _ _ _ (same_itself to))) ∙ ap (id_at t) (same_address-true to a one) ∙ at.here)) in
         let not_from : same_address from a ≡ false = false_from_ne_true (same_address from a) (λ one. none_some id (sym (ap (option_map (λ (o : Object). o.id)) (object_then from ∙ cond-false _ _ _ apart_back ∙ ap object_of (old_moved view put from c old car object law is))) ∙ ap (id_at t) (same_address-true from a one) ∙ at.here)) in

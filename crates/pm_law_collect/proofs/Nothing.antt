@@ -44,10 +44,10 @@ module _ (view : SpaceView) (law : HeapLaw view) where
       (λ (idle : (view.phase ≡ Idle) × (oldest view.trains.trains ≡ None)). (idle.0, no_car idle.1))
       (λ (other : (train : ℕ) × ((view.phase ≡ Draining train) ⊎ (view.phase ≡ Doomed train)) × (first_car view.trains.trains train ≡ None)).
       absurd (no_train other.0
-        (⊎_elim
-         (λ (at : view.phase ≡ Draining other.0). (subst (λ p. IsAt p view.trains.trains view.anchor) at law.phase).0)
-         (λ (at : view.phase ≡ Doomed other.0). (subst (λ p. IsAt p view.trains.trains view.anchor) at law.phase).0.0)
-         other.1) other.2))
+      (⊎_elim
+      (λ (at : view.phase ≡ Draining other.0). (subst (λ p. IsAt p view.trains.trains view.anchor) at law.phase).0)
+      (λ (at : view.phase ≡ Doomed other.0). (subst (λ p. IsAt p view.trains.trains view.anchor) at law.phase).0.0)
+      other.1) other.2))
       (comes_where view nothing next)
 
   no_oldest : ((car : ℕ) → get view.cars car ≡ None) → (o : Option ℕ) → oldest view.trains.trains ≡ o → o ≡ None

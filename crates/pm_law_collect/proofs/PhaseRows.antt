@@ -120,7 +120,7 @@ module _ (view : SpaceView) (train : ℕ) (law : HeapLaw view) (is : IsSelecting
       let law_now = opening_keeps_law view law has in
       let now = selecting (opened view law has) is.idle (opened_oldest same) law_now.anchor in
       let kept = keeps (opened view law has) (phased (opened view law has) view.anchor (Draining train) (λ e. false) law_now now)
-          (phase_keeps_law (opened view law has) view.anchor (Draining train) (λ e. false) law_now now) (phase_means_same (opened view law has) view.anchor (Draining train) (λ e. false) law_now now) in
+      (phase_keeps_law (opened view law has) view.anchor (Draining train) (λ e. false) law_now now) (phase_means_same (opened view law has) view.anchor (Draining train) (λ e. false) law_now now) in
       (kept.0, λ world stands. kept.1 world (opening_stands view law has world stands))
   selects false same =
       let now = selecting view is.idle (is.oldest, same) law.anchor in
@@ -272,9 +272,10 @@ module _ (view : SpaceView) (law : HeapLaw view) where
     where
       open_is : (b : Bool) → (youngest view.trains.trains == n) ≡ b → b ≡ true → IsSome (cars_at view.trains.trains n) × ((n == train) ≡ false)
       open_is true same is =
-          let one = eqb-true (youngest view.trains.trains) n same in
-          (subst (λ m. IsSome (cars_at view.trains.trains m)) one (youngest_stands view.trains.trains law.built.trains.rising law.built.trains.standing),
-           let other = old.1 in subst (λ m. (m == train) ≡ false) one (turned train (youngest view.trains.trains) other))
+          let one = eqb-true (youngest view.trains.trains) n same in (
+            subst (λ m. IsSome (cars_at view.trains.trains m)) one (youngest_stands view.trains.trains law.built.trains.rising law.built.trains.standing),
+            let other = old.1 in subst (λ m. (m == train) ≡ false) one (turned train (youngest view.trains.trains) other),
+          )
         where
           turned : (m n : ℕ) → (m == n) ≡ false → (n == m) ≡ false
           turned m n is = grind (arith, nat_tests, is)
@@ -310,9 +311,10 @@ module _ (view : SpaceView) (car : ℕ) (a : Addr) (picked : ℕ) (law : HeapLaw
           let among = (found_passes (λ car. is_some (least_outside view from car)) (cars_of view.trains.trains from) d at).1 in
           let held = found_entry sources_total sources_antisymmetric (λ (e : RefSource × ℕ). is_beyond view.trains.trains from e.0) (set_of view d) e found in
           let leads = remembered_leads view law free d e.0 e.1 (drained_set view from (Some a) law is.drained d e.0 among ∙ held.0) in
-          subst (λ (b : Addr). IsSome (object_at view.cars b) × (train_of view.trains.trains b.car ≡ Some from)) here
-          (live_there view law (named_in d e) (slot_at view.cars (named_in d e)) (drained_from view from (Some a) law is.drained d) leads.1,
-           among_home view.trains.trains from d law.built.trains.single among)
+          subst (λ (b : Addr). IsSome (object_at view.cars b) × (train_of view.trains.trains b.car ≡ Some from)) here (
+            live_there view law (named_in d e) (slot_at view.cars (named_in d e)) (drained_from view from (Some a) law is.drained d) leads.1,
+            among_home view.trains.trains from d law.built.trains.single among,
+          )
 
   noted : IsSome (object_at view.cars a) × (train_of view.trains.trains a.car ≡ Some from)
   noted = noted_at (referenced_car view from) refl is.drained.found

@@ -118,7 +118,7 @@ module _ (view : SpaceView) (T car : ℕ) (e : RefSource × ℕ) (law : HeapLaw 
       let home_of = some_is (train_of view.trains.trains b.car) (law.built.linked b.car ∙ stands) in
       let beyond : is_among b.car (cars_of view.trains.trains T) ≡ false = not_true _ (ap (is_beyond view.trains.trains T) (sym is) ∙ held.1) in
       let apart : (home_of.0 == T) ≡ false = false_from_ne_true (home_of.0 == T) (λ same.
-          both_ways (is_among b.car (cars_of view.trains.trains T)) beyond (home_among view.trains.trains T b.car law.built.trains.rising (home_of.1 ∙ ap Some (eqb-true home_of.0 T same)))) in
+      both_ways (is_among b.car (cars_of view.trains.trains T)) beyond (home_among view.trains.trains T b.car law.built.trains.rising (home_of.1 ∙ ap Some (eqb-true home_of.0 T same)))) in
       left_by view.trains.trains home_of.0 b.car (is_named_from view T a) home_of.1
       (λ t number among.
       and_from _ _ (not_from_false _ (ap (λ n. n == T) number ∙ apart))
@@ -147,9 +147,10 @@ module _ (view : SpaceView) (car : ℕ) (a : Addr) (law : HeapLaw view) (is : Is
       by_entry (Some e) found note =
           let here : named_in d e ≡ a = some_same (named_in d e) a note in
           let among = (found_passes (λ car. is_some (least_outside view from car)) (cars_of view.trains.trains from) d at).1 in
-          subst (λ (b : Addr). (home view b.car ≡ from) × (0 < length (candidates view from b))) here
-          (ap (λ o. unwrap_or o 0) (among_home view.trains.trains from d law.built.trains.single among),
-           some_way view from d e law (drained_aside view from (Some a) law is.drained) found (drained_set view from (Some a) law is.drained d e.0 among))
+          subst (λ (b : Addr). (home view b.car ≡ from) × (0 < length (candidates view from b))) here (
+            ap (λ o. unwrap_or o 0) (among_home view.trains.trains from d law.built.trains.single among),
+            some_way view from d e law (drained_aside view from (Some a) law is.drained) found (drained_set view from (Some a) law is.drained d e.0 among),
+          )
 
   noted : (home view a.car ≡ from) × (0 < length (candidates view from a))
   noted = by_car (referenced_car view from) refl is.drained.found

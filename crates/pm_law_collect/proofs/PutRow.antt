@@ -171,7 +171,7 @@ module _ (view : SpaceView) (from : Addr) (old : Car) (object : Object) (law : H
         let was = law.built.cars c car is_car in
         let more = live_after car object was.sound in
         let le = no_less_items (standing_in view) (standing_in in_tail) (cars_of ts (youngest ts))
-            (more_live in_tail c (with_birth car object) (λ n not_from. tail_cars n ∙ cond-false _ _ _ not_from) refl (subst (λ o. live_in o ≤ live_count (with_birth car object)) (sym is_car) (omega arith))) in
+        (more_live in_tail c (with_birth car object) (λ n not_from. tail_cars n ∙ cond-false _ _ _ not_from) refl (subst (λ o. live_in o ≤ live_count (with_birth car object)) (sym is_car) (omega arith))) in
         let births = law.built.births in
         omega arith
 
@@ -258,7 +258,7 @@ module _ (view : SpaceView) (from : Addr) (old : Car) (object : Object) (law : H
     new_births : view.trains.births ≤ sum_by (standing_in in_new) (cars_of in_new.trains.trains (youngest in_new.trains.trains))
     new_births =
         let le = no_less_items (standing_in view) (standing_in in_new) (cars_of ts (youngest ts))
-            (more_live in_new c born (λ n not_from. new_cars n ∙ cond-false _ _ _ not_from) refl (subst (λ o. live_in o ≤ live_count born) (sym vacant) (omega arith))) in
+        (more_live in_new c born (λ n not_from. new_cars n ∙ cond-false _ _ _ not_from) refl (subst (λ o. live_in o ≤ live_count born) (sym vacant) (omega arith))) in
         let births = law.built.births in
         let more = open_cars (cars_at ts (youngest ts)) refl (youngest ts == y) refl in
         omega arith

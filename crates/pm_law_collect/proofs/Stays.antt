@@ -109,4 +109,4 @@ module _ (view : SpaceView) where
           same a free =
               ap (λ o. option_map (λ (o : Object). o.id) (object_of o))
               (other_slot view.cars at.car (get view.cars at.car) (λ car. without_slot car at.slot) a
-               (false_from_ne_true (at.car == a.car) (λ one. both_ways (is_aside view a.car) free (ap (is_aside view) (sym (eqb-true at.car a.car one)) ∙ swept_aside view at.car is.swept))))
+              (false_from_ne_true (at.car == a.car) (λ one. both_ways (is_aside view a.car) free (ap (is_aside view) (sym (eqb-true at.car a.car one)) ∙ swept_aside view at.car is.swept))))

@@ -104,9 +104,9 @@ module _ (view : SpaceView) (a : Addr) (is : IsSweeping view a) where
   swept_lowers =
       subst (λ o. work (swept_some view a o) + 1 ≤ work view) (sym here)
       (⊎_elim
-       (λ (at : view.phase ≡ Sweeping a.car). subst (λ p. work_in t p + 1 ≤ work_in view p) (sym at) in_car)
-       (λ (at : (train : ℕ) × IsFirstDoomed view train a.car). subst (λ p. work_in t p + 1 ≤ work_in view p) (sym at.1.doomed) (in_train at.0 (first_among (cars_at view.trains.trains at.0) a.car at.1.first)))
-       is.swept)
+      (λ (at : view.phase ≡ Sweeping a.car). subst (λ p. work_in t p + 1 ≤ work_in view p) (sym at) in_car)
+      (λ (at : (train : ℕ) × IsFirstDoomed view train a.car). subst (λ p. work_in t p + 1 ≤ work_in view p) (sym at.1.doomed) (in_train at.0 (first_among (cars_at view.trains.trains at.0) a.car at.1.first)))
+      is.swept)
 
 -- ---- a car of a doomed train goes
 
