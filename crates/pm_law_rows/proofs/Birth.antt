@@ -3,7 +3,7 @@ use Rattle.std.proofs.Common.{◌≡◌, ◌⊎◌, inl, inr, ⊎_elim, ℕ, zer
 use Rattle.std.specs.Option.{IsSomeAnd, option_map, option_and_then, option_flatten}
 use Rattle.std.specs.List.{sum_by, slice_get, Contains}
 use Rattle.std.specs.FinMap.{get, insert, len}
-use Rattle.std.proofs.lemmas.Bool.{eqb-true, eq-eqb, both_ways, cond-true, cond-false, false_from_ne_true}
+use Rattle.std.proofs.lemmas.Bool.{eqb-true, eq-eqb, both_ways, cond-true, cond-false, false_from_ne_true, and_from}
 use Rattle.pm_types.specs.declared.limits.TheConstants.{ROOTS}
 use Rattle.pm_types.specs.declared.address.Addr.{Addr}
 use Rattle.pm_types.specs.declared.object.Object as stored_objects
@@ -92,8 +92,8 @@ module _ (s t : Seen) (p : Addr) (law : IsTied s) (born : IsBornSeen s t p) wher
 -- ---- the space
 
 -- the place of the birth in a car
-abbrev pub place_in : ℕ → Car → Addr
-place_in c car = record { car = c; slot = car.next }
+abbrev pub next_place : ℕ → Car → Addr
+next_place c car = record { car = c; slot = car.next }
 
 -- t is the space with the object in the next slot of the car c, which stood, or is new and had no slot
 pub record IsBirth (view t : SpaceView) (c : ℕ) (car : Car) (object : stored_objects.Object) : Type 0 where
@@ -153,7 +153,7 @@ field_cond false object o i was null = refl
 
 module _ (view t : SpaceView) (c : ℕ) (car : Car) (object : stored_objects.Object) (law : HeapLaw view) (may : MayBeBorn view object) (birth : IsBirth view t c car object) where
   abbrev p : Addr
-  p = place_in c car
+  p = next_place c car
 
   -- the place had nothing
   nothing_there : slot_at view.cars p ≡ None
@@ -165,8 +165,19 @@ module _ (view t : SpaceView) (c : ℕ) (car : Car) (object : stored_objects.Obj
       ∙ born_slot (c == a.car) (car.next == a.slot) car (get view.cars a.car) object a.slot refl
       (λ here. ap (λ e. slot_of (get view.cars e) a.slot) (sym (eqb-true c a.car here)) ∙ birth.held a.slot)
 
+  -- the object is at its place
+  pub born_here : slot_at t.cars p ≡ Some (Live object)
+  born_here = slot_then p ∙ cond-true _ _ _ (and_from _ _ (eq-eqb c c refl) (eq-eqb car.next car.next refl))
+
   object_then : (a : Addr) → object_at t.cars a ≡ cond (same_address p a) (Some object) (object_at view.cars a)
   object_then a = ap object_of (slot_then a) ∙ object_cond (same_address p a) object (slot_at view.cars a)
+
+  -- no object was there, and each other one stays
+  pub none_before : id_at view p ≡ None
+  none_before = ap (option_map (λ (o : stored_objects.Object). o.id)) (ap object_of nothing_there)
+
+  pub others_stay : (a : Addr) → same_address p a ≡ false → id_at t a ≡ id_at view a
+  others_stay a apart = ap (option_map (λ (o : stored_objects.Object). o.id)) (object_then a ∙ cond-false _ _ _ apart)
 
   was_gone : (a : Addr) → same_address p a ≡ true → object_at view.cars a ≡ None
   was_gone a same = ap object_of (ap (slot_at view.cars) (sym (same_address-true p a same)) ∙ nothing_there)

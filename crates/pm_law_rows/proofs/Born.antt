@@ -10,29 +10,32 @@ use Rattle.std.proofs.lemmas.List.Sums.{sum_by_push}
 use Rattle.pm_types.specs.Orders.{source_cmp}
 use Rattle.pm_types.specs.declared.address.Addr.{Addr}
 use Rattle.pm_types.specs.declared.object.Object as stored_objects
+use Rattle.pm_types.specs.declared.object.Slot.TheVariants.{Live}
 use Rattle.pm_types.specs.declared.source.RefSource.{RefSource}
 use Rattle.pm_types.specs.declared.source.Change.{Change}
 use Rattle.pm_cars.specs.Cars.{Car, IsSound, Fits, used, object_room, slot_room, one_live, one_moved, new_car, live_count, moved_count, object_of, with_birth}
 use Rattle.pm_cars.proofs.Rooms.{total_empty}
 use Rattle.pm_trains.specs.Trains.{Train, HasCar, cars_at, train_of, is_among, first_car, tail, oldest, youngest, last_number, rotated}
 use Rattle.pm_trains.specs.Sound as line
-use Rattle.pm_trains.proofs.Cars.{home_appended}
+use Rattle.pm_trains.proofs.Cars.{home_appended, home_rotated}
 use Rattle.pm_trains.proofs.Found.{home_has, cars_changed}
 use Rattle.pm_trains.proofs.Kept.{sound_appended}
 use Rattle.pm_view.specs.declared.phase.Phase.{Phase}
 use Rattle.pm_view.specs.declared.phase.Phase.TheVariants.{Idle, Draining, Moving, Sweeping, Doomed}
 use Rattle.pm_view.specs.View.{Cars, Sources, SpaceView}
-use Rattle.pm_view.specs.Reading.{object_at, cars_of, aside_in, is_aside, is_from}
+use Rattle.pm_view.specs.Reading.{slot_at, object_at, id_at, cars_of, aside_in, is_aside, is_from}
 use Rattle.pm_view.specs.Effective.{effective_in}
 use Rattle.pm_view.specs.Counts.{live_in, standing_in}
 use Rattle.pm_view.specs.Law.{IsOldest, IsFront, IsAt, IsAnchor, HeapLaw}
-use Rattle.pm_view.specs.Rows.{put_car, has_room, if_fits, tail_for, put_in, with_count, born_in, born, IsVacant, MayBeBorn}
+use Rattle.pm_view.specs.Rows.{put_car, has_room, if_fits, tail_for, put_in, with_count, born_in, born, next_of, place_in, birthplace, IsVacant, MayBeBorn}
 use Rattle.pm_law_rows.proofs.News.{at_insert}
 use Rattle.pm_law_rows.proofs.Places.{slot_of}
 use Rattle.pm_law_rows.proofs.Sums.{no_less, grown, some_item}
 use Rattle.pm_law_rows.proofs.OpenTrain.{first_home, among_home, open_free, open_not_from, tail_home, phase_appended, aside_appended, oldest_appended, youngest_appended, stands_appended}
-use Rattle.pm_law_rows.proofs.Rotating.{opened, opening_keeps_law, opening_stands}
-use Rattle.pm_law_rows.proofs.Birth.{IsBirth, live_after, birth_keeps_law, birth_stands}
+use Rattle.pm_view.specs.Sources.{same_address}
+use Rattle.pm_view.specs.Objects.{AddsObject}
+use Rattle.pm_law_rows.proofs.Rotating.{opened, aside_opened, youngest_rotated, opening_keeps_law, opening_stands}
+use Rattle.pm_law_rows.proofs.Birth.{IsBirth, live_after, birth_keeps_law, birth_stands, born_here, none_before, others_stay}
 use Rattle.pm_types.specs.declared.limits.TheConstants.{FIELDS, OBJECT_BYTES}
 use Rattle.pm_model.specs.Heap.{Object}
 use Rattle.pm_model.specs.World.{World, changing}
@@ -45,6 +48,13 @@ home_among ts n c rising home = by_case (cars_at ts n) (home_has 0 c n ts rising
     by_case : (o : Option (List ℕ)) → IsSomeAnd o (λ cars. IsTrue (is_among c cars)) → is_among c (unwrap_or o []) ≡ true
     by_case None among = absurd among
     by_case (Some cars) among = among
+
+-- what becomes of the trains where the open one stays: the place lies in it, each other car in its own
+pub record InTrains (view t : SpaceView) (p : Addr) : Type 0 where
+  pub home : train_of t.trains.trains p.car ≡ Some (youngest t.trains.trains)
+  pub homes : (car : ℕ) → IsSome (get view.cars car) → train_of t.trains.trains car ≡ train_of view.trains.trains car
+  pub same : youngest t.trains.trains ≡ youngest view.trains.trains
+  pub births : t.trains.births ≡ view.trains.births + 1
 
 -- ---- in the tail of the open train
 
@@ -135,6 +145,9 @@ module _ (view : SpaceView) (c number : ℕ) (car : Car) (object : stored_object
         anchored = λ a to was some. record { live = some; kept = was.kept; old = was.old; stands = was.stands; leaves = was.leaves };
         next = refl;
       }
+
+  pub tail_trains : InTrains view in_tail (record { car = c; slot = car.next })
+  tail_trains = record { home = home; homes = λ e some. refl; same = refl; births = refl }
 
 -- ---- in a new car at the end of the open train
 
@@ -291,6 +304,14 @@ module _ (view : SpaceView) (c : ℕ) (object : stored_objects.Object) (law : He
           let was = sound_appended view.trains (youngest trains_now) c law.built.trains homeless in
           record { standing = was.standing; rising = was.rising; filled = was.filled; single = was.single; bounded = omega (arith, births) }
 
+  pub new_car_trains : InTrains view in_new_car (record { car = c; slot = (new_car c).next })
+  new_car_trains = record {
+    home = new_home c ∙ cond-true _ _ _ (eq-eqb c c refl) ∙ ap Some (sym (youngest_appended trains_now c law.built.trains.rising));
+    homes = λ e some. new_home e ∙ cond-false _ _ _ (false_from_ne_true (e == c) (λ same. true≢false (sym some ∙ ap (λ e. is_some (get view.cars e)) (eqb-true e c same) ∙ ap is_some vacant)));
+    same = youngest_appended trains_now c law.built.trains.rising;
+    births = refl;
+  }
+
 -- ---- a birth, wherever it is
 
 -- the open train stands
@@ -306,15 +327,28 @@ youngest_stands ts rising some = youngest_from 0 ts rising some
         either true o some = refl
         either false o some = some
 
--- what a birth gives: the heap law, and the world with the object
-abbrev Gives : SpaceView → SpaceView → stored_objects.Object → Type 0
-Gives view t object = HeapLaw t × ((world : World) (it : Object) → Represents view world → get world.heap object.id ≡ None → it ≡ meaning view object → Represents t (changing world object.id it))
+-- what a birth gives: the heap law, the world with the object, and the object at its place, in a car that is not set aside
+pub record Gives (view t : SpaceView) (object : stored_objects.Object) (p : Addr) : Type 0 where
+  pub law : HeapLaw t
+  pub world : (world : World) (it : Object) → Represents view world → get world.heap object.id ≡ None → it ≡ meaning view object → Represents t (changing world object.id it)
+  pub here : slot_at t.cars p ≡ Some (Live object)
+  pub free : is_aside t p.car ≡ false
+  pub none : id_at view p ≡ None
+  pub ids : (a : Addr) → same_address p a ≡ false → id_at t a ≡ id_at view a
+  pub aside : (car : ℕ) → is_aside t car ≡ is_aside view car
+  pub trains : InTrains view t p
 
-from_birth : (view t : SpaceView) (c : ℕ) (car : Car) (object : stored_objects.Object) → HeapLaw view → MayBeBorn view object → IsBirth view t c car object → Gives view t object
-from_birth view t c car object law may birth = (
-  birth_keeps_law view t c car object law may birth,
-  λ world it stands unknown means. birth_stands view t c car object law may birth world it stands unknown means stands.next,
-)
+from_birth : (view t : SpaceView) (c : ℕ) (car : Car) (object : stored_objects.Object) → HeapLaw view → MayBeBorn view object → IsBirth view t c car object → InTrains view t (record { car = c; slot = car.next }) → Gives view t object (record { car = c; slot = car.next })
+from_birth view t c car object law may birth trains = record {
+  law = birth_keeps_law view t c car object law may birth;
+  world = λ world it stands unknown means. birth_stands view t c car object law may birth world it stands unknown means stands.next;
+  here = born_here view t c car object law may birth;
+  free = birth.aside c ∙ birth.free;
+  none = none_before view t c car object law may birth;
+  ids = others_stay view t c car object law may birth;
+  aside = birth.aside;
+  trains = trains;
+}
 
 small_room : (object : stored_objects.Object) → length object.fields ≤ FIELDS → length object.bytes ≤ OBJECT_BYTES → object_room object ≤ 16370
 small_room object fields bytes = let f : FIELDS ≤ 255 = omega arith in let b : OBJECT_BYTES ≤ 4096 = omega arith in omega (arith, fields, bytes, f, b)
@@ -323,27 +357,30 @@ module _ (view : SpaceView) (number : ℕ) (object : stored_objects.Object) (law
   abbrev open_number : ℕ
   open_number = youngest view.trains.trains
 
-  into : (d : Option ℕ) → tail_for view open_number (object_room object) ≡ d → Gives view (with_count (put_in view open_number d number object)) object
+  into : (d : Option ℕ) → tail_for view open_number (object_room object) ≡ d → Gives view (with_count (put_in view open_number d number object)) object (place_in view.cars d number)
   into None is =
       from_birth view (in_new_car view number object law vacant.vacant vacant.from_one (small_room object may.fields may.bytes) births (youngest_stands view.trains.trains law.built.trains.rising law.built.trains.standing))
       number (new_car number) object law may
       (new_car_birth view number object law vacant.vacant vacant.from_one (small_room object may.fields may.bytes) births (youngest_stands view.trains.trains law.built.trains.rising law.built.trains.standing))
+      (new_car_trains view number object law vacant.vacant vacant.from_one (small_room object may.fields may.bytes) births (youngest_stands view.trains.trains law.built.trains.rising law.built.trains.standing))
   into (Some c) is = by_tail (tail view.trains.trains open_number) refl is
     where
-      by_room : (car : Car) → get view.cars c ≡ Some car → tail view.trains.trains open_number ≡ Some c → has_room car (object_room object) ≡ true → Gives view (with_count (put_in view open_number (Some c) number object)) object
+      by_room : (car : Car) → get view.cars c ≡ Some car → tail view.trains.trains open_number ≡ Some c → has_room car (object_room object) ≡ true → Gives view (with_count (put_in view open_number (Some c) number object)) object (place_in view.cars (Some c) number)
       by_room car found last room =
-          from_birth view (in_tail view c number car object law found last (room_fits car (object_room object) room) births) c car object law may
+          subst (λ o. Gives view (with_count (put_in view open_number (Some c) number object)) object (record { car = c; slot = next_of o })) (sym found)
+          (from_birth view (in_tail view c number car object law found last (room_fits car (object_room object) room) births) c car object law may
           (tail_birth view c number car object law found last (room_fits car (object_room object) room) births)
+          (tail_trains view c number car object law found last (room_fits car (object_room object) room) births))
 
-      by_car : (e : ℕ) → tail view.trains.trains open_number ≡ Some e → (o : Option Car) → get view.cars e ≡ o → option_and_then (λ (car : Car). if has_room car (object_room object) then Some e else None) o ≡ Some c → Gives view (with_count (put_in view open_number (Some c) number object)) object
+      by_car : (e : ℕ) → tail view.trains.trains open_number ≡ Some e → (o : Option Car) → get view.cars e ≡ o → option_and_then (λ (car : Car). if has_room car (object_room object) then Some e else None) o ≡ Some c → Gives view (with_count (put_in view open_number (Some c) number object)) object (place_in view.cars (Some c) number)
       by_car e last None found is = cc
       by_car e last (Some car) found is = by_test (has_room car (object_room object)) refl is
         where
-          by_test : (b : Bool) → has_room car (object_room object) ≡ b → (if b then Some e else None) ≡ Some c → Gives view (with_count (put_in view open_number (Some c) number object)) object
+          by_test : (b : Bool) → has_room car (object_room object) ≡ b → (if b then Some e else None) ≡ Some c → Gives view (with_count (put_in view open_number (Some c) number object)) object (place_in view.cars (Some c) number)
           by_test true room is = let same : e ≡ c = cc in by_room car (ap (get view.cars) (sym same) ∙ found) (last ∙ ap Some same) room
           by_test false room is = cc
 
-      by_tail : (o : Option ℕ) → tail view.trains.trains open_number ≡ o → option_and_then (if_fits view (object_room object)) o ≡ Some c → Gives view (with_count (put_in view open_number (Some c) number object)) object
+      by_tail : (o : Option ℕ) → tail view.trains.trains open_number ≡ o → option_and_then (if_fits view (object_room object)) o ≡ Some c → Gives view (with_count (put_in view open_number (Some c) number object)) object (place_in view.cars (Some c) number)
       by_tail None last is = cc
       by_tail (Some e) last is = by_car e last (get view.cars e) refl is
 
@@ -355,14 +392,60 @@ has_car view law some = by_case (cars_at view.trains.trains (youngest view.train
     by_case None few = let zero_sum : sum_by (standing_in view) [] ≡ 0 = refl in absurd (omega (arith, few, some, zero_sum))
     by_case (Some cars) few = some_item (standing_in view) cars (omega (arith, few, some))
 
+abbrev opened_if : SpaceView → Bool → SpaceView
+opened_if view b = if b then record view { trains = record { trains = rotated view.trains.trains; births = 0 } } else view
+
+-- what a birth gives in the end: the heap law, the world with the object, and the object, which stands at its place
+pub record GivesBirth (view t : SpaceView) (object : stored_objects.Object) (p : Addr) : Type 0 where
+  pub law : HeapLaw t
+  pub world : (world : World) (it : Object) → Represents view world → get world.heap object.id ≡ None → it ≡ meaning view object → Represents t (changing world object.id it)
+  pub here : slot_at t.cars p ≡ Some (Live object)
+  pub free : is_aside t p.car ≡ false
+  pub added : AddsObject view t object.id p
+
 -- an object that is born, wherever it is, keeps the heap law, and the world has it too
-pub born_gives : (view : SpaceView) (number : ℕ) (object : stored_objects.Object) → HeapLaw view → MayBeBorn view object → IsVacant view.cars number → Gives view (born view number object) object
+pub born_gives : (view : SpaceView) (number : ℕ) (object : stored_objects.Object) → HeapLaw view → MayBeBorn view object → IsVacant view.cars number → GivesBirth view (born view number object) object (birthplace view number object)
 born_gives view number object law may vacant = by_case (nat_le 1024 view.trains.births) refl
   where
-    by_case : (b : Bool) → nat_le 1024 view.trains.births ≡ b → Gives view (born_in (if b then record view { trains = record { trains = rotated view.trains.trains; births = 0 } } else view) number object) object
+    by_case : (b : Bool) → nat_le 1024 view.trains.births ≡ b
+        → GivesBirth view (born_in (opened_if view b) number object) object (place_in (opened_if view b).cars (tail_for (opened_if view b) (youngest (opened_if view b).trains.trains) (object_room object)) number)
     by_case true full =
         let has = has_car view law (let many = leb-true 1024 view.trains.births full in omega (arith, many)) in
         let now = opened view law has in
         let gives = into now number object (opening_keeps_law view law has) (record { first = may.first; given = may.given; unused = may.unused; fields = may.fields; bytes = may.bytes; null = may.null }) vacant (omega arith) (tail_for now (youngest now.trains.trains) (object_room object)) refl in
-        (gives.0, λ world it stands unknown means. gives.1 world it (opening_stands view law has world stands) unknown means)
-    by_case false few = into view number object law may vacant (leb-false 1024 view.trains.births few) (tail_for view (youngest view.trains.trains) (object_room object)) refl
+        record {
+          law = gives.law;
+          world = λ world it stands unknown means. gives.world world it (opening_stands view law has world stands) unknown means;
+          here = gives.here;
+          free = gives.free;
+          added = record {
+            none = gives.none;
+            here = ap (option_map (λ (o : stored_objects.Object). o.id)) (ap object_of gives.here);
+            free = gives.free;
+            home = gives.trains.home;
+            ids = gives.ids;
+            aside = λ car. gives.aside car ∙ aside_opened view law has car;
+            homes = λ car some. gives.trains.homes car some ∙ home_rotated car (youngest view.trains.trains + 1) view.trains.trains;
+            youngest = gives.trains.same ∙ youngest_rotated view.trains.trains law.built.trains.rising ∙ sym (ap (λ b. if b then youngest view.trains.trains + 1 else youngest view.trains.trains) full);
+            births = gives.trains.births ∙ sym (ap (λ b. if b then 1 else view.trains.births + 1) full);
+          };
+        }
+    by_case false few =
+        let gives = into view number object law may vacant (leb-false 1024 view.trains.births few) (tail_for view (youngest view.trains.trains) (object_room object)) refl in
+        record {
+          law = gives.law;
+          world = gives.world;
+          here = gives.here;
+          free = gives.free;
+          added = record {
+            none = gives.none;
+            here = ap (option_map (λ (o : stored_objects.Object). o.id)) (ap object_of gives.here);
+            free = gives.free;
+            home = gives.trains.home;
+            ids = gives.ids;
+            aside = gives.aside;
+            homes = gives.trains.homes;
+            youngest = gives.trains.same ∙ sym (ap (λ b. if b then youngest view.trains.trains + 1 else youngest view.trains.trains) few);
+            births = gives.trains.births ∙ sym (ap (λ b. if b then 1 else view.trains.births + 1) few);
+          };
+        }

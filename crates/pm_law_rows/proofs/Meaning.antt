@@ -34,7 +34,7 @@ module _ (view t : SpaceView) (same : IsReshaped view t) where
   id_of a (Some o) None was is = absurd (true≢false (sym (ap is_some was) ∙ sym (same.some a) ∙ ap is_some is))
   id_of a o (Some p) was is = let found = same.objects a p is in ap Some found.2.id ∙ ap (option_map (λ (o : Object). o.id)) (sym found.1 ∙ was)
 
-  id_same : (a : Addr) → id_at t a ≡ id_at view a
+  pub id_same : (a : Addr) → id_at t a ≡ id_at view a
   id_same a = id_of a (object_at view.cars a) (object_at t.cars a) refl refl
 
   -- an address names the object that it named

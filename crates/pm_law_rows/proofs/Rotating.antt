@@ -144,7 +144,7 @@ module _ (view : SpaceView) (law : HeapLaw view) (has : HasCar view.trains.train
   rising : line.Rise 0 ts
   rising = law.built.trains.rising
 
-  aside_opened : (e : ℕ) → is_aside opened e ≡ is_aside view e
+  pub aside_opened : (e : ℕ) → is_aside opened e ≡ is_aside view e
   aside_opened e = aside_rotated view.phase ts rising e
 
   car_opened : (n : ℕ) (car : Car) → IsCar view n car → IsCar opened n car

@@ -1,10 +1,22 @@
-ghost use Rattle.std.specs.Prelude.{◌<◌};
+ghost use Rattle.std.specs.Prelude.{◌≡◌, ◌<◌};
+ghost use Rattle.pm_model.specs.Plain.{is_plain};
 
 use crate::Memory;
 use pm_model::Oracle;
 use pm_types::{Bytes, Cmd, Name, Reg, Reply};
 use std::alloc::Global;
 use std::test::Fail;
+
+// Whether the program answers the command today.
+fn is_plain(cmd: &Cmd) -> bool
+    ensures { result ≡ is_plain cmd.now }
+{
+    match cmd {
+        Cmd::New { .. } | Cmd::Show { .. } | Cmd::IdOf { .. } | Cmd::Bind { .. } => true,
+        Cmd::Find { .. } | Cmd::Save | Cmd::Settle => true,
+        _ => false,
+    }
+}
 
 // Asks the map in memory and the slow program, which both give this reply.
 fn ask(
@@ -17,6 +29,9 @@ fn ask(
 ) -> Result<(), Fail>
     requires { client < 8 }
 {
+    if !is_plain(&cmd) {
+        return Err(Fail::from("a command of another stage"));
+    }
     if world.answer(alloc, client, &cmd)? != reply {
         return Err(Fail::from("another reply of the map in memory"));
     }

@@ -1,4 +1,3 @@
-pub mod Shown
 pub mod Sources
 pub mod Puts
 pub mod Finds

@@ -1,5 +1,5 @@
 //! The lines of a script, one after another.
-ghost use Rattle.std.specs.Prelude.{◌≡◌, ◌⊎◌, ◌≤◌, List, ℕ, [], ◌∷◌, ◌++◌, length, vec_capacity, Some, None, OnOk, OnErr, IsErrOf};
+ghost use Rattle.std.specs.Prelude.{◌≡◌, ◌⊎◌, ◌≤◌, List, ℕ, [], ◌∷◌, ◌++◌, length, vec_capacity, Some, None, OnOk, OnErr, IsErrOf, true};
 ghost use Rattle.pm_base.specs.Counts.{Rose};
 ghost use Rattle.pm_disk.specs.Disk.{LeavesOnly};
 ghost use Rattle.pm_model.specs.World.{World};

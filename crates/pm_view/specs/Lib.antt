@@ -8,3 +8,5 @@ pub mod Law
 pub mod Barrier
 pub mod Rows
 pub mod Represents
+pub mod Commands
+pub mod Objects

@@ -33,6 +33,54 @@ enum Ask {
     Unsave,
 }
 
+// What is told, likewise.
+#[derive(Clone, Copy)]
+enum Told {
+    Done,
+    Ident(u32),
+    Null,
+    Shown(&'static [u8]),
+    Begun(u32),
+    Saved(u32),
+    TooLarge,
+    IdsSpent,
+    NoHandle,
+    NoField,
+    OutOfRange,
+    TooManyRoots,
+    NoRoot,
+    Busy(u32),
+    SavesSpent,
+    Idle,
+    TooManyWatches,
+    Dropped(u32),
+    Held(u32),
+}
+
+fn reply(alloc: Global, told: Told) -> Result<Reply, NoMemory> {
+    Ok(match told {
+        Told::Done => Reply::Done,
+        Told::Ident(id) => Reply::Ident(id),
+        Told::Null => Reply::Null,
+        Told::Shown(from) => Reply::Shown(bytes(alloc, from)?),
+        Told::Begun(number) => Reply::Begun(number),
+        Told::Saved(number) => Reply::Saved(number),
+        Told::TooLarge => Reply::TooLarge,
+        Told::IdsSpent => Reply::IdsSpent,
+        Told::NoHandle => Reply::NoHandle,
+        Told::NoField => Reply::NoField,
+        Told::OutOfRange => Reply::OutOfRange,
+        Told::TooManyRoots => Reply::TooManyRoots,
+        Told::NoRoot => Reply::NoRoot,
+        Told::Busy(number) => Reply::Busy(number),
+        Told::SavesSpent => Reply::SavesSpent,
+        Told::Idle => Reply::Idle,
+        Told::TooManyWatches => Reply::TooManyWatches,
+        Told::Dropped(number) => Reply::Dropped(number),
+        Told::Held(id) => Reply::Held(id),
+    })
+}
+
 fn register(number: u32) -> Result<Reg, Fail> {
     Ok(Reg::new(number).ok_or("no register")?)
 }
@@ -109,11 +157,82 @@ fn command(alloc: Global, ask: Ask) -> Result<Cmd, Fail> {
     })
 }
 
+static FIELDS: [(u32, Ask, Told); 28] = [
+    (0, Ask::New(1, 2, b"\x01\x02"), Told::Ident(1)),
+    (0, Ask::Store(1, 2, 1), Told::NoField),
+    (0, Ask::Store(1, 2, 9), Told::NoHandle),
+    (0, Ask::Store(1, 1, 1), Told::Done),
+    (0, Ask::Load(2, 1, 1), Told::Ident(1)),
+    (0, Ask::Load(2, 1, 2), Told::NoField),
+    (0, Ask::Id(2), Told::Ident(1)),
+    (0, Ask::Clear(1, 1), Told::Done),
+    (0, Ask::Load(2, 1, 1), Told::Null),
+    (0, Ask::Clear(2, 1), Told::NoHandle),
+    (0, Ask::Put(1, 2, b""), Told::Done),
+    (0, Ask::Put(1, 2, b"\xff"), Told::OutOfRange),
+    (0, Ask::Put(1, 4_294_967_295, b"\xff"), Told::OutOfRange),
+    (0, Ask::Put(1, 1, b"\xff"), Told::Done),
+    (0, Ask::Data(1), Told::Shown(b"\x01\xff")),
+    (0, Ask::Copy(3, 1), Told::Ident(1)),
+    (0, Ask::Forget(1), Told::Done),
+    (0, Ask::Forget(1), Told::NoHandle),
+    (1, Ask::New(3, 0, b""), Told::Ident(2)),
+    (0, Ask::Close, Told::Done),
+    (0, Ask::Id(3), Told::NoHandle),
+    (1, Ask::Id(3), Told::Ident(2)),
+    (1, Ask::New(4, 65, b""), Told::TooLarge),
+    (1, Ask::Id(4), Told::NoHandle),
+    (1, Ask::Unroot(b"zz"), Told::NoRoot),
+    (1, Ask::Root(b"zz", 3), Told::Done),
+    (1, Ask::Unroot(b"zz"), Told::Done),
+    (1, Ask::Find(3, b"zz"), Told::NoRoot),
+];
+
+static COPIES: [(u32, Ask, Told); 18] = [
+    (0, Ask::New(1, 1, b""), Told::Ident(1)),
+    (0, Ask::New(2, 0, b""), Told::Ident(2)),
+    (0, Ask::New(3, 0, b""), Told::Ident(3)),
+    (0, Ask::Swap(1, 0, 2, 3), Told::Null),
+    (0, Ask::Store(1, 0, 2), Told::Done),
+    (0, Ask::Swap(1, 0, 3, 2), Told::Held(2)),
+    (0, Ask::Swap(1, 0, 2, 3), Told::Done),
+    (0, Ask::Load(4, 1, 0), Told::Ident(3)),
+    (0, Ask::Settle, Told::Idle),
+    (0, Ask::Unsave, Told::Idle),
+    (0, Ask::Save, Told::Begun(1)),
+    (1, Ask::Save, Told::Busy(1)),
+    (1, Ask::Unsave, Told::Dropped(1)),
+    (0, Ask::Settle, Told::Idle),
+    (0, Ask::Save, Told::Begun(1)),
+    (1, Ask::Settle, Told::Saved(1)),
+    (0, Ask::Settle, Told::Idle),
+    (0, Ask::Save, Told::Begun(2)),
+];
+
+static WATCHED: [(u32, Ask, Told); 2] = [
+    (0, Ask::Watch, Told::TooManyWatches),
+    (0, Ask::New(1, 0, b""), Told::Ident(1)),
+];
+
+static NAMED: [(u32, Ask, Told); 4] = [
+    (0, Ask::Root(b"one-more", 1), Told::TooManyRoots),
+    (0, Ask::Root(b"17", 1), Told::Done),
+    (0, Ask::Unroot(b"17"), Told::Done),
+    (0, Ask::Root(b"one-more", 1), Told::Done),
+];
+
+static SPENT: [(u32, Ask, Told); 4] = [
+    (0, Ask::New(1, 0, b""), Told::IdsSpent),
+    (0, Ask::Find(1, b"a"), Told::Ident(LAST_ID)),
+    (0, Ask::Load(2, 1, 0), Told::Null),
+    (0, Ask::Save, Told::SavesSpent),
+];
+
 // Asks the rows one after another, each of the client that it names.
-fn ask_all(alloc: Global, oracle: &mut Oracle, rows: Vec<(u32, Ask, Reply)>) -> Result<(), Fail> {
-    for (client, ask, reply) in rows {
-        let cmd = command(alloc, ask)?;
-        if oracle.answer(alloc, client % 8, &cmd)? != reply {
+fn ask_all(alloc: Global, oracle: &mut Oracle, rows: &[(u32, Ask, Told)]) -> Result<(), Fail> {
+    for (client, ask, told) in rows {
+        let cmd = command(alloc, *ask)?;
+        if oracle.answer(alloc, *client % 8, &cmd)? != reply(alloc, *told)? {
             return Err(Fail::from("another reply"));
         }
     }
@@ -124,65 +243,14 @@ fn ask_all(alloc: Global, oracle: &mut Oracle, rows: Vec<(u32, Ask, Reply)>) -> 
 fn fields_bytes_and_registers(rt: HostRuntime) -> Result<(), Fail> {
     let alloc = rt.alloc();
     let mut oracle = Oracle::new(alloc);
-    let shown = Reply::Shown(bytes(alloc, b"\x01\xff")?);
-    let rows = vec![in alloc;
-        (0, Ask::New(1, 2, b"\x01\x02"), Reply::Ident(1)),
-        (0, Ask::Store(1, 2, 1), Reply::NoField),
-        (0, Ask::Store(1, 2, 9), Reply::NoHandle),
-        (0, Ask::Store(1, 1, 1), Reply::Done),
-        (0, Ask::Load(2, 1, 1), Reply::Ident(1)),
-        (0, Ask::Load(2, 1, 2), Reply::NoField),
-        (0, Ask::Id(2), Reply::Ident(1)),
-        (0, Ask::Clear(1, 1), Reply::Done),
-        (0, Ask::Load(2, 1, 1), Reply::Null),
-        (0, Ask::Clear(2, 1), Reply::NoHandle),
-        (0, Ask::Put(1, 2, b""), Reply::Done),
-        (0, Ask::Put(1, 2, b"\xff"), Reply::OutOfRange),
-        (0, Ask::Put(1, 4_294_967_295, b"\xff"), Reply::OutOfRange),
-        (0, Ask::Put(1, 1, b"\xff"), Reply::Done),
-        (0, Ask::Data(1), shown),
-        (0, Ask::Copy(3, 1), Reply::Ident(1)),
-        (0, Ask::Forget(1), Reply::Done),
-        (0, Ask::Forget(1), Reply::NoHandle),
-        (1, Ask::New(3, 0, b""), Reply::Ident(2)),
-        (0, Ask::Close, Reply::Done),
-        (0, Ask::Id(3), Reply::NoHandle),
-        (1, Ask::Id(3), Reply::Ident(2)),
-        (1, Ask::New(4, 65, b""), Reply::TooLarge),
-        (1, Ask::Id(4), Reply::NoHandle),
-        (1, Ask::Unroot(b"zz"), Reply::NoRoot),
-        (1, Ask::Root(b"zz", 3), Reply::Done),
-        (1, Ask::Unroot(b"zz"), Reply::Done),
-        (1, Ask::Find(3, b"zz"), Reply::NoRoot),
-    ]?;
-    ask_all(alloc, &mut oracle, rows)
+    ask_all(alloc, &mut oracle, &FIELDS)
 }
 
 #[test]
 fn swaps_and_copies(rt: HostRuntime) -> Result<(), Fail> {
     let alloc = rt.alloc();
     let mut oracle = Oracle::new(alloc);
-    let rows = vec![in alloc;
-        (0, Ask::New(1, 1, b""), Reply::Ident(1)),
-        (0, Ask::New(2, 0, b""), Reply::Ident(2)),
-        (0, Ask::New(3, 0, b""), Reply::Ident(3)),
-        (0, Ask::Swap(1, 0, 2, 3), Reply::Null),
-        (0, Ask::Store(1, 0, 2), Reply::Done),
-        (0, Ask::Swap(1, 0, 3, 2), Reply::Held(2)),
-        (0, Ask::Swap(1, 0, 2, 3), Reply::Done),
-        (0, Ask::Load(4, 1, 0), Reply::Ident(3)),
-        (0, Ask::Settle, Reply::Idle),
-        (0, Ask::Unsave, Reply::Idle),
-        (0, Ask::Save, Reply::Begun(1)),
-        (1, Ask::Save, Reply::Busy(1)),
-        (1, Ask::Unsave, Reply::Dropped(1)),
-        (0, Ask::Settle, Reply::Idle),
-        (0, Ask::Save, Reply::Begun(1)),
-        (1, Ask::Settle, Reply::Saved(1)),
-        (0, Ask::Settle, Reply::Idle),
-        (0, Ask::Save, Reply::Begun(2)),
-    ]?;
-    ask_all(alloc, &mut oracle, rows)
+    ask_all(alloc, &mut oracle, &COPIES)
 }
 
 #[test]
@@ -194,11 +262,7 @@ fn as_many_watches_and_names_as_there_may_be(rt: HostRuntime) -> Result<(), Fail
             return Err(Fail::from("another watch"));
         }
     }
-    let rows = vec![in alloc;
-        (0, Ask::Watch, Reply::TooManyWatches),
-        (0, Ask::New(1, 0, b""), Reply::Ident(1)),
-    ]?;
-    ask_all(alloc, &mut oracle, rows)?;
+    ask_all(alloc, &mut oracle, &WATCHED)?;
     let reg = register(1)?;
     for number in 0..ROOTS {
         let text = format!(in alloc; "{number}")?;
@@ -207,13 +271,7 @@ fn as_many_watches_and_names_as_there_may_be(rt: HostRuntime) -> Result<(), Fail
             return Err(Fail::from("a name was refused"));
         }
     }
-    let rows = vec![in alloc;
-        (0, Ask::Root(b"one-more", 1), Reply::TooManyRoots),
-        (0, Ask::Root(b"17", 1), Reply::Done),
-        (0, Ask::Unroot(b"17"), Reply::Done),
-        (0, Ask::Root(b"one-more", 1), Reply::Done),
-    ]?;
-    ask_all(alloc, &mut oracle, rows)
+    ask_all(alloc, &mut oracle, &NAMED)
 }
 
 #[test]
@@ -236,11 +294,5 @@ fn identities_and_copies_that_are_spent(rt: HostRuntime) -> Result<(), Fail> {
         saving: None,
         watches: 0,
     };
-    let rows = vec![in alloc;
-        (0, Ask::New(1, 0, b""), Reply::IdsSpent),
-        (0, Ask::Find(1, b"a"), Reply::Ident(LAST_ID)),
-        (0, Ask::Load(2, 1, 0), Reply::Null),
-        (0, Ask::Save, Reply::SavesSpent),
-    ]?;
-    ask_all(alloc, &mut oracle, rows)
+    ask_all(alloc, &mut oracle, &SPENT)
 }

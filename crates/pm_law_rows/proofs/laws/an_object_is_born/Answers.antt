@@ -4,7 +4,7 @@ use Rattle.pm_law_rows.proofs.Born.{born_gives}
 use Rattle.pm_law_rows.proofs.laws.an_object_is_born.Goals as goal
 
 pub returns-clause-law : goal.returns-clause-law
-returns-clause-law c = λ view number object law may vacant. (born_gives view number object law may vacant).0
+returns-clause-law c = λ view number object law may vacant. (born_gives view number object law may vacant).law
 
 pub returns-clause-world : goal.returns-clause-world
-returns-clause-world c = λ view world number object law stands may vacant unknown. (born_gives view number object law may vacant).1 world (meaning view object) stands unknown refl
+returns-clause-world c = λ view world number object law stands may vacant unknown. (born_gives view number object law may vacant).world world (meaning view object) stands unknown refl

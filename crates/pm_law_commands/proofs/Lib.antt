@@ -1,0 +1,11 @@
+pub mod Held
+pub mod Registers
+pub mod Fields
+pub mod Naming
+pub mod Closing
+pub mod Births
+pub mod Keeps
+pub mod Refusals
+pub mod Rows
+pub mod Objects
+pub mod Added
