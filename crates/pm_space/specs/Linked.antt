@@ -1,5 +1,5 @@
 -- Remembered sets and queues of cars, as a space shows them.
-use Rattle.std.specs.Prelude.{ℕ, ◌≤◌, List, Option, Some, None, IsSome}
+use Rattle.std.specs.Prelude.{ℕ, ◌+◌, ◌≤◌, ◌==◌, cond, List, Option, Some, None, IsSome}
 use Rattle.std.specs.Ordering.{nat_cmp}
 use Rattle.std.specs.FinMap.{FinMap, get}
 use Rattle.pm_base.specs.Mapped.{mapped}
@@ -43,6 +43,11 @@ abbrev pub HasRoomFor : Linked → Option Addr → Type 0
 HasRoomFor links None = Unit {0}
 HasRoomFor links (Some a) = HasRoom links a.car 1
 
+-- how many changes a car may be told because of this address
+abbrev pub told_by : ℕ → Option Addr → ℕ
+told_by car None = 0
+told_by car (Some a) = cond (a.car == car) 1 0
+
 -- each car that has a remembered set is in a train
 abbrev pub AreHoused : Sets → List Train → Type 0
 AreHoused sets trains = (car : ℕ) → IsSome (get sets car) → IsSome (train_of trains car)
@@ -50,3 +55,7 @@ AreHoused sets trains = (car : ℕ) → IsSome (get sets car) → IsSome (train_
 -- the queue of each car that had links has the room that it had
 abbrev pub KeepsRoom : Linked → Linked → Type 0
 KeepsRoom old new = (car count : ℕ) → IsSome (get old car) → HasRoom old car count → HasRoom new car count
+
+-- of the room that the queues had, so many changes were used at most
+abbrev pub UsesRoom : Linked → Linked → (ℕ → ℕ) → Type 0
+UsesRoom old new used = (car count : ℕ) → HasRoom old car (count + used car) → HasRoom new car count

@@ -4,7 +4,7 @@ ghost use Rattle.pm_trains.specs.Trains.{train_of};
 ghost use Rattle.pm_view.specs.Sources.{outside};
 ghost use Rattle.pm_view.specs.Reading.{aside_in};
 ghost use Rattle.pm_view.specs.Barrier.{heard, left, entered, barrier, in_one_car, told};
-ghost use Rattle.pm_space.specs.Linked.{sets_of, queues_of, HasRoom, HasRoomFor, AreHoused};
+ghost use Rattle.pm_space.specs.Linked.{sets_of, queues_of, HasRoom, HasRoomFor, AreHoused, told_by, UsesRoom};
 
 use crate::links::LinkTable;
 use pm_trains::{Trains, a_car_is_found_where_it_stands};
@@ -94,6 +94,7 @@ fn tell_old(
     ensures sets { sets_of links.new ≡ sets_of links.old }
     ensures queues { queues_of links.new ≡ told (queues_of links.old) (if in_one_car old new then [] else left (aside_in phase trains.now.trains) source old) }
     ensures room { HasRoomFor links.old new → HasRoomFor links.new new }
+    ensures used { UsesRoom links.old links.new (λ car. told_by car old) }
 {
     if are_in_one_car(old, new) {
         return;
@@ -115,6 +116,7 @@ fn tell_new(
     requires room { HasRoomFor links.old new }
     ensures sets { sets_of links.new ≡ sets_of links.old }
     ensures queues { queues_of links.new ≡ told (queues_of links.old) (entered (aside_in phase trains.now.trains) source new) }
+    ensures used { UsesRoom links.old links.new (λ car. told_by car new) }
 {
     if let Some(at) = new {
         tell(links, trains, phase, source, at.car, Some(at.slot));
@@ -137,6 +139,7 @@ pub fn tell_all(
     requires new_room { HasRoomFor links.old new }
     ensures sets { sets_of links.new ≡ sets_of links.old }
     ensures queues { queues_of links.new ≡ told (queues_of links.old) (barrier (aside_in phase trains.now.trains) source old new) }
+    ensures used { UsesRoom links.old links.new (λ car. told_by car old + told_by car new) }
 {
     tell_old(links, trains, phase, source, old, new);
     tell_new(links, trains, phase, source, new);

@@ -1,4 +1,5 @@
 ghost use Rattle.std.specs.Prelude.{◌≡◌, ◌+◌, ◌==◌, ℕ, cond, [], OnOk, OnErr, None, is_some};
+ghost use Rattle.std.specs.Option.{option_copied};
 ghost use Rattle.std.specs.FinMap as map;
 ghost use Rattle.pm_view.specs.Barrier.{pushed};
 ghost use Rattle.pm_space.specs.Linked.{sets_of, queues_of, HasRoom};
@@ -45,6 +46,13 @@ impl LinkTable {
         LinkTable {
             links: BTreeMap::new(alloc),
         }
+    }
+
+    /// The links of a car, lent.
+    pub fn get(&self, car: u64) -> Option<&Links>
+        ensures { option_copied result ≡ map.get self.now car }
+    {
+        self.links.get(&car)
     }
 
     /// Whether the car has links.
