@@ -18,5 +18,6 @@ pub use held::Held;
 pub use links::{LinkTable, Links};
 pub use opening::{open_car, open_car_in_new_train};
 pub use parts::Parts;
+pub use sources::resolve;
 pub use space::Space;
 pub use spreading::spread;

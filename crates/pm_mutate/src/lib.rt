@@ -1,0 +1,5 @@
+//! The commands of clients on a space.
+#![tactic(auto)]
+
+mod holding;
+mod reading;
