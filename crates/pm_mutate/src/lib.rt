@@ -1,5 +1,7 @@
 //! The commands of clients on a space.
 #![tactic(auto)]
 
+mod bytes;
+mod fields;
 mod holding;
 mod reading;
