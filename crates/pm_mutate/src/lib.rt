@@ -4,4 +4,5 @@
 mod bytes;
 mod fields;
 mod holding;
+mod naming;
 mod reading;
