@@ -2,6 +2,7 @@
 #![tactic(auto)]
 
 mod bytes;
+mod closing;
 mod fields;
 mod holding;
 mod naming;
