@@ -1,7 +1,7 @@
 -- Some number of a root is free.
-use Rattle.std.proofs.Common.{◌≡◌, ℕ, ◌+◌, ◌<◌, Bool, true, false, cond, refl, ap, sym, subst, ◌∙◌, List, [], ◌∷◌, Option, Some, None, arith}
+use Rattle.std.proofs.Common.{◌≡◌, ℕ, ◌+◌, ◌<◌, Bool, true, false, cond, ap, sym, ◌∙◌, List, [], ◌∷◌, Option, Some, None, arith}
 use Rattle.std.specs.Ordering.{eq_by_cmp}
-use Rattle.std.specs.FinMap.{get, entries, get-entries}
+use Rattle.std.specs.FinMap.{entries, get-entries}
 use Rattle.std.specs.FinMap.Entries.{find}
 use Rattle.pm_types.specs.Orders.{name_cmp}
 use Rattle.pm_types.specs.declared.address.Addr.{Addr}

@@ -1,5 +1,5 @@
 -- What is read of the cars that a table holds.
-use Rattle.std.proofs.Common.{◌≡◌, ℕ, refl, sym, subst, Option, Some, None, IsSome, IsSomeAnd}
+use Rattle.std.proofs.Common.{◌≡◌, refl, subst, Option, Some, None, IsSome, IsSomeAnd}
 use Rattle.std.specs.FinMap.{get}
 use Rattle.pm_types.specs.declared.address.Addr.{Addr}
 use Rattle.pm_types.specs.declared.object.Object.{Object}

@@ -1,5 +1,5 @@
 -- How many changes cars are told where the registers of a client are emptied.
-use Rattle.std.specs.Prelude.{ℕ, ◌+◌, zero, suc, Option, Some, None}
+use Rattle.std.specs.Prelude.{ℕ, ◌+◌, zero, suc}
 use Rattle.std.specs.Ordering.{nat_cmp}
 use Rattle.std.specs.BTreeMap as tree
 use Rattle.std.specs.FinMap.{get}

@@ -31,12 +31,7 @@ fn ends_within(place: u32, count: usize, length: usize) -> bool
 }
 
 // Bytes of the object at an address are changed.
-fn put_at<F>(
-    parts: &mut Parts<F>,
-    at: Addr,
-    place: u32,
-    bytes: &[u8],
-) -> Result<Reply, NoMemory>
+fn put_at<F>(parts: &mut Parts<F>, at: Addr, place: u32, bytes: &[u8]) -> Result<Reply, NoMemory>
     ensures ok { IfOk result (λ reply. (reply, view parts.new) ≡ put_bytes (view parts.old) at place bytes.now (object_at (view parts.old).cars at)) }
     ensures err { OnErr result (view parts.new ≡ view parts.old) }
     ensures rest { KeepsRest parts.old parts.new }

@@ -88,11 +88,7 @@ fn empty_registers<F>(parts: &mut Parts<F>, client: u32, count: u32)
 }
 
 /// `close`: all registers of a client are empty.
-pub(crate) fn close<F>(
-    parts: &mut Parts<F>,
-    alloc: Global,
-    client: u32,
-) -> Result<Reply, NoMemory>
+pub(crate) fn close<F>(parts: &mut Parts<F>, alloc: Global, client: u32) -> Result<Reply, NoMemory>
     requires client { client < CLIENTS }
     requires housed { AreHoused (sets_of parts.old.links) parts.old.trains.trains }
     ensures ok { IfOk result (λ reply. (reply, view parts.new) ≡ row_close (view parts.old) client) }

@@ -30,12 +30,7 @@ fn set_register<F>(
 }
 
 // Lets a register hold the object at an address, and answers its identity.
-fn hold<F>(
-    parts: &mut Parts<F>,
-    client: u32,
-    to: Reg,
-    at: Addr,
-) -> Result<Reply, NoMemory>
+fn hold<F>(parts: &mut Parts<F>, client: u32, to: Reg, at: Addr) -> Result<Reply, NoMemory>
     requires client { client < CLIENTS }
     requires housed { AreHoused (sets_of parts.old.links) parts.old.trains.trains }
     ensures ok { IfOk result (λ reply. (reply, view parts.new) ≡ hold (view parts.old) client to at (object_at (view parts.old).cars at)) }
@@ -144,11 +139,7 @@ pub(crate) fn load<F>(
 }
 
 /// `drop`: a register is empty.
-pub(crate) fn forget<F>(
-    parts: &mut Parts<F>,
-    client: u32,
-    reg: Reg,
-) -> Result<Reply, NoMemory>
+pub(crate) fn forget<F>(parts: &mut Parts<F>, client: u32, reg: Reg) -> Result<Reply, NoMemory>
     requires client { client < CLIENTS }
     requires housed { AreHoused (sets_of parts.old.links) parts.old.trains.trains }
     ensures ok { IfOk result (λ reply. (reply, view parts.new) ≡ row_drop (view parts.old) client reg (register (view parts.old) client reg)) }

@@ -69,12 +69,7 @@ fn bind_new<F>(
 }
 
 // Binds a name to an address; one that is bound keeps its number.
-fn bind<F>(
-    parts: &mut Parts<F>,
-    alloc: Global,
-    name: &Name,
-    at: Addr,
-) -> Result<Reply, NoMemory>
+fn bind<F>(parts: &mut Parts<F>, alloc: Global, name: &Name, at: Addr) -> Result<Reply, NoMemory>
     requires housed { AreHoused (sets_of parts.old.links) parts.old.trains.trains }
     ensures ok { IfOk result (λ reply. IsForSomeRoot (view parts.old) (λ number. bind (view parts.old) name.now (get (view parts.old).roots name.now) number at) (reply, view parts.new)) }
     ensures err { OnErr result (view parts.new ≡ view parts.old) }

@@ -1,4 +1,4 @@
-use Rattle.std.proofs.Common.{◌≡◌, ◌≤◌, ℕ}
+use Rattle.std.proofs.Common.{◌≡◌, ℕ}
 use Rattle.pm_space.specs.Linked.{sets_of, queues_of, HasRoom}
 use Rattle.pm_mutate.specs.Closing.{stored_in, counted}
 use Rattle.pm_mutate.proofs.closing.make_room_to_close.Given as goal
