@@ -20,5 +20,6 @@ pub use links::{LinkTable, Links};
 pub use opening::{open_car, open_car_in_new_train};
 pub use parts::Parts;
 pub use room::{make_room, make_room_for_each};
+pub use sources::resolve;
 pub use space::Space;
 pub use spreading::spread;

@@ -9,7 +9,7 @@ use pm_snap::Table;
 use pm_types::{Addr, RefSource};
 
 /// Where an address leads: through a Moved slot one step, and else nowhere else.
-pub(crate) fn resolve(cars: &Table<Held>, at: Addr) -> Addr
+pub fn resolve(cars: &Table<Held>, at: Addr) -> Addr
     ensures { result ≡ followed (slot_at (cars_of cars.now) at) at }
 {
     let Some(held) = cars.get(at.car) else {
