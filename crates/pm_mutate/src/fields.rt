@@ -59,12 +59,7 @@ pub fn store<F>(
 }
 
 /// `clear`: a field of the object that a register holds is null.
-pub fn clear<F>(
-    parts: &mut Parts<F>,
-    client: u32,
-    reg: Reg,
-    index: u32,
-) -> Result<Reply, NoMemory>
+pub fn clear<F>(parts: &mut Parts<F>, client: u32, reg: Reg, index: u32) -> Result<Reply, NoMemory>
     requires client { client < CLIENTS }
     requires housed { AreHoused (sets_of parts.old.links) parts.old.trains.trains }
     ensures ok { IfOk result (λ reply. (reply, view parts.new) ≡ row_clear (view parts.old) index (register (view parts.old) client reg)) }

@@ -46,12 +46,7 @@ fn hold<F>(parts: &mut Parts<F>, client: u32, to: Reg, at: Addr) -> Result<Reply
 }
 
 /// `copy`: a register holds what another one holds.
-pub fn copy<F>(
-    parts: &mut Parts<F>,
-    client: u32,
-    to: Reg,
-    reg: Reg,
-) -> Result<Reply, NoMemory>
+pub fn copy<F>(parts: &mut Parts<F>, client: u32, to: Reg, reg: Reg) -> Result<Reply, NoMemory>
     requires client { client < CLIENTS }
     requires housed { AreHoused (sets_of parts.old.links) parts.old.trains.trains }
     ensures ok { IfOk result (λ reply. (reply, view parts.new) ≡ row_copy (view parts.old) client to (register (view parts.old) client reg)) }
@@ -68,12 +63,7 @@ pub fn copy<F>(
 }
 
 /// `find`: a register holds what a name stands for.
-pub fn find<F>(
-    parts: &mut Parts<F>,
-    client: u32,
-    to: Reg,
-    name: &Name,
-) -> Result<Reply, NoMemory>
+pub fn find<F>(parts: &mut Parts<F>, client: u32, to: Reg, name: &Name) -> Result<Reply, NoMemory>
     requires client { client < CLIENTS }
     requires housed { AreHoused (sets_of parts.old.links) parts.old.trains.trains }
     ensures ok { IfOk result (λ reply. (reply, view parts.new) ≡ row_find (view parts.old) client to (get (view parts.old).roots name.now)) }

@@ -65,12 +65,7 @@ pub fn id<F>(parts: &Parts<F>, client: u32, reg: Reg) -> Reply
 }
 
 /// The bytes of what a register holds.
-pub fn data<F>(
-    parts: &Parts<F>,
-    alloc: Global,
-    client: u32,
-    reg: Reg,
-) -> Result<Reply, NoMemory>
+pub fn data<F>(parts: &Parts<F>, alloc: Global, client: u32, reg: Reg) -> Result<Reply, NoMemory>
     requires { client < CLIENTS }
     ensures { IfOk result (λ reply. (reply, view parts.now) ≡ row_data (view parts.now) (object_held (view parts.now) (register (view parts.now) client reg))) }
 {
