@@ -6,7 +6,7 @@ use Rattle.std.proofs.lemmas.List.{length-replicate, get_or_append_left, get_or-
 use Rattle.std.proofs.lemmas.Slice.Eq.{bytes_eq-Decides}
 use Rattle.sha2.specs.Sha256.{sha256}
 use Rattle.sha2.proofs.Facts256.{length-sha256}
-use Rattle.pm_types.specs.declared.limits.TheConstants.{FIELDS, PAGE_BYTES}
+use Rattle.pm_types.specs.declared.limits.TheConstants.{PAGE_BYTES}
 use Rattle.pm_types.specs.declared.fault.OpenFault.TheVariants.{NotAStore, Damaged}
 use Rattle.pm_layout.specs.Headers.{header_at, header_spelling}
 use Rattle.pm_layout.proofs.HeaderLaws.{spelled_length, header_again}
@@ -44,7 +44,7 @@ blank_chain n pages met is =
 blank_graph : Graph
 blank_graph = record { catalog = (2, blank_catalog) ∷ []; cars = [] }
 
-graph_is_blank : (pages : Pages) → pages.page 2 ≡ blank_catalog_page → graph_of FIELDS pages blank_header ≡ Ok blank_graph
+graph_is_blank : (pages : Pages) → pages.page 2 ≡ blank_catalog_page → graph_of pages blank_header ≡ Ok blank_graph
 unfolding graph_of cars_from linked blank_graph
 graph_is_blank pages is = bound (catalog_of pages blank_header) _ ((2, blank_catalog) ∷ []) _ (blank_chain 18446744073709551614 pages _ is) refl
 
@@ -68,7 +68,7 @@ unfolding blank_graph
 blank_behind bytes slot is_current is_page =
     record {
       found = record { current = record { slot = slot; header = blank_header }; graph = blank_graph };
-      is_found = opened_as FIELDS bytes (record { slot = slot; header = blank_header }) blank_graph is_current (graph_is_blank (pages_of bytes) is_page);
+      is_found = opened_as bytes (record { slot = slot; header = blank_header }) blank_graph is_current (graph_is_blank (pages_of bytes) is_page);
       is_number = refl;
       is_copy = copy_is_empty;
     }
@@ -161,8 +161,8 @@ pub blank_current : current blank_store ≡ Ok (record { slot = 0; header = blan
 blank_current = ap current store_is ∙ current_is
 
 -- what is found in it: the header of copy 0, and no car
-pub blank_found : opened FIELDS blank_store ≡ Ok (record { current = record { slot = 0; header = blank_header }; graph = record { catalog = (2, blank_catalog) ∷ []; cars = [] } })
+pub blank_found : opened blank_store ≡ Ok (record { current = record { slot = 0; header = blank_header }; graph = record { catalog = (2, blank_catalog) ∷ []; cars = [] } })
 unfolding blank_graph
 blank_found =
-    opened_as FIELDS blank_store (record { slot = 0; header = blank_header }) blank_graph blank_current
+    opened_as blank_store (record { slot = 0; header = blank_header }) blank_graph blank_current
     (graph_is_blank (pages_of blank_store) (subst (λ (bytes : List ℕ). page_of bytes 2 ≡ blank_catalog_page) (sym store_is) page_2))

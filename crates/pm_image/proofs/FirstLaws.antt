@@ -104,7 +104,7 @@ first_cars pages is =
 first_graph : Graph
 first_graph = record { catalog = (4, first_catalog) ∷ []; cars = first_kept ∷ [] }
 
-graph_is_first : (pages : Pages) → 4 < pages.count → pages.page 3 ≡ first_car_page → pages.page 4 ≡ first_catalog_page → graph_of FIELDS pages first_header ≡ Ok first_graph
+graph_is_first : (pages : Pages) → 4 < pages.count → pages.page 3 ≡ first_car_page → pages.page 4 ≡ first_catalog_page → graph_of pages first_header ≡ Ok first_graph
 unfolding graph_of linked first_graph first_kept
 graph_is_first pages many is_car is_catalog =
     bound (catalog_of pages first_header) _ ((4, first_catalog) ∷ []) _ (first_chain 18446744073709551614 pages many is_catalog)
@@ -148,7 +148,7 @@ unfolding first_graph
 first_stands bytes slot is_current many is_car is_catalog =
     record {
       found = record { current = record { slot = slot; header = first_header }; graph = first_graph };
-      is_found = opened_as FIELDS bytes (record { slot = slot; header = first_header }) first_graph is_current (graph_is_first (pages_of bytes) many is_car is_catalog);
+      is_found = opened_as bytes (record { slot = slot; header = first_header }) first_graph is_current (graph_is_first (pages_of bytes) many is_car is_catalog);
       is_number = refl;
       is_copy = copy_is_first;
     }

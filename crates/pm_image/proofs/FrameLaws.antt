@@ -15,8 +15,8 @@ use Rattle.pm_image.specs.Steps.{tested, magic_at, rest_at}
 use Rattle.pm_image.specs.CarPages.{Numbers, CarScope, car_at}
 use Rattle.pm_image.specs.CatalogPages.{Met, is_free_page, is_next_page, has_next_digest, meeting, meeting_next, meeting_page, car_entry_at, root_entry_at, entry_at, entries_at, catalog_at, catalog_magic}
 use Rattle.pm_image.specs.Graphs.{Pages, Catalog, Graph, undamaged, on_page, catalog_from, catalog_of, entries_of, cars_from, with_identities, linked, sites_of, graph_of, used_pages, most_pages}
-use Rattle.pm_types.specs.declared.limits.TheConstants.{FIELDS}
 use Rattle.pm_image.specs.Opening.{Current, current}
+use Rattle.pm_layout.specs.Headers.{most_fields}
 use Rattle.pm_image.specs.Stands.{SamePages, Opened, opened, pages_of, copy_in, Stands}
 use Rattle.pm_image.proofs.Results.{tested_ok, passed, both_true, not_false, true_not}
 use Rattle.pm_base.proofs.Results.{ok_same, bind_ok, bound, if_ok, if_not}
@@ -253,47 +253,47 @@ module _ (a b : Pages) where
       )
 
   -- what stands behind a header is found alike
-  pub graph_too : (most : ℕ) (header : Header) (graph : Graph) → graph_of most a header ≡ Ok graph → SamePages (used_pages graph) a b → graph_of most b header ≡ Ok graph
+  pub graph_too : (header : Header) (graph : Graph) → graph_of a header ≡ Ok graph → SamePages (used_pages graph) a b → graph_of b header ≡ Ok graph
   unfolding graph_of
-  graph_too most header graph is same =
+  graph_too header graph is same =
       let one = bind_ok (catalog_of a header) _ graph is in
       let catalog = one.0 in
-      let two = bind_ok (cars_from most header.next a set.empty (entries_of catalog)) _ graph one.2 in
+      let two = bind_ok (cars_from (most_fields header.version) header.next a set.empty (entries_of catalog)) _ graph one.2 in
       let cars = two.0 in
       let three = bind_ok (linked cars (sites_of catalog cars)) _ graph two.2 in
       let made : Graph = record { catalog = catalog; cars = cars } in
       let whole : made ≡ graph = ok_same made graph three.2 in
       let pages = alike (used_pages made) a b (subst (λ (g : Graph). SamePages (used_pages g) a b) (sym whole) same) in
-      let read = cars_too most header.next set.empty (entries_of catalog) cars two.1 (alike_back (page_numbers catalog) (car_pages cars) a b pages) in
+      let read = cars_too (most_fields header.version) header.next set.empty (entries_of catalog) cars two.1 (alike_back (page_numbers catalog) (car_pages cars) a b pages) in
       bound _ _ catalog _ (chain_too most_pages _ header.first header.digest catalog one.1 (alike_front (page_numbers catalog) (car_pages cars) a b pages) read.1)
       (bound _ _ cars _ read.0 (bound _ _ three.0 _ three.1 three.2))
 
 -- what opening found stands behind the current header
-pub found_of : (most : ℕ) (bytes : List ℕ) (found : Opened) → opened most bytes ≡ Ok found → (current bytes ≡ Ok found.current) × (graph_of most (pages_of bytes) found.current.header ≡ Ok found.graph)
+pub found_of : (bytes : List ℕ) (found : Opened) → opened bytes ≡ Ok found → (current bytes ≡ Ok found.current) × (graph_of (pages_of bytes) found.current.header ≡ Ok found.graph)
 unfolding opened
-found_of most bytes found is =
+found_of bytes found is =
     let one = bind_ok (current bytes) _ found is in
-    let two = bind_ok (graph_of most (pages_of bytes) one.0.header) _ found one.2 in
+    let two = bind_ok (graph_of (pages_of bytes) one.0.header) _ found one.2 in
     let made : Opened = record { current = one.0; graph = two.0 } in
     let whole : made ≡ found = ok_same made found two.2 in (
       one.1 ∙ ap (λ (o : Opened). Ok o.current) whole,
-      subst (λ (o : Opened). graph_of most (pages_of bytes) o.current.header ≡ Ok o.graph) whole two.1,
+      subst (λ (o : Opened). graph_of (pages_of bytes) o.current.header ≡ Ok o.graph) whole two.1,
     )
 
 -- what stands behind the current header is what opening finds
-pub opened_as : (most : ℕ) (bytes : List ℕ) (now : Current) (graph : Graph) → current bytes ≡ Ok now → graph_of most (pages_of bytes) now.header ≡ Ok graph → opened most bytes ≡ Ok (record { current = now; graph = graph })
+pub opened_as : (bytes : List ℕ) (now : Current) (graph : Graph) → current bytes ≡ Ok now → graph_of (pages_of bytes) now.header ≡ Ok graph → opened bytes ≡ Ok (record { current = now; graph = graph })
 unfolding opened
-opened_as most bytes now graph is_current is_graph = bound _ _ now _ is_current (bound _ _ graph _ is_graph refl)
+opened_as bytes now graph is_current is_graph = bound _ _ now _ is_current (bound _ _ graph _ is_graph refl)
 
 -- bytes with the same current header, and the same pages behind it, stand for the same copy
-pub bytes_too : (a b : List ℕ) (found : Opened) (slot : ℕ) → opened FIELDS a ≡ Ok found → current b ≡ Ok (record { slot = slot; header = found.current.header })
+pub bytes_too : (a b : List ℕ) (found : Opened) (slot : ℕ) → opened a ≡ Ok found → current b ≡ Ok (record { slot = slot; header = found.current.header })
     → SamePages (used_pages found.graph) (pages_of a) (pages_of b) → Stands b found.current.header.epoch (copy_in found)
 bytes_too a b found slot is is_current same =
-    let behind = (found_of FIELDS a found is).1 in
+    let behind = (found_of a found is).1 in
     record {
       found = record { current = record { slot = slot; header = found.current.header }; graph = found.graph };
-      is_found = opened_as FIELDS b (record { slot = slot; header = found.current.header }) found.graph is_current
-          (graph_too (pages_of a) (pages_of b) FIELDS found.current.header found.graph behind same);
+      is_found = opened_as b (record { slot = slot; header = found.current.header }) found.graph is_current
+          (graph_too (pages_of a) (pages_of b) found.current.header found.graph behind same);
       is_number = refl;
       is_copy = refl;
     }

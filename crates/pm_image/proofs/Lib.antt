@@ -22,3 +22,7 @@ pub mod CatalogSizes
 pub mod CatalogWrites
 pub mod BlankLaws
 pub mod FirstLaws
+pub mod CarWider
+pub mod SetSizes
+pub mod RuleLaws
+pub mod LeadLaws

@@ -1,7 +1,7 @@
 -- The store that has just been made: three pages, and no object and no root behind them.
 use Rattle.std.specs.Prelude.{ℕ, ◌-◌, List, [], ◌∷◌, ◌++◌, replicate}
 use Rattle.sha2.specs.Sha256.{sha256}
-use Rattle.pm_types.specs.declared.limits.TheConstants.{PAGE_BYTES}
+use Rattle.pm_types.specs.declared.limits.TheConstants.{PAGE_BYTES, VERSION}
 use Rattle.pm_layout.specs.declared.header.Header.{Header}
 use Rattle.pm_layout.specs.Headers.{header_spelling}
 use Rattle.pm_image.specs.declared.catalog.CatalogPage.{CatalogPage}
@@ -19,7 +19,7 @@ blank_catalog_page = padded (catalog_spelling blank_catalog)
 
 -- copy 0: the first identity comes next, and its catalog begins on page 2
 abbrev pub blank_header : Header
-blank_header = record { version = 1; epoch = 0; next = 1; first = 2; digest = sha256 blank_catalog_page }
+blank_header = record { version = VERSION; epoch = 0; next = 1; first = 2; digest = sha256 blank_catalog_page }
 
 -- a header's page: its body, bytes that are not read, and its gate
 abbrev pub header_page : List ℕ → ℕ → List ℕ

@@ -3,6 +3,7 @@
 use Rattle.std.specs.Prelude.{ℕ, List, [], ◌∷◌, replicate, None, codes}
 use Rattle.std.specs.FinMap.{insert, empty}
 use Rattle.sha2.specs.Sha256.{sha256}
+use Rattle.pm_types.specs.declared.limits.TheConstants.{VERSION}
 use Rattle.pm_types.specs.declared.object.Slot.TheVariants.{Live}
 use Rattle.pm_layout.specs.declared.header.Header.{Header}
 use Rattle.pm_model.specs.World.{Copy}
@@ -34,7 +35,7 @@ first_catalog_page = padded (catalog_spelling first_catalog)
 
 -- the header: copy 1
 abbrev pub first_header : Header
-first_header = record { version = 1; epoch = 1; next = 2; first = 4; digest = sha256 first_catalog_page }
+first_header = record { version = VERSION; epoch = 1; next = 2; first = 4; digest = sha256 first_catalog_page }
 
 -- the copy: the object, its root, and the next identity
 abbrev pub first_copy : Copy

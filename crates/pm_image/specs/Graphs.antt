@@ -11,6 +11,7 @@ use Rattle.pm_types.specs.declared.fault.OpenFault.TheVariants.{Damaged, Malform
 use Rattle.pm_types.specs.declared.object.Slot.{Slot}
 use Rattle.pm_types.specs.declared.object.Slot.TheVariants.{Live, Moved}
 use Rattle.pm_layout.specs.declared.header.Header.{Header}
+use Rattle.pm_layout.specs.Headers.{most_fields}
 use Rattle.pm_layout.specs.Spelling.{slot_size}
 use Rattle.pm_model.specs.Heap.{Object, Heap}
 use Rattle.pm_model.specs.World.{Roots, Copy}
@@ -145,11 +146,12 @@ pub record Graph : Type 0 where
   pub catalog : Catalog
   pub cars : List KeptPage
 
--- The graph behind a header, or the first fault: of the catalog, of the cars, of the addresses.
-unfoldable pub graph_of : ℕ → Pages → Header → Result Graph OpenFault
-graph_of most pages header = do
+-- The graph behind a header, or the first fault: of the catalog, of the cars, of the addresses. How many fields an
+-- object may have is said by the version.
+unfoldable pub graph_of : Pages → Header → Result Graph OpenFault
+graph_of pages header = do
   catalog ← catalog_of pages header
-  cars ← cars_from most header.next pages set.empty (entries_of catalog)
+  cars ← cars_from (most_fields header.version) header.next pages set.empty (entries_of catalog)
   is_linked ← linked cars (sites_of catalog cars)
   Ok (record { catalog = catalog; cars = cars })
 

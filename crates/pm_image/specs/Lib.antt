@@ -10,3 +10,5 @@ pub mod Graphs
 pub mod Stands
 pub mod Blank
 pub mod First
+pub mod Rules
+pub mod Leading

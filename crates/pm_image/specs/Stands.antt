@@ -1,6 +1,5 @@
 -- What the bytes of a store stand for, and why others are refused.
 use Rattle.std.specs.Prelude.{◌≡◌, ℕ, ◌<◌, List, Contains, Option, Some, None, Result, Ok, Err}
-use Rattle.pm_types.specs.declared.limits.TheConstants.{FIELDS}
 use Rattle.pm_types.specs.declared.fault.OpenFault.{OpenFault}
 use Rattle.pm_model.specs.World.{Copy}
 use Rattle.pm_base.specs.Results.{◌>>=◌}
@@ -17,11 +16,11 @@ pub record Opened : Type 0 where
   pub graph : Graph
 
 -- What is found in bytes, or the first rule that fails: of the header, of the catalog, of the cars, of the
--- addresses. So many fields are the most of an object.
-unfoldable pub opened : ℕ → List ℕ → Result Opened OpenFault
-opened most bytes = do
+-- addresses.
+unfoldable pub opened : List ℕ → Result Opened OpenFault
+opened bytes = do
   now ← current bytes
-  graph ← graph_of most (pages_of bytes) now.header
+  graph ← graph_of (pages_of bytes) now.header
   Ok (record { current = now; graph = graph })
 
 -- the copy that was found
@@ -32,7 +31,7 @@ copy_in found = copy_of found.current.header.next found.graph
 -- header, and the copy is that of the graph behind it.
 pub record Stands (bytes : List ℕ) (number : ℕ) (copy : Copy) : Type 0 where
   pub found : Opened
-  pub is_found : opened FIELDS bytes ≡ Ok found
+  pub is_found : opened bytes ≡ Ok found
   pub is_number : number ≡ found.current.header.epoch
   pub is_copy : copy ≡ copy_in found
 
@@ -43,7 +42,7 @@ fault_of (Err fault) = Some fault
 
 -- the answer of the first rule that fails for these bytes, if one does
 abbrev pub refusal : List ℕ → Option OpenFault
-refusal bytes = fault_of (opened FIELDS bytes)
+refusal bytes = fault_of (opened bytes)
 
 -- In the one store each of these pages is as in the other, and is one of its pages.
 abbrev pub SamePages : List ℕ → Pages → Pages → Type 0

@@ -1,4 +1,4 @@
-ghost use Rattle.std.specs.Prelude.{◌≡◌, ℕ, ◌<◌, List, length, Ok, true};
+ghost use Rattle.std.specs.Prelude.{◌≡◌, ℕ, ◌<◌, ◌≤◌, List, length, Ok, true};
 ghost use Rattle.pm_types.specs.declared.limits.TheConstants.{PAGE_BYTES};
 ghost use Rattle.pm_image.specs.declared.car.CarImage.{CarImage};
 ghost use Rattle.pm_image.specs.CarPages.{CarScope, Numbers, HasCarPage, car_at, car_spelling, is_named, padded};
@@ -15,4 +15,9 @@ pub fn car_pages_are_read_again()
     ensures fits { (scope : CarScope) (met : Numbers) (page : List ℕ) (car : CarImage) → length page ≡ PAGE_BYTES → AreBytes page → car_at scope met page ≡ Ok car → HasCarPage scope met car }
     // What is read has the number that was expected.
     ensures named { (scope : CarScope) (met : Numbers) (page : List ℕ) (car : CarImage) → length page ≡ PAGE_BYTES → AreBytes page → car_at scope met page ≡ Ok car → is_named scope.number car.number ≡ true }
+{}
+
+/// A car's page that is read within one limit on the fields of an object is read alike within a greater one.
+pub fn limits_of_cars_may_grow()
+    ensures { (scope : CarScope) (more : ℕ) (met : Numbers) (page : List ℕ) (car : CarImage) → scope.most ≤ more → car_at scope met page ≡ Ok car → car_at (record scope { most = more }) met page ≡ Ok car }
 {}

@@ -57,6 +57,7 @@ fn page_fault(place: usize, fault: LayoutFault) -> PageFault
 #[tactic(auto, unfolding(crate::specs::CarPages::record_at))]
 fn record_at(
     alloc: Global,
+    most: u32,
     next: u64,
     met: &NumberSet,
     least: u32,
@@ -65,7 +66,8 @@ fn record_at(
 ) -> Result<((u32, Slot), usize), PageFault>
     requires whole { length page.now ≡ PAGE_BYTES }
     requires inside { place ≤ PAGE_BYTES }
-    ensures exact { Gives result (record_at (a_car FIELDS next None) met.now least page.now place) }
+    requires most { most ≤ FIELDS }
+    ensures exact { Gives result (record_at (a_car most next None) met.now least page.now place) }
     ensures ends { IfOk result (λ read. read.1 ≤ PAGE_BYTES) }
     ensures last { IfOk result (λ read. read.0.0 ≤ last_slot) }
 {
@@ -73,7 +75,7 @@ fn record_at(
         return Err(PageFault::Malformed(place as u32));
     }
     let number = u32_at(page, place);
-    let read = read_slot(alloc, page, place + 4);
+    let read = read_slot(alloc, page, place + 4, most);
     if is_short(&read) || number < least || number > LAST_SLOT {
         return Err(PageFault::Malformed(place as u32));
     }
@@ -103,13 +105,15 @@ fn meet(met: &mut NumberSet, slot: &Slot) -> Result<(), PageFault>
 // So many records, and the place after the last of them.
 fn records_at(
     alloc: Global,
+    most: u32,
     next: u64,
     met: &mut NumberSet,
     page: &[u8],
     count: u16,
 ) -> Result<(SlotList, usize), PageFault>
     requires whole { length page.now ≡ PAGE_BYTES }
-    ensures exact { Gives result (records_at (a_car FIELDS next None) met.old 0 page.now count 14) }
+    requires most { most ≤ FIELDS }
+    ensures exact { Gives result (records_at (a_car most next None) met.old 0 page.now count 14) }
     ensures ends { IfOk result (λ read. read.1 ≤ PAGE_BYTES) }
     ensures met { IfOk result (λ read. met.new ≡ with_identities met.old read.0) }
 {
@@ -117,7 +121,7 @@ fn records_at(
     let mut least = 0;
     let mut place = RECORDS_AT;
     for _ in 0..count {
-        let (record, end) = record_at(alloc, next, met, least, page, place)?;
+        let (record, end) = record_at(alloc, most, next, met, least, page, place)?;
         meet(met, &record.1)?;
         least = record.0 + 1;
         records.push(record)?;
@@ -141,18 +145,20 @@ fn check_number(expected: Option<u64>, page: &[u8]) -> Result<(), PageFault>
 #[tactic(auto, unfolding(crate::specs::CarPages::car_at))]
 fn car_at(
     alloc: Global,
+    most: u32,
     next: u64,
     expected: Option<u64>,
     page: &[u8],
     met: &mut NumberSet,
 ) -> Result<CarImage, PageFault>
-    requires { length page.now ≡ PAGE_BYTES }
-    ensures exact { Gives result (car_at (a_car FIELDS next expected) met.old page.now) }
+    requires whole { length page.now ≡ PAGE_BYTES }
+    requires most { most ≤ FIELDS }
+    ensures exact { Gives result (car_at (a_car most next expected) met.old page.now) }
     ensures met { IfOk result (λ car. met.new ≡ with_identities met.old car.slots) }
 {
     check_magic(&MAGIC, page)?;
     check_number(expected, page)?;
-    let (slots, end) = records_at(alloc, next, met, page, u16_at(page, 12))?;
+    let (slots, end) = records_at(alloc, most, next, met, page, u16_at(page, 12))?;
     check_rest(page, end)?;
     Ok(CarImage {
         number: u64_at(page, 4),
@@ -160,47 +166,57 @@ fn car_at(
     })
 }
 
-/// The car that a page of 16,384 bytes spells. `Malformed` has the place, counted in bytes from the
+/// The car of objects of at most so many fields that a page of 16,384 bytes spells. `Malformed` has the place, counted in bytes from the
 /// page's first one, of the first byte of the first field at fault, when the page is read from left to
 /// right: another magic, at 0; of a record at its slot number where it does not end inside the page, or
 /// where the slot is not greater than the one before or over 65,535, at its kind, at its identity where
 /// no object can have it or where it was met on this page, at its number of fields or of bytes, at an
 /// address without a car; or the first byte after the records that is not 0.
-pub fn read_car(alloc: Global, page: &[u8]) -> Result<CarImage, PageFault>
-    requires { length page.now ≡ PAGE_BYTES }
+pub fn read_car(alloc: Global, page: &[u8], most: u32) -> Result<CarImage, PageFault>
+    requires whole { length page.now ≡ PAGE_BYTES }
+    requires most { most ≤ FIELDS }
     // What is read is spelled so, and has a page.
     ensures found { IfOk result (λ car. page.now ≡ padded (car_spelling car)) }
-    ensures fits { IfOk result (λ car. HasCarPage (one_car FIELDS) set.empty car) }
+    ensures fits { IfOk result (λ car. HasCarPage (one_car most) set.empty car) }
     // What is spelled so is read, unless memory runs out.
-    ensures only { (car : CarImage) → HasCarPage (one_car FIELDS) set.empty car → IsCarInRange car → page.now ≡ padded (car_spelling car) → Gives result (Ok car) }
+    ensures only { (car : CarImage) → HasCarPage (one_car most) set.empty car → IsCarInRange car → page.now ≡ padded (car_spelling car) → Gives result (Ok car) }
     // Which fault it is.
-    ensures exact { Gives result (car_at (one_car FIELDS) set.empty page.now) }
+    ensures exact { Gives result (car_at (one_car most) set.empty page.now) }
 {
-    car_at(alloc, NO_IDENTITY, None, page, &mut NumberSet::new(alloc))
+    car_at(
+        alloc,
+        most,
+        NO_IDENTITY,
+        None,
+        page,
+        &mut NumberSet::new(alloc),
+    )
 }
 
-/// The car that a page of 16,384 bytes of a store spells. Beside the faults of `read_car`, at 4 where its
+/// The car of objects of at most so many fields that a page of 16,384 bytes of a store spells. Beside the faults of `read_car`, at 4 where its
 /// number is another than this one, and at an identity that is not below the store's next one or was met
 /// before. After Ok the identities on the page were met too. After an error it is not said which of
 /// them were.
 pub fn read_car_in(
     alloc: Global,
     page: &[u8],
+    most: u32,
     number: u64,
     next: u64,
     met: &mut NumberSet,
 ) -> Result<CarImage, PageFault>
-    requires { length page.now ≡ PAGE_BYTES }
+    requires whole { length page.now ≡ PAGE_BYTES }
+    requires most { most ≤ FIELDS }
     // What is read is spelled so, has a page, and has this number.
     ensures found { IfOk result (λ car. page.now ≡ padded (car_spelling car)) }
-    ensures fits { IfOk result (λ car. HasCarPage (a_car FIELDS next (Some number)) met.old car) }
+    ensures fits { IfOk result (λ car. HasCarPage (a_car most next (Some number)) met.old car) }
     ensures named { IfOk result (λ car. car.number ≡ number) }
     // What is spelled so is read, unless memory runs out.
-    ensures only { (car : CarImage) → HasCarPage (a_car FIELDS next (Some number)) met.old car → IsCarInRange car → car.number ≡ number → page.now ≡ padded (car_spelling car) → Gives result (Ok car) }
+    ensures only { (car : CarImage) → HasCarPage (a_car most next (Some number)) met.old car → IsCarInRange car → car.number ≡ number → page.now ≡ padded (car_spelling car) → Gives result (Ok car) }
     // Which fault it is.
-    ensures exact { Gives result (car_at (a_car FIELDS next (Some number)) met.old page.now) }
+    ensures exact { Gives result (car_at (a_car most next (Some number)) met.old page.now) }
     // The identities that were met since.
     ensures met { IfOk result (λ car. met.new ≡ with_identities met.old car.slots) }
 {
-    car_at(alloc, next, Some(number), page, met)
+    car_at(alloc, most, next, Some(number), page, met)
 }

@@ -1,7 +1,7 @@
 ghost use Rattle.std.specs.Prelude.{◌≡◌, length, IfOk};
 
 use super::*;
-use pm_types::{PAGE_BYTES, Slot};
+use pm_types::{FIELDS, OLD_FIELDS, PAGE_BYTES, Slot};
 use std::alloc::Global;
 use std::test::*;
 
@@ -23,7 +23,7 @@ const ONE: [u8; 57] = [
 #[test]
 fn one_object(rt: HostRuntime) -> Result<(), Fail> {
     let page = page_of(rt.alloc(), &ONE)?;
-    let image = read_car(rt.alloc(), &page)?;
+    let image = read_car(rt.alloc(), &page, FIELDS)?;
     assert_eq!(rt; image.number, 1);
     match image.slots.as_slice() {
         [(number, Slot::Live(object))] => {
@@ -51,7 +51,7 @@ const THREE: [u8; 91] = [
 fn fault_of(alloc: Global, page: &[u8]) -> Option<PageFault>
     requires { length page.now ≡ PAGE_BYTES }
 {
-    match read_car(alloc, page) {
+    match read_car(alloc, page, OLD_FIELDS) {
         Ok(_) => None,
         Err(fault) => Some(fault),
     }
@@ -112,7 +112,7 @@ fn cars_of_a_store(rt: HostRuntime) -> Result<(), Fail> {
     for (number, next, id, fault) in table {
         let mut met = NumberSet::new(rt.alloc());
         met.insert(id)?;
-        match read_car_in(rt.alloc(), &page, number, next, &mut met) {
+        match read_car_in(rt.alloc(), &page, FIELDS, number, next, &mut met) {
             Ok(_) => {
                 assert_eq!(rt; fault, None);
                 assert!(rt; met.contains(1) && met.contains(2) && met.contains(3));
@@ -141,7 +141,7 @@ fn full_car(rt: HostRuntime) -> Result<(), Fail> {
     long_record(&mut used, 2, [0x10, 0], 12_353)?;
     long_record(&mut used, 3, [0x0f, 0xae], 16_384)?;
     let mut page = page_of(rt.alloc(), &used)?;
-    let image = read_car(rt.alloc(), &page)?;
+    let image = read_car(rt.alloc(), &page, FIELDS)?;
     assert_eq!(rt; image.slots.as_slice().len(), 4);
     assert_eq!(rt; write_car(rt.alloc(), &image)?, page);
     // One byte more, and the last record is cut.

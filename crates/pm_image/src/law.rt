@@ -3,7 +3,6 @@ ghost use Rattle.pm_types.specs.declared.fault.OpenFault.{OpenFault};
 ghost use Rattle.pm_model.specs.World.{Copy, empty_copy};
 ghost use Rattle.pm_layout.specs.declared.header.Header.{Header};
 ghost use Rattle.pm_image.specs.Graphs.{Pages, Graph, graph_of, used_pages};
-ghost use Rattle.pm_types.specs.declared.limits.TheConstants.{FIELDS};
 ghost use Rattle.pm_image.specs.Opening.{current, page_of, page_count};
 ghost use Rattle.pm_image.specs.First.{first_car_page, first_catalog_page, first_header, first_copy};
 ghost use Rattle.pm_image.specs.Blank.{blank_catalog_page, blank_header, blank_store};
@@ -19,10 +18,10 @@ pub fn bytes_stand_for_one_copy()
 /// What bytes stand for does not depend on pages that the graph is not found on.
 pub fn other_pages_do_not_matter()
     // Where the pages that a graph is found on are alike in another store, it is found there too.
-    ensures graph { (most : ℕ) (a b : Pages) (header : Header) (graph : Graph) → graph_of most a header ≡ Ok graph → SamePages (used_pages graph) a b → graph_of most b header ≡ Ok graph }
+    ensures graph { (a b : Pages) (header : Header) (graph : Graph) → graph_of a header ≡ Ok graph → SamePages (used_pages graph) a b → graph_of b header ≡ Ok graph }
     // Bytes with the same current header, in either slot, and the same pages behind it stand for the same
     // copy under the same number, whatever else they hold.
-    ensures bytes { (a b : List ℕ) (found : Opened) (slot : ℕ) → opened FIELDS a ≡ Ok found → current b ≡ Ok (record { slot = slot; header = found.current.header })
+    ensures bytes { (a b : List ℕ) (found : Opened) (slot : ℕ) → opened a ≡ Ok found → current b ≡ Ok (record { slot = slot; header = found.current.header })
         → SamePages (used_pages found.graph) (pages_of a) (pages_of b) → Stands b found.current.header.epoch (copy_in found) }
 {}
 

@@ -14,11 +14,12 @@ mod fault;
 mod law;
 mod met;
 mod number_set;
+mod rule_law;
 mod settled;
 mod steps;
 
 pub use car::{CarImage, RECORDS_AT, SlotList};
-pub use car_law::car_pages_are_read_again;
+pub use car_law::{car_pages_are_read_again, limits_of_cars_may_grow};
 pub use car_reading::{read_car, read_car_in};
 pub use car_writing::write_car;
 pub use catalog::{CatEntry, CatalogPage, EntryList};
@@ -33,6 +34,7 @@ pub use law::{
 };
 pub use met::Met;
 pub use number_set::NumberSet;
+pub use rule_law::{addresses_lead_to_objects, opening_answers_its_rules};
 pub use settled::{KeptPage, Settled};
 
 #[cfg(test)]

@@ -1,5 +1,5 @@
 -- What is read is a header spelled so, and what is spelled so is read.
-use Rattle.std.proofs.Common.{◌≡◌, ℕ, ◌+◌, ◌<◌, ◌≤◌, Bool, true, false, cond, eqb, ltb, ◌||◌, List, [], ◌++◌, length, take, drop, Result, Ok, Err, refl, sym, ap, subst, ◌∙◌, arith, length-drop, length-append}
+use Rattle.std.proofs.Common.{◌≡◌, ℕ, ◌+◌, ◌<◌, ◌≤◌, ◌^◌, Bool, true, false, cond, eqb, ltb, ◌||◌, List, [], ◌++◌, length, take, drop, Result, Ok, Err, refl, sym, ap, subst, ◌∙◌, arith, length-drop, length-append}
 use Rattle.std.specs.List.{slice_range}
 use Rattle.std.specs.Prelude.{IfOk}
 use Rattle.std.specs.Str.{bytes_eq}
@@ -15,7 +15,7 @@ use Rattle.pm_layout.specs.declared.header.HeaderFault.TheVariants.{Magic, Versi
 use Rattle.pm_layout.specs.Spelling.{Stands}
 use Rattle.pm_base.specs.Results.{◌>>=◌}
 use Rattle.pm_layout.specs.Reading.{number_from}
-use Rattle.pm_layout.specs.Headers.{HasHeaderSpelling, IsHeaderInRange, magic, header_numbers, header_body, header_spelling, magic_at, version_at, digest_kept, next_at, header_at}
+use Rattle.pm_layout.specs.Headers.{HasHeaderSpelling, IsHeaderInRange, magic, header_numbers, header_body, header_spelling, magic_at, is_version, version_at, digest_kept, next_at, header_at}
 use Rattle.pm_layout.proofs.Steps.{holds, passes, neither, not_zero, other_than_zero}
 use Rattle.pm_base.proofs.Results.{bind_ok, ok_same, if_ok, wanted_ok}
 use Rattle.pm_layout.proofs.Numbers.{IsBytes, wide_4, wide_8}
@@ -29,13 +29,13 @@ magic_takes bytes u read =
     let g = wanted_ok (bytes_eq (take 8 bytes) magic) Magic (Ok tt) u read in
     (bytes_eq-Decides (take 8 bytes) magic).0 g.0
 
-version_takes : (bytes : List ℕ) (v : ℕ) → version_at bytes ≡ Ok v → (number_from 4 bytes 8 ≡ v) × (v ≡ 1)
+version_takes : (bytes : List ℕ) (v : ℕ) → version_at bytes ≡ Ok v → (number_from 4 bytes 8 ≡ v) × (is_version v ≡ true)
 unfolding version_at
 version_takes bytes v read =
     let n = number_from 4 bytes 8 in
-    let g = wanted_ok (eqb n 1) (Version n) (Ok n) v read in
-    let P : ℕ → Type 0 = λ k. (n ≡ k) × (k ≡ 1) in
-    subst P (ok_same n v g.1) (refl, eqb-true n 1 g.0)
+    let g = wanted_ok (is_version n) (Version n) (Ok n) v read in
+    let P : ℕ → Type 0 = λ k. (n ≡ k) × (is_version k ≡ true) in
+    subst P (ok_same n v g.1) (refl, g.0)
 
 digest_takes : (bytes : List ℕ) (u : Unit {0}) → digest_kept bytes ≡ Ok u → slice_range bytes 64 96 ≡ sha256 (take 64 bytes)
 unfolding digest_kept
@@ -113,11 +113,19 @@ magic_again : (bytes : List ℕ) → take 8 bytes ≡ magic → magic_at bytes �
 unfolding magic_at
 magic_again bytes e = holds (bytes_eq (take 8 bytes) magic) (Ok tt) (Err Magic) (same_bytes _ _ e)
 
-version_again : (bytes : List ℕ) → number_from 4 bytes 8 ≡ 1 → version_at bytes ≡ Ok 1
+version_again : (bytes : List ℕ) (v : ℕ) → number_from 4 bytes 8 ≡ v → is_version v ≡ true → version_at bytes ≡ Ok v
 unfolding version_at
-version_again bytes e =
-    let decided : ℕ → Result ℕ HeaderFault = λ k. cond (eqb k 1) (Ok k) (Err (Version k)) in
-    ap decided e
+version_again bytes v e known =
+    let decided : ℕ → Result ℕ HeaderFault = λ k. cond (is_version k) (Ok k) (Err (Version k)) in
+    ap decided e ∙ holds (is_version v) (Ok v) (Err (Version v)) known
+
+-- a version that is read is a number of four bytes
+small_version : (v : ℕ) → is_version v ≡ true → v < 2 ^ 32
+small_version v known = by_old (eqb v 1) refl known
+  where
+    by_old : (b : Bool) → eqb v 1 ≡ b → (b || eqb v 2) ≡ true → v < 2 ^ 32
+    by_old true is known = let e = eqb-true v 1 is in omega arith
+    by_old false is known = let e = eqb-true v 2 known in omega arith
 
 digest_again : (bytes : List ℕ) → slice_range bytes 64 96 ≡ sha256 (take 64 bytes) → digest_kept bytes ≡ Ok tt
 unfolding digest_kept
@@ -155,7 +163,7 @@ header_again bytes h fits range e =
     let v = Stands-split bytes (big_bytes 4 h.version) (big_bytes 4 h.epoch) 8 12 16 (omega arith) (omega arith) b2.first in
     let p = Stands-split bytes (big_bytes 8 h.next) (big_bytes 8 h.first) 16 24 32 (omega arith) (omega arith) b2.second in
     let is_magic : take 8 bytes ≡ magic = ap (λ (t : List ℕ). take 8 t) b0.first.parts ∙ take_at magic (drop 8 bytes) 8 refl in
-    let version_is : number_from 4 bytes 8 ≡ 1 = number_is 4 bytes 8 12 h.version (let one = fits.version in omega arith) v.first ∙ fits.version in
+    let version_is : number_from 4 bytes 8 ≡ h.version = number_is 4 bytes 8 12 h.version (small_version h.version fits.version) v.first in
     let epoch_is : number_from 4 bytes 12 ≡ h.epoch = number_is 4 bytes 12 16 h.epoch range.epoch v.second in
     let next_is : number_from 8 bytes 16 ≡ h.next = number_is 8 bytes 16 24 h.next (let top = fits.last in omega arith) p.first in
     let first_is : number_from 8 bytes 24 ≡ h.first = number_is 8 bytes 24 32 h.first range.first p.second in
@@ -164,9 +172,9 @@ header_again bytes h fits range e =
     let kept : slice_range bytes 64 96 ≡ sum = ap (λ (t : List ℕ). take 32 t) halves.second.parts ∙ take_at sum (drop 96 bytes) 32 (length-sha256 body) in
     let whole : slice_range bytes 64 96 ≡ sha256 (take 64 bytes) = kept ∙ ap (λ (t : List ℕ). sha256 t) (sym front) in
     let made : ℕ → ℕ → List ℕ → ℕ → Result Header HeaderFault = λ epoch first kept version. Ok (record { version = version; epoch = epoch; next = h.next; first = first; digest = kept }) in
-    rw (magic_again bytes is_magic, version_again bytes version_is, digest_again bytes whole, next_again bytes h.next next_is fits.some fits.last)
-    (ap (λ (k : ℕ). made k (number_from 8 bytes 24) (slice_range bytes 32 64) 1) epoch_is ∙ ap (λ (k : ℕ). made h.epoch k (slice_range bytes 32 64) 1) first_is
-    ∙ ap (λ (t : List ℕ). made h.epoch h.first t 1) digest_is ∙ ap (λ (k : ℕ). made h.epoch h.first h.digest k) (sym fits.version))
+    rw (magic_again bytes is_magic, version_again bytes h.version version_is fits.version, digest_again bytes whole, next_again bytes h.next next_is fits.some fits.last)
+    (ap (λ (k : ℕ). made k (number_from 8 bytes 24) (slice_range bytes 32 64) h.version) epoch_is ∙ ap (λ (k : ℕ). made h.epoch k (slice_range bytes 32 64) h.version) first_is
+    ∙ ap (λ (t : List ℕ). made h.epoch h.first t h.version) digest_is)
 
 -- steps that did not fail make the header
 pub header_made : (bytes : List ℕ) (u w : Unit {0}) (version epoch next first : ℕ) (kept : List ℕ) → magic_at bytes ≡ Ok u → version_at bytes ≡ Ok version → digest_kept bytes ≡ Ok w → next_at bytes ≡ Ok next

@@ -7,3 +7,4 @@ pub mod Slots
 pub mod Again
 pub mod HeaderLaws
 pub mod Laws
+pub mod Wider

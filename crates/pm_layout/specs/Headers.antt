@@ -1,9 +1,10 @@
 -- How headers are spelled, which have a spelling, and what bytes say of one.
-use Rattle.std.specs.Prelude.{◌≡◌, ℕ, ◌<◌, ◌≤◌, ◌^◌, List, [], ◌∷◌, ◌++◌, length, take, slice_range, Result, Ok, Err, nat_lt, ◌==◌, ◌||◌, if◌then◌else◌}
+use Rattle.std.specs.Prelude.{◌≡◌, ℕ, ◌<◌, ◌≤◌, ◌^◌, List, [], ◌∷◌, ◌++◌, length, take, slice_range, Result, Ok, Err, nat_lt, ◌==◌, ◌||◌, if◌then◌else◌, Bool, true}
 use Rattle.std.specs.Str.{bytes_eq}
 use Rattle.pm_base.specs.Results.{◌>>=◌}
 use Rattle.byteorder.specs.Endian.{big_bytes}
 use Rattle.sha2.specs.Sha256.{sha256}
+use Rattle.pm_types.specs.declared.limits.TheConstants.{FIELDS, OLD_FIELDS, VERSION, OLD_VERSION}
 use Rattle.pm_layout.specs.declared.header.Header.{Header}
 use Rattle.pm_layout.specs.declared.header.HeaderFault.{HeaderFault}
 use Rattle.pm_layout.specs.declared.header.HeaderFault.TheVariants.{Magic, Version, Digest, Next}
@@ -25,9 +26,17 @@ header_body h = magic ++ (header_numbers h ++ h.digest)
 unfoldable pub header_spelling : Header → List ℕ
 header_spelling h = header_body h ++ sha256 (header_body h)
 
--- a header of the one version, whose next identity is one that can come
+-- the versions that are read: the one that is written, and the one before it
+abbrev pub is_version : ℕ → Bool
+is_version version = (version == OLD_VERSION) || (version == VERSION)
+
+-- the most fields that an object has in a store of this version
+abbrev pub most_fields : ℕ → ℕ
+most_fields version = if version == OLD_VERSION then OLD_FIELDS else FIELDS
+
+-- a header of a version that is read, whose next identity is one that can come
 pub record HasHeaderSpelling (h : Header) : Type 0 where
-  pub version : h.version ≡ 1
+  pub version : is_version h.version ≡ true
   pub some : 0 < h.next
   pub last : h.next ≤ 4294967296
 
@@ -41,11 +50,11 @@ pub record IsHeaderInRange (h : Header) : Type 0 where
 unfoldable pub magic_at : List ℕ → Result (Unit {0}) HeaderFault
 magic_at bytes = if bytes_eq (take 8 bytes) magic then Ok tt else Err Magic
 
--- the version is the one
+-- the version is one that is read
 unfoldable pub version_at : List ℕ → Result ℕ HeaderFault
 version_at bytes =
     let version = number_from 4 bytes 8 in
-    if version == 1 then Ok version else Err (Version version)
+    if is_version version then Ok version else Err (Version version)
 
 -- the digest that is kept is that of the first 64 bytes
 unfoldable pub digest_kept : List ℕ → Result (Unit {0}) HeaderFault

@@ -1,17 +1,18 @@
 ghost use Rattle.std.specs.Prelude.{◌≡◌, ◌≢◌, ◌+◌, ◌≤◌, ◌<◌, ◌++◌, length, drop, take, slice_range, IfOk, Ok};
 ghost use Rattle.pm_layout.specs.declared.header.Header.{Header};
 ghost use Rattle.byteorder.specs.Endian.{big_bytes};
-ghost use Rattle.pm_layout.specs.Headers.{HasHeaderSpelling, IsHeaderInRange, magic, header_numbers, header_body, header_spelling, magic_at, version_at, digest_kept, next_at, header_at};
+ghost use Rattle.pm_layout.specs.Headers.{HasHeaderSpelling, IsHeaderInRange, magic, header_numbers, header_body, header_spelling, magic_at, most_fields, version_at, digest_kept, next_at, header_at};
 
 use crate::digest;
 use crate::number::{digest_at, u32_at, u64_at};
 use byteorder::{BigEndian, ByteOrder};
+use pm_types::{FIELDS, OLD_FIELDS, OLD_VERSION, VERSION};
 use thiserror::Error;
 
 /// What a store's header says of one copy of the graph.
 #[derive(Clone, Copy, Debug, PartialEq, Eq)]
 pub struct Header {
-    /// The version of the format: 1.
+    /// The version of the format: 1, or 2, which is the one that is written.
     pub version: u32,
     /// The number of the copy.
     pub epoch: u32,
@@ -29,7 +30,7 @@ pub enum HeaderFault {
     /// The first eight bytes are not those of a store.
     #[error("not a store")]
     Magic,
-    /// The format has this version, and not version 1.
+    /// The format has this version, which is neither 1 nor 2.
     #[error("version {0}")]
     Version(u32),
     /// The header keeps another digest than that of its bytes 0 to 63.
@@ -48,11 +49,19 @@ pub enum HeaderFault {
 // The eight bytes that a header begins with, `PMOSRTL1`.
 const MAGIC: [u8; 8] = [0x50, 0x4d, 0x4f, 0x53, 0x52, 0x54, 0x4c, 0x31];
 
-// The version of the format.
-const VERSION: u32 = 1;
-
 // The greatest next identity: the last identity was given.
 const LAST_NEXT: u64 = 4_294_967_296;
+
+/// The most reference fields that an object has in a store of this version.
+pub fn most_fields(version: u32) -> u32
+    ensures { result ≡ most_fields version }
+{
+    if version == OLD_VERSION {
+        OLD_FIELDS
+    } else {
+        FIELDS
+    }
+}
 
 // Two numbers of four bytes, one after the other.
 fn put_versions(out: &mut [u8], version: u32, epoch: u32)
@@ -127,7 +136,7 @@ fn version_at(bytes: &[u8; 96]) -> Result<u32, HeaderFault>
     ensures { result ≡ version_at bytes.now }
 {
     let version = u32_at(bytes, 8);
-    if version != VERSION {
+    if version != OLD_VERSION && version != VERSION {
         return Err(HeaderFault::Version(version));
     }
     Ok(version)

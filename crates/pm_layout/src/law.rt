@@ -1,4 +1,4 @@
-ghost use Rattle.std.specs.Prelude.{◌≡◌, ℕ, ◌+◌, ◌<◌, List, ◌++◌, length, take, Ok, Err};
+ghost use Rattle.std.specs.Prelude.{◌≡◌, ℕ, ◌+◌, ◌<◌, ◌≤◌, List, ◌++◌, length, take, Ok, Err};
 ghost use Rattle.pm_types.specs.declared.object.Slot.{Slot};
 ghost use Rattle.pm_layout.specs.declared.header.Header.{Header};
 ghost use Rattle.pm_layout.specs.declared.fault.LayoutFault.TheVariants.{Short};
@@ -14,6 +14,11 @@ pub fn slots_are_read_again()
     ensures apart { (most : ℕ) (a b : Slot) (x y : List ℕ) → most < 65536 → HasSpelling most a → IsInRange a → HasSpelling most b → IsInRange b → spelling a ++ x ≡ spelling b ++ y → (a ≡ b) × (x ≡ y) }
     // A spelling that is cut anywhere is short, at the place where it begins.
     ensures cut { (most len : ℕ) (before : List ℕ) (slot : Slot) → most < 65536 → HasSpelling most slot → len < slot_size slot → slot_at most (before ++ take len (spelling slot)) (length before) ≡ Err (Short (length before)) }
+{}
+
+/// A slot that is read within one limit on the fields is read alike within a greater one.
+pub fn limits_may_grow()
+    ensures { (most more : ℕ) (bytes : List ℕ) (at next : ℕ) (slot : Slot) → most ≤ more → slot_at most bytes at ≡ Ok (slot, next) → slot_at more bytes at ≡ Ok (slot, next) }
 {}
 
 /// What is written of a header is read again.

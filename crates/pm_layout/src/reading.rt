@@ -1,12 +1,13 @@
 ghost use Rattle.std.specs.Prelude.{◌≡◌, ℕ, ◌+◌, ◌*◌, ◌≤◌, length, slice_index, IfOk, Ok};
 ghost use Rattle.pm_layout.specs.Spelling.{IsInRange, IsSpelled};
 ghost use Rattle.pm_layout.specs.Reading.{Gives, number_from, end_at, live_end, ident_at, field_count_at, byte_count_at, address_at, field_at, fields_at, live_at, target_at, moved_at, slot_at};
+ghost use Rattle.pm_types.specs.declared.limits.TheConstants.{FIELDS};
 ghost use Rattle.pm_types.specs.declared.object.Slot.{Slot};
 
 use crate::LayoutFault;
 use crate::kind::{LIVE, MOVED};
 use crate::number::{u16_at, u32_at, u64_at};
-use pm_types::{Addr, Bytes, FIELDS, Fields, LAST_ID, OBJECT_BYTES, Object, Slot};
+use pm_types::{Addr, Bytes, Fields, LAST_ID, OBJECT_BYTES, Object, Slot};
 use std::alloc::Global;
 
 // The place after a Live slot, which is inside the bytes.
@@ -180,18 +181,24 @@ fn slot_at(alloc: Global, most: u32, bytes: &[u8], at: usize) -> Result<(Slot, u
     }
 }
 
-/// The slot that is spelled from the place `at` on, and the place after it. Places are counted in
-/// bytes. Whatever stands before the slot and after it is not looked at.
-pub fn read_slot(alloc: Global, bytes: &[u8], at: usize) -> Result<(Slot, usize), LayoutFault>
-    requires { at ≤ length bytes.now }
+/// The slot of at most so many fields that is spelled from the place `at` on, and the place after it.
+/// Places are counted in bytes. Whatever stands before the slot and after it is not looked at.
+pub fn read_slot(
+    alloc: Global,
+    bytes: &[u8],
+    at: usize,
+    most: u32,
+) -> Result<(Slot, usize), LayoutFault>
+    requires at { at ≤ length bytes.now }
+    requires most { most ≤ FIELDS }
     // What is read is spelled there.
-    ensures found { IfOk result (λ x. IsSpelled FIELDS bytes.now at x.0 x.1) }
+    ensures found { IfOk result (λ x. IsSpelled most bytes.now at x.0 x.1) }
     // What is spelled there is read, unless memory runs out.
-    ensures only { (slot : Slot) (next : ℕ) → IsInRange slot → IsSpelled FIELDS bytes.now at slot next → Gives result (Ok (slot, next)) }
+    ensures only { (slot : Slot) (next : ℕ) → IsInRange slot → IsSpelled most bytes.now at slot next → Gives result (Ok (slot, next)) }
     // Which fault it is.
-    ensures exact { Gives result (slot_at FIELDS bytes.now at) }
+    ensures exact { Gives result (slot_at most bytes.now at) }
     // A Moved slot is read without memory.
-    ensures moved { slice_index bytes.now at ≡ 2 → result ≡ slot_at FIELDS bytes.now at }
+    ensures moved { slice_index bytes.now at ≡ 2 → result ≡ slot_at most bytes.now at }
 {
-    slot_at(alloc, FIELDS, bytes, at)
+    slot_at(alloc, most, bytes, at)
 }

@@ -1,5 +1,8 @@
+ghost use Rattle.std.specs.Prelude.{◌≤◌};
+ghost use Rattle.pm_types.specs.declared.limits.TheConstants.{FIELDS};
+
 use super::*;
-use pm_types::{Addr, Bytes, Fields, Object, Slot};
+use pm_types::{Addr, Bytes, FIELDS, Fields, OLD_FIELDS, Object, Slot};
 use std::alloc::Global;
 use std::test::*;
 
@@ -45,7 +48,7 @@ fn live_is_written_and_read(rt: HostRuntime) -> Result<(), Fail> {
     write_slot(&slot, &mut out)?;
     assert_eq!(rt; out.len(), 40);
     assert_eq!(rt; &out[1..], LIVE.as_slice());
-    let (again, next) = read_slot(alloc, &out, 1)?;
+    let (again, next) = read_slot(alloc, &out, 1, FIELDS)?;
     assert_eq!(rt; next, 40);
     match again {
         Slot::Live(object) => {
@@ -68,7 +71,7 @@ fn moved_is_written_and_read(rt: HostRuntime) -> Result<(), Fail> {
     write_slot(&Slot::Moved(to), &mut out)?;
     assert_eq!(rt; out.as_slice(), MOVED.as_slice());
     assert_eq!(rt; size(&Slot::Moved(to)), 13);
-    let (again, next) = read_slot(rt.alloc(), &MOVED, 0)?;
+    let (again, next) = read_slot(rt.alloc(), &MOVED, 0, FIELDS)?;
     assert_eq!(rt; next, 13);
     assert!(rt;
         matches!(
@@ -84,7 +87,14 @@ fn moved_is_written_and_read(rt: HostRuntime) -> Result<(), Fail> {
 
 // The fault that is read at the front of the bytes.
 fn fault_of(alloc: Global, bytes: &[u8]) -> Option<LayoutFault> {
-    match read_slot(alloc, bytes, 0) {
+    fault_within(alloc, bytes, OLD_FIELDS)
+}
+
+// The fault that is read there, of a slot of at most so many fields.
+fn fault_within(alloc: Global, bytes: &[u8], most: u32) -> Option<LayoutFault>
+    requires { most ≤ FIELDS }
+{
+    match read_slot(alloc, bytes, 0, most) {
         Ok(_) => None,
         Err(fault) => Some(fault),
     }
@@ -191,6 +201,19 @@ fn limits(rt: HostRuntime) -> Result<(), Fail> {
         let bytes = counted(rt.alloc(), id, fields, bytes, len)?;
         assert_eq!(rt; fault_of(rt.alloc(), &bytes), fault);
     }
+    Ok(())
+}
+
+#[test]
+fn limits_of_the_version_that_is_written(rt: HostRuntime) -> Result<(), Fail> {
+    let alloc = rt.alloc();
+    let most = counted(alloc, 1, [0, 255], [0x10, 0x00], 13 + 3060 + 4096)?;
+    assert_eq!(rt; fault_within(alloc, &most, FIELDS), None);
+    let more = counted(alloc, 1, [1, 0], [0, 0], 13 + 3072)?;
+    assert_eq!(rt;
+        fault_within(alloc, &more, FIELDS),
+        Some(LayoutFault::Fields { at: 9, n: 256 })
+    );
     Ok(())
 }
 

@@ -10,6 +10,7 @@ use Rattle.std.proofs.lemmas.Bool.{le-leb, lt-ltb}
 use Rattle.std.proofs.lemmas.List.{append-nil}
 use Rattle.pm_types.specs.declared.limits.TheConstants.{FIELDS, ROOTS}
 use Rattle.pm_layout.specs.declared.header.Header.{Header}
+use Rattle.pm_layout.specs.Headers.{most_fields}
 use Rattle.pm_model.specs.World.{Copy}
 use Rattle.pm_model.specs.Plain.{IsPlainCopy}
 use Rattle.pm_image.specs.declared.catalog.CatEntry.{CatEntry}
@@ -150,7 +151,7 @@ plan_chain pages copy placed roots first listed plain is stands =
     }
 
 graph_laid : (pages : Pages) (copy : Copy) (header : Header) (placed : List Placed) (roots : List CatEntry) (listed : List Listed) → IsPlainCopy copy → IsPlanOf copy (plan_of placed roots listed) → StandsOn pages (plan_of placed roots listed)
-    → IsHeaderOf copy (plan_of placed roots listed) header → graph_of FIELDS pages header ≡ Ok (graph_of_plan (plan_of placed roots listed))
+    → IsHeaderOf copy (plan_of placed roots listed) header → graph_of pages header ≡ Ok (graph_of_plan (plan_of placed roots listed))
 unfolding graph_of
 graph_laid pages copy header placed roots [] plain is stands heads = let some = is.has_page in absurd (omega (arith, some))
 graph_laid pages copy header placed roots (first ∷ listed) plain is stands heads =
@@ -161,10 +162,11 @@ graph_laid pages copy header placed roots (first ∷ listed) plain is stands hea
     (ap (λ (page : ℕ). catalog_from most_pages pages (begun page) page header.digest) heads.first
     ∙ ap (catalog_from most_pages pages (begun first.page) first.page) heads.digest
     ∙ chain_laid pages stands.few listed first most_pages (begun first.page) (omega (arith, few)) (plan_chain pages copy placed roots first listed plain is stands))
-    (bound (cars_from FIELDS header.next pages set.empty (entries_of chain)) _ (kept_from 1 placed) _
-    (ap (λ (next : ℕ). cars_from FIELDS next pages set.empty (entries_of chain)) heads.next ∙ cars_read pages copy plan plain is stands)
+    (bound (cars_from (most_fields header.version) header.next pages set.empty (entries_of chain)) _ (kept_from 1 placed) _
+    (ap (λ (version : ℕ). cars_from (most_fields version) header.next pages set.empty (entries_of chain)) heads.version
+    ∙ ap (λ (next : ℕ). cars_from FIELDS next pages set.empty (entries_of chain)) heads.next ∙ cars_read pages copy plan plain is stands)
     (bound (linked (kept_from 1 placed) (sites_of chain (kept_from 1 placed))) _ tt _ (plan_linked copy plan is) refl))
 
 -- behind the header of a plan its graph is found
-pub laid_graph : (pages : Pages) (copy : Copy) (plan : Plan) (header : Header) → IsPlainCopy copy → IsPlanOf copy plan → StandsOn pages plan → IsHeaderOf copy plan header → graph_of FIELDS pages header ≡ Ok (graph_of_plan plan)
+pub laid_graph : (pages : Pages) (copy : Copy) (plan : Plan) (header : Header) → IsPlainCopy copy → IsPlanOf copy plan → StandsOn pages plan → IsHeaderOf copy plan header → graph_of pages header ≡ Ok (graph_of_plan plan)
 laid_graph pages copy plan header plain is stands heads = graph_laid pages copy header plan.placed plan.roots plan.listed plain is stands heads

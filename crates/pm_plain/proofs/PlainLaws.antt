@@ -1,6 +1,5 @@
 -- What is opened stands for its copy.
 use Rattle.std.proofs.Common.{◌≡◌, ℕ, Bool, true, false, List, Result, Ok, Err, refl, sym, ap, subst, ◌∙◌, if◌then◌else◌}
-use Rattle.pm_types.specs.declared.limits.TheConstants.{FIELDS}
 use Rattle.pm_types.specs.declared.fault.OpenFault.{OpenFault}
 use Rattle.pm_types.specs.declared.fault.OpenFault.TheVariants.{Broken}
 use Rattle.pm_model.specs.World.{Copy, empty_copy}
@@ -32,24 +31,24 @@ pub reopened_stands : (bytes : List ℕ) (number : ℕ) (copy : Copy) → reopen
 unfolding reopened
 reopened_stands bytes number copy is =
     let one = bind_ok (current bytes) _ (number, copy) is in
-    let two = bind_ok (readable (graph_of FIELDS (pages_of bytes) one.0.header)) _ (number, copy) one.2 in
+    let two = bind_ok (readable (graph_of (pages_of bytes) one.0.header)) _ (number, copy) one.2 in
     let same = ok_same {A = ℕ × Copy} (one.0.header.epoch, copy_of one.0.header.next two.0) (number, copy) two.2 in
     record {
       found = record { current = one.0; graph = two.0 };
-      is_found = opened_as FIELDS bytes one.0 two.0 one.1 (was_found (graph_of FIELDS (pages_of bytes) one.0.header) two.0 two.1);
+      is_found = opened_as bytes one.0 two.0 one.1 (was_found (graph_of (pages_of bytes) one.0.header) two.0 two.1);
       is_number = ap (λ (pair : ℕ × Copy). pair.0) (sym same);
       is_copy = ap (λ (pair : ℕ × Copy). pair.1) (sym same);
     }
 
 -- what is found and plain is opened
-pub found_opens : (bytes : List ℕ) (found : Opened) → opened FIELDS bytes ≡ Ok found → is_plain found.graph ≡ true → Opens bytes found.current.header.epoch (copy_in found)
+pub found_opens : (bytes : List ℕ) (found : Opened) → opened bytes ≡ Ok found → is_plain found.graph ≡ true → Opens bytes found.current.header.epoch (copy_in found)
 unfolding reopened
 found_opens bytes found is plain =
-    let parts = found_of FIELDS bytes found is in
+    let parts = found_of bytes found is in
     record {
       stands = record { found = found; is_found = is; is_number = refl; is_copy = refl };
       reads = bound (current bytes) _ found.current _ parts.0
-          (bound (readable (graph_of FIELDS (pages_of bytes) found.current.header)) _ found.graph _ (is_read (graph_of FIELDS (pages_of bytes) found.current.header) found.graph parts.1 plain) refl);
+          (bound (readable (graph_of (pages_of bytes) found.current.header)) _ found.graph _ (is_read (graph_of (pages_of bytes) found.current.header) found.graph parts.1 plain) refl);
     }
 
 -- a new store is opened: it has no car

@@ -2,7 +2,7 @@
 use Rattle.std.specs.Prelude.{◌≡◌, ℕ, ◌≤◌, ◌<◌, ◌^◌, List, [], ◌∷◌, ◌++◌, length, map, Contains}
 use Rattle.std.specs.List.{flat_map, AllByRecursion}
 use Rattle.std.specs.FinMap.{entries}
-use Rattle.pm_types.specs.declared.limits.TheConstants.{PAGE_BYTES}
+use Rattle.pm_types.specs.declared.limits.TheConstants.{PAGE_BYTES, VERSION}
 use Rattle.pm_layout.specs.declared.header.Header.{Header}
 use Rattle.pm_model.specs.World.{Copy}
 use Rattle.pm_image.specs.declared.catalog.CatEntry.{CatEntry}
@@ -48,8 +48,9 @@ pub record StandsOn (pages : Pages) (plan : Plan) : Type 0 where
   pub few_cars : length plan.placed < 2 ^ 64
   pub few_pages : length plan.listed < 2 ^ 64
 
--- the header of a plan
+-- the header of a plan, of the version that is written
 pub record IsHeaderOf (copy : Copy) (plan : Plan) (header : Header) : Type 0 where
+  pub version : header.version ≡ VERSION
   pub next : header.next ≡ copy.next
   pub first : header.first ≡ first_of (chain_of plan.listed)
   pub digest : header.digest ≡ digest_of (chain_of plan.listed)

@@ -1,7 +1,6 @@
 -- The stores that this stage opens: those that stand for a copy whose fields are null, with no slot that is Moved.
 use Rattle.std.specs.Prelude.{◌≡◌, ℕ, Bool, false, List, is_none, Result, Ok, Err, if◌then◌else◌}
 use Rattle.std.specs.List.{list_all}
-use Rattle.pm_types.specs.declared.limits.TheConstants.{FIELDS}
 use Rattle.pm_types.specs.declared.fault.OpenFault.{OpenFault}
 use Rattle.pm_types.specs.declared.fault.OpenFault.TheVariants.{Broken}
 use Rattle.pm_types.specs.declared.object.Slot.{Slot}
@@ -26,9 +25,9 @@ is_plain_car kept = list_all (λ (entry : ℕ × Slot). is_plain_slot entry.1) k
 abbrev pub is_plain : Graph → Bool
 is_plain graph = list_all is_plain_car graph.cars
 
--- what is read behind a header: a graph that is plain; all else is not read
+-- what is read behind a header: a graph that is plain; one that is not is more than the map in memory can hold
 abbrev pub readable : Result Graph OpenFault → Result Graph OpenFault
-readable (Err fault) = Err Broken
+readable (Err fault) = Err fault
 readable (Ok graph) = if is_plain graph then Ok graph else Err Broken
 
 -- What opening answers: the rules of the header, then the graph behind it, if it is plain. It gives the number and
@@ -36,7 +35,7 @@ readable (Ok graph) = if is_plain graph then Ok graph else Err Broken
 unfoldable pub reopened : List ℕ → Result (ℕ × Copy) OpenFault
 reopened bytes = do
   now ← current bytes
-  graph ← readable (graph_of FIELDS (pages_of bytes) now.header)
+  graph ← readable (graph_of (pages_of bytes) now.header)
   Ok (now.header.epoch, copy_of now.header.next graph)
 
 -- The bytes stand for this copy under this number, and are opened so.

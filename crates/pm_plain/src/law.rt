@@ -1,5 +1,4 @@
 ghost use Rattle.std.specs.Prelude.{◌≡◌, ℕ, List, true, Ok};
-ghost use Rattle.pm_types.specs.declared.limits.TheConstants.{FIELDS};
 ghost use Rattle.pm_layout.specs.declared.header.Header.{Header};
 ghost use Rattle.pm_model.specs.World.{Copy, empty_copy};
 ghost use Rattle.pm_model.specs.Plain.{IsPlainCopy};
@@ -17,7 +16,7 @@ ghost use Rattle.pm_plain.specs.Plain.{is_plain, reopened, Opens};
 pub fn what_is_laid_out_is_read()
     // Behind the plan's header its graph is found.
     ensures graph { (pages : Pages) (copy : Copy) (plan : Plan) (header : Header) → IsPlainCopy copy → IsPlanOf copy plan → StandsOn pages plan → IsHeaderOf copy plan header
-        → graph_of FIELDS pages header ≡ Ok (graph_of_plan plan) }
+        → graph_of pages header ≡ Ok (graph_of_plan plan) }
     // That graph is the copy.
     ensures copy { (copy : Copy) (plan : Plan) → IsPlainCopy copy → IsPlanOf copy plan → copy_of copy.next (graph_of_plan plan) ≡ copy }
     // Its fields are null.
@@ -27,7 +26,7 @@ pub fn what_is_laid_out_is_read()
 /// Bytes that are opened stand for the copy that opening gives, under its number.
 pub fn what_is_opened_stands()
     ensures stands { (bytes : List ℕ) (number : ℕ) (copy : Copy) → reopened bytes ≡ Ok (number, copy) → Stands bytes number copy }
-    ensures opens { (bytes : List ℕ) (found : Opened) → opened FIELDS bytes ≡ Ok found → is_plain found.graph ≡ true → Opens bytes found.current.header.epoch (copy_in found) }
+    ensures opens { (bytes : List ℕ) (found : Opened) → opened bytes ≡ Ok found → is_plain found.graph ≡ true → Opens bytes found.current.header.epoch (copy_in found) }
     // A new store is opened.
     ensures blank { Opens blank_store 0 empty_copy }
 {}

@@ -1,10 +1,10 @@
 -- The pages of a catalog, read one after another.
-use Rattle.std.proofs.Common.{◌≡◌, ℕ, zero, suc, ◌+◌, ◌-◌, ◌<◌, ◌≤◌, Bool, true, false, not, ◌&&◌, ◌||◌, ◌==◌, nat_lt, nat_le, List, [], ◌∷◌, ◌++◌, Some, Result, Ok, Err, refl, sym, ap, subst, ◌∙◌, append_assoc, arith, if◌then◌else◌}
+use Rattle.std.proofs.Common.{◌≡◌, ℕ, zero, suc, ◌+◌, ◌-◌, ◌<◌, ◌≤◌, ◌^◌, Bool, true, false, not, ◌&&◌, ◌||◌, ◌==◌, nat_lt, nat_le, List, [], ◌∷◌, ◌++◌, Some, Result, Ok, Err, refl, sym, ap, subst, ◌∙◌, append_assoc, arith, if◌then◌else◌}
 use Rattle.std.specs.List.{AllByRecursion}
 use Rattle.std.proofs.lemmas.List.{append-nil}
 use Rattle.std.proofs.lemmas.Bool.Decides.{nat_tests}
 use Rattle.std.specs.FinSet as set
-use Rattle.pm_types.specs.declared.limits.TheConstants.{ROOTS}
+use Rattle.pm_types.specs.declared.limits.TheConstants.{ROOTS, PAGE_BYTES}
 use Rattle.pm_types.specs.declared.fault.OpenFault.{OpenFault}
 use Rattle.pm_types.specs.declared.fault.OpenFault.TheVariants.{Broken}
 use Rattle.pm_image.specs.declared.catalog.CatEntry.{CatEntry}
@@ -12,15 +12,18 @@ use Rattle.pm_image.specs.declared.catalog.CatEntry.TheVariants.{Car, Root}
 use Rattle.pm_image.specs.declared.catalog.CatalogPage.{CatalogPage}
 use Rattle.pm_base.specs.Results.{◌>>=◌}
 use Rattle.pm_image.specs.CarPages.{Numbers}
-use Rattle.pm_image.specs.CatalogPages.{Met, meeting, meeting_next, meeting_all, meeting_page, is_free_page, HasCatalogPage, AreNext, catalog_at}
-use Rattle.pm_image.specs.Graphs.{Pages as Store, Catalog, undamaged, on_page, catalog_from, entries_of, most_pages}
+use Rattle.pm_image.specs.CatalogPages.{Met, meeting, meeting_next, meeting_all, meeting_page, is_free_page, HasCatalogPage, AreNext, catalog_at, catalog_used}
+use Rattle.pm_image.specs.Graphs.{Pages as Store, Catalog, undamaged, on_page, catalog_from, catalog_of, entries_of, most_pages}
+use Rattle.pm_layout.specs.declared.header.Header.{Header}
+use Rattle.pm_image.specs.Opening.{is_placed}
+use Rattle.pm_image.proofs.RuleLaws.{catalog_fault}
 use Rattle.pm_image.proofs.Results.{both_true}
 use Rattle.pm_base.proofs.Fronts.{with_front, regroup}
 use Rattle.pm_base.proofs.Results.{bind_ok, bound}
 use Rattle.pm_reopen.specs.declared.fault.ReadFault.{ReadFault}
-use Rattle.pm_reopen.specs.declared.fault.ReadFault.TheVariants.{Refused, Failed, Memory}
-use Rattle.pm_reopen.specs.Reading.{IsRefused, Gives, link_at, IsThere, IsEntryThere, root_count, page_numbers, IsSound}
-use Rattle.pm_reopen.proofs.ReadLaws.{first_refused}
+use Rattle.pm_reopen.specs.Reading.{Fails, link_at, IsThere, IsEntryThere, root_count, page_numbers, IsSound}
+use Rattle.pm_reopen.proofs.Faults.{fails_too}
+use Rattle.pm_reopen.proofs.ReadLaws.{err_same}
 use Rattle.pm_reopen.proofs.Lists.{all_both}
 
 -- the pages behind the first
@@ -40,22 +43,31 @@ zero_not : (n : ℕ) → (n ≡ 0 → ⊥) → (n == 0) ≡ false
 zero_not zero some = absurd (some refl)
 zero_not (suc n) some = grind (arith, nat_tests)
 
+placed_in : (count : ℕ) (header : Header) → 2 ≤ header.first → header.first < count → is_placed count header ≡ true
+placed_in count header low high =
+    let from_2 : nat_le 2 header.first ≡ true = grind (arith, nat_tests) in
+    let below : nat_lt header.first count ≡ true = grind (arith, nat_tests) in
+    λ i. from_2 i && below i
+
+-- a chain that is too long is none: no answer of the rules says so
+pub never_long : (store : Store) (header : Header) → store.count ≤ 2 ^ 64 → IsThere store.count header.first → catalog_of store header ≡ Err Broken → ⊥
+never_long store header few there is = catalog_fault store header Broken few (placed_in store.count header there.from_2 there.there) is
+
 -- one of two steps failed
 fails_pair : {A B C : Type 0} (first : Result A OpenFault) (second : Result B OpenFault) (rest : B → Result C OpenFault) (fault : OpenFault)
-    → (first >>= λ a. second) ≡ Err fault → IsRefused (first >>= λ a. second >>= rest)
-fails_pair (Err e) second rest fault is = (e, refl)
-fails_pair (Ok a) (Err e) rest fault is = (e, refl)
+    → (first >>= λ a. second) ≡ Err fault → (first >>= λ a. second >>= rest) ≡ Err fault
+fails_pair {A} {B} {C} (Err e) second rest fault is = ap (λ (e : OpenFault). Err e) (err_same {A = B} e fault is)
+fails_pair {A} {B} {C} (Ok a) (Err e) rest fault is = ap (λ (e : OpenFault). Err e) (err_same {A = B} e fault is)
 fails_pair (Ok a) (Ok b) rest fault is = cc
 
-link_fault : (n : ℕ) (store : Store) (met : Met) (page : ℕ) (kept : List ℕ) (fault : OpenFault) → link_at store met page kept ≡ Err fault → IsRefused (catalog_from (suc n) store met page kept)
+link_fault : (n : ℕ) (store : Store) (met : Met) (page : ℕ) (kept : List ℕ) (fault : OpenFault) → link_at store met page kept ≡ Err fault → catalog_from (suc n) store met page kept ≡ Err fault
 unfolding catalog_from link_at
 link_fault n store met page kept fault is = fails_pair (undamaged store page kept) (on_page page (catalog_at (Some store.count) met (store.page page))) _ fault is
 
-link_refused : (n : ℕ) (store : Store) (met : Met) (page : ℕ) (kept : List ℕ) (front : Catalog) (fault : ReadFault) → Gives {X = CatalogPage} (Err fault) (link_at store met page kept)
-    → Gives {X = Catalog} (Err fault) (with_front front (catalog_from (suc n) store met page kept))
-link_refused n store met page kept front Refused is = first_refused Refused (catalog_from (suc n) store met page kept) _ (link_fault n store met page kept is.0 is.1)
-link_refused n store met page kept front Failed is = tt
-link_refused n store met page kept front Memory is = tt
+link_fails : (n : ℕ) (store : Store) (met : Met) (page : ℕ) (kept : List ℕ) (front : Catalog) (fault : ReadFault) → Fails {X = CatalogPage} fault (link_at store met page kept)
+    → Fails {X = Catalog} fault (with_front front (catalog_from (suc n) store met page kept))
+link_fails n store met page kept front fault is =
+    fails_too {A = CatalogPage} {B = Catalog} fault (link_at store met page kept) (with_front front (catalog_from (suc n) store met page kept)) (λ e failed. ap (with_front front) (link_fault n store met page kept e failed)) is
 
 module _ (store : Store) (i : ℕ) (met : Met) (page : ℕ) (kept : List ℕ) (front : Catalog) (total : Result Catalog OpenFault) where
   rest_of : i < most_pages → with_front front (catalog_from (most_pages - i) store met page kept) ≡ total → with_front front (catalog_from (suc (most_pages - (i + 1))) store met page kept) ≡ total
@@ -79,17 +91,17 @@ module _ (store : Store) (i : ℕ) (met : Met) (page : ℕ) (kept : List ℕ) (f
       ∙ ap Ok (append-nil (front ++ (page, first) ∷ []))
 
   -- a page was refused
-  pub chain_ends : (fault : ReadFault) → i < most_pages → Gives {X = CatalogPage} (Err fault) (link_at store met page kept) → with_front front (catalog_from (most_pages - i) store met page kept) ≡ total
-      → Gives {X = Catalog} (Err fault) total
+  pub chain_ends : (fault : ReadFault) → i < most_pages → Fails {X = CatalogPage} fault (link_at store met page kept) → with_front front (catalog_from (most_pages - i) store met page kept) ≡ total
+      → Fails {X = Catalog} fault total
   chain_ends fault lt is so_far =
-      subst (λ (r : Result Catalog OpenFault). Gives {X = Catalog} (Err fault) r) (rest_of lt so_far) (link_refused (most_pages - (i + 1)) store met page kept front fault is)
+      subst (λ (r : Result Catalog OpenFault). Fails {X = Catalog} fault r) (rest_of lt so_far) (link_fails (most_pages - (i + 1)) store met page kept front fault is)
 
   -- there are more pages than any store has
-  pub chain_long : most_pages ≤ i → with_front front (catalog_from (most_pages - i) store met page kept) ≡ total → IsRefused total
+  pub chain_long : most_pages ≤ i → with_front front (catalog_from (most_pages - i) store met page kept) ≡ total → total ≡ Err Broken
   unfolding catalog_from
   chain_long le so_far =
       let k : most_pages - i ≡ 0 = omega arith in
-      (Broken, sym so_far ∙ ap (λ (n : ℕ). with_front front (catalog_from n store met page kept)) k)
+      sym so_far ∙ ap (λ (n : ℕ). with_front front (catalog_from n store met page kept)) k
 
 -- ---- what is known of the pages
 
@@ -155,6 +167,7 @@ pub sound_on : (count : ℕ) (met : Met) (front : Catalog) (page : ℕ) (read : 
 sound_on count met front page read has there sound is =
     let roots = roots_on count met front page read has sound is in
     record {
+      fits = all_both (λ (page : ℕ × CatalogPage). catalog_used page.1.entries ≤ PAGE_BYTES) front ((page, read) ∷ []) sound.fits (has.fits, tt);
       pages = subst (λ (ps : List ℕ). AllByRecursion (IsThere count) ps) (sym (numbers_both front ((page, read) ∷ []))) (all_both (IsThere count) (page_numbers front) (page ∷ []) sound.pages (there, tt));
       entries = subst (λ (es : List CatEntry). AllByRecursion (IsEntryThere count) es) (sym (one_more front page read))
           (all_both (IsEntryThere count) (entries_of front) read.entries sound.entries (entries_there count (meeting_next met read.next) read.entries has.entries));

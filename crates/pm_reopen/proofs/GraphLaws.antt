@@ -1,14 +1,15 @@
 -- A graph whose fields are null has no addresses but those of its roots.
-use Rattle.std.proofs.Common.{◌≡◌, ◌⊎◌, inl, inr, ℕ, ◌+◌, Bool, true, false, ◌&&◌, List, [], ◌∷◌, ◌++◌, length, Option, Some, None, is_none, is_some, Result, Ok, Err, refl, sym, ap, subst, ◌∙◌, if◌then◌else◌}
+use Rattle.std.proofs.Common.{◌≡◌, ◌⊎◌, inl, inr, ℕ, ◌+◌, ◌≤◌, ◌==◌, lit≤, Bool, true, false, ◌&&◌, List, [], ◌∷◌, ◌++◌, length, Option, Some, None, is_none, is_some, Result, Ok, Err, refl, sym, ap, subst, ◌∙◌, if◌then◌else◌}
 use Rattle.std.specs.List.{list_all, flat_map}
 use Rattle.std.specs.FinSet as set
-use Rattle.pm_types.specs.declared.limits.TheConstants.{FIELDS}
+use Rattle.pm_types.specs.declared.limits.TheConstants.{FIELDS, OLD_FIELDS, OLD_VERSION}
 use Rattle.pm_types.specs.declared.address.Addr.{Addr}
 use Rattle.pm_types.specs.declared.fault.OpenFault.{OpenFault}
-use Rattle.pm_types.specs.declared.fault.OpenFault.TheVariants.{Broken, Malformed}
+use Rattle.pm_types.specs.declared.fault.OpenFault.TheVariants.{Malformed}
 use Rattle.pm_types.specs.declared.object.Slot.{Slot}
 use Rattle.pm_types.specs.declared.object.Slot.TheVariants.{Live, Moved}
 use Rattle.pm_layout.specs.declared.header.Header.{Header}
+use Rattle.pm_layout.specs.Headers.{most_fields}
 use Rattle.pm_layout.specs.Spelling.{slot_size}
 use Rattle.pm_image.specs.declared.catalog.CatEntry.{CatEntry}
 use Rattle.pm_image.specs.declared.catalog.CatEntry.TheVariants.{Car, Root}
@@ -18,11 +19,11 @@ use Rattle.pm_base.specs.Results.{◌>>=◌}
 use Rattle.pm_image.specs.Graphs.{Pages as Store, Catalog, Graph, Site, slot_named, field_sites, record_sites, root_sites, sites_of, leads, linked, catalog_of, cars_from, entries_of, graph_of}
 use Rattle.pm_image.proofs.Results.{both_true}
 use Rattle.pm_base.proofs.Results.{bound}
-use Rattle.pm_plain.specs.Plain.{is_plain_car, readable}
+use Rattle.pm_plain.specs.Plain.{is_plain_car}
 use Rattle.pm_reopen.specs.declared.fault.ReadFault.{ReadFault}
-use Rattle.pm_reopen.specs.declared.fault.ReadFault.TheVariants.{Refused}
 use Rattle.pm_reopen.specs.Building.{has_slot, is_readable}
-use Rattle.pm_reopen.specs.Reading.{IsRefused, Gives}
+use Rattle.pm_reopen.specs.Reading.{Fails}
+use Rattle.pm_reopen.proofs.Faults.{first_fails, then_fails}
 use Rattle.pm_reopen.proofs.Built.{plain_entry}
 
 -- ---- tests of lists
@@ -75,76 +76,59 @@ all_lead cars catalog plain =
 
 -- ---- whether all lead somewhere
 
-one_link : (b all : Bool) (rest : Result (Unit {0}) OpenFault) (fault : OpenFault) → (b && all) ≡ true → (all ≡ true → rest ≡ Ok tt) → (if b then rest else Err fault) ≡ Ok tt
-one_link true all rest fault is next = next is
-one_link false all rest fault is next = cc
+one_led : (b all : Bool) (rest : Result (Unit {0}) OpenFault) (fault : OpenFault) → (if b then rest else Err fault) ≡ Ok tt → (rest ≡ Ok tt → all ≡ true) → (b && all) ≡ true
+one_led true all rest fault is next = next is
+one_led false all rest fault is next = cc
 
-links : (cars : List KeptPage) (sites : List Site) → list_all (leads cars) sites ≡ true → linked cars sites ≡ Ok tt
+all_led : (cars : List KeptPage) (sites : List Site) → linked cars sites ≡ Ok tt → list_all (leads cars) sites ≡ true
 unfolding linked
-links cars [] is = refl
-links cars (site ∷ sites) is = one_link (leads cars site) (list_all (leads cars) sites) (linked cars sites) (Malformed site.page site.at) is (links cars sites)
-
-one_not : (b all : Bool) (rest : Result (Unit {0}) OpenFault) (fault : OpenFault) → (b && all) ≡ false → (all ≡ false → IsRefused rest) → IsRefused (if b then rest else Err fault)
-one_not true all rest fault is next = next is
-one_not false all rest fault is next = (fault, refl)
-
-links_not : (cars : List KeptPage) (sites : List Site) → list_all (leads cars) sites ≡ false → IsRefused (linked cars sites)
-unfolding linked
-links_not cars [] is = cc
-links_not cars (site ∷ sites) is = one_not (leads cars site) (list_all (leads cars) sites) (linked cars sites) (Malformed site.page site.at) is (links_not cars sites)
+all_led cars [] is = refl
+all_led cars (site ∷ sites) is = one_led (leads cars site) (list_all (leads cars) sites) (linked cars sites) (Malformed site.page site.at) is (all_led cars sites)
 
 -- ---- the graph
 
+-- no version has more fields than the limit
+pub few_fields : (version : ℕ) → most_fields version ≤ FIELDS
+few_fields version = elim (version == OLD_VERSION) as (λ b. (if b then OLD_FIELDS else FIELDS) ≤ FIELDS) [ true ↦ lit≤ tt | false ↦ lit≤ tt ]
+
 module _ (store : Store) (header : Header) where
-  pub catalog_refused : (fault : ReadFault) → Gives {X = Catalog} (Err fault) (catalog_of store header) → fault ≡ Refused → IsRefused (graph_of FIELDS store header)
+  pub catalog_fails : (fault : ReadFault) → Fails {X = Catalog} fault (catalog_of store header) → Fails {X = Graph} fault (graph_of store header)
   unfolding graph_of
-  catalog_refused fault given is =
-      let refused = subst (λ (f : ReadFault). Gives {X = Catalog} (Err f) (catalog_of store header)) is given in
-      (refused.0, ap (λ (r : Result Catalog OpenFault). r >>= λ catalog. cars_from FIELDS header.next store set.empty (entries_of catalog) >>= λ cars. linked cars (sites_of catalog cars) >>= λ is_linked. Ok (record { catalog = catalog; cars = cars })) refused.1)
+  catalog_fails fault is = first_fails fault (catalog_of store header) _ is
 
-  pub cars_refused : (catalog : Catalog) (fault : ReadFault) → catalog_of store header ≡ Ok catalog → Gives {X = List KeptPage} (Err fault) (cars_from FIELDS header.next store set.empty (entries_of catalog)) → fault ≡ Refused
-      → IsRefused (graph_of FIELDS store header)
+  pub cars_fail : (catalog : Catalog) (fault : ReadFault) → catalog_of store header ≡ Ok catalog → Fails {X = List KeptPage} fault (cars_from (most_fields header.version) header.next store set.empty (entries_of catalog))
+      → Fails {X = Graph} fault (graph_of store header)
   unfolding graph_of
-  cars_refused catalog fault found given is =
-      let refused = subst (λ (f : ReadFault). Gives {X = List KeptPage} (Err f) (cars_from FIELDS header.next store set.empty (entries_of catalog))) is given in (
-        refused.0,
-        bound (catalog_of store header) _ catalog _ found
-            (ap (λ (r : Result (List KeptPage) OpenFault). r >>= λ cars. linked cars (sites_of catalog cars) >>= λ is_linked. Ok (record { catalog = catalog; cars = cars })) refused.1),
-      )
+  cars_fail catalog fault found is =
+      then_fails fault (catalog_of store header) catalog _ found
+      (first_fails fault (cars_from (most_fields header.version) header.next store set.empty (entries_of catalog)) _ is)
 
-  pub graph_found : (catalog : Catalog) (cars : List KeptPage) → catalog_of store header ≡ Ok catalog → cars_from FIELDS header.next store set.empty (entries_of catalog) ≡ Ok cars → is_readable cars (entries_of catalog) ≡ true
-      → graph_of FIELDS store header ≡ Ok (record { catalog = catalog; cars = cars })
+  pub links_fail : (catalog : Catalog) (cars : List KeptPage) (fault : ReadFault) → catalog_of store header ≡ Ok catalog → cars_from (most_fields header.version) header.next store set.empty (entries_of catalog) ≡ Ok cars
+      → Fails {X = Unit {0}} fault (linked cars (sites_of catalog cars)) → Fails {X = Graph} fault (graph_of store header)
   unfolding graph_of
-  graph_found catalog cars found read is =
-      let parts = both_true (list_all is_plain_car cars) (list_all (has_slot cars) (entries_of catalog)) is in
+  links_fail catalog cars fault found read is =
+      then_fails fault (catalog_of store header) catalog _ found
+      (then_fails fault (cars_from (most_fields header.version) header.next store set.empty (entries_of catalog)) cars _ read
+      (first_fails fault (linked cars (sites_of catalog cars)) _ is))
+
+  pub graph_found : (catalog : Catalog) (cars : List KeptPage) → catalog_of store header ≡ Ok catalog → cars_from (most_fields header.version) header.next store set.empty (entries_of catalog) ≡ Ok cars
+      → linked cars (sites_of catalog cars) ≡ Ok tt → graph_of store header ≡ Ok (record { catalog = catalog; cars = cars })
+  unfolding graph_of
+  graph_found catalog cars found read links =
       bound (catalog_of store header) _ catalog _ found
-      (bound (cars_from FIELDS header.next store set.empty (entries_of catalog)) _ cars _ read
-      (bound (linked cars (sites_of catalog cars)) _ tt _ (links cars (sites_of catalog cars) (all_lead cars catalog parts.0 ∙ parts.1)) refl))
+      (bound (cars_from (most_fields header.version) header.next store set.empty (entries_of catalog)) _ cars _ read
+      (bound (linked cars (sites_of catalog cars)) _ tt _ links refl))
 
-  not_read : (found : Result Graph OpenFault) → IsRefused found → readable found ≡ Err Broken
-  not_read found refused = ap readable refused.1
+-- ---- what is not held
 
-  either_not : (a b : Bool) → (a && b) ≡ false → (a ≡ false) ⊎ ((a ≡ true) × (b ≡ false))
-  either_not true b is = inr (refl, is)
-  either_not false b is = inl refl
+either_not : (a b : Bool) → (a && b) ≡ false → b ≡ true → a ≡ false
+either_not true b is holds = cc
+either_not false b is holds = refl
 
-  if_linked : (catalog : Catalog) (cars : List KeptPage) (answer : Result (Unit {0}) OpenFault) → list_all is_plain_car cars ≡ false
-      → readable (answer >>= λ is_linked. Ok (record { catalog = catalog; cars = cars })) ≡ Err Broken
-  if_linked catalog cars (Ok u) plain = ap (λ (b : Bool). if b then Ok (record { catalog = catalog; cars = cars }) else Err Broken) plain
-  if_linked catalog cars (Err fault) plain = refl
-
-  pub graph_not : (catalog : Catalog) (cars : List KeptPage) → catalog_of store header ≡ Ok catalog → cars_from FIELDS header.next store set.empty (entries_of catalog) ≡ Ok cars → is_readable cars (entries_of catalog) ≡ false
-      → readable (graph_of FIELDS store header) ≡ Err Broken
-  unfolding graph_of
-  graph_not catalog cars found read is =
-      let whole : graph_of FIELDS store header ≡ (linked cars (sites_of catalog cars) >>= λ is_linked. Ok (record { catalog = catalog; cars = cars }))
-      = bound (catalog_of store header) _ catalog _ found (bound (cars_from FIELDS header.next store set.empty (entries_of catalog)) _ cars _ read refl) in
-      elim (either_not (list_all is_plain_car cars) (list_all (has_slot cars) (entries_of catalog)) is) [
-        | inl plain ↦ ap readable whole ∙ if_linked catalog cars (linked cars (sites_of catalog cars)) plain
-        | inr parts ↦
-            let refused = links_not cars (sites_of catalog cars) (all_lead cars catalog parts.0 ∙ parts.1) in
-            ap readable (whole ∙ ap (λ (r : Result (Unit {0}) OpenFault). r >>= λ is_linked. Ok (record { catalog = catalog; cars = cars })) refused.1)
-      ]
-
-  pub refused_not : IsRefused (graph_of FIELDS store header) → readable (graph_of FIELDS store header) ≡ Err Broken
-  refused_not refused = not_read (graph_of FIELDS store header) refused
+-- a graph whose addresses lead somewhere is only not readable where it is not plain
+pub not_plain : (catalog : Catalog) (cars : List KeptPage) → linked cars (sites_of catalog cars) ≡ Ok tt → is_readable cars (entries_of catalog) ≡ false → list_all is_plain_car cars ≡ false
+not_plain catalog cars links is = by (list_all is_plain_car cars) refl
+  where
+    by : (b : Bool) → list_all is_plain_car cars ≡ b → list_all is_plain_car cars ≡ false
+    by true plain = either_not (list_all is_plain_car cars) (list_all (has_slot cars) (entries_of catalog)) is (sym (all_lead cars catalog plain) ∙ all_led cars (sites_of catalog cars) links)
+    by false plain = plain

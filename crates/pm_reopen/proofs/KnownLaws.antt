@@ -65,16 +65,16 @@ object_known next met id count bytes free few short =
       plain = record { null = all_none count; fields = omega (arith, len_none count, few); bytes = short };
     }
 
-slots_known : (next : ℕ) (met : Numbers) (slots : List (ℕ × Slot)) → AreFree next met slots → AllByRecursion (λ (entry : ℕ × Slot). HasSpelling FIELDS entry.1) slots → AllByRecursion (IsKnown next) (held_in_all slots)
-slots_known next met [] free spelled = tt
-slots_known next met ((number, Live object) ∷ slots) free spelled =
-    (object_known next met object.id (length object.fields) object.bytes free.0 spelled.0.within.0 spelled.0.within.1, slots_known next (set.insert met object.id) slots free.1 spelled.1)
-slots_known next met ((number, Moved to) ∷ slots) free spelled = slots_known next met slots free spelled.1
+slots_known : (most next : ℕ) (met : Numbers) (slots : List (ℕ × Slot)) → most ≤ FIELDS → AreFree next met slots → AllByRecursion (λ (entry : ℕ × Slot). HasSpelling most entry.1) slots → AllByRecursion (IsKnown next) (held_in_all slots)
+slots_known most next met [] few free spelled = tt
+slots_known most next met ((number, Live object) ∷ slots) few free spelled =
+    (object_known next met object.id (length object.fields) object.bytes free.0 (let within = spelled.0.within.0 in omega arith) spelled.0.within.1, slots_known most next (set.insert met object.id) slots few free.1 spelled.1)
+slots_known most next met ((number, Moved to) ∷ slots) few free spelled = slots_known most next met slots few free spelled.1
 
 cars_known : (count next : ℕ) (cars : List KeptPage) → AllByRecursion (IsCar count next) cars → AllByRecursion (IsKnown next) (held_in_cars cars)
 cars_known count next [] are = tt
 cars_known count next (kept ∷ cars) are =
-    all_both (IsKnown next) (held_in_all kept.image.slots) (held_in_cars cars) (slots_known next are.0.met kept.image.slots are.0.has.free are.0.has.slots) (cars_known count next cars are.1)
+    all_both (IsKnown next) (held_in_all kept.image.slots) (held_in_cars cars) (slots_known are.0.most next are.0.met kept.image.slots are.0.few are.0.has.free are.0.has.slots) (cars_known count next cars are.1)
 
 found_known : (next q : ℕ) (x : Object) (es : List (ℕ × Object)) → AllByRecursion (IsKnown next) es → find nat_cmp q es ≡ Some x → IsKnown next (q, x)
 found_known next q x [] known is = cc

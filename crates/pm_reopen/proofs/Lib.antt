@@ -1,10 +1,13 @@
 pub mod Back
 pub mod Built
 pub mod BuiltLaws
+pub mod Faults
 pub mod ReadLaws
 pub mod Lists
 pub mod LookedLaws
 pub mod ChainLaws
+pub mod HeldLaws
+pub mod Walks
 pub mod GraphLaws
 pub mod KnownLaws
 pub mod OpenLaws

@@ -5,25 +5,26 @@ use Rattle.std.specs.FinSet as set
 use Rattle.std.proofs.lemmas.List.Elements.{Contains-append_left, All-nil, All-cons}
 use Rattle.std.proofs.lemmas.Bool.{eqb-true}
 use Rattle.std.proofs.lemmas.Bool.Decides.{nat_tests}
-use Rattle.pm_types.specs.declared.limits.TheConstants.{FIELDS, PAGE_BYTES}
+use Rattle.pm_types.specs.declared.limits.TheConstants.{PAGE_BYTES}
 use Rattle.pm_types.specs.declared.fault.OpenFault.{OpenFault}
 use Rattle.pm_types.specs.declared.fault.OpenFault.TheVariants.{Broken, NotAStore}
 use Rattle.pm_layout.specs.declared.header.HeaderFault.{HeaderFault}
-use Rattle.pm_layout.specs.Headers.{header_at}
+use Rattle.pm_layout.specs.Headers.{header_at, most_fields}
 use Rattle.pm_model.proofs.Members.{at_first, in_rest, in_none, first_or_rest}
+use Rattle.pm_base.specs.Counts.{Rose}
 use Rattle.pm_base.specs.Results.{◌>>=◌}
 use Rattle.pm_image.specs.CatalogPages.{Met, catalog_at, meeting_page}
 use Rattle.pm_image.specs.Opening.{Current, current, page_count, page_of, is_placed, sound_header, header_in, header_body_of, open_slot}
 use Rattle.pm_image.specs.Stands.{pages_of}
 use Rattle.pm_image.proofs.FrameLaws.{opened_as}
-use Rattle.pm_plain.specs.Plain.{readable, reopened}
+use Rattle.pm_plain.specs.Plain.{is_plain, readable, reopened}
 use Rattle.pm_plain.specs.Kept.{HasCopy}
 use Rattle.pm_plain.proofs.PlainLaws.{found_opens}
 use Rattle.pm_shadow.specs.declared.page_use.PageUse.{PageUse}
 use Rattle.pm_shadow.specs.declared.page_use.PageUse.TheVariants.{Free, Current as Used, Claimed}
 use Rattle.pm_shadow.specs.Uses.{use_of, forgotten, IsListed}
 use Rattle.pm_shadow.specs.State.{State, keeps, keeps_by, IsListable, attached, known_by}
-use Rattle.pm_reopen.specs.Reopening.{IsCurrent}
+use Rattle.pm_reopen.specs.Reopening.{IsCurrent, IsReopenFault, IsReopenFaultOf, IsGraph, IsGraphFault, open_fault}
 use Rattle.std.specs.List.{AllByRecursion}
 use Rattle.pm_layout.specs.declared.header.Header.{Header}
 use Rattle.pm_model.specs.World.{Copy}
@@ -37,39 +38,95 @@ use Rattle.std.specs.List.{list_all}
 use Rattle.pm_plain.specs.Plain.{is_plain_car}
 use Rattle.pm_reopen.specs.Building.{IsBuilt, has_slot, is_readable}
 use Rattle.pm_reopen.specs.declared.fault.ReadFault.{ReadFault}
-use Rattle.pm_reopen.specs.declared.fault.ReadFault.TheVariants.{Refused, Failed, Memory}
-use Rattle.pm_reopen.specs.Reading.{Counts, IsNoFailure, IsThere, IsCar, IsLaid, IsRead, store_of, page_numbers}
-use Rattle.pm_reopen.proofs.GraphLaws.{graph_found}
+use Rattle.pm_reopen.specs.declared.fault.ReadFault.TheVariants.{Damaged as DamagedPage, Malformed as MalformedPage, Unheld, Failed, Memory}
+use Rattle.pm_reopen.specs.Reading.{Fails, Counts, CountsOrUnheld, IsNotHeld, IsThere, IsCar, IsWhole, IsRead, store_of, page_numbers}
+use Rattle.pm_reopen.proofs.Faults.{fails_too}
 use Rattle.pm_reopen.proofs.Lists.{all_at, all_both}
 
 cars_there : (count next : ℕ) (cars : List KeptPage) → AllByRecursion (IsCar count next) cars → AllByRecursion (IsThere count) (map (λ (kept : KeptPage). kept.page) cars)
 cars_there count next [] are = tt
 cars_there count next (kept ∷ cars) are = (are.0.there, cars_there count next cars are.1)
 
-pub built_read : (count : ℕ) (header : Header) (contents : Option (List ℕ)) (numbers used : List ℕ) (entries : List CatEntry) (cars : List KeptPage) (copy : Copy) → IsLaid count header contents numbers entries cars
-    → used ≡ numbers ++ map (λ (kept : KeptPage). kept.page) cars → IsBuilt cars entries header.next copy → IsRead count header contents used copy
-built_read count header contents numbers used entries cars copy laid is built =
-    let graph : Graph = record { catalog = laid.catalog; cars = cars } in
-    let all = is ∙ ap (λ (ns : List ℕ). ns ++ map (λ (kept : KeptPage). kept.page) cars) laid.numbers_are in
-    let readable = subst (λ (es : List CatEntry). is_readable cars es ≡ true) laid.entries_are built.readable in
-    record {
-      graph = graph;
-      used_are = all;
-      there = subst (AllByRecursion (IsThere count)) (sym is)
-          (all_both (IsThere count) numbers (map (λ (kept : KeptPage). kept.page) cars) (subst (AllByRecursion (IsThere count)) (sym laid.numbers_are) laid.sound.pages) (cars_there count header.next cars laid.cars_are));
-      plain = (both_true (list_all is_plain_car cars) (list_all (has_slot cars) entries) built.readable).0;
-      is_copy = built.is_copy ∙ ap (λ (es : List CatEntry). copied (heap_of cars) (roots_of cars es) header.next) laid.entries_are;
-      found = λ bytes told. let read = laid.read bytes told in graph_found (store_of count bytes) header laid.catalog cars read.0 read.1 readable;
-    }
+-- a graph that was read with the pages that it stands on
+pub whole_read : (count : ℕ) (header : Header) (contents : Option (List ℕ)) (catalog : Catalog) (cars : List KeptPage) (used : List ℕ) (copy : Copy) → IsWhole count header.next catalog cars
+    → ((bytes : List ℕ) → contents ≡ Some bytes → graph_of (store_of count bytes) header ≡ Ok (record { catalog = catalog; cars = cars }))
+    → used ≡ used_pages (record { catalog = catalog; cars = cars }) → IsBuilt cars (entries_of catalog) header.next copy → IsRead count header contents used copy
+whole_read count header contents catalog cars used copy whole found is built = record {
+  graph = record { catalog = catalog; cars = cars };
+  used_are = is;
+  there = subst (AllByRecursion (IsThere count)) (sym is) (all_both (IsThere count) (page_numbers catalog) (map (λ (kept : KeptPage). kept.page) cars) whole.sound.pages (cars_there count header.next cars whole.cars_are));
+  plain = (both_true (list_all is_plain_car cars) (list_all (has_slot cars) (entries_of catalog)) built.readable).0;
+  is_copy = built.is_copy;
+  found = found;
+}
 
-still : (X : Type 0) (before after : ℕ) (fault : ReadFault) → IsNoFailure fault → after ≡ before → Counts {X = X} before after (Err fault)
-still X before after Refused is same = same
-still X before after Failed is same = absurd is
-still X before after Memory is same = same
+-- ---- what is answered where no copy is opened
+
+-- what the map cannot hold is broken, of a graph that was found
+pub unheld_fails : (fault : ReadFault) (answer : Result Graph OpenFault) (graph : Graph) → answer ≡ Ok graph → IsNotHeld fault → (fault ≡ Unheld → is_plain graph ≡ false) → Fails {X = Graph} fault (readable answer)
+unheld_fails (DamagedPage page kept found) answer graph is held plain = absurd held
+unheld_fails (MalformedPage page at) answer graph is held plain = absurd held
+unheld_fails Unheld answer graph is held plain = ap readable is ∙ ap (λ (b : Bool). if b then Ok graph else Err Broken) (plain refl)
+unheld_fails Failed answer graph is held plain = absurd held
+unheld_fails Memory answer graph is held plain = tt
+
+-- and what is found at fault is not read
+pub readable_fails : (fault : ReadFault) (answer : Result Graph OpenFault) → Fails {X = Graph} fault answer → Fails {X = Graph} fault (readable answer)
+readable_fails fault answer is = fails_too {A = Graph} {B = Graph} fault answer (readable answer) (λ e failed. ap readable failed) is
 
 -- a fault that is none of the disk leaves the count as it was
-pub counts_still : {X : Type 0} (before after : ℕ) (result : Result X ReadFault) (fault : ReadFault) → result ≡ Err fault → IsNoFailure fault → after ≡ before → Counts before after result
-counts_still {X} before after result fault is none same = subst (λ (r : Result X ReadFault). Counts before after r) (sym is) (still X before after fault none same)
+unheld_still : (X : Type 0) (before after : ℕ) (fault : ReadFault) → IsNotHeld fault → after ≡ before → CountsOrUnheld {X = X} before after (Err fault)
+unheld_still X before after (DamagedPage page kept found) held same = same
+unheld_still X before after (MalformedPage page at) held same = same
+unheld_still X before after Unheld held same = same
+unheld_still X before after Failed held same = absurd held
+unheld_still X before after Memory held same = same
+
+pub held_counts : {X : Type 0} (before after : ℕ) (result : Result X ReadFault) (fault : ReadFault) → result ≡ Err fault → IsNotHeld fault → after ≡ before → CountsOrUnheld before after result
+held_counts {X} before after result fault is held same = subst (λ (r : Result X ReadFault). CountsOrUnheld before after r) (sym is) (unheld_still X before after fault held same)
+
+loose : (X Y : Type 0) (before after : ℕ) (fault : ReadFault) → Counts {X = X} before after (Err fault) → CountsOrUnheld {X = Y} before after (Err fault)
+loose X Y before after (DamagedPage page kept found) same = same
+loose X Y before after (MalformedPage page at) same = same
+loose X Y before after Unheld same = absurd same
+loose X Y before after Failed rose = rose
+loose X Y before after Memory same = same
+
+pub loose_counts : {Y : Type 0} (X : Type 0) (before after : ℕ) (result : Result Y ReadFault) (fault : ReadFault) → result ≡ Err fault → Counts {X = X} before after (Err fault) → CountsOrUnheld before after result
+loose_counts {Y} X before after result fault is counts = subst (λ (r : Result Y ReadFault). CountsOrUnheld before after r) (sym is) (loose X Y before after fault counts)
+
+-- why no graph was read
+pub graph_answer : (fault : ReadFault) (b a before after : ℕ) (graph : Result Graph OpenFault) → Counts {X = Catalog × List KeptPage} before after (Err fault) → Fails {X = Graph} fault graph → IsGraph (Err (open_fault fault b a)) graph
+graph_answer (DamagedPage page kept found) b a before after graph counts is = is
+graph_answer (MalformedPage page at) b a before after graph counts is = is
+graph_answer Unheld b a before after graph counts is = absurd counts
+graph_answer Failed b a before after graph counts is = tt
+graph_answer Memory b a before after graph counts is = tt
+
+shown : (b a before after : ℕ) → b ≡ before → a ≡ after → Rose before after → Rose b a
+shown b a before after first last rose = subst (λ (n : ℕ). Rose n a) (sym first) (subst (Rose before) (sym last) rose)
+
+pub graph_cause : (fault : ReadFault) (b a before after : ℕ) → b ≡ before → a ≡ after → Counts {X = Catalog × List KeptPage} before after (Err fault) → IsGraphFault before after (open_fault fault b a)
+graph_cause (DamagedPage page kept found) b a before after first last counts = counts
+graph_cause (MalformedPage page at) b a before after first last counts = counts
+graph_cause Unheld b a before after first last counts = absurd counts
+graph_cause Failed b a before after first last counts = (first, last, shown b a before after first last counts)
+graph_cause Memory b a before after first last counts = counts
+
+-- and why no copy was opened
+pub copy_answer : (fault : ReadFault) (b a : ℕ) (bytes : List ℕ) → Fails {X = ℕ × Copy} fault (reopened bytes) → IsReopenFaultOf bytes (open_fault fault b a)
+copy_answer (DamagedPage page kept found) b a bytes is = is
+copy_answer (MalformedPage page at) b a bytes is = is
+copy_answer Unheld b a bytes is = is
+copy_answer Failed b a bytes is = tt
+copy_answer Memory b a bytes is = tt
+
+pub copy_cause : (X : Type 0) (fault : ReadFault) (b a before after : ℕ) → b ≡ before → a ≡ after → CountsOrUnheld {X = X} before after (Err fault) → IsReopenFault before after (open_fault fault b a)
+copy_cause X (DamagedPage page kept found) b a before after first last counts = counts
+copy_cause X (MalformedPage page at) b a before after first last counts = counts
+copy_cause X Unheld b a before after first last counts = counts
+copy_cause X Failed b a before after first last counts = (first, last, shown b a before after first last counts)
+copy_cause X Memory b a before after first last counts = counts
 
 -- ---- the first page
 
@@ -109,11 +166,11 @@ begins (suc n) store met page kept catalog is =
     let three = bind_ok (if two.0.next == 0 then Ok [] else catalog_from n store (meeting_page met two.0) two.0.next two.0.digest) _ catalog two.2 in
     subst (λ (c : Catalog). Contains (page_numbers c) page) (ok_same {A = Catalog} ((page, two.0) ∷ three.0) catalog three.2) (at_first page (page_numbers three.0))
 
-graph_first : (store : Store) (header : Header) (graph : Graph) → graph_of FIELDS store header ≡ Ok graph → Contains (used_pages graph) header.first
+graph_first : (store : Store) (header : Header) (graph : Graph) → graph_of store header ≡ Ok graph → Contains (used_pages graph) header.first
 unfolding graph_of
 graph_first store header graph is =
     let one = bind_ok (catalog_of store header) _ graph is in
-    let two = bind_ok (cars_from FIELDS header.next store set.empty (entries_of one.0)) _ graph one.2 in
+    let two = bind_ok (cars_from (most_fields header.version) header.next store set.empty (entries_of one.0)) _ graph one.2 in
     let three = bind_ok (linked two.0 (sites_of one.0 two.0)) _ graph two.2 in
     let made : Graph = record { catalog = one.0; cars = two.0 } in
     subst (λ (g : Graph). Contains (used_pages g) header.first) (ok_same made graph three.2)
@@ -160,7 +217,7 @@ module _ (s : State) (begun : s ≡ attached s.slot s.header s.count s.closed) w
   pub read_has : (uses : ℕ → PageUse) (contents : Option (List ℕ)) (bytes used : List ℕ) (copy : Copy) → IsRead s.count s.header contents used copy → IsListed used s.uses uses → IsCurrent s bytes → contents ≡ Some bytes
       → HasCopy (known_by s uses) bytes copy
   read_has uses contents bytes used copy read listed now told =
-      let found = ap (λ (store : Store). graph_of FIELDS store s.header) (sym (store_same s bytes now)) ∙ read.found bytes told in
+      let found = ap (λ (store : Store). graph_of store s.header) (sym (store_same s bytes now)) ∙ read.found bytes told in
       record {
         graph = read.graph;
         keeps = record {
@@ -179,17 +236,21 @@ module _ (s : State) (begun : s ≡ attached s.slot s.header s.count s.closed) w
 -- what was read is what opening gives
 pub read_opens : (s : State) (contents : Option (List ℕ)) (bytes used : List ℕ) (copy : Copy) → IsRead s.count s.header contents used copy → IsCurrent s bytes → contents ≡ Some bytes → reopened bytes ≡ Ok (s.header.epoch, copy)
 read_opens s contents bytes used copy read now told =
-    let found = ap (λ (store : Store). graph_of FIELDS store s.header) (sym (store_same s bytes now)) ∙ read.found bytes told in
-    let is = opened_as FIELDS bytes (record { slot = s.slot; header = s.header }) read.graph now.now found in
+    let found = ap (λ (store : Store). graph_of store s.header) (sym (store_same s bytes now)) ∙ read.found bytes told in
+    let is = opened_as bytes (record { slot = s.slot; header = s.header }) read.graph now.now found in
     (found_opens bytes (record { current = record { slot = s.slot; header = s.header }; graph = read.graph }) is read.plain).reads
     ∙ ap (λ (c : Copy). Ok (s.header.epoch, c)) (sym read.is_copy)
 
--- and what was refused is refused
-pub refused_opens : (s : State) (bytes : List ℕ) → IsCurrent s bytes → readable (graph_of FIELDS (store_of s.count bytes) s.header) ≡ Err Broken → reopened bytes ≡ Err Broken
+-- and what is not read is not opened
+refused_opens : (s : State) (bytes : List ℕ) (fault : OpenFault) → IsCurrent s bytes → readable (graph_of (store_of s.count bytes) s.header) ≡ Err fault → reopened bytes ≡ Err fault
 unfolding reopened
-refused_opens s bytes now refused =
+refused_opens s bytes fault now refused =
     bound (current bytes) _ (record { slot = s.slot; header = s.header }) _ now.now
-    (ap (λ (read : Result Graph OpenFault). read >>= λ graph. Ok (s.header.epoch, copy_of s.header.next graph)) (ap (λ (store : Store). readable (graph_of FIELDS store s.header)) (sym (store_same s bytes now)) ∙ refused))
+    (ap (λ (read : Result Graph OpenFault). read >>= λ graph. Ok (s.header.epoch, copy_of s.header.next graph)) (ap (λ (store : Store). readable (graph_of store s.header)) (sym (store_same s bytes now)) ∙ refused))
+
+pub fails_opens : (s : State) (bytes : List ℕ) (fault : ReadFault) → IsCurrent s bytes → Fails {X = Graph} fault (readable (graph_of (store_of s.count bytes) s.header)) → Fails {X = ℕ × Copy} fault (reopened bytes)
+fails_opens s bytes fault now is =
+    fails_too {A = Graph} {B = ℕ × Copy} fault (readable (graph_of (store_of s.count bytes) s.header)) (reopened bytes) (λ e failed. refused_opens s bytes e now failed) is
 
 -- the header names a page of the store
 pub first_there : (s : State) (bytes : List ℕ) → IsCurrent s bytes → IsThere s.count s.header.first

@@ -1,14 +1,17 @@
 -- What the readers of the pages of a store may answer, by what the definitions give.
-use Rattle.std.specs.Prelude.{◌≡◌, ℕ, ◌+◌, ◌<◌, ◌≤◌, List, [], ◌∷◌, map, Option, Some, None, Result, Ok, Err}
+use Rattle.std.specs.Prelude.{◌≡◌, ℕ, ◌+◌, ◌<◌, ◌≤◌, List, [], ◌∷◌, ◌++◌, map, Option, Some, None, Result, Ok, Err}
 use Rattle.std.specs.Prelude.{true, false}
 use Rattle.std.specs.List.{AllByRecursion}
 use Rattle.std.specs.FinSet as set
 use Rattle.pm_base.specs.Counts.{Rose}
-use Rattle.pm_types.specs.declared.limits.TheConstants.{FIELDS, ROOTS}
+use Rattle.pm_types.specs.declared.limits.TheConstants.{FIELDS, ROOTS, PAGE_BYTES}
 use Rattle.pm_types.specs.declared.fault.OpenFault.{OpenFault}
+use Rattle.pm_types.specs.declared.fault.OpenFault.TheVariants.{Damaged, Malformed as MalformedAt, Broken}
 use Rattle.pm_disk.specs.declared.disk.Disk.{Ghosts}
 use Rattle.pm_disk.specs.Disk.{IfTold}
 use Rattle.pm_layout.specs.declared.header.Header.{Header}
+use Rattle.pm_layout.specs.Spelling.{IsWithinLimits}
+use Rattle.pm_types.specs.declared.object.Slot.{Slot}
 use Rattle.pm_model.specs.World.{Copy}
 use Rattle.pm_image.specs.declared.fault.PageFault.{PageFault}
 use Rattle.pm_image.specs.declared.fault.PageFault.TheVariants.{Malformed, Memory as NoPageMemory}
@@ -17,47 +20,63 @@ use Rattle.pm_image.specs.declared.catalog.CatEntry.TheVariants.{Car, Root}
 use Rattle.pm_image.specs.declared.catalog.CatalogPage.{CatalogPage}
 use Rattle.pm_image.specs.declared.settled.KeptPage.{KeptPage}
 use Rattle.pm_base.specs.Results.{◌>>=◌}
-use Rattle.pm_image.specs.CarPages.{Numbers, HasCarPage, car_at}
+use Rattle.pm_image.specs.CarPages.{Numbers, HasCarPage, car_at, car_used}
 use Rattle.pm_image.specs.CarAnswers.{a_car}
-use Rattle.pm_image.specs.CatalogPages.{Met, catalog_at}
+use Rattle.pm_image.specs.CatalogPages.{Met, catalog_at, catalog_used}
 use Rattle.pm_image.specs.Opening.{page_of}
-use Rattle.pm_image.specs.Graphs.{Pages as Store, Graph, Catalog, undamaged, on_page, catalog_of, entries_of, cars_from, with_identities, graph_of, used_pages, copy_of}
+use Rattle.pm_image.specs.Graphs.{Pages as Store, Graph, Catalog, undamaged, on_page, catalog_of, entries_of, cars_from, with_identities, linked, sites_of, graph_of, used_pages, copy_of}
 use Rattle.pm_plain.specs.Plain.{is_plain}
 use Rattle.pm_shadow.specs.declared.pages.Pages.{Pages}
 use Rattle.pm_shadow.specs.Pages.{state, disk_of}
 use Rattle.pm_shadow.specs.Runs.{OnlyLooks}
 use Rattle.pm_reopen.specs.declared.fault.ReadFault.{ReadFault}
-use Rattle.pm_reopen.specs.declared.fault.ReadFault.TheVariants.{Refused, Failed, Memory}
+use Rattle.pm_reopen.specs.declared.fault.ReadFault.TheVariants.{Damaged as DamagedPage, Malformed as MalformedPage, Unheld, Failed, Memory}
 
--- a page that is malformed is refused
-abbrev pub of_page : PageFault → ReadFault
-of_page (Malformed at) = Refused
-of_page NoPageMemory = Memory
+-- a fault of a page
+abbrev pub of_page : ℕ → PageFault → ReadFault
+of_page page (Malformed at) = MalformedPage page at
+of_page page NoPageMemory = Memory
 
--- some rule fails
-abbrev pub IsRefused : {X : Type 0} → Result X OpenFault → Type 0
-IsRefused read = (fault : OpenFault) × (read ≡ Err fault)
+-- The page that is at fault is the first that the definition refuses, and so is the place; what the map cannot hold is
+-- broken. Where the disk or memory failed nothing is said.
+abbrev pub Fails : {X : Type 0} → ReadFault → Result X OpenFault → Type 0
+Fails (DamagedPage page kept found) read = read ≡ Err (Damaged page kept found)
+Fails (MalformedPage page at) read = read ≡ Err (MalformedAt page at)
+Fails Unheld read = read ≡ Err Broken
+Fails Failed read = Unit {0}
+Fails Memory read = Unit {0}
 
--- What was read is what the definition gives, and what was refused is refused by the definition. Where the disk or
--- memory failed nothing is said.
+-- what was read is what the definition gives, or its first fault
 abbrev pub Gives : {X : Type 0} → Result X ReadFault → Result X OpenFault → Type 0
 Gives (Ok x) read = read ≡ Ok x
-Gives (Err Refused) read = IsRefused read
-Gives (Err Failed) read = Unit {0}
-Gives (Err Memory) read = Unit {0}
+Gives (Err fault) read = Fails fault read
 
--- a failure of the disk has raised its count, which stands still otherwise
+-- A failure of the disk has raised its count, which stands still otherwise. No reader of pages asks what the map can
+-- hold.
 abbrev pub Counts : {X : Type 0} → ℕ → ℕ → Result X ReadFault → Type 0
 Counts before after (Ok x) = after ≡ before
-Counts before after (Err Refused) = after ≡ before
+Counts before after (Err (DamagedPage page kept found)) = after ≡ before
+Counts before after (Err (MalformedPage page at)) = after ≡ before
+Counts before after (Err Unheld) = ⊥
 Counts before after (Err Failed) = Rose before after
 Counts before after (Err Memory) = after ≡ before
 
--- a fault that is none of the disk
-abbrev pub IsNoFailure : ReadFault → Type 0
-IsNoFailure Refused = Unit {0}
-IsNoFailure Failed = ⊥
-IsNoFailure Memory = Unit {0}
+-- the same, where it was asked what the map can hold
+abbrev pub CountsOrUnheld : {X : Type 0} → ℕ → ℕ → Result X ReadFault → Type 0
+CountsOrUnheld before after (Ok x) = after ≡ before
+CountsOrUnheld before after (Err (DamagedPage page kept found)) = after ≡ before
+CountsOrUnheld before after (Err (MalformedPage page at)) = after ≡ before
+CountsOrUnheld before after (Err Unheld) = after ≡ before
+CountsOrUnheld before after (Err Failed) = Rose before after
+CountsOrUnheld before after (Err Memory) = after ≡ before
+
+-- the map cannot hold the copy, or memory ran out
+abbrev pub IsNotHeld : ReadFault → Type 0
+IsNotHeld (DamagedPage page kept found) = ⊥
+IsNotHeld (MalformedPage page at) = ⊥
+IsNotHeld Unheld = Unit {0}
+IsNotHeld Failed = ⊥
+IsNotHeld Memory = Unit {0}
 
 -- the pages of a store are as they were, and nothing was written
 pub record Looked {D : Type 0} {g : Ghosts D} (old new : Pages D g) : Type 0 where
@@ -76,20 +95,20 @@ link_at store met page kept = do
   is_kept ← undamaged store page kept
   on_page page (catalog_at (Some store.count) met (store.page page))
 
--- the car that stands on a page, which has this digest
-unfoldable pub car_on : ℕ → Store → Numbers → ℕ → ℕ → List ℕ → Result KeptPage OpenFault
-car_on next store met car page digest = do
+-- the car of objects of at most so many fields that stands on a page, which has this digest
+unfoldable pub car_on : ℕ → ℕ → Store → Numbers → ℕ → ℕ → List ℕ → Result KeptPage OpenFault
+car_on most next store met car page digest = do
   is_kept ← undamaged store page digest
-  image ← on_page page (car_at (a_car FIELDS next (Some car)) met (store.page page))
+  image ← on_page page (car_at (a_car most next (Some car)) met (store.page page))
   Ok (record { image = image; page = page; digest = digest })
 
 -- the car that an entry lists, if it lists one
 abbrev pub listed_car : Result KeptPage OpenFault → Result (Option KeptPage) OpenFault
 listed_car read = read >>= λ kept. Ok (Some kept)
 
-abbrev pub entry_car : ℕ → Store → Numbers → CatEntry → Result (Option KeptPage) OpenFault
-entry_car next store met (Root name at) = Ok None
-entry_car next store met (Car car train page digest) = listed_car (car_on next store met car page digest)
+abbrev pub entry_car : ℕ → ℕ → Store → Numbers → CatEntry → Result (Option KeptPage) OpenFault
+entry_car most next store met (Root name at) = Ok None
+entry_car most next store met (Car car train page digest) = listed_car (car_on most next store met car page digest)
 
 -- the identities that were met once this car was read
 abbrev pub with_car : Numbers → Option KeptPage → Numbers
@@ -121,8 +140,10 @@ root_count (Root name at ∷ entries) = root_count entries + 1
 abbrev pub page_numbers : Catalog → List ℕ
 page_numbers catalog = map (λ (page : ℕ × CatalogPage). page.0) catalog
 
--- The pages of a catalog and those of its cars are pages of the store, and the roots are not too many.
+-- The pages of a catalog and those of its cars are pages of the store, its entries fit their pages, and the roots are
+-- not too many.
 pub record IsSound (count : ℕ) (catalog : Catalog) : Type 0 where
+  pub fits : AllByRecursion (λ (page : ℕ × CatalogPage). catalog_used page.1.entries ≤ PAGE_BYTES) catalog
   pub pages : AllByRecursion (IsThere count) (page_numbers catalog)
   pub entries : AllByRecursion (IsEntryThere count) (entries_of catalog)
   pub roots : root_count (entries_of catalog) ≤ ROOTS
@@ -130,19 +151,36 @@ pub record IsSound (count : ℕ) (catalog : Catalog) : Type 0 where
 -- A car stands on a page of the store, and has a page after some that were read.
 pub record IsCar (count next : ℕ) (kept : KeptPage) : Type 0 where
   pub there : IsThere count kept.page
+  pub most : ℕ
+  pub few : most ≤ FIELDS
   pub met : Numbers
   pub number : ℕ
-  pub has : HasCarPage (a_car FIELDS next (Some number)) met kept.image
+  pub has : HasCarPage (a_car most next (Some number)) met kept.image
 
--- What was read of a catalog, of its entries and of the cars: the pages of the catalog in order, and what they list.
--- Where the contents of the disk are told it is what stands behind the header.
-pub record IsLaid (count : ℕ) (header : Header) (contents : Option (List ℕ)) (numbers : List ℕ) (entries : List CatEntry) (cars : List KeptPage) : Type 0 where
-  pub catalog : Catalog
+-- these cars, and those that are read behind them
+abbrev pub behind : List KeptPage → Result (List KeptPage) OpenFault → Result (List KeptPage) OpenFault
+behind front read = read >>= λ cars. Ok (front ++ cars)
+
+-- What is left gives what the whole gives, once these cars were read; or the whole has this fault.
+abbrev pub GoesOn : Result (Unit {0}) ReadFault → Result (List KeptPage) OpenFault → Result (List KeptPage) OpenFault → Type 0
+GoesOn (Ok u) whole left = left ≡ whole
+GoesOn (Err fault) whole left = Fails fault whole
+
+-- a catalog and cars that were read, as a graph
+abbrev pub as_graph : Result (Catalog × List KeptPage) ReadFault → Result Graph ReadFault
+as_graph (Ok read) = Ok (record { catalog = read.0; cars = read.1 })
+as_graph (Err fault) = Err fault
+
+-- What was read of a catalog and of its cars: their pages are pages of the store, and each address leads where it may.
+pub record IsWhole (count next : ℕ) (catalog : Catalog) (cars : List KeptPage) : Type 0 where
   pub sound : IsSound count catalog
-  pub numbers_are : numbers ≡ page_numbers catalog
-  pub entries_are : entries ≡ entries_of catalog
-  pub cars_are : AllByRecursion (IsCar count header.next) cars
-  pub read : IfTold contents (λ bytes. (catalog_of (store_of count bytes) header ≡ Ok catalog) × (cars_from FIELDS header.next (store_of count bytes) set.empty (entries_of catalog) ≡ Ok cars))
+  pub cars_are : AllByRecursion (IsCar count next) cars
+  pub links : linked cars (sites_of catalog cars) ≡ Ok tt
+
+-- a car whose slots fit a page, each within the limits
+pub record IsMeasured (kept : KeptPage) : Type 0 where
+  pub fits : car_used kept.image.slots ≤ PAGE_BYTES
+  pub within : AllByRecursion (λ (entry : ℕ × Slot). IsWithinLimits FIELDS entry.1) kept.image.slots
 
 -- What was read of a copy: the pages that it stands on, and the copy itself, whose fields are null. Where the
 -- contents of the disk are told it is the copy that stands behind the header.
@@ -152,4 +190,4 @@ pub record IsRead (count : ℕ) (header : Header) (contents : Option (List ℕ))
   pub there : AllByRecursion (IsThere count) used
   pub plain : is_plain graph ≡ true
   pub is_copy : copy ≡ copy_of header.next graph
-  pub found : IfTold contents (λ bytes. graph_of FIELDS (store_of count bytes) header ≡ Ok graph)
+  pub found : IfTold contents (λ bytes. graph_of (store_of count bytes) header ≡ Ok graph)

@@ -6,8 +6,8 @@ ghost use Rattle.std.specs.FinMap.{empty};
 ghost use Rattle.pm_types.specs.declared.object.Slot.{Slot};
 ghost use Rattle.pm_model.specs.Copying.{copied};
 ghost use Rattle.pm_plain.specs.Plain.{is_plain_slot, is_plain_car};
-ghost use Rattle.pm_reopen.specs.declared.fault.ReadFault.TheVariants.{Refused};
-ghost use Rattle.pm_reopen.specs.Reading.{IsNoFailure};
+ghost use Rattle.pm_reopen.specs.declared.fault.ReadFault.TheVariants.{Unheld};
+ghost use Rattle.pm_reopen.specs.Reading.{IsNotHeld};
 ghost use Rattle.pm_reopen.specs.Building.{held_in, held_in_all, held_in_cars, over, over_roots, with_slot, slot_ids, places_of, root_at, has_place, is_readable, IsBuilt};
 
 use crate::fault::ReadFault;
@@ -28,11 +28,11 @@ fn are_null(fields: &Fields) -> bool
 fn null_fields(alloc: Global, fields: &Fields) -> Result<Vec<Option<Id>>, ReadFault>
     ensures null { IfOk result (λ made. list_all is_none fields.now ≡ true) }
     ensures made { IfOk result (λ made. made.items ≡ replicate (length fields.now) None) }
-    ensures refused { IfErr result (λ e. e ≡ Refused → list_all is_none fields.now ≡ false) }
-    ensures no_failure { IfErr result IsNoFailure }
+    ensures unheld { IfErr result (λ e. e ≡ Unheld → list_all is_none fields.now ≡ false) }
+    ensures fault { IfErr result IsNotHeld }
 {
     if !are_null(fields) {
-        return Err(ReadFault::Refused);
+        return Err(ReadFault::Unheld);
     }
     Ok(vec![in alloc; None; fields.as_slice().len()]?)
 }
@@ -41,8 +41,8 @@ fn null_fields(alloc: Global, fields: &Fields) -> Result<Vec<Option<Id>>, ReadFa
 fn plain(alloc: Global, slot: Slot) -> Result<(Id, Node), ReadFault>
     ensures plain { IfOk result (λ made. is_plain_slot slot ≡ true) }
     ensures made { IfOk result (λ made. held_in slot ≡ made ∷ []) }
-    ensures refused { IfErr result (λ e. e ≡ Refused → is_plain_slot slot ≡ false) }
-    ensures no_failure { IfErr result IsNoFailure }
+    ensures unheld { IfErr result (λ e. e ≡ Unheld → is_plain_slot slot ≡ false) }
+    ensures fault { IfErr result IsNotHeld }
 {
     match slot {
         Slot::Live(object) => {
@@ -50,7 +50,7 @@ fn plain(alloc: Global, slot: Slot) -> Result<(Id, Node), ReadFault>
             let fields = null_fields(alloc, &fields)?;
             Ok((id, Node::new(fields, bytes)))
         }
-        Slot::Moved(_) => Err(ReadFault::Refused),
+        Slot::Moved(_) => Err(ReadFault::Unheld),
     }
 }
 
@@ -65,8 +65,8 @@ fn place(
     ensures plain { OnOk result (is_plain_slot slot ≡ true) }
     ensures objects { OnOk result (objects.new ≡ over (held_in slot) objects.old) }
     ensures ids { OnOk result (ids.new ≡ with_slot ids.old number slot) }
-    ensures refused { IfErr result (λ e. e ≡ Refused → is_plain_slot slot ≡ false) }
-    ensures no_failure { IfErr result IsNoFailure }
+    ensures unheld { IfErr result (λ e. e ≡ Unheld → is_plain_slot slot ≡ false) }
+    ensures fault { IfErr result IsNotHeld }
 {
     let (id, node) = plain(alloc, slot)?;
     ids.insert(number, id)?;
@@ -80,8 +80,8 @@ fn place_all(alloc: Global, slots: SlotList, objects: &mut Objects) -> Result<Id
     ensures plain { IfOk result (λ ids. list_all (λ (entry : ℕ × Slot). is_plain_slot entry.1) slots ≡ true) }
     ensures objects { IfOk result (λ ids. objects.new ≡ over (held_in_all slots) objects.old) }
     ensures ids { IfOk result (λ ids. ids ≡ slot_ids slots) }
-    ensures refused { IfErr result (λ e. e ≡ Refused → list_all (λ (entry : ℕ × Slot). is_plain_slot entry.1) slots ≡ false) }
-    ensures no_failure { IfErr result IsNoFailure }
+    ensures unheld { IfErr result (λ e. e ≡ Unheld → list_all (λ (entry : ℕ × Slot). is_plain_slot entry.1) slots ≡ false) }
+    ensures fault { IfErr result IsNotHeld }
 {
     let mut slots = slots.into_vec();
     let mut ids = Idents::new(alloc);
@@ -96,8 +96,8 @@ fn place_cars(alloc: Global, cars: Settled, objects: &mut Objects) -> Result<Pla
     ensures plain { IfOk result (λ places. list_all is_plain_car cars ≡ true) }
     ensures objects { IfOk result (λ places. objects.new ≡ over (held_in_cars cars) objects.old) }
     ensures places { IfOk result (λ places. places ≡ places_of cars) }
-    ensures refused { IfErr result (λ e. e ≡ Refused → list_all is_plain_car cars ≡ false) }
-    ensures no_failure { IfErr result IsNoFailure }
+    ensures unheld { IfErr result (λ e. e ≡ Unheld → list_all is_plain_car cars ≡ false) }
+    ensures fault { IfErr result IsNotHeld }
 {
     let mut cars = cars.into_vec();
     let mut places = Places::new(alloc);
@@ -113,13 +113,13 @@ fn place_cars(alloc: Global, cars: Settled, objects: &mut Objects) -> Result<Pla
 fn bind(entry: CatEntry, places: &Places, roots: &mut Roots) -> Result<(), ReadFault>
     ensures found { OnOk result (has_place places.now entry ≡ true) }
     ensures roots { OnOk result (roots.new ≡ over_roots (root_at places.now entry) roots.old) }
-    ensures refused { IfErr result (λ e. e ≡ Refused → has_place places.now entry ≡ false) }
-    ensures no_failure { IfErr result IsNoFailure }
+    ensures unheld { IfErr result (λ e. e ≡ Unheld → has_place places.now entry ≡ false) }
+    ensures fault { IfErr result IsNotHeld }
 {
     match entry {
         CatEntry::Car { .. } => Ok(()),
         CatEntry::Root { name, at } => match places.find(at) {
-            None => Err(ReadFault::Refused),
+            None => Err(ReadFault::Unheld),
             Some(id) => {
                 roots.bind(name, id)?;
                 Ok(())
@@ -132,8 +132,8 @@ fn bind(entry: CatEntry, places: &Places, roots: &mut Roots) -> Result<(), ReadF
 fn bind_all(alloc: Global, entries: EntryList, places: &Places) -> Result<Roots, ReadFault>
     ensures found { IfOk result (λ roots. list_all (has_place places.now) entries ≡ true) }
     ensures roots { IfOk result (λ roots. roots ≡ over_roots (flat_map (root_at places.now) entries) empty) }
-    ensures refused { IfErr result (λ e. e ≡ Refused → list_all (has_place places.now) entries ≡ false) }
-    ensures no_failure { IfErr result IsNoFailure }
+    ensures unheld { IfErr result (λ e. e ≡ Unheld → list_all (has_place places.now) entries ≡ false) }
+    ensures fault { IfErr result IsNotHeld }
 {
     let mut entries = entries.into_vec();
     let mut roots = Roots::new(alloc);
@@ -150,7 +150,7 @@ fn reached(alloc: Global, objects: Objects, roots: Roots, next: u64) -> Result<G
     Graph::copied(alloc, &objects, &roots, next)
 }
 
-/// The copy of these cars and roots, under this next identity. `Refused` where a slot is Moved, a field is not
+/// The copy of these cars and roots, under this next identity. `Unheld` where a slot is Moved, a field is not
 /// null, or a root's address names no slot.
 pub(crate) fn build(
     alloc: Global,
@@ -159,8 +159,8 @@ pub(crate) fn build(
     next: u64,
 ) -> Result<Graph, ReadFault>
     ensures built { IfOk result (IsBuilt cars entries next) }
-    ensures refused { IfErr result (λ e. e ≡ Refused → is_readable cars entries ≡ false) }
-    ensures no_failure { IfErr result IsNoFailure }
+    ensures unheld { IfErr result (λ e. e ≡ Unheld → is_readable cars entries ≡ false) }
+    ensures fault { IfErr result IsNotHeld }
 {
     let mut objects = Objects::new(alloc);
     let places = place_cars(alloc, cars, &mut objects)?;

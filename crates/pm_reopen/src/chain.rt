@@ -5,7 +5,7 @@ use std::marker::Model;
 
 /// The pages of a catalog with their numbers, seen as a list.
 #[derive(Drop)]
-pub(crate) struct Chain {
+pub struct Chain {
     pages: Vec<(u64, CatalogPage)>,
 }
 
@@ -21,14 +21,21 @@ impl Chain {
     ghost use Rattle.std.specs.Prelude.{◌≡◌};
 
     /// These pages.
-    pub(crate) fn from_vec(pages: Vec<(u64, CatalogPage)>) -> Self
+    pub fn from_vec(pages: Vec<(u64, CatalogPage)>) -> Self
         ensures { result ≡ pages.items }
     {
         Chain { pages }
     }
 
+    /// The pages, lent.
+    pub fn as_slice(&self) -> &[(u64, CatalogPage)]
+        ensures { result.now ≡ self.now }
+    {
+        self.pages.as_slice()
+    }
+
     /// The pages, given back.
-    pub(crate) fn into_vec(self) -> Vec<(u64, CatalogPage)>
+    pub fn into_vec(self) -> Vec<(u64, CatalogPage)>
         ensures { result.items ≡ self }
     {
         self.pages

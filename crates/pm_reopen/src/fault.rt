@@ -1,23 +1,57 @@
 //! Why no copy was read.
 
 ghost use Rattle.std.specs.Prelude.{◌≡◌};
-ghost use Rattle.pm_reopen.specs.declared.fault.ReadFault.TheVariants.{Failed, Memory};
-ghost use Rattle.pm_reopen.specs.Reading.{of_page};
+ghost use Rattle.pm_reopen.specs.declared.fault.ReadFault.TheVariants.{Malformed, Failed, Memory};
 
 use pm_disk::DiskFailed;
-use pm_image::PageFault;
 use pm_types::NoMemory;
 use std::alloc::{AllocError, AllocFailed};
 
 /// Why no copy was read.
 #[derive(Clone, Copy, Debug, PartialEq, Eq)]
 pub(crate) enum ReadFault {
-    /// A rule fails of what stands behind the header.
-    Refused,
+    /// A page has another digest than the one that is kept of it.
+    Damaged {
+        /// The page, counted from 0.
+        page: u64,
+        /// The digest that is kept.
+        kept: [u8; 32],
+        /// The digest of what stands there.
+        found: [u8; 32],
+    },
+    /// A field of a page is at fault.
+    Malformed {
+        /// The page, counted from 0.
+        page: u64,
+        /// The place of the field's first byte in the page.
+        at: u32,
+    },
+    /// The store stands for a copy, which the map in memory cannot hold.
+    Unheld,
     /// The disk failed.
     Failed,
     /// Memory ran out.
     Memory,
+}
+
+/// The place of an address.
+#[derive(Clone, Copy, Debug, PartialEq, Eq)]
+pub(crate) struct Place {
+    /// The page, counted from 0.
+    pub page: u64,
+    /// The place of the address's first byte in the page.
+    pub at: u32,
+}
+
+impl From<Place> for ReadFault {
+    ghost from_gives = { λ place e. e ≡ Malformed place.page place.at };
+
+    fn from(place: Place) -> ReadFault {
+        ReadFault::Malformed {
+            page: place.page,
+            at: place.at,
+        }
+    }
 }
 
 impl From<DiskFailed> for ReadFault {
@@ -25,17 +59,6 @@ impl From<DiskFailed> for ReadFault {
 
     fn from(_e: DiskFailed) -> ReadFault {
         ReadFault::Failed
-    }
-}
-
-impl From<PageFault> for ReadFault {
-    ghost from_gives = { λ fault e. e ≡ of_page fault };
-
-    fn from(fault: PageFault) -> ReadFault {
-        match fault {
-            PageFault::Malformed(_) => ReadFault::Refused,
-            PageFault::Memory => ReadFault::Memory,
-        }
     }
 }
 

@@ -1,13 +1,16 @@
-//! Opening the copy of a store whose fields are null.
+//! Reading the graph behind a header, and opening the copy of a store whose fields are null.
 #![tactic(auto)]
 
 mod building;
 mod chain;
 mod fault;
+mod held;
+mod links;
 mod opening;
 mod places;
 mod reading;
 #[cfg(test)]
 mod tests;
 
-pub use opening::open_copy;
+pub use chain::Chain;
+pub use opening::{open_copy, read_graph};

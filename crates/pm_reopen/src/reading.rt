@@ -1,26 +1,38 @@
 //! Reading the pages of a copy.
 
-ghost use Rattle.std.specs.Prelude.{◌≡◌, ◌<◌, ◌++◌, ℕ, List, IfOk, IfSome, OnOk, Some, length};
+ghost use Rattle.std.specs.Prelude.{◌≡◌, ◌<◌, ◌≤◌, ◌++◌, ℕ, List, IfOk, IfSome, OnOk, Some, length};
 ghost use Rattle.std.specs.List.{AllByRecursion};
 ghost use Rattle.std.specs.FinSet as set;
 ghost use Rattle.pm_types.specs.declared.limits.TheConstants.{FIELDS, PAGE_BYTES};
 ghost use Rattle.pm_disk.specs.Disk.{IfTold};
+ghost use Rattle.pm_image.specs.declared.catalog.CatEntry.{CatEntry};
 ghost use Rattle.pm_image.specs.CatalogPages.{HasCatalogPage, meeting_page};
 ghost use Rattle.pm_image.specs.Opening.{page_of};
-ghost use Rattle.pm_image.specs.Graphs.{undamaged, catalog_of, cars_from};
+ghost use Rattle.pm_image.specs.Graphs.{undamaged, catalog_of, cars_from, entries_of};
 ghost use Rattle.pm_shadow.specs.Pages.{state, disk_of};
-ghost use Rattle.pm_reopen.specs.Reading.{Gives, Counts, Looked, store_of, link_at, car_on, entry_car, with_car, car_list, IsThere, IsEntryThere, IsSound, IsCar};
+ghost use Rattle.pm_reopen.specs.Reading.{Gives, GoesOn, behind, of_page, Counts, Looked, store_of, link_at, car_on, entry_car, with_car, car_list, IsThere, IsEntryThere, IsSound, IsCar};
 
 use crate::chain::Chain;
 use crate::fault::ReadFault;
 use pm_disk::Disk;
 use pm_image::{
-    CatEntry, CatalogPage, KeptPage, Met, NumberSet, Settled, read_car_in, read_catalog_in,
+    CatEntry, CatalogPage, KeptPage, Met, NumberSet, PageFault, Settled, read_car_in,
+    read_catalog_in,
 };
 use pm_layout::digest;
 use pm_shadow::Pages;
 use pm_types::NoMemory;
 use std::alloc::Global;
+
+// A fault of this page.
+fn on_page(page: u64, fault: PageFault) -> ReadFault
+    ensures { result ≡ of_page page fault }
+{
+    match fault {
+        PageFault::Malformed(at) => ReadFault::Malformed { page, at },
+        PageFault::Memory => ReadFault::Memory,
+    }
+}
 
 // Fills the buffer with a page, which has this digest.
 fn read_kept<D: Disk>(
@@ -39,7 +51,11 @@ fn read_kept<D: Disk>(
     pages.read_page(page, buffer)?;
     let found = digest(buffer);
     if *kept != found {
-        return Err(ReadFault::Refused);
+        return Err(ReadFault::Damaged {
+            page,
+            kept: *kept,
+            found,
+        });
     }
     Ok(())
 }
@@ -63,8 +79,10 @@ fn read_link<D: Disk>(
 {
     read_kept(pages, page, kept, buffer)?;
     let count = pages.page_count();
-    let read = read_catalog_in(alloc, buffer, count, met)?;
-    Ok(read)
+    match read_catalog_in(alloc, buffer, count, met) {
+        Ok(read) => Ok(read),
+        Err(fault) => Err(on_page(page, fault)),
+    }
 }
 
 // The car that stands on a page, which has this digest, with these identities met before.
@@ -74,25 +92,29 @@ fn read_car<D: Disk>(
     number: u64,
     page: u64,
     kept: &[u8; 32],
+    most: u32,
     next: u64,
     met: &mut NumberSet,
     buffer: &mut [u8],
 ) -> Result<KeptPage, ReadFault>
     requires page { IsThere (state pages.old).count page }
     requires len { length buffer.old ≡ PAGE_BYTES }
-    ensures gives { IfTold (D.contents (disk_of pages.old)) (λ bytes. Gives result (car_on next (store_of (state pages.old).count bytes) met.old number page kept.now)) }
+    requires most { most ≤ FIELDS }
+    ensures gives { IfTold (D.contents (disk_of pages.old)) (λ bytes. Gives result (car_on most next (store_of (state pages.old).count bytes) met.old number page kept.now)) }
     ensures car { IfOk result (λ car. IsCar (state pages.old).count next car) }
     ensures met { IfOk result (λ car. met.new ≡ with_car met.old (Some car)) }
     ensures looked { Looked pages.old pages.new }
     ensures counts { Counts (D.count (disk_of pages.old)) (D.count (disk_of pages.new)) result }
 {
     read_kept(pages, page, kept, buffer)?;
-    let image = read_car_in(alloc, buffer, number, next, met)?;
-    Ok(KeptPage {
-        image,
-        page,
-        digest: *kept,
-    })
+    match read_car_in(alloc, buffer, most, number, next, met) {
+        Ok(image) => Ok(KeptPage {
+            image,
+            page,
+            digest: *kept,
+        }),
+        Err(fault) => Err(on_page(page, fault)),
+    }
 }
 
 // The car that an entry lists, if it lists one.
@@ -100,13 +122,15 @@ fn read_entry<D: Disk>(
     alloc: Global,
     pages: &mut Pages<D>,
     entry: &CatEntry,
+    most: u32,
     next: u64,
     met: &mut NumberSet,
     buffer: &mut [u8],
 ) -> Result<Option<KeptPage>, ReadFault>
     requires page { IsEntryThere (state pages.old).count entry.now }
     requires len { length buffer.old ≡ PAGE_BYTES }
-    ensures gives { IfTold (D.contents (disk_of pages.old)) (λ bytes. Gives result (entry_car next (store_of (state pages.old).count bytes) met.old entry.now)) }
+    requires most { most ≤ FIELDS }
+    ensures gives { IfTold (D.contents (disk_of pages.old)) (λ bytes. Gives result (entry_car most next (store_of (state pages.old).count bytes) met.old entry.now)) }
     ensures car { IfOk result (λ car. IfSome car (IsCar (state pages.old).count next)) }
     ensures met { IfOk result (λ car. met.new ≡ with_car met.old car) }
     ensures looked { Looked pages.old pages.new }
@@ -119,7 +143,7 @@ fn read_entry<D: Disk>(
             digest,
             ..
         } => {
-            let kept = read_car(alloc, pages, *car, *page, digest, next, met, buffer)?;
+            let kept = read_car(alloc, pages, *car, *page, digest, most, next, met, buffer)?;
             Ok(Some(kept))
         }
         CatEntry::Root { .. } => Ok(None),
@@ -136,26 +160,60 @@ fn push(cars: &mut Vec<KeptPage>, car: Option<KeptPage>) -> Result<(), NoMemory>
     Ok(())
 }
 
-/// The cars that entries list, in order, of a store with this next identity.
-pub(crate) fn read_cars<D: Disk>(
+// Puts the cars that entries list behind others, in order, of objects of at most so many fields, of a store with this
+// next identity. These identities were met before.
+fn read_listed<D: Disk>(
     alloc: Global,
     pages: &mut Pages<D>,
     entries: &[CatEntry],
+    most: u32,
+    next: u64,
+    met: &mut NumberSet,
+    cars: &mut Vec<KeptPage>,
+    buffer: &mut [u8],
+) -> Result<(), ReadFault>
+    requires pages { AllByRecursion (IsEntryThere (state pages.old).count) entries.now }
+    requires len { length buffer.old ≡ PAGE_BYTES }
+    requires most { most ≤ FIELDS }
+    requires cars { AllByRecursion (IsCar (state pages.old).count next) cars.old.items }
+    ensures gives { IfTold (D.contents (disk_of pages.old)) (λ bytes. (rest : List CatEntry)
+        → GoesOn result (behind cars.old.items (cars_from most next (store_of (state pages.old).count bytes) met.old (entries.now ++ rest)))
+        (behind cars.new.items (cars_from most next (store_of (state pages.old).count bytes) met.new rest))) }
+    ensures cars { OnOk result (AllByRecursion (IsCar (state pages.old).count next) cars.new.items) }
+    ensures looked { Looked pages.old pages.new }
+    ensures counts { Counts (D.count (disk_of pages.old)) (D.count (disk_of pages.new)) result }
+{
+    for entry in entries {
+        let car = read_entry(alloc, pages, entry, most, next, met, buffer)?;
+        push(cars, car)?;
+    }
+    Ok(())
+}
+
+/// The cars that a catalog lists, in order, of objects of at most so many fields, of a store with this next identity.
+pub(crate) fn read_cars<D: Disk>(
+    alloc: Global,
+    pages: &mut Pages<D>,
+    catalog: &[(u64, CatalogPage)],
+    most: u32,
     next: u64,
     buffer: &mut [u8],
 ) -> Result<Settled, ReadFault>
-    requires pages { AllByRecursion (IsEntryThere (state pages.old).count) entries.now }
+    requires pages { AllByRecursion (IsEntryThere (state pages.old).count) (entries_of catalog.now) }
     requires len { length buffer.old ≡ PAGE_BYTES }
-    ensures gives { IfTold (D.contents (disk_of pages.old)) (λ bytes. Gives result (cars_from FIELDS next (store_of (state pages.old).count bytes) set.empty entries.now)) }
+    requires most { most ≤ FIELDS }
+    ensures gives { IfTold (D.contents (disk_of pages.old)) (λ bytes. Gives result (cars_from most next (store_of (state pages.old).count bytes) set.empty (entries_of catalog.now))) }
     ensures cars { IfOk result (λ cars. AllByRecursion (IsCar (state pages.old).count next) cars) }
     ensures looked { Looked pages.old pages.new }
     ensures counts { Counts (D.count (disk_of pages.old)) (D.count (disk_of pages.new)) result }
 {
     let mut met = NumberSet::new(alloc);
     let mut cars = Vec::new(alloc);
-    for entry in entries {
-        let car = read_entry(alloc, pages, entry, next, &mut met, buffer)?;
-        push(&mut cars, car)?;
+    for page in catalog {
+        let entries = page.1.entries.as_slice();
+        read_listed(
+            alloc, pages, entries, most, next, &mut met, &mut cars, buffer,
+        )?;
     }
     Ok(Settled::from_vec(cars))
 }
@@ -189,5 +247,6 @@ pub(crate) fn read_chain<D: Disk>(
         page = next;
         kept = digest;
     }
-    Err(ReadFault::Refused)
+    // No chain is as long: a page is never met twice.
+    Err(ReadFault::Malformed { page, at: 4 })
 }

@@ -124,7 +124,12 @@ fn a_new_store_is_opened_as_the_empty_copy(rt: HostRuntime) -> Result<(), Fail> 
         *byte = 1;
     }
     let none = Vec::new(alloc);
-    assert_eq!(rt; opened(alloc, bytes, none), Err(OpenFault::Broken));
+    assert!(rt;
+        matches!(
+            opened(alloc, bytes, none),
+            Err(OpenFault::Damaged { page: 2, .. })
+        )
+    );
     // The catalog page is read by the disk's seventh call.
     let seventh = vec![in alloc; 7; 1]?;
     assert_eq!(rt;

@@ -1,7 +1,7 @@
 -- Closing the other gate, and publishing.
 use Rattle.std.proofs.Common.{◌≡◌, ◌⊎◌, inl, inr, ⊎_elim, ℕ, ◌+◌, ◌*◌, ◌≤◌, Bool, true, false, List, [], ◌∷◌, Option, Some, refl, sym, ◌∙◌, ap, subst, arith}
 use Rattle.std.specs.Prelude.{option_map}
-use Rattle.pm_types.specs.declared.limits.TheConstants.{FIELDS, PAGE_BYTES}
+use Rattle.pm_types.specs.declared.limits.TheConstants.{PAGE_BYTES}
 use Rattle.pm_layout.specs.declared.header.Header.{Header}
 use Rattle.pm_disk.specs.Writes.{Torn}
 use Rattle.pm_disk.specs.Made.{Made}
@@ -34,7 +34,7 @@ next_stays s at m was now header copy torn low has =
     record {
       graph = has.graph;
       next = record {
-        found = graph_too (pages_of was) (pages_of now) FIELDS header has.graph next.found (λ page used.
+        found = graph_too (pages_of was) (pages_of now) header has.graph next.found (λ page used.
             let is = next.next page used in
             let there = is.there in
             let from = is.from_2 in

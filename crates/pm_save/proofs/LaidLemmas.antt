@@ -7,7 +7,7 @@ use Rattle.std.specs.FinMap.{get, find, entries, entries_sorted, get-entries}
 use Rattle.std.proofs.lemmas.Bool.{eqb-true}
 use Rattle.std.proofs.lemmas.Option.{none-some}
 use Rattle.std.proofs.lemmas.List.{append-nil, map-append, length-map}
-use Rattle.pm_types.specs.declared.limits.TheConstants.{FIELDS, PAGE_BYTES}
+use Rattle.pm_types.specs.declared.limits.TheConstants.{PAGE_BYTES, VERSION}
 use Rattle.pm_layout.specs.declared.header.Header.{Header}
 use Rattle.pm_model.specs.Heap.{Object}
 use Rattle.pm_model.specs.World.{Copy}
@@ -106,16 +106,16 @@ first_used : (listed : List Listed) (others : List ℕ) → 0 < length listed �
 first_used [] others some = absurd (omega arith)
 first_used (first ∷ listed) others some = at_first first.page (map (λ (page : ℕ × CatalogPage). page.0) (chain_of listed) ++ others)
 
-pub laid_next : (s : State) (bytes : List ℕ) (copy : Copy) (first : NewPage) (header : Header) → IsPlainCopy copy → IsLaid s bytes copy first → header.next ≡ copy.next → header.first ≡ first.page → header.digest ≡ first.digest → HasNextCopy s bytes header copy
-laid_next s bytes copy first header plain laid next page digest =
+pub laid_next : (s : State) (bytes : List ℕ) (copy : Copy) (first : NewPage) (header : Header) → IsPlainCopy copy → IsLaid s bytes copy first → header.version ≡ VERSION → header.next ≡ copy.next → header.first ≡ first.page → header.digest ≡ first.digest → HasNextCopy s bytes header copy
+laid_next s bytes copy first header plain laid version next page digest =
     let plan = laid.plan in
     let graph = graph_of_plan plan in
     let begins = page ∙ laid.page in
-    let found = laid_graph (pages_below s.count bytes) copy plan header plain laid.is_plan laid.stands (record { next = next; first = begins; digest = digest ∙ laid.digest }) in
+    let found = laid_graph (pages_below s.count bytes) copy plan header plain laid.is_plan laid.stands (record { version = version; next = next; first = begins; digest = digest ∙ laid.digest }) in
     record {
       graph = graph;
       next = record {
-        found = graph_too (pages_below s.count bytes) (pages_of bytes) FIELDS header graph found (λ page used. ((laid.claimed page used).there, refl));
+        found = graph_too (pages_below s.count bytes) (pages_of bytes) header graph found (λ page used. ((laid.claimed page used).there, refl));
         first = subst (Contains (used_pages graph)) (sym begins) (first_used plan.listed (map (λ (kept : KeptPage). kept.page) graph.cars) laid.is_plan.has_page);
         next = laid.claimed;
       };

@@ -29,11 +29,8 @@ use pm_image::EntryList;
 use pm_layout::Header;
 use pm_model::{Graph, Roots};
 use pm_shadow::{PageUse, Pages};
-use pm_types::NoMemory;
+use pm_types::{NoMemory, VERSION};
 use std::alloc::Global;
-
-/// The version of the format.
-const VERSION: u32 = 1;
 
 /// The entries of the cars and then of the roots, cut into those of catalog pages.
 fn list(alloc: Global, filling: Filling, roots: &Roots) -> Result<Vec<EntryList>, NoMemory>

@@ -1,7 +1,7 @@
 -- What the images of a disk are opened as, while the next copy is written beside the current one.
 use Rattle.std.proofs.Common.{◌≡◌, ℕ, ◌/◌, ◌<◌, ◌≤◌, Bool, true, false, List, Contains, Ok, refl, sym, ◌∙◌, ap, subst, arith}
 use Rattle.std.specs.Prelude.{nat_le, nat_lt, ◌&&◌, ◌==◌, if◌then◌else◌, length}
-use Rattle.pm_types.specs.declared.limits.TheConstants.{FIELDS, PAGE_BYTES}
+use Rattle.pm_types.specs.declared.limits.TheConstants.{PAGE_BYTES}
 use Rattle.pm_layout.specs.declared.header.Header.{Header}
 use Rattle.pm_image.specs.Opening.{is_placed, page_count, page_of}
 use Rattle.pm_image.specs.Graphs.{Graph, graph_of, used_pages}
@@ -23,17 +23,17 @@ placed_in count header low high =
 
 -- an image with the header and these pages is opened with this graph
 opened_with : (bytes image : List ℕ) (slot : ℕ) (header : Header) (graph : Graph) → Heads image slot header
-    → graph_of FIELDS (pages_of bytes) header ≡ Ok graph → Contains (used_pages graph) header.first
+    → graph_of (pages_of bytes) header ≡ Ok graph → Contains (used_pages graph) header.first
     → ((page : ℕ) → Contains (used_pages graph) page → (2 ≤ page) × (page < page_count image) × (page_of image page ≡ page_of bytes page))
-    → opened FIELDS image ≡ Ok (record { current = record { slot = slot; header = header }; graph = graph })
+    → opened image ≡ Ok (record { current = record { slot = slot; header = header }; graph = graph })
 opened_with bytes image slot header graph heads found first pages =
     let of_first = pages header.first first in
-    opened_as FIELDS image (record { slot = slot; header = header }) graph
+    opened_as image (record { slot = slot; header = header }) graph
     (heads_current image slot header heads (placed_in (page_count image) header of_first.0 of_first.1))
-    (graph_too (pages_of bytes) (pages_of image) FIELDS header graph found (λ page used. let is = pages page used in (is.1, is.2)))
+    (graph_too (pages_of bytes) (pages_of image) header graph found (λ page used. let is = pages page used in (is.1, is.2)))
 
 -- what holds the current copy is opened with it
-pub held_opened : (s : State) (bytes image : List ℕ) (graph : Graph) → KeepsGraph s bytes graph → Holds s bytes image → opened FIELDS image ≡ Ok (current_graph s graph)
+pub held_opened : (s : State) (bytes image : List ℕ) (graph : Graph) → KeepsGraph s bytes graph → Holds s bytes image → opened image ≡ Ok (current_graph s graph)
 held_opened s bytes image graph keeps held =
     opened_with bytes image s.slot s.header graph held.heads keeps.found keeps.first
     (λ page used.
@@ -44,7 +44,7 @@ held_opened s bytes image graph keeps held =
 -- and keeps it
 pub held_keeps : (s : State) (bytes image : List ℕ) (graph : Graph) → KeepsGraph s bytes graph → Holds s bytes image → KeepsGraph s image graph
 held_keeps s bytes image graph keeps held = record {
-  found = graph_too (pages_of bytes) (pages_of image) FIELDS s.header graph keeps.found (λ page used. let is = keeps.kept page used in held.pages page is.kept is.from_2 is.settled);
+  found = graph_too (pages_of bytes) (pages_of image) s.header graph keeps.found (λ page used. let is = keeps.kept page used in held.pages page is.kept is.from_2 is.settled);
   first = keeps.first;
   kept = keeps.kept;
 }
@@ -53,7 +53,7 @@ same_count : (a b : List ℕ) → length a ≡ length b → page_count a ≡ pag
 same_count a b same = ap (λ (n : ℕ). n / PAGE_BYTES) same
 
 -- what has the next header is opened with the next copy
-pub renewed_opened : (s : State) (header : Header) (bytes image : List ℕ) (graph : Graph) → NextGraph s bytes header graph → Renews s header bytes image → opened FIELDS image ≡ Ok (next_graph s header graph)
+pub renewed_opened : (s : State) (header : Header) (bytes image : List ℕ) (graph : Graph) → NextGraph s bytes header graph → Renews s header bytes image → opened image ≡ Ok (next_graph s header graph)
 renewed_opened s header bytes image graph next new =
     let same = same_count image bytes new.length in
     opened_with bytes image (other s.slot) header graph new.heads next.found next.first
@@ -69,7 +69,7 @@ pub renewed_keeps : (s : State) (header : Header) (bytes image : List ℕ) (grap
 renewed_keeps s header bytes image graph next new =
     let same = same_count image bytes new.length in
     record {
-      found = graph_too (pages_of bytes) (pages_of image) FIELDS header graph next.found (λ page used. let is = next.next page used in ((let there = is.there in omega (arith, same)), new.pages page is.from_2));
+      found = graph_too (pages_of bytes) (pages_of image) header graph next.found (λ page used. let is = next.next page used in ((let there = is.there in omega (arith, same)), new.pages page is.from_2));
       first = next.first;
       kept = λ page used. let is = next.next page used in record { from_2 = is.from_2; settled = is.counted; kept = current_now s.uses page is.from_2 is.claimed };
     }
@@ -77,7 +77,7 @@ renewed_keeps s header bytes image graph next new =
 -- the graph is kept where no fewer pages are
 pub keeps_still : (s t : State) (bytes : List ℕ) (graph : Graph) → KeepsNoFewer s t → KeepsGraph s bytes graph → KeepsGraph t bytes graph
 keeps_still s t bytes graph same keeps = record {
-  found = subst (λ (header : Header). graph_of FIELDS (pages_of bytes) header ≡ Ok graph) (sym same.header) keeps.found;
+  found = subst (λ (header : Header). graph_of (pages_of bytes) header ≡ Ok graph) (sym same.header) keeps.found;
   first = subst (λ (header : Header). Contains (used_pages graph) header.first) (sym same.header) keeps.first;
   kept = λ page used. let is = keeps.kept page used in record { from_2 = is.from_2; settled = (let had = is.settled in omega (arith, same.settled)); kept = same.kept page is.kept };
 }

@@ -1,6 +1,5 @@
 -- The graph of the current copy, and that of the next one, in the pages of a store.
 use Rattle.std.specs.Prelude.{◌≡◌, ℕ, ◌<◌, ◌≤◌, List, Contains, true, Ok}
-use Rattle.pm_types.specs.declared.limits.TheConstants.{FIELDS}
 use Rattle.pm_layout.specs.declared.header.Header.{Header}
 use Rattle.pm_image.specs.Opening.{page_count}
 use Rattle.pm_image.specs.Graphs.{Graph, graph_of, used_pages}
@@ -17,7 +16,7 @@ pub record IsKept (s : State) (page : ℕ) : Type 0 where
 -- This graph stands behind the current header, and its pages are kept. Where the pages of the current copy are
 -- known, they are known as such.
 pub record KeepsGraph (s : State) (bytes : List ℕ) (graph : Graph) : Type 0 where
-  pub found : graph_of FIELDS (pages_of bytes) s.header ≡ Ok graph
+  pub found : graph_of (pages_of bytes) s.header ≡ Ok graph
   pub first : Contains (used_pages graph) s.header.first
   pub kept : (page : ℕ) → Contains (used_pages graph) page → IsKept s page
 
@@ -30,7 +29,7 @@ pub record IsNext (s : State) (bytes : List ℕ) (page : ℕ) : Type 0 where
 
 -- This graph will stand behind this header, and its pages were claimed.
 pub record NextGraph (s : State) (bytes : List ℕ) (header : Header) (graph : Graph) : Type 0 where
-  pub found : graph_of FIELDS (pages_of bytes) header ≡ Ok graph
+  pub found : graph_of (pages_of bytes) header ≡ Ok graph
   pub first : Contains (used_pages graph) header.first
   pub next : (page : ℕ) → Contains (used_pages graph) page → IsNext s bytes page
 

@@ -14,7 +14,7 @@ use crate::slots::{OPEN, gate_place};
 use pm_disk::{Disk, DiskFailed};
 use pm_image::ENTRIES;
 use pm_layout::{Header, digest, write_header};
-use pm_types::{InitFault, NoMemory, PAGE_BYTES};
+use pm_types::{InitFault, NoMemory, PAGE_BYTES, VERSION};
 use std::alloc::Global;
 
 /// A page that begins with these bytes, and is zero behind them.
@@ -46,7 +46,7 @@ fn header_page(alloc: Global, catalog: &[u8]) -> Result<Vec<u8>, NoMemory>
     ensures len { IfOk result (λ page. length page.items ≡ PAGE_BYTES) }
 {
     let header = Header {
-        version: 1,
+        version: VERSION,
         epoch: 0,
         next: 1,
         first: 2,

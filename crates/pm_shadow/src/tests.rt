@@ -70,7 +70,7 @@ fn left_epoch(stop: u64, pick: u64) -> u8 {
 fn a_publish_that_stops_leaves_one_of_two_headers(rt: HostRuntime) -> Result<(), Fail> {
     let alloc = rt.alloc();
     let next = Header {
-        version: 1,
+        version: 2,
         epoch: 1,
         next: 1,
         first: 2,

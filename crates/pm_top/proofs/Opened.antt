@@ -9,7 +9,6 @@ use Rattle.pm_model.specs.World.{World, Copy, begin}
 use Rattle.pm_model.specs.Journal.{IsLegal, after}
 use Rattle.pm_image.specs.Stands.{Stands}
 use Rattle.pm_image.specs.Opening.{current}
-use Rattle.pm_types.specs.declared.limits.TheConstants.{FIELDS}
 use Rattle.pm_base.specs.Results.{◌>>=◌}
 use Rattle.pm_image.specs.Graphs.{graph_of, copy_of}
 use Rattle.pm_image.specs.Stands.{pages_of}
@@ -51,7 +50,7 @@ none_opened NoRoom has = has refl
 -- a header that is refused is not opened
 current_refused : (bytes : List ℕ) (fault : OpenFault) → current bytes ≡ Err fault → reopened bytes ≡ Err fault
 unfolding reopened
-current_refused bytes fault is = ap (λ now. now >>= λ now. readable (graph_of FIELDS (pages_of bytes) now.header) >>= λ graph. Ok (now.header.epoch, copy_of now.header.next graph)) is
+current_refused bytes fault is = ap (λ now. now >>= λ now. readable (graph_of (pages_of bytes) now.header) >>= λ graph. Ok (now.header.epoch, copy_of now.header.next graph)) is
 
 pub refused_by_header : (bytes : List ℕ) (fault : OpenFault) → IsFaultOf bytes fault → IsRefusedFor bytes (not_opened fault)
 refused_by_header bytes NotAStore is = current_refused bytes NotAStore is

@@ -6,7 +6,7 @@ ghost use Rattle.std.specs.declared.cmp.Ordering.TheVariants.{Equal};
 ghost use Rattle.std.specs.Cmp.{IsTotalOrder};
 ghost use Rattle.pm_types.specs.declared.address.Addr.{Addr};
 ghost use Rattle.pm_types.specs.declared.source.RefSource.{RefSource};
-ghost use Rattle.pm_types.specs.declared.limits.TheConstants.{CLIENTS, REGISTERS, FIELDS, OBJECT_BYTES, LAST_ID, NAME_BYTES, ROOTS, WATCHES, LAST_COPY, PAGE_BYTES, SOURCE_BYTES, SCRIPT_LINES};
+ghost use Rattle.pm_types.specs.declared.limits.TheConstants.{CLIENTS, REGISTERS, FIELDS, OLD_FIELDS, OBJECT_BYTES, LAST_ID, NAME_BYTES, ROOTS, WATCHES, LAST_COPY, PAGE_BYTES, SOURCE_BYTES, SCRIPT_LINES, VERSION, OLD_VERSION};
 ghost use Rattle.pm_types.specs.Orders.{name_cmp, place_cmp, address_cmp, source_cmp};
 ghost use Rattle.pm_types.specs.contracts.address.AddrOrd.TheImpl as address;
 ghost use Rattle.pm_types.specs.contracts.source.RefSourceOrd.TheImpl as source;
@@ -15,7 +15,7 @@ ghost use Rattle.pm_types.specs.contracts.source.RefSourceOrd.TheImpl as source;
 pub fn limits_of_clients()
     ensures clients { CLIENTS ≡ 8 }
     ensures registers { REGISTERS ≡ 1024 }
-    ensures fields { FIELDS ≡ 64 }
+    ensures fields { FIELDS ≡ 255 }
     ensures object_bytes { OBJECT_BYTES ≡ 4096 }
     ensures last_id { LAST_ID ≡ 4294967295 }
     ensures roots { ROOTS ≡ 4096 }
@@ -25,6 +25,9 @@ pub fn limits_of_clients()
 
 /// A law of limits: the numbers of what a store and a script have.
 pub fn limits_of_stores()
+    ensures version { VERSION ≡ 2 }
+    ensures old_version { OLD_VERSION ≡ 1 }
+    ensures old_fields { OLD_FIELDS ≡ 64 }
     ensures last_copy { LAST_COPY ≡ 4294967295 }
     ensures page_bytes { PAGE_BYTES ≡ 16384 }
     ensures source_bytes { SOURCE_BYTES ≡ 268435456 }

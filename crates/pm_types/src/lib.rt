@@ -28,8 +28,8 @@ pub use law::{
     places_are_ordered, sources_are_ordered,
 };
 pub use limits::{
-    CLIENTS, FIELDS, LAST_COPY, LAST_ID, NAME_BYTES, OBJECT_BYTES, PAGE_BYTES, REGISTERS, ROOTS,
-    SCRIPT_LINES, SOURCE_BYTES, WATCHES,
+    CLIENTS, FIELDS, LAST_COPY, LAST_ID, NAME_BYTES, OBJECT_BYTES, OLD_FIELDS, OLD_VERSION,
+    PAGE_BYTES, REGISTERS, ROOTS, SCRIPT_LINES, SOURCE_BYTES, VERSION, WATCHES,
 };
 pub use name::{Name, NameFault};
 pub use no_memory::NoMemory;

@@ -5,7 +5,16 @@ pub const CLIENTS: u32 = 8;
 pub const REGISTERS: u32 = 1024;
 
 /// The most reference fields of an object.
-pub const FIELDS: u32 = 64;
+pub const FIELDS: u32 = 255;
+
+/// The most reference fields of an object in a store of the old version.
+pub const OLD_FIELDS: u32 = 64;
+
+/// The version of the format that is written.
+pub const VERSION: u32 = 2;
+
+/// The version of the format that came before it, which is still read.
+pub const OLD_VERSION: u32 = 1;
 
 /// The most bytes of an object.
 pub const OBJECT_BYTES: usize = 4096;

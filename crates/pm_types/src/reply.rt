@@ -21,7 +21,7 @@ pub enum Reply {
     Saved(u32),
     /// The watch of this number, 1 to 64, was set.
     Watching(u32),
-    /// Refused: the object would have more than 64 fields or more than 4,096 bytes.
+    /// Refused: the object would have more than 255 fields or more than 4,096 bytes.
     TooLarge,
     /// Refused: identity 4,294,967,295 was given, and there is no further one.
     IdsSpent,

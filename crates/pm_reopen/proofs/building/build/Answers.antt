@@ -7,12 +7,12 @@ use Rattle.pm_reopen.specs.Building.{over, over_roots, held_in_cars, Places, has
 use Rattle.pm_reopen.proofs.BuiltLaws.{heap_built, roots_built, all_readable, not_readable}
 use Rattle.pm_reopen.proofs.building.build.Goals as goal
 
-pub returns-in_err-roots-clause-refused : goal.returns-in_err-roots-clause-refused
-returns-in_err-roots-clause-refused c =
+pub returns-in_err-roots-clause-unheld : goal.returns-in_err-roots-clause-unheld
+returns-in_err-roots-clause-unheld c =
     let cars = c.args.cars in
     let entries = c.args.entries in
     let p = err_from_is_err_and c.from_residual-in_err-roots.result c.from_residual-in_err-roots.ensures.1 in
-    rw (p.1, p.2) (λ is. not_readable cars entries c.in_ok-places.ensures.plain (subst (λ (p : Places). list_all (has_place p) entries ≡ false) c.in_ok-places.ensures.places (c.in_err-roots.ensures.refused is)))
+    rw (p.1, p.2) (λ is. not_readable cars entries c.in_ok-places.ensures.plain (subst (λ (p : Places). list_all (has_place p) entries ≡ false) c.in_ok-places.ensures.places (c.in_err-roots.ensures.unheld is)))
 
 pub returns-clause-built : goal.returns-clause-built
 returns-clause-built c =

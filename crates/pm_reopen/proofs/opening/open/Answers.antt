@@ -9,11 +9,11 @@ use Rattle.pm_shadow.specs.Runs.{OnlyLooks}
 use Rattle.pm_shadow.specs.Pages.{state, disk_of}
 use Rattle.pm_shadow.proofs.TableLemmas.{claimed_from_2}
 use Rattle.pm_reopen.specs.Reading.{IsThere}
-use Rattle.pm_reopen.proofs.OpenLaws.{listable, none_claimed, read_has, read_opens, refused_opens, first_there, next_read}
+use Rattle.pm_reopen.proofs.OpenLaws.{listable, none_claimed, read_has, read_opens, fails_opens, first_there, next_read}
 use Rattle.pm_reopen.proofs.opening.open.Goals as goal
 
-pub returns-then-not-is_there-clause-refused : goal.returns-then-not-is_there-clause-refused
-returns-then-not-is_there-clause-refused g c = λ is bytes told.
+pub returns-then-not-is_there-clause-fault : goal.returns-then-not-is_there-clause-fault
+returns-then-not-is_there-clause-fault g c = λ bytes told.
     let there = first_there (state c.args.pages.now) bytes (c.requires.current bytes told) in
     let here : IsThere c.page_count.result c.header.result.now.first
     = subst (λ (n : ℕ). IsThere n c.header.result.now.first) (sym c.page_count.ensures) (subst (λ (h : Header). IsThere c.args.pages.now.count h.first) (sym c.header.ensures) there) in
@@ -21,10 +21,10 @@ returns-then-not-is_there-clause-refused g c = λ is bytes told.
     let no = c.if-not-is_there.true in
     absurd (cc (yes, no))
 
-pub returns-in_err-used-clause-refused : goal.returns-in_err-used-clause-refused
-returns-in_err-used-clause-refused g c =
+pub returns-in_err-used-clause-fault : goal.returns-in_err-used-clause-fault
+returns-in_err-used-clause-fault g c =
     let p = err_from_is_err_and c.from_residual.result c.from_residual.ensures.1 in
-    rw (p.1, p.2) (λ is bytes told. refused_opens (state c.args.pages.now) bytes (c.requires.current bytes told) (c.in_err-used.ensures.refused is bytes told))
+    rw (p.1, p.2) (λ bytes told. fails_opens (state c.args.pages.now) bytes c.in_err-used.field-0.0 (c.requires.current bytes told) (c.in_err-used.ensures.fault bytes told))
 
 pub commit_list-requires : goal.commit_list-requires
 commit_list-requires g c =

@@ -1,54 +1,48 @@
-use Rattle.std.proofs.Common.{◌≡◌, ◌≤◌, ◌++◌, List, map, false, Err, sym, ap, subst, ◌∙◌}
+use Rattle.std.proofs.Common.{◌≡◌, ◌≤◌, List, Err, sym, ap, subst, ◌∙◌}
 use Rattle.std.proofs.lemmas.Result.{err_from_is_err_and}
-use Rattle.pm_layout.specs.declared.header.Header.{Header}
-use Rattle.pm_image.specs.declared.catalog.CatEntry.{CatEntry}
-use Rattle.pm_image.specs.declared.settled.KeptPage.{KeptPage}
-use Rattle.pm_shadow.specs.Pages.{disk_of}
-use Rattle.pm_reopen.specs.Building.{is_readable, IsBuilt}
-use Rattle.pm_reopen.specs.Reading.{store_of, root_count}
-use Rattle.pm_reopen.proofs.GraphLaws.{graph_not, refused_not}
-use Rattle.pm_reopen.proofs.KnownLaws.{built_plain}
-use Rattle.pm_reopen.proofs.OpenLaws.{built_read, counts_still}
 use Rattle.pm_types.specs.declared.limits.TheConstants.{ROOTS}
+use Rattle.pm_layout.specs.declared.header.Header.{Header}
+use Rattle.pm_image.specs.declared.settled.KeptPage.{KeptPage}
+use Rattle.pm_image.specs.Graphs.{Catalog, Graph, entries_of, graph_of}
+use Rattle.pm_shadow.specs.Pages.{disk_of}
 use Rattle.pm_reopen.specs.declared.fault.ReadFault.{ReadFault}
+use Rattle.pm_reopen.specs.Building.{IsBuilt}
+use Rattle.pm_reopen.specs.Reading.{store_of, root_count}
+use Rattle.pm_reopen.proofs.KnownLaws.{built_plain}
+use Rattle.pm_reopen.proofs.OpenLaws.{whole_read, unheld_fails, readable_fails, held_counts, loose_counts}
 use Rattle.pm_reopen.proofs.opening.read_copy.Goals as goal
 
-pub returns-in_err-numbers-clause-refused : goal.returns-in_err-numbers-clause-refused
-returns-in_err-numbers-clause-refused g c =
+pub returns-in_err-chain-clause-fault : goal.returns-in_err-chain-clause-fault
+returns-in_err-chain-clause-fault g c =
     let p = err_from_is_err_and c.from_residual.result c.from_residual.ensures.1 in
-    rw (p.1, p.2) (λ is bytes told. refused_not (store_of c.args.pages.now.count bytes) c.args.pages.now.header (c.in_err-numbers.ensures.refused is bytes told))
+    rw (p.1, p.2) (λ bytes told. readable_fails c.in_err-chain.field-0.0 (graph_of (store_of c.args.pages.now.count bytes) c.args.pages.now.header) (c.in_err-chain.ensures.gives bytes told))
 
-pub returns-in_err-copy-clause-refused : goal.returns-in_err-copy-clause-refused
-returns-in_err-copy-clause-refused g c =
-    let p = err_from_is_err_and c.from_residual-in_err-copy.result c.from_residual-in_err-copy.ensures.1 in
-    let laid = c.in_ok-numbers.ensures.laid in
-    let cars = c.in_ok-numbers.field-0.cars in
-    rw (p.1, p.2) (λ is bytes told.
-    let read = laid.read bytes told in
-    graph_not (store_of c.args.pages.now.count bytes) c.args.pages.now.header laid.catalog cars read.0 read.1
-    (subst (λ (es : List CatEntry). is_readable cars es ≡ false) laid.entries_are (c.in_err-copy.ensures.refused is)))
+pub returns-in_err-chain-clause-counts : goal.returns-in_err-chain-clause-counts
+returns-in_err-chain-clause-counts g c =
+    let p = err_from_is_err_and c.from_residual.result c.from_residual.ensures.1 in
+    loose_counts (Catalog × List KeptPage) (g.D.Disk.count (disk_of c.args.pages.now)) (g.D.Disk.count (disk_of c.read_whole.new.pages)) c.from_residual.result c.in_err-chain.field-0.0 (p.1 ∙ ap (λ (e : ReadFault). Err e) p.2) c.in_err-chain.ensures.counts
 
-pub returns-in_err-copy-clause-counts : goal.returns-in_err-copy-clause-counts
-returns-in_err-copy-clause-counts g c =
-    let p = err_from_is_err_and c.from_residual-in_err-copy.result c.from_residual-in_err-copy.ensures.1 in
-    counts_still (g.D.Disk.count (disk_of c.args.pages.now)) (g.D.Disk.count (disk_of c.read_laid.new.pages)) c.from_residual-in_err-copy.result c.in_err-copy.field-0.0
-    (p.1 ∙ ap (λ (e : ReadFault). Err e) p.2) c.in_err-copy.ensures.no_failure c.in_ok-numbers.ensures.counts
+pub returns-in_err-used-clause-fault : goal.returns-in_err-used-clause-fault
+returns-in_err-used-clause-fault g c =
+    let p = err_from_is_err_and c.from_residual-in_err-used.result c.from_residual-in_err-used.ensures.1 in
+    rw (p.1, p.2) (λ bytes told. unheld_fails c.in_err-used.field-0.0 (graph_of (store_of c.args.pages.now.count bytes) c.args.pages.now.header) (record { catalog = c.in_ok-chain.chain; cars = c.in_ok-chain.cars })
+    (c.in_ok-chain.ensures.gives bytes told) c.in_err-used.ensures.fault c.in_err-used.ensures.unheld)
+
+pub returns-in_err-used-clause-counts : goal.returns-in_err-used-clause-counts
+returns-in_err-used-clause-counts g c =
+    let p = err_from_is_err_and c.from_residual-in_err-used.result c.from_residual-in_err-used.ensures.1 in
+    held_counts (g.D.Disk.count (disk_of c.args.pages.now)) (g.D.Disk.count (disk_of c.read_whole.new.pages)) c.from_residual-in_err-used.result c.in_err-used.field-0.0 (p.1 ∙ ap (λ (e : ReadFault). Err e) p.2) c.in_err-used.ensures.fault c.in_ok-chain.ensures.counts
 
 pub returns-clause-read : goal.returns-clause-read
 returns-clause-read g c =
     let header = c.args.pages.now.header in
-    let entries = c.in_ok-numbers.field-0.entries in
-    let cars = c.in_ok-numbers.field-0.cars in
-    let built = subst (λ (h : Header). IsBuilt cars entries h.next c.in_ok-copy.copy) c.header.ensures c.in_ok-copy.ensures.built in
-    built_read c.args.pages.now.count header (g.D.Disk.contents (disk_of c.args.pages.now)) c.in_ok-numbers.field-0.numbers.items c.in_ok-used.used.items entries cars c.in_ok-copy.copy c.in_ok-numbers.ensures.laid
-    (c.in_ok-used.ensures ∙ ap (λ (ks : List KeptPage). c.in_ok-numbers.field-0.numbers.items ++ map (λ (kept : KeptPage). kept.page) ks) c.as_slice.ensures) built
+    let built = subst (λ (h : Header). IsBuilt c.in_ok-chain.cars (entries_of c.in_ok-chain.chain) h.next c.in_ok-used.copy) c.header.ensures c.in_ok-used.ensures.built in
+    whole_read c.args.pages.now.count header (g.D.Disk.contents (disk_of c.args.pages.now)) c.in_ok-chain.chain c.in_ok-chain.cars c.in_ok-used.used.items c.in_ok-used.copy c.in_ok-chain.ensures.whole
+    (λ bytes told. c.in_ok-chain.ensures.gives bytes told) c.in_ok-used.ensures.pages built
 
 pub returns-clause-plain : goal.returns-clause-plain
 returns-clause-plain g c =
     let header = c.args.pages.now.header in
-    let entries = c.in_ok-numbers.field-0.entries in
-    let cars = c.in_ok-numbers.field-0.cars in
-    let laid = c.in_ok-numbers.ensures.laid in
-    let built = subst (λ (h : Header). IsBuilt cars entries h.next c.in_ok-copy.copy) c.header.ensures c.in_ok-copy.ensures.built in
-    built_plain c.args.pages.now.count header.next cars entries c.in_ok-copy.copy c.requires.spelled.some c.requires.spelled.last laid.cars_are
-    (subst (λ (es : List CatEntry). root_count es ≤ ROOTS) (sym laid.entries_are) laid.sound.roots) built
+    let whole = c.in_ok-chain.ensures.whole in
+    let built = subst (λ (h : Header). IsBuilt c.in_ok-chain.cars (entries_of c.in_ok-chain.chain) h.next c.in_ok-used.copy) c.header.ensures c.in_ok-used.ensures.built in
+    built_plain c.args.pages.now.count header.next c.in_ok-chain.cars (entries_of c.in_ok-chain.chain) c.in_ok-used.copy c.requires.spelled.some c.requires.spelled.last whole.cars_are whole.sound.roots built

@@ -1,12 +1,12 @@
-use Rattle.std.proofs.Common.{◌≡◌, ◌+◌, ◌-◌, ℕ, Some, Ok, Err, sym, ap, subst, ◌∙◌, arith}
+use Rattle.std.proofs.Common.{rules, ◌≡◌, ◌+◌, ◌-◌, ◌≤◌, ◌^◌, ℕ, Some, Ok, Err, sym, ap, subst, ◌∙◌, arith}
 use Rattle.std.proofs.lemmas.Result.{err_from_is_err_and}
 use Rattle.pm_image.specs.declared.catalog.CatalogPage.{CatalogPage}
 use Rattle.pm_image.specs.CatalogPages.{Met, HasCatalogPage}
 use Rattle.pm_image.specs.Graphs.{Catalog, catalog_from, catalog_of, most_pages, entries_of}
 use Rattle.pm_shadow.specs.State.{State}
-use Rattle.pm_reopen.specs.Reading.{Gives, store_of, link_at, IsSound, root_count}
+use Rattle.pm_reopen.specs.Reading.{Fails, store_of, link_at, IsSound, root_count}
 use Rattle.pm_reopen.proofs.LookedLaws.{looked_then}
-use Rattle.pm_reopen.proofs.ChainLaws.{chain_on, chain_done, chain_ends, chain_long, next_there, roots_on, sound_on}
+use Rattle.pm_reopen.proofs.ChainLaws.{chain_on, chain_done, chain_ends, chain_long, never_long, next_there, roots_on, sound_on}
 use Rattle.pm_base.proofs.Fronts.{with_front}
 use Rattle.pm_reopen.proofs.reading.read_chain.Goals as goal
 
@@ -15,7 +15,7 @@ returns-in_err-read-clause-gives g c bytes told =
     let l = c.loop in
     let store = store_of c.args.pages.now.count bytes in
     let fault = c.in_err-read.field-0.0 in
-    let given = subst (λ (n : ℕ). Gives {X = CatalogPage} (Err fault) (link_at (store_of n bytes) l.met l.page l.kept)) (ap (λ (s : State). s.count) l.invariant.looked.same)
+    let given = subst (λ (n : ℕ). Fails {X = CatalogPage} fault (link_at (store_of n bytes) l.met l.page l.kept)) (ap (λ (s : State). s.count) l.invariant.looked.same)
     (c.in_err-read.ensures.gives bytes (l.invariant.looked.looks.told ∙ told)) in
     let p = err_from_is_err_and c.from_residual-in_err-read.result c.from_residual-in_err-read.ensures.1 in
     rw (p.1, p.2) (chain_ends store l.counter l.met l.page l.kept l.chain.items (catalog_of store c.args.pages.now.header) fault c.loop-test.true given (l.invariant.so_far bytes told))
@@ -65,4 +65,5 @@ returns-clause-gives g c bytes told =
     let l = c.loop in
     let store = store_of c.args.pages.now.count bytes in
     let low = c.loop-test.false in
-    chain_long store l.counter l.met l.page l.kept l.chain.items (catalog_of store c.args.pages.now.header) (omega arith) (l.invariant.so_far bytes told)
+    let few : c.args.pages.now.count ≤ 2 ^ 64 = search rules in
+    absurd (never_long store c.args.pages.now.header few c.requires.first (chain_long store l.counter l.met l.page l.kept l.chain.items (catalog_of store c.args.pages.now.header) (omega arith) (l.invariant.so_far bytes told)))

@@ -1,4 +1,4 @@
-use Rattle.std.proofs.Common.{◌≡◌, ℕ, Bool, true, false, not, List, refl, sym, ap, ◌∙◌}
+use Rattle.std.proofs.Common.{◌≡◌, Bool, true, false, not, refl}
 use Rattle.std.specs.Str.{bytes_eq}
 use Rattle.pm_reopen.specs.Reading.{store_of}
 use Rattle.pm_reopen.proofs.ReadLaws.{other_digest}
@@ -10,5 +10,5 @@ not_true false r h is = refl
 
 pub returns-then-ne-clause-gives : goal.returns-then-ne-clause-gives
 returns-then-ne-clause-gives g c bytes told =
-    other_digest (store_of c.args.pages.now.count bytes) c.args.page c.args.kept.now c.read_page.new.into (c.in_ok-read_page.ensures.read bytes told)
-    (ap (λ (found : List ℕ). bytes_eq c.args.kept.now found) (sym c.digest-found.ensures) ∙ not_true (bytes_eq c.args.kept.now c.digest-found.result) c.ne.result c.if-ne.true c.ne.ensures)
+    other_digest (store_of c.args.pages.now.count bytes) c.args.page c.args.kept.now c.read_page.new.into c.digest-found.result (c.in_ok-read_page.ensures.read bytes told) c.digest-found.ensures
+    (not_true (bytes_eq c.args.kept.now c.digest-found.result) c.ne.result c.if-ne.true c.ne.ensures)

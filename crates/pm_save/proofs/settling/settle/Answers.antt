@@ -1,5 +1,6 @@
 use Rattle.std.proofs.Common.{◌⊎◌, inl, List, ℕ, refl, ap, ◌∙◌}
 use Rattle.pm_disk.proofs.RunLemmas.{weaker}
+use Rattle.pm_types.specs.declared.limits.TheConstants.{VERSION}
 use Rattle.pm_layout.specs.declared.header.Header.{Header}
 use Rattle.pm_shadow.specs.State.{State}
 use Rattle.pm_shadow.specs.Pages.{state, disk_of}
@@ -19,38 +20,38 @@ returns-in_err-publish-clause-leaves g c old bytes told has =
     let copy = c.args.copy.now in
     let first = c.in_ok-first.first in
     let t = state c.write_copy.new.pages in
-    let header : Header = record { version = 1; epoch = c.args.number; next = c.next.result; first = first.page; digest = first.digest } in
+    let header : Header = record { version = VERSION; epoch = c.args.number; next = c.next.result; first = first.page; digest = first.digest } in
     settled_leaves g.D.Disk.contents g.D.Disk.count g.D.Disk.moment g.D.Disk.since (state c.args.pages.now) t (disk_of c.args.pages.now) (disk_of c.write_copy.new.pages) (disk_of c.publish.new.pages) c.args.number old copy bytes told has
     c.write_copy.ensures.spares c.in_ok-first.ensures.goes
-    (λ now now_told had. c.publish.ensures.leaves old copy now now_told had (laid_next t now copy first header c.requires.plain (c.in_ok-first.ensures.laid now now_told) c.next.ensures refl refl))
+    (λ now now_told had. c.publish.ensures.leaves old copy now now_told had (laid_next t now copy first header c.requires.plain (c.in_ok-first.ensures.laid now now_told) refl c.next.ensures refl refl))
 
 pub returns-clause-leaves : goal.returns-clause-leaves
 returns-clause-leaves g c old bytes told has =
     let copy = c.args.copy.now in
     let first = c.in_ok-first.first in
     let t = state c.write_copy.new.pages in
-    let header : Header = record { version = 1; epoch = c.args.number; next = c.next.result; first = first.page; digest = first.digest } in
+    let header : Header = record { version = VERSION; epoch = c.args.number; next = c.next.result; first = first.page; digest = first.digest } in
     settled_leaves g.D.Disk.contents g.D.Disk.count g.D.Disk.moment g.D.Disk.since (state c.args.pages.now) t (disk_of c.args.pages.now) (disk_of c.write_copy.new.pages) (disk_of c.publish.new.pages) c.args.number old copy bytes told has
     c.write_copy.ensures.spares c.in_ok-first.ensures.goes
-    (λ now now_told had. c.publish.ensures.leaves old copy now now_told had (laid_next t now copy first header c.requires.plain (c.in_ok-first.ensures.laid now now_told) c.next.ensures refl refl))
+    (λ now now_told had. c.publish.ensures.leaves old copy now now_told had (laid_next t now copy first header c.requires.plain (c.in_ok-first.ensures.laid now now_told) refl c.next.ensures refl refl))
 
 pub returns-clause-has : goal.returns-clause-has
 returns-clause-has g c bytes now_told =
     let copy = c.args.copy.now in
     let first = c.in_ok-first.first in
     let t = state c.write_copy.new.pages in
-    let header : Header = record { version = 1; epoch = c.args.number; next = c.next.result; first = first.page; digest = first.digest } in
+    let header : Header = record { version = VERSION; epoch = c.args.number; next = c.next.result; first = first.page; digest = first.digest } in
     let mid = c.in_ok-publish.ensures.was_told (bytes, now_told) in
-    c.in_ok-publish.ensures.has copy mid.0 bytes mid.1 now_told (laid_next t mid.0 copy first header c.requires.plain (c.in_ok-first.ensures.laid mid.0 mid.1) c.next.ensures refl refl)
+    c.in_ok-publish.ensures.has copy mid.0 bytes mid.1 now_told (laid_next t mid.0 copy first header c.requires.plain (c.in_ok-first.ensures.laid mid.0 mid.1) refl c.next.ensures refl refl)
 
 pub returns-clause-now : goal.returns-clause-now
 returns-clause-now g c was told =
     let copy = c.args.copy.now in
     let first = c.in_ok-first.first in
     let t = state c.write_copy.new.pages in
-    let header : Header = record { version = 1; epoch = c.args.number; next = c.next.result; first = first.page; digest = first.digest } in
+    let header : Header = record { version = VERSION; epoch = c.args.number; next = c.next.result; first = first.page; digest = first.digest } in
     let mid = c.in_ok-first.ensures.goes.told (was, told) in
-    c.in_ok-publish.ensures.now copy mid.0 mid.1 (laid_next t mid.0 copy first header c.requires.plain (c.in_ok-first.ensures.laid mid.0 mid.1) c.next.ensures refl refl)
+    c.in_ok-publish.ensures.now copy mid.0 mid.1 (laid_next t mid.0 copy first header c.requires.plain (c.in_ok-first.ensures.laid mid.0 mid.1) refl c.next.ensures refl refl)
 
 pub returns-clause-unclaimed : goal.returns-clause-unclaimed
 returns-clause-unclaimed g c = none_claimed (state c.write_copy.new.pages) (state c.publish.new.pages) _ c.in_ok-publish.ensures.state

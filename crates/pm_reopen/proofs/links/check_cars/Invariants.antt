@@ -1,0 +1,12 @@
+use Rattle.std.proofs.Common.{◌≡◌, drop}
+use Rattle.std.specs.List.{flat_map}
+use Rattle.pm_image.specs.declared.settled.KeptPage.{KeptPage}
+use Rattle.pm_image.specs.Graphs.{record_sites}
+use Rattle.pm_reopen.specs.Linking.{linked_by}
+use Rattle.pm_reopen.proofs.links.check_cars.Given as goal
+
+abbrev pub invariant-loop-kept : goal.invariant-loop-kept
+invariant-loop-kept l = record {
+  so_far : linked_by l.held (flat_map (λ (kept : KeptPage). record_sites kept.page 14 kept.image.slots) l.cars)
+      ≡ linked_by l.held (flat_map (λ (kept : KeptPage). record_sites kept.page 14 kept.image.slots) (drop l.kept-index l.cars));
+}

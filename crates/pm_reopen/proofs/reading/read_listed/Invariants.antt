@@ -1,0 +1,18 @@
+use Rattle.std.proofs.Common.{◌≡◌, ◌++◌, ℕ, List, Some, drop}
+use Rattle.std.specs.List.{AllByRecursion}
+use Rattle.pm_image.specs.declared.catalog.CatEntry.{CatEntry}
+use Rattle.pm_image.specs.Graphs.{cars_from}
+use Rattle.pm_shadow.specs.Pages.{state, disk_of}
+use Rattle.pm_reopen.specs.Reading.{Looked, store_of, IsCar}
+use Rattle.pm_base.proofs.Fronts.{with_front}
+use Rattle.pm_reopen.proofs.reading.read_listed.Given as goal
+
+abbrev pub invariant-loop-entry : goal.invariant-loop-entry
+invariant-loop-entry g l = record {
+  looked : Looked l.fn.pages l.pages;
+  counted : g.D.Disk.count (disk_of l.pages) ≡ g.D.Disk.count (disk_of l.fn.pages);
+  so_far : (bytes : List ℕ) → g.D.Disk.contents (disk_of l.fn.pages) ≡ Some bytes → (rest : List CatEntry)
+      → with_front l.cars.items (cars_from l.most l.next (store_of (state l.fn.pages).count bytes) l.met (drop l.entry-index l.entries ++ rest))
+      ≡ with_front l.fn.cars.items (cars_from l.most l.next (store_of (state l.fn.pages).count bytes) l.fn.met (l.entries ++ rest));
+  cars : AllByRecursion (IsCar (state l.fn.pages).count l.next) l.cars.items;
+}
