@@ -90,7 +90,7 @@ module _ (view : SpaceView) (car : ℕ) (law : HeapLaw view) where
         λ i. effective_in ((sym has_set ∙ ap (get view.sets) one) i) ((sym has_queue ∙ ap (get view.queues) one) i) x
     one_step e x false same = refl
 
-    applying : IsRequeued view (set_takes view.sets car change) (insert view.queues car changes)
+    pub applying : IsRequeued view (set_takes view.sets car change) (insert view.queues car changes)
     applying = record {
       set = λ e. ap is_some (sets_then e) ∙ some_either (car == e) _ (get view.sets e) (λ same. ap (λ c. is_some (get view.sets c)) (sym (eqb-true car e same)) ∙ ap is_some has_set);
       queue = λ e. ap is_some (queues_then e) ∙ some_either (car == e) _ (get view.queues e) (λ same. ap (λ c. is_some (get view.queues c)) (sym (eqb-true car e same)) ∙ ap is_some has_queue);
