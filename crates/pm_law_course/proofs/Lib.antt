@@ -4,3 +4,5 @@ pub mod Completing
 pub mod Anchoring
 pub mod Changing
 pub mod Bearing
+pub mod Sums
+pub mod Adding
