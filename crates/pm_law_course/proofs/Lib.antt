@@ -6,3 +6,4 @@ pub mod Changing
 pub mod Bearing
 pub mod Sums
 pub mod Adding
+pub mod Counting
