@@ -1,0 +1,1 @@
+-- A number that is used again while the train of its old car is doomed.

@@ -1,0 +1,1 @@
+-- The anchor of two objects that name each other over two cars.
