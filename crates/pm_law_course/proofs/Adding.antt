@@ -1,9 +1,9 @@
 -- How much a command adds to the work that is left.
-use Rattle.std.proofs.Common.{◌≡◌, ℕ, zero, suc, ◌+◌, ◌*◌, ◌<◌, ◌≤◌, ◌==◌, ◌&&◌, ◌||◌, not, nat_lt, nat_le, if◌then◌else◌, Bool, true, false, cond, refl, ap, sym, subst, ◌∙◌, List, [], ◌∷◌, ◌++◌, length, Option, Some, None, is_some, arith}
-use Rattle.std.specs.Option.{IsSome, IsSomeAnd, unwrap_or, option_map, option_and_then}
+use Rattle.std.proofs.Common.{◌≡◌, ℕ, zero, suc, ◌+◌, ◌*◌, ◌<◌, ◌≤◌, ◌==◌, ◌&&◌, ◌||◌, not, nat_lt, nat_le, if◌then◌else◌, Bool, true, false, refl, ap, sym, subst, ◌∙◌, List, [], ◌∷◌, ◌++◌, length, Option, Some, None, is_some, arith}
+use Rattle.std.specs.Option.{IsSomeAnd, unwrap_or, option_and_then}
 use Rattle.std.specs.List.{slice_get, sum_by}
 use Rattle.std.specs.FinMap.{get, insert, remove, len, empty}
-use Rattle.std.proofs.lemmas.Bool.{eqb-true, eq-eqb, cond-false, true≢false, both_ways, false_from_ne_true, leb-true, ltb-false, or_parts}
+use Rattle.std.proofs.lemmas.Bool.{eqb-true, eq-eqb, cond-false, both_ways, false_from_ne_true, leb-true, ltb-false, or_parts}
 use Rattle.std.proofs.lemmas.List.{length-append}
 use Rattle.pm_types.specs.declared.limits.TheConstants.{CLIENTS, REGISTERS, FIELDS, OBJECT_BYTES, LAST_ID}
 use Rattle.pm_types.specs.declared.address.Addr.{Addr}
@@ -15,19 +15,17 @@ use Rattle.pm_types.specs.declared.command.Cmd.{Cmd}
 use Rattle.pm_types.specs.declared.command.Cmd.TheVariants.{New, Load, Store, Clear, Show, Put, Copy, IdOf, Forget, Bind, Unbind, Find, Swap, Close, Save, Settle, Unsave, Watch}
 use Rattle.pm_cars.specs.Cars as cars
 use Rattle.pm_cars.specs.Cars.{Car, object_room, new_car, with_birth}
-use Rattle.pm_trains.specs.Trains.{Train, Trains, HasCar, cars_at, train_of, first_car, tail, oldest, youngest, rotated}
-use Rattle.pm_trains.proofs.Cars.{home_rotated}
+use Rattle.pm_trains.specs.Trains.{Train, Trains, HasCar, cars_at, train_of, tail, youngest, rotated}
 use Rattle.pm_view.specs.declared.phase.Phase.{Phase}
 use Rattle.pm_view.specs.declared.phase.Phase.TheVariants.{Idle, Draining, Moving, Sweeping, Doomed}
 use Rattle.pm_view.specs.Sources.{outside}
-use Rattle.pm_view.specs.View.{Cars, Sources, SpaceView}
-use Rattle.pm_view.specs.Reading.{object_at, cars_of, stored, is_aside}
+use Rattle.pm_view.specs.View.{SpaceView}
+use Rattle.pm_view.specs.Reading.{cars_of, stored, is_aside}
 use Rattle.pm_view.specs.Counts.{live_in, standing_in}
 use Rattle.pm_view.specs.Barrier.{heard, left, entered, in_one_car, barrier, told}
 use Rattle.pm_view.specs.Law.{IsAt, IsOldest, HeapLaw}
-use Rattle.pm_view.specs.Rows.{put_car, with_bytes_at, HasBytesAt, with_stored, with_news, spread, with_name, without_name, spent, MayBeBorn, has_room, if_fits, tail_for, put_in, with_count, born_in, born, birthplace, IsVacant}
-use Rattle.pm_view.specs.Candidates.{set_of, queue_of}
-use Rattle.pm_view.specs.Commands.{emptied, fresh, row, HasRegisters, Picks, ArePicked, is_new}
+use Rattle.pm_view.specs.Rows.{put_car, with_bytes_at, HasBytesAt, with_stored, spread, with_name, without_name, spent, has_room, if_fits, tail_for, put_in, with_count, born_in, born, birthplace, IsVacant}
+use Rattle.pm_view.specs.Commands.{emptied, fresh, row, Picks, ArePicked, is_new}
 use Rattle.pm_view.specs.Work.{queued, remembered, objects_in, emptying, dooming, front_car, work_in, work}
 use Rattle.pm_law_rows.proofs.News.{at_insert}
 use Rattle.pm_law_rows.proofs.Sums.{some_item}
@@ -36,12 +34,12 @@ use Rattle.pm_law_rows.proofs.Built.{IsReshaped}
 use Rattle.pm_law_rows.proofs.Bytes.{bytes_shaped}
 use Rattle.pm_law_rows.proofs.SpreadKept.{reshaped_object, reshaped_itself, reshaped_news, reshaped_spread, spread_keeps_law}
 use Rattle.pm_law_rows.proofs.OpenTrain.{among_home, first_home, tail_home, cars_appended}
-use Rattle.pm_law_rows.proofs.Rotating.{opened, cars_at_rotated, oldest_still, opening_keeps_law}
+use Rattle.pm_law_rows.proofs.Rotating.{opened, cars_at_rotated, opening_keeps_law}
 use Rattle.pm_law_rows.proofs.Born.{born_gives}
 use Rattle.pm_law_commands.proofs.Births.{spent_law, may_be_born}
 use Rattle.pm_law_collect.proofs.Small.{some_same, none_some, none_is}
 use Rattle.pm_law_collect.proofs.PhaseRows.{oldest_has}
-use Rattle.pm_law_collect.proofs.FreeRow.{IsFrontOf, front_of}
+use Rattle.pm_law_collect.proofs.FreeRow.{front_of}
 use Rattle.pm_law_course.specs.Course.{is_close, raises}
 use Rattle.pm_law_course.proofs.Sums.{no_more, sum_both, heard_by, few_news, told_once, own_places, queue_told}
 use Rattle.pm_law_course.proofs.Rows.{OfRows, row_holds, object_made, new_holds}
@@ -205,7 +203,6 @@ module _ (view : SpaceView) (law : HeapLaw view) where
 
   six_of_rows : OfRows view (λ t. work t ≤ work view + 6)
   six_of_rows = record { still = omega arith; spread = spread_adds_six; bytes = bytes_add; bound = name_adds; unbound = unname_adds }
-
 
 -- the registers of a client are emptied, one after the other
 emptied_adds : (view : SpaceView) (client n : ℕ) → HeapLaw view → client < CLIENTS → n ≤ REGISTERS → HeapLaw (emptied view client n) × (work (emptied view client n) ≤ work view + 3 * n)

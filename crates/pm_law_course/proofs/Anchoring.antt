@@ -1,16 +1,15 @@
 -- When an anchor is noted, when its object moves, and when it is cleared.
-use Rattle.std.proofs.Common.{◌≡◌, ℕ, ◌==◌, if◌then◌else◌, Bool, true, false, cond, refl, ap, sym, subst, ◌∙◌, List, length, Option, Some, None}
+use Rattle.std.proofs.Common.{◌≡◌, ℕ, ◌==◌, if◌then◌else◌, Bool, true, false, cond, refl, ap, sym, subst, ◌∙◌, length, Option, Some, None}
 use Rattle.std.proofs.lemmas.Bool.{eq-eqb, cond-true, true≢false}
 use Rattle.pm_types.specs.declared.address.Addr.{Addr}
-use Rattle.pm_types.specs.declared.source.RefSource.{RefSource}
 use Rattle.pm_view.specs.View.{SpaceView}
 use Rattle.pm_view.specs.Reading.{cars_of}
-use Rattle.pm_view.specs.Collecting.{anchored, without_car, completing}
+use Rattle.pm_view.specs.Collecting.{without_car, completing}
 use Rattle.pm_view.specs.Events.{Row, nothing, select, apply, doom, start, fix, move_anchor, move_out, move_on, finish, sweep, free, free_doomed, anchor_in, next_row, after, clears, MovesTo}
-use Rattle.pm_law_collect.proofs.Small.{some_same, some_pair, none_some}
+use Rattle.pm_law_collect.proofs.Small.{some_pair, none_some}
 use Rattle.pm_law_collect.proofs.Comes.{comes_where}
 use Rattle.pm_law_course.specs.Course.{notes}
-use Rattle.pm_law_course.proofs.Kept.{KeepsCourse, applied_keeps, fixed_keeps, moved_keeps, swept_keeps}
+use Rattle.pm_law_course.proofs.Kept.{applied_keeps, fixed_keeps, moved_keeps, swept_keeps}
 
 -- no other event notes one
 pub none_then : (view : SpaceView) (row : Row) (picked number : ℕ) → notes row ≡ false → view.anchor ≡ None → (after view picked number row).anchor ≡ None

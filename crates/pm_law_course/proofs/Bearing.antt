@@ -1,9 +1,9 @@
 -- No command adds an object to the train that is collected.
 use Rattle.std.proofs.Common.{◌≡◌, ◌⊎◌, ⊎_elim, inl, inr, ℕ, ◌<◌, ◌≤◌, ◌==◌, ◌||◌, nat_lt, if◌then◌else◌, length, Bool, true, false, refl, ap, sym, subst, ◌∙◌, List, Option, Some, None, is_some}
-use Rattle.std.specs.Option.{IsSome, IsSomeAnd, option_map}
+use Rattle.std.specs.Option.{IsSome, option_map}
 use Rattle.std.specs.FinMap.{get}
-use Rattle.std.proofs.lemmas.Bool.{eq-eqb, both_ways, true≢false}
-use Rattle.pm_types.specs.declared.limits.TheConstants.{CLIENTS, REGISTERS, FIELDS, OBJECT_BYTES, LAST_ID}
+use Rattle.std.proofs.lemmas.Bool.{eq-eqb, both_ways}
+use Rattle.pm_types.specs.declared.limits.TheConstants.{CLIENTS, FIELDS, OBJECT_BYTES, LAST_ID}
 use Rattle.pm_types.specs.declared.address.Addr.{Addr}
 use Rattle.pm_types.specs.declared.object.Object.{Object}
 use Rattle.pm_types.specs.declared.command.Cmd.{Cmd}
@@ -11,13 +11,13 @@ use Rattle.pm_types.specs.declared.command.Cmd.TheVariants.{New, Load, Store, Cl
 use Rattle.pm_types.specs.declared.reply.Reply.{Reply}
 use Rattle.pm_types.specs.declared.reply.Reply.TheVariants.{Ident, TooLarge, IdsSpent}
 use Rattle.pm_cars.specs.Cars.{Car, object_of}
-use Rattle.pm_trains.specs.Trains.{Train, Trains, train_of, first_car, oldest, youngest}
+use Rattle.pm_trains.specs.Trains.{Train, Trains, train_of, youngest}
 use Rattle.pm_trains.specs.Sound as line
 use Rattle.pm_view.specs.declared.phase.Phase.{Phase}
 use Rattle.pm_view.specs.declared.phase.Phase.TheVariants.{Idle, Draining, Moving, Sweeping, Doomed}
 use Rattle.pm_view.specs.Sources.{same_address}
 use Rattle.pm_view.specs.View.{SpaceView}
-use Rattle.pm_view.specs.Reading.{object_at, id_at}
+use Rattle.pm_view.specs.Reading.{id_at}
 use Rattle.pm_view.specs.Counts.{IsPlaced}
 use Rattle.pm_view.specs.Law.{IsOldest, IsFront, IsAt, HeapLaw}
 use Rattle.pm_view.specs.Objects.{KeepsObjects, AddsObject}
@@ -30,7 +30,7 @@ use Rattle.pm_law_commands.proofs.Keeps.{row_keeps}
 use Rattle.pm_law_commands.proofs.Objects.{row_keeps_objects}
 use Rattle.pm_law_commands.proofs.Added.{new_adds}
 use Rattle.pm_law_collect.proofs.Small.{some_same, none_some}
-use Rattle.pm_law_collect.proofs.FreeRow.{IsFrontOf, front_of}
+use Rattle.pm_law_collect.proofs.FreeRow.{front_of}
 use Rattle.pm_law_course.specs.Course.{train_in, collected}
 use Rattle.pm_law_course.proofs.Rows.{object_made}
 use Rattle.pm_law_course.proofs.Kept.{command_keeps}
@@ -72,9 +72,9 @@ kept_none : (view t : SpaceView) → HeapLaw view → t.phase ≡ view.phase →
 kept_none view t law phase kept = record {
   same = same_collected view t law phase (λ car some. ap (λ (s : Trains). train_of s.trains car) kept.trains);
   none = λ id n is placed. (
-      placed.0,
-      record { kept = sym (kept.aside placed.0.car) ∙ placed.1.kept; here = sym (kept.ids placed.0) ∙ placed.1.here },
-      sym (ap (λ (s : Trains). train_of s.trains placed.0.car) kept.trains) ∙ placed.2,
+    placed.0,
+    record { kept = sym (kept.aside placed.0.car) ∙ placed.1.kept; here = sym (kept.ids placed.0) ∙ placed.1.here },
+    sym (ap (λ (s : Trains). train_of s.trains placed.0.car) kept.trains) ∙ placed.2,
   );
 }
 

@@ -1,5 +1,5 @@
 -- A queued change that is applied.
-use Rattle.std.proofs.Common.{◌≡◌, ◌⊎◌, ⊎_elim, ℕ, ◌<◌, ◌==◌, Bool, true, false, cond, refl, ap, sym, subst, ◌∙◌, List, [], ◌∷◌, length, Option, Some, None, is_some, arith}
+use Rattle.std.proofs.Common.{◌≡◌, ⊎_elim, ℕ, ◌<◌, ◌==◌, true, false, cond, refl, ap, sym, ◌∙◌, List, [], ◌∷◌, length, Option, Some, None, is_some, arith}
 use Rattle.std.specs.Option.{unwrap_or}
 use Rattle.std.specs.Cmp.{eq_by_cmp_equiv}
 use Rattle.std.specs.FinMap.{get, empty, get-insert, get-remove}
@@ -11,7 +11,7 @@ use Rattle.pm_view.specs.Sources.{same_source}
 use Rattle.pm_view.specs.declared.phase.Phase.TheVariants.{Draining, Moving}
 use Rattle.pm_view.specs.View.{Sources, SpaceView}
 use Rattle.pm_view.specs.Reading.{cars_of}
-use Rattle.pm_view.specs.Effective.{with_source, effective, effective_in}
+use Rattle.pm_view.specs.Effective.{with_source, effective}
 use Rattle.pm_view.specs.Law.{HeapLaw}
 use Rattle.pm_view.specs.Candidates.{set_of, queue_of}
 use Rattle.pm_view.specs.Collecting.{applied_front, applied_in}

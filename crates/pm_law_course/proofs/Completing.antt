@@ -1,11 +1,9 @@
 -- With which events the count of completed collections rises, and what the phase is then.
-use Rattle.std.proofs.Common.{◌≡◌, ◌⊎◌, ⊎_elim, ℕ, ◌+◌, ◌==◌, if◌then◌else◌, Bool, true, false, cond, refl, ap, sym, subst, ◌∙◌, List, [], ◌∷◌, length, drop, Option, Some, None, arith}
+use Rattle.std.proofs.Common.{◌≡◌, ◌⊎◌, ⊎_elim, ℕ, ◌+◌, ◌==◌, if◌then◌else◌, Bool, true, false, cond, refl, ap, sym, subst, ◌∙◌, List, [], ◌∷◌, length, drop, Some, None, arith}
 use Rattle.std.specs.Option.{unwrap_or, option_and_then}
 use Rattle.std.specs.FinMap.{get, remove}
 use Rattle.std.proofs.lemmas.Bool.{eqb-true, eq-eqb, cond-true, true≢false}
-use Rattle.pm_types.specs.declared.address.Addr.{Addr}
-use Rattle.pm_types.specs.declared.source.RefSource.{RefSource}
-use Rattle.pm_trains.specs.Trains.{Train, cars_at, without_first, left_standing}
+use Rattle.pm_trains.specs.Trains.{cars_at, without_first, left_standing}
 use Rattle.pm_trains.proofs.Numbers.{rise_changed}
 use Rattle.pm_trains.proofs.Found.{cars_removed}
 use Rattle.pm_view.specs.declared.phase.Phase.{Phase}
@@ -20,7 +18,7 @@ use Rattle.pm_law_collect.proofs.Comes.{IsChanged, IsFirstDoomed, comes_where}
 use Rattle.pm_law_collect.proofs.FreeRow.{first_cars}
 use Rattle.pm_law_collect.proofs.SweepRow.{at_remove}
 use Rattle.pm_law_course.specs.Course.{completes}
-use Rattle.pm_law_course.proofs.Kept.{KeepsCourse, applied_keeps, fixed_keeps, moved_keeps, swept_keeps}
+use Rattle.pm_law_course.proofs.Kept.{applied_keeps, fixed_keeps, moved_keeps, swept_keeps}
 
 pub completed_then : (view : SpaceView) (row : Row) (picked number : ℕ) → (after view picked number row).completed ≡ cond (completes view row) (view.completed + 1) view.completed
 completed_then view nothing picked number = refl

@@ -1,6 +1,6 @@
 -- The identities of the objects that stand, in one list.
-use Rattle.std.proofs.Common.{◌≡◌, ℕ, ◌+◌, ◌≤◌, ◌==◌, ◌||◌, nat_eq, if◌then◌else◌, Bool, true, false, cond, refl, ap, sym, subst, ◌∙◌, List, [], ◌∷◌, ◌++◌, map, length, Option, Some, None, is_some, arith, IsTrue}
-use Rattle.std.specs.Option.{IsSome, option_map, option_and_then}
+use Rattle.std.proofs.Common.{◌≡◌, ℕ, ◌≤◌, ◌==◌, ◌||◌, nat_eq, if◌then◌else◌, Bool, true, false, cond, refl, ap, sym, subst, ◌∙◌, List, [], ◌∷◌, ◌++◌, map, length, Option, Some, None, is_some, arith, IsTrue}
+use Rattle.std.specs.Option.{IsSome, option_map}
 use Rattle.std.specs.List.{list_any, sum_by, IsDistinct}
 use Rattle.std.specs.Ordering.{nat_cmp, eq_by_cmp}
 use Rattle.std.specs.Cmp.{nat_eq_equiv}
@@ -10,15 +10,14 @@ use Rattle.std.proofs.lemmas.Bool.{eqb-true, eq-eqb, true≢false}
 use Rattle.std.proofs.lemmas.List.{length-append}
 use Rattle.std.proofs.lemmas.List.Sums.{sum_by-cons}
 use Rattle.std.proofs.lemmas.Map.Made.{length-le_from_is_member}
-use Rattle.pm_types.specs.declared.address.Addr.{Addr}
 use Rattle.pm_types.specs.declared.object.Object.{Object}
 use Rattle.pm_types.specs.declared.object.Slot.{Slot}
 use Rattle.pm_types.specs.declared.object.Slot.TheVariants.{Live, Moved}
 use Rattle.pm_cars.specs.Cars.{Car, one_live, object_of}
 use Rattle.pm_trains.specs.Trains.{Train, is_among, train_of}
 use Rattle.pm_view.specs.View.{SpaceView}
-use Rattle.pm_view.specs.Reading.{object_at, id_at, is_aside}
-use Rattle.pm_view.specs.Counts.{live_in, standing_in, standing_of, standing, IsStandingAt, IsStanding}
+use Rattle.pm_view.specs.Reading.{is_aside}
+use Rattle.pm_view.specs.Counts.{live_in, standing_in, standing_of, standing, IsStanding}
 use Rattle.pm_view.specs.Law.{HeapLaw}
 use Rattle.pm_law_rows.proofs.Places.{slot_of, live_slot}
 use Rattle.pm_law_collect.proofs.Small.{some_same, none_some, turned}

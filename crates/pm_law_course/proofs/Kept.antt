@@ -1,5 +1,5 @@
 -- Rows that leave the phase, the count of completed collections and the anchor as they are.
-use Rattle.std.proofs.Common.{◌≡◌, ℕ, nat_le, if◌then◌else◌, Bool, true, false, refl, ◌∙◌, List, [], ◌∷◌, length, Option, Some, None, zero, suc}
+use Rattle.std.proofs.Common.{◌≡◌, ℕ, nat_le, if◌then◌else◌, Bool, true, false, refl, ◌∙◌, List, [], ◌∷◌, Option, Some, None, zero, suc}
 use Rattle.pm_types.specs.declared.limits.TheConstants.{REGISTERS}
 use Rattle.pm_types.specs.declared.address.Addr.{Addr}
 use Rattle.pm_types.specs.declared.object.Object.{Object}
@@ -10,7 +10,6 @@ use Rattle.pm_types.specs.declared.command.Cmd.{Cmd}
 use Rattle.pm_types.specs.declared.command.Cmd.TheVariants.{New, Load, Store, Clear, Show, Put, Copy, IdOf, Forget, Bind, Unbind, Find, Swap, Close, Save, Settle, Unsave, Watch}
 use Rattle.pm_cars.specs.Cars.{object_room}
 use Rattle.pm_trains.specs.Trains.{youngest, rotated}
-use Rattle.pm_view.specs.declared.phase.Phase.{Phase}
 use Rattle.pm_view.specs.View.{SpaceView}
 use Rattle.pm_view.specs.Reading.{object_at}
 use Rattle.pm_view.specs.Rows.{with_stored, spread, spent, tail_for, put_in, with_count, born_in, born, place_in, birthplace}
@@ -67,7 +66,7 @@ module _ (view : SpaceView) where
       by_object None = itself view
       by_object (Some object) = record { phase = refl; completed = refl; anchor = refl }
 
--- ---- commands
+  -- ---- commands
 
   pub spread_keeps : (x : RefSource) (to : Option Addr) → KeepsCourse view (spread view x to)
   spread_keeps x to = let was = stored_keeps x to in record { phase = was.phase; completed = was.completed; anchor = was.anchor }

@@ -3,7 +3,7 @@ use Rattle.std.proofs.Common.{◌≡◌, refl, sym, subst, ℕ, ◌+◌, ◌≤�
 use Rattle.std.specs.Option.{IsSomeAnd}
 use Rattle.std.specs.FinMap.{get, len}
 use Rattle.std.proofs.lemmas.Bool.{true≢false, ltb-false}
-use Rattle.pm_types.specs.declared.limits.TheConstants.{ROOTS, REGISTERS, FIELDS, OBJECT_BYTES, LAST_ID}
+use Rattle.pm_types.specs.declared.limits.TheConstants.{ROOTS, FIELDS, OBJECT_BYTES, LAST_ID}
 use Rattle.pm_types.specs.declared.address.Addr.{Addr}
 use Rattle.pm_types.specs.declared.object.Object.{Object}
 use Rattle.pm_types.specs.declared.source.RefSource.{RefSource}
@@ -15,7 +15,7 @@ use Rattle.pm_types.specs.declared.reply.Reply.TheVariants.{Ident, TooLarge, Ids
 use Rattle.pm_view.specs.View.{SpaceView}
 use Rattle.pm_view.specs.Reading.{object_at, resolve}
 use Rattle.pm_view.specs.Rows.{HasBytesAt, spread, with_name, without_name, with_bytes_at, spent, born, birthplace}
-use Rattle.pm_view.specs.Commands.{register, hold, object_held, row_copy, row_id, row_data, row_drop, field_at, load_field, row_load, set_field, row_store, row_clear, named_in, swap_field, row_swap, put_bytes, row_put, bind, row_root, row_unroot, row_find, emptied, fresh, row_new, is_new, row, Picks}
+use Rattle.pm_view.specs.Commands.{register, hold, object_held, row_copy, row_id, row_data, row_drop, field_at, load_field, row_load, set_field, row_store, row_clear, named_in, swap_field, row_swap, put_bytes, row_put, bind, row_root, row_unroot, row_find, fresh, row_new, is_new, row, Picks}
 use Rattle.pm_law_course.specs.Course.{is_close}
 
 -- it holds of the space as it is, and once a source is set, bytes are changed, or a name is bound or unbound

@@ -1,16 +1,13 @@
 -- The events of two objects in a cycle.
-use Rattle.std.proofs.Common.{◌≡◌, ℕ, Bool, true, false, cond, refl, ap, sym, subst, ◌∙◌, List, [], ◌∷◌, Option, Some, None, is_some, arith}
+use Rattle.std.proofs.Common.{◌≡◌, ℕ, true, cond, refl, ap, sym, subst, ◌∙◌, List, [], ◌∷◌, Some, None, is_some, arith}
 use Rattle.std.specs.Option.{unwrap_or, option_map, option_and_then}
 use Rattle.std.specs.List.{find}
 use Rattle.std.specs.Ordering.{nat_cmp, eq_by_cmp}
-use Rattle.std.specs.Cmp.{nat_cmp_total, unsigned_tied}
+use Rattle.std.specs.Cmp.{nat_cmp_total}
 use Rattle.std.specs.FinMap.{get, insert, remove, empty, entries, get-insert, nat_cmp-IsAntisymmetric}
-use Rattle.std.specs.FinMap.Entries.{put}
-use Rattle.std.proofs.lemmas.Bool.{eqb-true}
 use Rattle.std.proofs.lemmas.Map.Views.{tells_apart}
 use Rattle.pm_types.specs.Orders.{source_cmp}
 use Rattle.pm_types.proofs.Orders.{sources_total, sources_antisymmetric}
-use Rattle.pm_types.specs.declared.address.Addr.{Addr}
 use Rattle.pm_types.specs.declared.object.Object.{Object}
 use Rattle.pm_types.specs.declared.object.Slot.{Slot}
 use Rattle.pm_types.specs.declared.object.Slot.TheVariants.{Live}
@@ -22,12 +19,12 @@ use Rattle.pm_cars.specs.Entries.{holds_object}
 use Rattle.pm_trains.specs.Trains.{Trains}
 use Rattle.pm_view.specs.declared.phase.Phase.{Phase}
 use Rattle.pm_view.specs.declared.phase.Phase.TheVariants.{Draining, Doomed}
-use Rattle.pm_view.specs.View.{Cars, Sources, SpaceView}
+use Rattle.pm_view.specs.View.{Sources, SpaceView}
 use Rattle.pm_view.specs.Effective.{with_source}
-use Rattle.pm_view.specs.Rows.{put_car, new_space}
+use Rattle.pm_view.specs.Rows.{put_car}
 use Rattle.pm_view.specs.Candidates.{is_beyond}
-use Rattle.pm_view.specs.Collecting.{applied_front, applied_in, doomed, swept_some, swept, freed_of_train}
-use Rattle.pm_view.specs.Events.{Row, select, apply, doom, sweep, free_doomed, has_change, to_note, draining_row, doomed_row, lowest_live, next_row, after, named_in}
+use Rattle.pm_view.specs.Collecting.{applied_front, swept_some}
+use Rattle.pm_view.specs.Events.{Row, select, apply, doom, sweep, free_doomed, has_change, to_note, draining_row, doomed_row, next_row, after, named_in}
 use Rattle.pm_law_rows.specs.Examples.{at}
 use Rattle.pm_law_traces.specs.Traces.{Run, cycle, collected, changed, with_one_field}
 use Rattle.pm_law_traces.proofs.Maps.{no_entries, one_entry, two_entries, again, taken, first_taken}

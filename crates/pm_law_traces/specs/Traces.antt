@@ -3,14 +3,13 @@ use Rattle.std.specs.Prelude.{◌≡◌, ℕ, ◌+◌, List, [], ◌∷◌, Opti
 use Rattle.std.specs.FinMap.{insert, empty}
 use Rattle.pm_types.specs.declared.address.Addr.{Addr}
 use Rattle.pm_types.specs.declared.object.Object.{Object}
-use Rattle.pm_types.specs.declared.object.Slot.TheVariants.{Live, Moved}
+use Rattle.pm_types.specs.declared.object.Slot.TheVariants.{Live}
 use Rattle.pm_types.specs.declared.source.RefSource.{RefSource}
 use Rattle.pm_types.specs.declared.source.RefSource.TheVariants.{Root, Handle, Field}
 use Rattle.pm_types.specs.declared.source.Change.{Change}
 use Rattle.pm_cars.specs.Cars.{Car}
-use Rattle.pm_trains.specs.Trains.{Train}
-use Rattle.pm_view.specs.declared.phase.Phase.TheVariants.{Idle, Draining, Moving, Doomed}
-use Rattle.pm_view.specs.View.{Cars, SpaceView}
+use Rattle.pm_view.specs.declared.phase.Phase.TheVariants.{Draining, Moving, Doomed}
+use Rattle.pm_view.specs.View.{SpaceView}
 use Rattle.pm_view.specs.Rows.{new_space}
 use Rattle.pm_view.specs.Events.{Row, next_row, after}
 use Rattle.pm_law_rows.specs.Examples.{at}

@@ -40,6 +40,10 @@ pub fn an_anchor_ends_futile_passes()
     ensures way { (bytes : List ℕ) → ways_out (drained bytes) (at 2 0) ≡ 2 ∷ [] }
     ensures anchor { (bytes : List ℕ) → (after (drained bytes) 2 0 (start 1 (at 2 0))).anchor ≡ Some (at 2 0, 2) }
     ensures own { (bytes : List ℕ) → next_row (after (drained bytes) 2 0 (start 1 (at 2 0))) ≡ move_on (at 1 0) 1 }
+    ensures new_car { (bytes : List ℕ) → length bytes ≡ 4096
+        → cars_at (after (after (drained bytes) 2 0 (start 1 (at 2 0))) 0 3 (move_on (at 1 0) 1)).trains.trains 1 ≡ Some (1 ∷ 2 ∷ 3 ∷ []) }
+    ensures moved { (bytes : List ℕ) → length bytes ≡ 4096
+        → slot_at (after (after (drained bytes) 2 0 (start 1 (at 2 0))) 0 3 (move_on (at 1 0) 1)).cars (at 1 0) ≡ Some (Moved (at 3 0)) }
     ensures leaves { (bytes : List ℕ) → next_row (second_pass bytes (Some (at 2 0, 2))) ≡ move_anchor (at 2 0) 2 }
     ensures futile { (bytes : List ℕ) → next_row (second_pass bytes None) ≡ move_on (at 2 0) 1 }
 {}
