@@ -22,11 +22,11 @@ use Rattle.pm_view.specs.Events.{named_in, to_note, home, ways_out}
 use Rattle.pm_law_rows.proofs.Places.{slot_of, object_has_car}
 use Rattle.pm_law_rows.proofs.OpenTrain.{among_home}
 use Rattle.pm_law_rows.proofs.Born.{home_among}
-use Rattle.pm_law_collect.proofs.Small.{some_same, none_some}
-use Rattle.pm_law_collect.proofs.Finds.{found_passes, found_entry}
-use Rattle.pm_law_collect.proofs.Comes.{IsStarting, IsMovingOut, IsDrained}
-use Rattle.pm_law_collect.proofs.PhaseRows.{drained_aside, drained_oldest, drained_set, emptied_aside, emptied_set, remembered_leads, pick_stands}
-use Rattle.pm_law_collect.proofs.MoveRows.{front, home_is}
+use Rattle.pm_law_phases.proofs.Small.{some_same, none_some}
+use Rattle.pm_law_phases.proofs.Finds.{found_passes, found_entry}
+use Rattle.pm_law_phases.proofs.Comes.{IsStarting, IsMovingOut, IsDrained}
+use Rattle.pm_law_phases.proofs.PhaseRows.{drained_aside, drained_oldest, drained_set, emptied_aside, emptied_set, remembered_leads, pick_stands}
+use Rattle.pm_law_moves.proofs.MoveRows.{front, home_is}
 
 -- ---- what is found in a list is in it
 

@@ -1,8 +1,7 @@
 //! The events of the collector. Each function's contract is a law, and the function does nothing.
 
-ghost use Rattle.std.specs.Prelude.{◌≡◌, ◌≢◌, ℕ, ◌+◌, ◌<◌, ◌≤◌, ◌==◌, false, length, Some, None, IsSome, IsTrue};
+ghost use Rattle.std.specs.Prelude.{◌≡◌, ◌≢◌, ℕ, ◌<◌, ◌==◌, false, length, Some, IsSome, IsTrue};
 ghost use Rattle.pm_types.specs.declared.address.Addr.{Addr};
-ghost use Rattle.std.specs.FinMap.{get};
 ghost use Rattle.pm_trains.specs.Trains.{cars_at, is_among, tail, train_of};
 ghost use Rattle.pm_model.specs.World.{World};
 ghost use Rattle.pm_model.specs.Reachability.{IsReachable};
@@ -10,9 +9,7 @@ ghost use Rattle.pm_view.specs.View.{SpaceView};
 ghost use Rattle.pm_view.specs.Law.{HeapLaw};
 ghost use Rattle.pm_view.specs.Counts.{IsStanding, IsStandingAt, IsPlaced};
 ghost use Rattle.pm_view.specs.Represents.{IsHeld, Represents};
-ghost use Rattle.pm_view.specs.declared.phase.Phase.TheVariants.{Idle};
-ghost use Rattle.pm_view.specs.Work.{work, lowers};
-ghost use Rattle.pm_view.specs.Events.{Row, nothing, start, move_out, next_row, after, ways_out, home, MayPick, MayPlace, moving_id, goal_of, ended_by, clears, MovesTo};
+ghost use Rattle.pm_view.specs.Events.{Row, start, move_out, next_row, after, ways_out, home, MayPick, MayPlace, moving_id, goal_of, ended_by, clears, MovesTo};
 
 /// A law of every event of the collector: whichever comes next, and whatever train is picked where one is, the heap
 /// law is kept, and every world that the space stands for stays. So no event changes what a client is answered, and
@@ -36,17 +33,6 @@ pub fn an_event_moves_one_object_at_most()
         → ended_by (after view picked number row) row a.car ≡ false → IsPlaced (after view picked number row) id train }
     ensures reached { (view : SpaceView) (world : World) (row : Row) (picked number id : ℕ) → HeapLaw view → next_row view ≡ row → MayPick view picked row → MayPlace view number row
         → Represents view world → IsReachable world.heap (IsHeld world) id → IsStanding (after view picked number row) id }
-{}
-
-/// A law of work: in a collection each event that does not complete it lowers the work that is left, by four where a
-/// train is doomed, by three where a car begins to be emptied or an object moves, by two where a source is fixed, and by
-/// one else. No event comes just where no collection is in progress and no car stands.
-pub fn an_event_lowers_the_work_left()
-    ensures lowers { (view : SpaceView) (row : Row) (picked number : ℕ) → HeapLaw view → next_row view ≡ row → MayPick view picked row → MayPlace view number row
-        → view.phase ≢ Idle → (after view picked number row).completed ≡ view.completed → work (after view picked number row) + lowers row ≤ work view }
-    ensures idle { (view : SpaceView) → HeapLaw view → next_row view ≡ nothing → view.phase ≡ Idle }
-    ensures empty { (view : SpaceView) (car : ℕ) → HeapLaw view → next_row view ≡ nothing → get view.cars car ≡ None }
-    ensures nothing { (view : SpaceView) → HeapLaw view → view.phase ≡ Idle → ((car : ℕ) → get view.cars car ≡ None) → next_row view ≡ nothing }
 {}
 
 /// A law of picks: where an event picks a train there is one to pick, and each that may be picked stands and is

@@ -29,11 +29,11 @@ use Rattle.pm_law_rows.proofs.OpenTrain.{first_home}
 use Rattle.pm_law_commands.proofs.Keeps.{row_keeps}
 use Rattle.pm_law_commands.proofs.Objects.{row_keeps_objects}
 use Rattle.pm_law_commands.proofs.Added.{new_adds}
-use Rattle.pm_law_collect.proofs.Small.{some_same, none_some}
-use Rattle.pm_law_collect.proofs.FreeRow.{front_of}
+use Rattle.pm_law_phases.proofs.Small.{some_same, none_some}
 use Rattle.pm_law_course.specs.Course.{train_in, collected}
 use Rattle.pm_law_course.proofs.Rows.{object_made}
 use Rattle.pm_law_course.proofs.Kept.{command_keeps}
+use Rattle.pm_law_phases.proofs.Fronts.{front_of}
 
 -- the train that is collected is the oldest, and not the open one
 collected_oldest : (p : Phase) (ts : List Train) (anchor : Option (Addr × ℕ)) (n : ℕ) → ((q : ℕ) → line.places q ts ≤ 1) → IsAt p ts anchor → train_in p ts ≡ Some n → IsOldest ts n

@@ -20,7 +20,7 @@ use Rattle.pm_view.specs.Reading.{is_aside}
 use Rattle.pm_view.specs.Counts.{live_in, standing_in, standing_of, standing, IsStanding}
 use Rattle.pm_view.specs.Law.{HeapLaw}
 use Rattle.pm_law_rows.proofs.Places.{slot_of, live_slot}
-use Rattle.pm_law_collect.proofs.Small.{some_same, none_some, turned}
+use Rattle.pm_law_phases.proofs.Small.{some_same, none_some, turned}
 
 -- ---- tests of lists
 

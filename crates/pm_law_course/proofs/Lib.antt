@@ -2,8 +2,5 @@ pub mod Rows
 pub mod Kept
 pub mod Completing
 pub mod Anchoring
-pub mod Changing
 pub mod Bearing
-pub mod Sums
-pub mod Adding
 pub mod Counting

@@ -36,8 +36,3 @@ collected view = train_in view.phase view.trains.trains
 abbrev pub is_close : Cmd → Bool
 is_close Close = true
 is_close cmd = false
-
--- by how much a command raises the work that is left, at most
-abbrev pub raises : Cmd → ℕ
-raises Close = 3072
-raises cmd = 6

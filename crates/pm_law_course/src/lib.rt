@@ -4,14 +4,10 @@
 
 mod anchors;
 mod births;
-mod changes;
 mod completion;
 mod standing;
-mod work;
 
 pub use anchors::an_anchor_is_noted_with_its_train;
 pub use births::no_command_adds_to_the_train_that_is_collected;
-pub use changes::a_change_that_is_applied_leaves_the_effective_sets;
 pub use completion::one_event_completes_a_collection;
 pub use standing::no_more_is_reached_than_stands;
-pub use work::a_command_adds_little_work;

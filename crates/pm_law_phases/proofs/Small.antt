@@ -1,0 +1,32 @@
+-- Small facts of options, tests and sums.
+use Rattle.std.proofs.Common.{◌≡◌, ℕ, ◌==◌, Bool, true, false, cond, ap, refl, sym, ◌∙◌, Option, Some, None, is_some, arith}
+use Rattle.std.proofs.lemmas.Bool.{true≢false}
+use Rattle.std.proofs.lemmas.Bool.Decides.{nat_tests}
+use Rattle.pm_types.specs.declared.address.Addr.{Addr}
+use Rattle.pm_law_rows.proofs.Spreading.{by_slots, changed}
+
+pub some_same : {A : Type 0} (x y : A) → Some x ≡ Some y → x ≡ y
+some_same {A = A} x y is = ap (λ o. elim o as (λ _. A) [ None ↦ x | Some z ↦ z ]) is
+
+pub none_some : {A : Type 0} (x : A) → None ≡ Some x → ⊥
+none_some x is = cc
+
+pub some_pair : (a b : Addr) (m n : ℕ) → ◌≡◌ {A = Option (Addr × ℕ)} (Some (a, m)) (Some (b, n)) → (a ≡ b) × (m ≡ n)
+some_pair a b m n is = let both : ◌≡◌ {A = Addr × ℕ} (a, m) (b, n) = some_same {A = Addr × ℕ} (a, m) (b, n) is in (ap (λ (p : Addr × ℕ). p.0) both, ap (λ (p : Addr × ℕ). p.1) both)
+
+pub turned : (m n : ℕ) → (m == n) ≡ (n == m)
+turned m n = grind (arith, nat_tests)
+
+pub none_is : {A : Type 0} (o : Option A) → is_some o ≡ false → o ≡ None
+none_is None none = refl
+none_is (Some x) none = absurd (true≢false none)
+
+-- ---- what is queued of a source
+
+pub none_from : (o : Option ℕ) → ((n : ℕ) → o ≡ Some n → ⊥) → o ≡ None
+none_from None h = refl
+none_from (Some n) h = absurd (h n refl)
+
+pub left_none : (o p : Option ℕ) → (o ≡ None → p ≡ None) → changed (by_slots None o) p ≡ None
+left_none None p h = h refl
+left_none (Some n) p h = refl
