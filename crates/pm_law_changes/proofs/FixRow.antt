@@ -1,10 +1,10 @@
 -- A source that named a Moved slot and is fixed: the heap law is kept, and what the space stands for.
-use Rattle.std.proofs.Common.{◌≡◌, ◌≢◌, ℕ, zero, suc, ◌==◌, ◌&&◌, Bool, true, false, cond, not, refl, ap, sym, subst, ◌∙◌, List, [], ◌∷◌, ◌++◌, map, slice_set, Option, Some, None, is_some, arith}
+use Rattle.std.proofs.Common.{◌≡◌, ℕ, zero, suc, ◌==◌, ◌&&◌, Bool, true, false, cond, not, refl, ap, sym, subst, ◌∙◌, List, [], ◌∷◌, ◌++◌, map, slice_set, Option, Some, None, is_some}
 use Rattle.std.specs.Option.{IsSome, option_map, option_and_then, option_flatten, unwrap_or}
 use Rattle.std.specs.List.{slice_get}
 use Rattle.std.specs.FinMap.{get, insert, remove, empty, get-empty, get-remove}
 use Rattle.std.specs.Cmp.{eq_by_cmp_equiv}
-use Rattle.std.proofs.lemmas.Bool.{eqb-true, eq-eqb, and_from, and_parts, cond-true, cond-false, both_ways, true≢false, false_from_ne_true, not_from_false}
+use Rattle.std.proofs.lemmas.Bool.{eqb-true, eq-eqb, and_from, and_parts, cond-true, cond-false, true≢false, false_from_ne_true, not_from_false}
 use Rattle.std.proofs.lemmas.List.{append-nil, map-set}
 use Rattle.std.proofs.lemmas.Option.{slice_get-map}
 use Rattle.pm_base.proofs.Mapped.{get-mapped}
@@ -17,20 +17,19 @@ use Rattle.pm_types.specs.declared.object.Slot.TheVariants.{Live, Moved}
 use Rattle.pm_types.specs.declared.source.RefSource.{RefSource}
 use Rattle.pm_types.specs.declared.source.RefSource.TheVariants.{Root, Handle, Field}
 use Rattle.pm_types.specs.declared.source.Change.{Change}
-use Rattle.pm_cars.specs.Cars.{Car, look_of, with_field, object_of}
-use Rattle.pm_cars.specs.declared.look.Look.{Look}
+use Rattle.pm_cars.specs.Cars.{look_of, with_field}
 use Rattle.pm_cars.specs.declared.look.Look.TheVariants as looks
 use Rattle.pm_roots.specs.Bindings.{address_at}
 use Rattle.pm_view.specs.Sources.{same_source, same_address, outside, slot_in}
 use Rattle.pm_view.specs.View.{Sources, Sets, Queues, SpaceView}
-use Rattle.pm_view.specs.Reading.{slot_at, object_at, field_of, stored, followed, resolve, id_at, named_by, is_aside, Stands}
+use Rattle.pm_view.specs.Reading.{slot_at, object_at, field_of, stored, followed, id_at, is_aside, Stands}
 use Rattle.pm_view.specs.Effective.{effective, effective_in}
 use Rattle.pm_view.specs.Barrier.{barrier, entered, news, told}
 use Rattle.pm_view.specs.Seen.{seen, kept, IsLive}
 use Rattle.pm_view.specs.Seen as seen_words
 use Rattle.pm_view.specs.Counts.{live_in}
 use Rattle.pm_view.specs.Law.{HeapLaw}
-use Rattle.pm_view.specs.Represents.{names, meaning}
+use Rattle.pm_view.specs.Represents.{names}
 use Rattle.pm_view.specs.Rows.{readdressed, with_stored, spread, HasValue}
 use Rattle.pm_view.specs.Candidates.{set_of, queue_of}
 use Rattle.pm_view.specs.Collecting.{fixed}
@@ -38,14 +37,13 @@ use Rattle.pm_view.specs.Events.{named_in, went, has_gone, least_stale, to_fix}
 use Rattle.pm_law_rows.proofs.SameSource.{source_ties, same_address-true}
 use Rattle.pm_law_rows.proofs.Spreading.{by_slots, hears, heard_change, changed}
 use Rattle.pm_law_rows.proofs.News.{at_insert, get-told, as_changes, effective-told, news_of_barrier}
-use Rattle.pm_law_rows.proofs.Shapes.{IsShapedAt}
 use Rattle.pm_law_rows.proofs.Places.{object_after}
 use Rattle.pm_law_rows.proofs.Stored.{register_after}
 use Rattle.pm_law_rows.proofs.Spread.{is_spread, live_to_car, not_in}
 use Rattle.pm_law_rows.proofs.SpreadKept.{reshaped_spread, spread_keeps_law}
 use Rattle.pm_law_rows.proofs.Numbers.{found_by_number}
 use Rattle.pm_law_rows.proofs.Meaning.{names_same}
-use Rattle.pm_law_phases.proofs.Small.{some_same, none_some, turned}
+use Rattle.pm_law_phases.proofs.Small.{some_same, none_some, turned, shaped_live}
 use Rattle.pm_law_phases.proofs.Finds.{found_entry}
 use Rattle.pm_law_phases.proofs.MeansSame.{MeansSame, Keeps, keeps}
 use Rattle.pm_law_phases.proofs.Comes.{IsEmptied}
@@ -383,13 +381,7 @@ module _ (view : SpaceView) (car : ℕ) (x : RefSource) (to : Addr) (law : HeapL
   fix_held = ap is_some stale.held
 
   pub fix_live : live_in (get fix.cars car) ≡ live_in (get view.cars car)
-  fix_live = by_shape (get view.cars car) (get fix.cars car) ((reshaped_spread view x (Some to)).cars car)
-    where
-      by_shape : (o p : Option Car) → IsShapedAt o p → live_in p ≡ live_in o
-      by_shape None None shaped = refl
-      by_shape None (Some d) shaped = absurd shaped
-      by_shape (Some c) None shaped = absurd shaped
-      by_shape (Some c) (Some d) shaped = shaped.live
+  fix_live = shaped_live (get view.cars car) (get fix.cars car) ((reshaped_spread view x (Some to)).cars car)
 
   pub fix_phase : fix.phase ≡ view.phase
   fix_phase = (reshaped_spread view x (Some to)).phase

@@ -1,9 +1,8 @@
 -- Rows that change remembered sets and queues alone: each effective set stays, so the heap law does.
-use Rattle.std.proofs.Common.{◌≡◌, ℕ, ◌==◌, ◌||◌, Bool, true, false, cond, refl, ap, sym, subst, ◌∙◌, List, [], ◌∷◌, Option, Some, None, is_some}
+use Rattle.std.proofs.Common.{◌≡◌, ℕ, ◌==◌, Bool, true, false, cond, refl, ap, sym, subst, ◌∙◌, List, [], ◌∷◌, Option, Some, None, is_some}
 use Rattle.std.specs.Option.{unwrap_or}
 use Rattle.std.specs.FinMap.{get, insert, empty}
 use Rattle.std.proofs.lemmas.Bool.{eqb-true, true≢false}
-use Rattle.pm_types.specs.declared.address.Addr.{Addr}
 use Rattle.pm_types.specs.declared.source.RefSource.{RefSource}
 use Rattle.pm_types.specs.declared.source.RefSource.TheVariants.{Root, Handle, Field}
 use Rattle.pm_types.specs.declared.source.Change.{Change}
@@ -15,7 +14,6 @@ use Rattle.pm_view.specs.Seen.{seen, IsTied}
 use Rattle.pm_view.specs.Law.{HeapLaw}
 use Rattle.pm_view.specs.Collecting.{set_takes, applied_front, applied_in}
 use Rattle.pm_law_rows.proofs.News.{at_insert}
-use Rattle.pm_law_phases.proofs.Small.{none_some}
 use Rattle.pm_law_phases.proofs.MeansSame.{MeansSame, Keeps, keeps, unchanged_keeps}
 
 -- the sets and the queues of a space, where each effective set is as before

@@ -1,5 +1,5 @@
 -- Whatever event of the collector comes next, the heap law is kept, and what the space stands for.
-use Rattle.std.proofs.Common.{◌≡◌, ℕ, ◌+◌, ◌==◌, if◌then◌else◌, Bool, true, false, List, [], ◌∷◌, length, ap, sym, ◌∙◌, Option, Some, None, arith}
+use Rattle.std.proofs.Common.{◌≡◌, ℕ, ◌==◌, if◌then◌else◌, Bool, true, false, List, [], ◌∷◌, length, ap, sym, ◌∙◌, Option, Some, None}
 use Rattle.pm_types.specs.declared.address.Addr.{Addr}
 use Rattle.std.proofs.lemmas.Bool.{true≢false}
 use Rattle.pm_types.specs.declared.object.Object.{Object}
@@ -17,12 +17,12 @@ use Rattle.pm_view.specs.Candidates.{queue_of}
 use Rattle.pm_view.specs.Events.{Row, nothing, select, apply, doom, start, fix, move_anchor, move_out, move_on, finish, sweep, free, free_doomed, next_row, after, MayPick, MayPlace, moving_id, goal_of, ended_by, clears, MovesTo}
 use Rattle.pm_law_phases.proofs.MeansSame.{Keeps, unchanged_keeps}
 use Rattle.pm_law_phases.proofs.Small.{none_some}
-use Rattle.pm_law_phases.proofs.Stays.{Stays, none, stays_itself, selected_stays, doomed_stays, started_stays, finished_stays, applied_stays, fixed_stays, swept_stays}
+use Rattle.pm_law_phases.proofs.Stays.{Stays, stays_itself, selected_stays, doomed_stays, started_stays, finished_stays, applied_stays, fixed_stays, swept_stays}
 use Rattle.pm_law_phases.proofs.Comes.{comes_where}
 use Rattle.pm_law_phases.proofs.PhaseRows.{selected_keeps, doomed_keeps, started_keeps, finished_keeps}
 use Rattle.pm_law_changes.proofs.Requeued.{applied_keeps}
 use Rattle.pm_law_changes.proofs.FixRow.{fixed_keeps}
-use Rattle.pm_law_moves.proofs.MoveRows.{same_some, anchor_tail, out_tail, train_tail, anchor_car, anchor_moves, object_moves_out, object_moves_on}
+use Rattle.pm_law_moves.proofs.MoveRows.{same_some, anchor_tail, out_tail, train_tail, anchor_moves, object_moves_out, object_moves_on}
 use Rattle.pm_law_sweeps.proofs.SweepRow.{swept_keeps}
 use Rattle.pm_law_sweeps.proofs.FreeRow.{freed_goes, freed_doomed_goes}
 

@@ -20,17 +20,9 @@ use Rattle.pm_view.specs.Reading.{is_aside}
 use Rattle.pm_view.specs.Counts.{live_in, standing_in, standing_of, standing, IsStanding}
 use Rattle.pm_view.specs.Law.{HeapLaw}
 use Rattle.pm_law_rows.proofs.Places.{slot_of, live_slot}
-use Rattle.pm_law_phases.proofs.Small.{some_same, none_some, turned}
+use Rattle.pm_law_phases.proofs.Small.{some_same, none_some, turned, or_left, or_right}
 
 -- ---- tests of lists
-
-or_left : (b c : Bool) → b ≡ true → (b || c) ≡ true
-or_left true c is = refl
-or_left false c is = absurd (true≢false (sym is))
-
-or_right : (b : Bool) {c : Bool} → c ≡ true → (b || c) ≡ true
-or_right true is = refl
-or_right false is = is
 
 any_left : (p : ℕ → Bool) (xs ys : List ℕ) → list_any p xs ≡ true → list_any p (xs ++ ys) ≡ true
 any_left p [] ys is = absurd (true≢false (sym is))

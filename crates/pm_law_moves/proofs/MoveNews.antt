@@ -1,12 +1,12 @@
 -- What effective sets give once the cars heard of the fields of an object that moved.
-use Rattle.std.proofs.Common.{◌≡◌, ℕ, ◌==◌, ◌&&◌, Bool, true, false, cond, not, refl, ap, sym, ◌∙◌, List, [], ◌∷◌, ◌++◌, Option, Some, None, is_some}
+use Rattle.std.proofs.Common.{◌≡◌, ℕ, ◌==◌, ◌&&◌, Bool, true, false, cond, refl, ap, ◌∙◌, List, ◌++◌, Option, Some, None, is_some}
 use Rattle.std.specs.Option.{option_map, option_flatten}
 use Rattle.std.specs.List.{slice_get}
 use Rattle.std.specs.FinMap.{get}
 use Rattle.std.proofs.lemmas.Bool.{eqb-true}
 use Rattle.pm_types.specs.declared.address.Addr.{Addr}
 use Rattle.pm_types.specs.declared.source.RefSource.{RefSource}
-use Rattle.pm_types.specs.declared.source.RefSource.TheVariants.{Root, Handle, Field}
+use Rattle.pm_types.specs.declared.source.RefSource.TheVariants.{Field}
 use Rattle.pm_types.specs.declared.source.Change.{Change}
 use Rattle.pm_view.specs.Sources.{same_source, same_address, is_field_at, slot_in}
 use Rattle.pm_view.specs.View.{Sources}
@@ -15,7 +15,7 @@ use Rattle.pm_view.specs.Barrier.{left, entered, barrier, news}
 use Rattle.pm_view.specs.Collecting.{field_news}
 use Rattle.pm_law_rows.proofs.Spreading.{by_slots, hears, heard_change, changed}
 use Rattle.pm_law_rows.proofs.News.{news-append, as_changes, news_of_barrier}
-use Rattle.pm_law_phases.proofs.FieldNews.{folded, folded_none, folded_field, effective_fields, applied-both}
+use Rattle.pm_law_phases.proofs.FieldNews.{folded_none, folded_field, effective_fields, applied-both}
 use Rattle.pm_law_phases.proofs.Withdrawn.{news_of_left, after_changes, same_itself, apart_source}
 
 entered_is : (aside : ℕ → Bool) (x : RefSource) (f : Option Addr) → entered aside x f ≡ barrier aside x None f

@@ -1,9 +1,9 @@
 -- An object that moves: the heap law is kept, and what the space stands for.
-use Rattle.std.proofs.Common.{◌≡◌, ◌≢◌, ◌⊎◌, inl, inr, ⊎_elim, ℕ, zero, suc, ◌+◌, ◌<◌, ◌≤◌, ◌==◌, ◌&&◌, Bool, true, false, cond, not, refl, ap, sym, subst, ◌∙◌, List, [], ◌∷◌, ◌++◌, map, length, Option, Some, None, arith, is_some}
+use Rattle.std.proofs.Common.{◌≡◌, ⊎_elim, ℕ, suc, ◌+◌, ◌≤◌, ◌==◌, ◌&&◌, Bool, true, false, cond, not, refl, ap, sym, subst, ◌∙◌, List, [], ◌∷◌, ◌++◌, map, length, Option, Some, None, arith, is_some}
 use Rattle.std.specs.Option.{IsSome, option_map, option_and_then, option_flatten, unwrap_or}
-use Rattle.std.specs.List.{slice_get, sum_by}
+use Rattle.std.specs.List.{slice_get}
 use Rattle.std.specs.FinMap.{get, len, empty}
-use Rattle.std.proofs.lemmas.Bool.{eqb-true, eq-eqb, cond-true, cond-false, cases_Bool, both_ways, true≢false, false_from_ne_true, not_from_false}
+use Rattle.std.proofs.lemmas.Bool.{eqb-true, eq-eqb, cond-true, cond-false, cases_Bool, both_ways, false_from_ne_true}
 use Rattle.std.proofs.lemmas.List.{length-map, length-append}
 use Rattle.std.proofs.lemmas.Option.{slice_get-map}
 use Rattle.pm_types.specs.declared.limits.TheConstants.{ROOTS, FIELDS}
@@ -15,41 +15,38 @@ use Rattle.pm_types.specs.declared.source.RefSource.{RefSource}
 use Rattle.pm_types.specs.declared.source.RefSource.TheVariants.{Root, Handle, Field}
 use Rattle.pm_types.specs.declared.source.Change.{Change}
 use Rattle.pm_cars.specs.Cars.{Car, one_live, live_count, object_of, look_of, with_birth, with_slot}
-use Rattle.pm_cars.specs.declared.look.Look.{Look}
 use Rattle.pm_cars.specs.declared.look.Look.TheVariants as looks
 use Rattle.pm_trains.specs.Trains.{train_of}
 use Rattle.pm_roots.specs.Bindings.{address_at, AllNumbersDiffer}
-use Rattle.pm_view.specs.declared.phase.Phase.TheVariants.{Moving}
 use Rattle.pm_view.specs.Sources.{same_address, is_field_at, slot_in}
 use Rattle.pm_view.specs.View.{SpaceView}
-use Rattle.pm_view.specs.Reading.{slot_at, object_at, field_of, stored, followed, resolve, id_at, named_by, aside_in, is_aside, is_from}
+use Rattle.pm_view.specs.Reading.{slot_at, object_at, field_of, stored, followed, resolve, id_at, named_by, is_aside}
 use Rattle.pm_view.specs.Effective.{effective, effective_in}
-use Rattle.pm_view.specs.Barrier.{left, entered, news, told}
+use Rattle.pm_view.specs.Barrier.{left, entered, news}
 use Rattle.pm_view.specs.Counts.{IsPlaced, live_in}
 use Rattle.pm_view.specs.Seen.{seen, kept, IsLive}
 use Rattle.pm_view.specs.Seen as seen_words
-use Rattle.pm_view.specs.Law.{IsAt, IsFront, IsAnchor, IsNamed, HeapLaw}
-use Rattle.pm_view.specs.Represents.{names, meaning}
-use Rattle.pm_view.specs.Rows.{with_object}
+use Rattle.pm_view.specs.Law.{IsAt, IsAnchor, IsNamed, HeapLaw}
+use Rattle.pm_view.specs.Represents.{names}
 use Rattle.pm_view.specs.Candidates.{set_of, queue_of}
 use Rattle.pm_view.specs.Collecting.{field_news, move_news, settled}
 use Rattle.pm_law_rows.proofs.SameSource.{same_address-true}
 use Rattle.pm_law_rows.proofs.Spreading.{hears, heard_change, changed}
 use Rattle.pm_law_rows.proofs.News.{news-append, as_changes, get-told}
 use Rattle.pm_law_rows.proofs.Places.{slot_of, object_after}
-use Rattle.pm_law_rows.proofs.Shapes.{IsShaped, IsShapedAt}
+use Rattle.pm_law_rows.proofs.Shapes.{IsShaped}
 use Rattle.pm_law_rows.proofs.Built.{IsReshaped, built_still}
 use Rattle.pm_law_rows.proofs.Meaning.{named_same}
 use Rattle.pm_law_rows.proofs.Numbers.{found_by_number}
 use Rattle.pm_law_rows.proofs.Spread.{leads_to_car, live_to_car, not_in}
 use Rattle.pm_law_rows.proofs.SpreadKept.{reshaped_object}
-use Rattle.pm_law_phases.proofs.Small.{some_same, none_some, turned}
+use Rattle.pm_law_phases.proofs.Small.{some_same, none_some, turned, shaped_live}
 use Rattle.pm_law_phases.proofs.MeansSame.{MeansSame, IsSameAs, Keeps, keeps}
 use Rattle.pm_law_phases.proofs.Stays.{Stays, none}
 use Rattle.pm_law_phases.proofs.Withdrawn.{same_itself, news_of_left}
 use Rattle.pm_law_moves.proofs.MoveNews.{news_of_entered, moved_from, moved_to, moved_apart}
 use Rattle.pm_law_moves.proofs.MoveSeen.{resolved, IsMove, MayMove, law_after_move, go_live}
-use Rattle.pm_law_moves.proofs.PutAway.{next_place, IsPut, slot_put, nothing_there, places_apart, was_here, old_moved, new_live, other_slot, none_aside, none_aside_then, from_is, from_then, either_object, put_built, apart_false, total_set}
+use Rattle.pm_law_moves.proofs.PutAway.{next_place, IsPut, slot_put, nothing_there, places_apart, was_here, old_moved, new_live, other_slot, none_aside, none_aside_then, from_is, from_then, either_object, put_built, total_set}
 use Rattle.pm_law_moves.specs.Moved.{HasMoved}
 
 followed_is : (o : Option Slot) (a : Addr) → followed o a ≡ resolved (look_of o) a
@@ -455,18 +452,12 @@ module _ (view put : SpaceView) (from : Addr) (c : ℕ) (old car : Car) (object 
 
   put_live : live_in (get t.cars from.car) + 1 ≡ live_in (get view.cars from.car)
   put_live =
-      let shape = by_shape (get put.cars from.car) (get t.cars from.car) (same.cars from.car) in
+      let shape = shaped_live (get put.cars from.car) (get t.cars from.car) (same.cars from.car) in
       let now : get put.cars from.car ≡ Some (with_slot old from.slot (Moved to)) = is.cars from.car ∙ cond-true _ _ _ (eq-eqb from.car from.car refl) in
       let sums = total_set one_live old.slots from.slot (Live object) (Moved to) is.live in
       let first : live_in (get t.cars from.car) ≡ live_count (with_slot old from.slot (Moved to)) = shape ∙ ap live_in now in
       let second : live_in (get view.cars from.car) ≡ live_count old = ap live_in is.stood in
       omega arith
-    where
-      by_shape : (o p : Option Car) → IsShapedAt o p → live_in p ≡ live_in o
-      by_shape None None shaped = refl
-      by_shape None (Some d) shaped = absurd shaped
-      by_shape (Some c) None shaped = absurd shaped
-      by_shape (Some c) (Some d) shaped = shaped.live
 
   pub moved_lighter : IsLighter view from t
   moved_lighter = record {

@@ -1,9 +1,9 @@
 -- The three rows that move an object: the anchor, one that an outside source names, and one that another source names.
-use Rattle.std.proofs.Common.{◌≡◌, ◌≢◌, ℕ, suc, ◌+◌, ◌-◌, ◌<◌, ◌≤◌, ◌==◌, ◌&&◌, ◌||◌, if◌then◌else◌, Bool, true, false, cond, not, refl, ap, sym, subst, ◌∙◌, List, [], ◌∷◌, ◌++◌, length, Option, Some, None, arith, is_some, IsTrue}
-use Rattle.std.specs.Option.{IsSome, IsSomeAnd, option_map, option_and_then, unwrap_or}
+use Rattle.std.proofs.Common.{◌≡◌, ℕ, suc, ◌-◌, ◌≤◌, ◌==◌, ◌&&◌, ◌||◌, if◌then◌else◌, Bool, true, false, cond, not, refl, ap, sym, subst, ◌∙◌, List, [], ◌∷◌, length, Option, Some, None, arith, is_some, IsTrue}
+use Rattle.std.specs.Option.{IsSome, option_map, option_and_then, unwrap_or}
 use Rattle.std.specs.List.{find, slice_get}
 use Rattle.std.specs.FinMap.{get, entries}
-use Rattle.std.proofs.lemmas.Bool.{eqb-true, eq-eqb, and_from, both_ways, true≢false, false_from_ne_true, not_from_false}
+use Rattle.std.proofs.lemmas.Bool.{eqb-true, eq-eqb, and_from, both_ways, true≢false, false_from_ne_true}
 use Rattle.pm_types.proofs.Orders.{sources_total, sources_antisymmetric}
 use Rattle.pm_types.specs.declared.address.Addr.{Addr}
 use Rattle.pm_types.specs.declared.object.Object.{Object}
@@ -12,28 +12,26 @@ use Rattle.pm_types.specs.declared.object.Slot.TheVariants.{Live, Moved}
 use Rattle.pm_types.specs.declared.source.RefSource.{RefSource}
 use Rattle.pm_types.specs.declared.source.RefSource.TheVariants.{Root, Handle, Field}
 use Rattle.pm_cars.specs.Cars.{Car, new_car, object_room, object_of, look_of}
-use Rattle.pm_trains.specs.Trains.{Train, cars_at, train_of, is_among, first_car, tail, oldest}
+use Rattle.pm_trains.specs.Trains.{cars_at, train_of, is_among, tail}
 use Rattle.pm_view.specs.declared.phase.Phase.TheVariants.{Moving}
 use Rattle.pm_view.specs.Sources.{lies_in, outside}
 use Rattle.pm_view.specs.View.{SpaceView}
 use Rattle.pm_view.specs.Reading.{slot_at, object_at, cars_of, is_aside}
-use Rattle.pm_view.specs.Effective.{effective}
 use Rattle.pm_view.specs.Seen.{seen}
 use Rattle.pm_view.specs.Seen as seen_words
-use Rattle.pm_view.specs.Law.{IsOldest, IsAnchor, HeapLaw}
+use Rattle.pm_view.specs.Law.{IsAnchor, HeapLaw}
 use Rattle.pm_view.specs.Rows.{has_room, if_fits, tail_for, put_in, place_in, next_of, IsVacant}
-use Rattle.pm_view.specs.Candidates.{set_of, is_beyond, candidates, least_outside}
+use Rattle.pm_view.specs.Candidates.{set_of, is_beyond, candidates}
 use Rattle.pm_view.specs.Collecting.{put_away, settled, moved_object, moved_some, moved}
-use Rattle.pm_view.specs.Events.{named_in, went, has_gone, least_stale, to_fix, anchor_in, first_of, least, home, ways_out}
-use Rattle.pm_law_rows.proofs.Places.{slot_of, object_has_car, live_slot}
+use Rattle.pm_view.specs.Events.{named_in, went, has_gone, least_stale, anchor_in, first_of, home, ways_out}
+use Rattle.pm_law_rows.proofs.Places.{slot_of, live_slot}
 use Rattle.pm_law_rows.proofs.OpenTrain.{first_home, tail_home}
 use Rattle.pm_law_rows.proofs.Born.{room_fits, small_room}
-use Rattle.pm_law_phases.proofs.Small.{some_same, some_pair, none_some, turned}
+use Rattle.pm_law_phases.proofs.Small.{some_same, none_some, turned}
 use Rattle.pm_law_phases.proofs.Finds.{no_entry, found_entry}
 use Rattle.pm_law_phases.proofs.Comes.{IsEmptied, IsMovingAnchor, IsMovingOut, IsMovingOn}
-use Rattle.pm_law_phases.proofs.PhaseRows.{emptied_aside, emptied_from, emptied_front, emptied_set, remembered_leads, pick_stands}
+use Rattle.pm_law_phases.proofs.PhaseRows.{emptied_aside, emptied_front, emptied_set, remembered_leads, pick_stands}
 use Rattle.pm_law_phases.proofs.FirstGone.{among_less, own_less}
-use Rattle.pm_law_moves.proofs.PutAway.{next_place}
 use Rattle.pm_law_moves.proofs.MoveRow.{GoesTo, moved_goes}
 use Rattle.pm_law_moves.proofs.PutRow.{in_tail, tail_put, in_new, new_put, new_lands}
 use Rattle.pm_law_phases.proofs.Fronts.{IsFrontOf, first_cars, front_of}

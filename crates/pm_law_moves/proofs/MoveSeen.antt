@@ -1,7 +1,7 @@
 -- An object that moves: sources and effective sets stay tied.
-use Rattle.std.proofs.Common.{◌≡◌, ◌≢◌, ℕ, Bool, true, false, cond, not, ◌&&◌, ◌==◌, Option, Some, None, ◌⊎◌, inl, inr, ⊎_elim, ap, refl, sym, ◌∙◌, subst}
+use Rattle.std.proofs.Common.{◌≡◌, ◌≢◌, ℕ, true, false, not, Option, Some, None, ◌⊎◌, inl, inr, ⊎_elim, ap, refl, sym, ◌∙◌, subst}
 use Rattle.std.specs.Option.{option_map}
-use Rattle.std.proofs.lemmas.Bool.{and_from, and_left, cases_Bool, not_from_false, not-true, cond-true, cond-false, both_ways, true≢false}
+use Rattle.std.proofs.lemmas.Bool.{and_from, and_left, cases_Bool, not_from_false, cond-true, cond-false, both_ways}
 use Rattle.pm_types.specs.declared.address.Addr.{Addr}
 use Rattle.pm_types.specs.declared.source.RefSource.{RefSource}
 use Rattle.pm_types.specs.declared.source.RefSource.TheVariants.{Root, Handle, Field}

@@ -1,15 +1,15 @@
 -- An object that was put at another place, and whose slot says so: the space stays built as the heap law says.
-use Rattle.std.proofs.Common.{◌≡◌, ◌≢◌, ◌⊎◌, inl, inr, ⊎_elim, ℕ, ◌+◌, ◌*◌, ◌<◌, ◌≤◌, ◌==◌, ◌&&◌, Bool, true, false, cond, not, refl, ap, sym, subst, ◌∙◌, List, length, Option, Some, None, arith, is_some}
-use Rattle.std.specs.Option.{IsSome, option_map, option_and_then}
+use Rattle.std.proofs.Common.{◌≡◌, ◌≢◌, ◌⊎◌, inl, inr, ⊎_elim, ℕ, ◌+◌, ◌<◌, ◌≤◌, ◌==◌, ◌&&◌, Bool, true, false, cond, refl, ap, sym, subst, ◌∙◌, Option, Some, None, arith, is_some}
+use Rattle.std.specs.Option.{IsSome}
 use Rattle.std.specs.List.{sum_by}
 use Rattle.std.specs.FinMap.{get, insert}
-use Rattle.std.proofs.lemmas.Bool.{eqb-true, eq-eqb, and_from, cond-true, cond-false, both_ways, true≢false, false_from_ne_true}
+use Rattle.std.proofs.lemmas.Bool.{eqb-true, eq-eqb, cond-true, cond-false, both_ways, false_from_ne_true}
 use Rattle.pm_types.specs.declared.address.Addr.{Addr}
 use Rattle.pm_types.specs.declared.object.Object.{Object}
 use Rattle.pm_types.specs.declared.object.Slot.{Slot}
 use Rattle.pm_types.specs.declared.object.Slot.TheVariants.{Live, Moved}
 use Rattle.pm_types.specs.declared.source.RefSource.{RefSource}
-use Rattle.pm_cars.specs.Cars.{Car, IsSound, Fits, Slots, used, object_room, slot_room, one_live, one_moved, total, live_count, moved_count, object_of, look_of, with_birth, with_slot}
+use Rattle.pm_cars.specs.Cars.{Car, IsSound, Fits, Slots, object_room, slot_room, one_moved, total, moved_count, object_of, with_birth, with_slot}
 use Rattle.pm_cars.proofs.Rooms.{total_insert, counted}
 use Rattle.pm_trains.specs.Trains.{train_of, cars_at, oldest, youngest}
 use Rattle.pm_trains.specs.Sound as line

@@ -1,10 +1,10 @@
 -- Where an object that moves is put: in the tail of a train, or in a new car at its end.
-use Rattle.std.proofs.Common.{◌≡◌, ◌≢◌, ℕ, ◌+◌, ◌<◌, ◌≤◌, ◌==◌, ◌&&◌, ◌||◌, Bool, true, false, cond, refl, ap, sym, subst, ◌∙◌, List, [], ◌∷◌, ◌++◌, length, Option, Some, None, arith, is_some}
+use Rattle.std.proofs.Common.{◌≡◌, ◌≢◌, ℕ, ◌<◌, ◌≤◌, ◌==◌, ◌||◌, Bool, true, false, cond, refl, ap, sym, subst, ◌∙◌, List, [], ◌∷◌, ◌++◌, length, Option, Some, None, arith, is_some}
 use Rattle.std.specs.Option.{IsSome, IsSomeAnd, option_map, option_and_then, unwrap_or}
 use Rattle.std.specs.List.{slice_get, sum_by}
 use Rattle.std.specs.Ordering.{nat_cmp}
 use Rattle.std.specs.FinMap.{get, insert, empty, get-empty}
-use Rattle.std.proofs.lemmas.Bool.{eqb-true, eq-eqb, cond-true, cond-false, both_ways, true≢false, false_from_ne_true}
+use Rattle.std.proofs.lemmas.Bool.{eqb-true, eq-eqb, cond-true, cond-false, true≢false, false_from_ne_true}
 use Rattle.std.proofs.lemmas.Bool.Decides.{nat_tests}
 use Rattle.std.proofs.lemmas.List.Sums.{sum_by-cons, sum_by_push}
 use Rattle.pm_types.specs.declared.address.Addr.{Addr}
@@ -12,15 +12,14 @@ use Rattle.pm_types.specs.declared.object.Object.{Object}
 use Rattle.pm_types.specs.declared.object.Slot.{Slot}
 use Rattle.pm_types.specs.declared.object.Slot.TheVariants.{Live, Moved}
 use Rattle.pm_cars.specs.Cars.{Car, Fits, object_room, used, new_car, live_count, object_of, with_birth, with_slot}
-use Rattle.pm_trains.specs.Trains.{Train, cars_at, train_of, is_among, first_car, tail, oldest, youngest, appended}
+use Rattle.pm_trains.specs.Trains.{Train, cars_at, train_of, is_among, first_car, oldest, youngest, appended}
 use Rattle.pm_trains.specs.Sound as line
 use Rattle.pm_trains.proofs.Cars.{home_appended}
 use Rattle.pm_trains.proofs.Found.{cars_changed, last_changed}
 use Rattle.pm_trains.proofs.Kept.{sound_appended}
-use Rattle.pm_view.specs.declared.phase.Phase.{Phase}
 use Rattle.pm_view.specs.declared.phase.Phase.TheVariants.{Moving}
 use Rattle.pm_view.specs.View.{Cars, SpaceView}
-use Rattle.pm_view.specs.Reading.{slot_at, object_at, cars_of, aside_in, from_in, is_aside, is_from}
+use Rattle.pm_view.specs.Reading.{cars_of, aside_in, from_in, is_aside}
 use Rattle.pm_view.specs.Effective.{effective_in}
 use Rattle.pm_view.specs.Counts.{standing_in, live_in}
 use Rattle.pm_view.specs.Law.{IsOldest, IsFront, IsAt, IsAnchor, HeapLaw}
@@ -28,10 +27,10 @@ use Rattle.pm_view.specs.Rows.{put_car, with_slot_at, put_in, next_of, place_in}
 use Rattle.pm_view.specs.Collecting.{put_away}
 use Rattle.pm_law_rows.proofs.News.{at_insert}
 use Rattle.pm_law_rows.proofs.Places.{slot_of}
-use Rattle.pm_law_rows.proofs.OpenTrain.{open_not_from, among_home, stands_appended, tail_home}
+use Rattle.pm_law_rows.proofs.OpenTrain.{open_not_from, among_home, stands_appended}
 use Rattle.pm_law_rows.proofs.Birth.{live_after}
 use Rattle.pm_law_rows.proofs.Born.{stood, some_empty, none_from_some, new_counts, new_sound, empty_effective}
-use Rattle.pm_law_phases.proofs.Small.{some_same, none_some, turned}
+use Rattle.pm_law_phases.proofs.Small.{none_some, turned, or_left, or_right}
 use Rattle.pm_law_moves.proofs.PutAway.{IsPut, next_place}
 use Rattle.pm_law_phases.proofs.Fronts.{IsFrontOf, first_cars, front_of}
 
@@ -43,17 +42,9 @@ no_less_items f g [] le = omega arith
 no_less_items f g (x ∷ xs) le =
     let one = sum_by-cons f x xs in
     let two = sum_by-cons g x xs in
-    let here = le x (first (x == x) (eq-eqb x x refl)) in
-    let rest = no_less_items f g xs (λ y among. le y (later (y == y) (x == y) among)) in
+    let here = le x (or_left (x == x) _ (eq-eqb x x refl)) in
+    let rest = no_less_items f g xs (λ y among. le y (or_right (x == y) among)) in
     omega arith
-  where
-    first : (b : Bool) → b ≡ true → (b || is_among x xs) ≡ true
-    first true is = refl
-    first false is = absurd (true≢false (sym is))
-
-    later : (d b : Bool) {e : Bool} → e ≡ true → (b || e) ≡ true
-    later d true is = refl
-    later d false is = is
 
 -- the oldest train stays the oldest where a car is appended to any train
 pub oldest_with : (ts : List Train) (T y c : ℕ) → line.Filled ts → oldest ts ≡ Some T → oldest (appended y c ts) ≡ Some T

@@ -1,5 +1,5 @@
 -- What a search through the entries of a map, or through a list, finds.
-use Rattle.std.proofs.Common.{◌≡◌, ℕ, ◌==◌, ◌||◌, Bool, true, false, cond, T, refl, ap, sym, subst, ◌∙◌, List, [], ◌∷◌, Option, Some, None, is_some}
+use Rattle.std.proofs.Common.{◌≡◌, ℕ, ◌==◌, ◌||◌, Bool, true, false, cond, T, refl, ap, sym, subst, ◌∙◌, List, [], ◌∷◌, Some, None}
 use Rattle.std.specs.Ordering.{eq_by_cmp}
 use Rattle.std.specs.declared.cmp.Ordering.{Ordering}
 use Rattle.std.specs.Cmp.{IsTotalOrder}
@@ -10,6 +10,7 @@ use Rattle.std.proofs.lemmas.Bool.{eqb-true, eq-eqb, true≢false}
 use Rattle.std.proofs.lemmas.Map.Views.{tells_apart}
 use Rattle.pm_trains.specs.Trains.{is_among}
 use Rattle.pm_roots.proofs.Sorted.{first, second, find_below, find_first}
+use Rattle.pm_law_phases.proofs.Small.{or_left, or_right}
 
 -- ---- lists of numbers
 
@@ -24,22 +25,14 @@ none_passes test (y ∷ ys) none x among = by_case (test y) refl none (y == x) r
     by_case false fails none true same among later = ap test (sym (eqb-true y x same)) ∙ fails
     by_case false fails none false same among later = later none among
 
-either : (b : Bool) {c : Bool} → c ≡ true → (b || c) ≡ true
-either true is = refl
-either false is = is
-
-front : (b c : Bool) → b ≡ true → (b || c) ≡ true
-front true c is = refl
-front false c is = absurd (true≢false (sym is))
-
 -- a number that was found passes, and is in the list
 pub found_passes : (test : ℕ → Bool) (xs : List ℕ) (x : ℕ) → list.find test xs ≡ Some x → (test x ≡ true) × (is_among x xs ≡ true)
 found_passes test [] x is = cc
 found_passes test (y ∷ ys) x is = by_case (test y) refl is (found_passes test ys x)
   where
     by_case : (b : Bool) → test y ≡ b → cond b (Some y) (list.find test ys) ≡ Some x → (list.find test ys ≡ Some x → (test x ≡ true) × (is_among x ys ≡ true)) → (test x ≡ true) × (is_among x (y ∷ ys) ≡ true)
-    by_case true passes is later = let same : y ≡ x = cc in (subst (λ x. test x ≡ true) same passes, front (y == x) _ (eq-eqb y x same))
-    by_case false fails is later = let found = later is in (found.0, either (y == x) found.1)
+    by_case true passes is later = let same : y ≡ x = cc in (subst (λ x. test x ≡ true) same passes, or_left (y == x) _ (eq-eqb y x same))
+    by_case false fails is later = let found = later is in (found.0, or_right (y == x) found.1)
 
 -- ---- entries of a map
 

@@ -1,10 +1,10 @@
 -- Trains where the oldest lost its first car.
-use Rattle.std.proofs.Common.{◌≡◌, ◌≢◌, ℕ, ◌+◌, ◌-◌, ◌<◌, ◌≤◌, ◌==◌, ◌&&◌, ◌||◌, nat_lt, Bool, true, false, cond, not, refl, ap, sym, subst, ◌∙◌, List, [], ◌∷◌, length, drop, Option, Some, None, arith, is_some}
-use Rattle.std.specs.Option.{IsSome, IsSomeAnd, unwrap_or, option_and_then}
+use Rattle.std.proofs.Common.{◌≡◌, ℕ, ◌<◌, ◌≤◌, ◌==◌, ◌&&◌, nat_lt, Bool, true, false, cond, not, refl, ap, sym, subst, ◌∙◌, List, [], ◌∷◌, length, drop, Some, None, arith}
+use Rattle.std.specs.Option.{unwrap_or, option_and_then}
 use Rattle.std.specs.List.{slice_get}
-use Rattle.std.proofs.lemmas.Bool.{eqb-true, eq-eqb, cond-true, cond-false, both_ways, true≢false, false_from_ne_true, not_from_false, and_from, and_parts}
+use Rattle.std.proofs.lemmas.Bool.{eqb-true, eq-eqb, cond-true, cond-false, both_ways, true≢false, not_from_false, and_from, and_parts}
 use Rattle.std.proofs.lemmas.Bool.Decides.{nat_tests}
-use Rattle.pm_trains.specs.Trains.{Train, cars_at, train_of, is_among, first_car, oldest, youngest, last_number, with_cars, without_empty, without_first, left_standing}
+use Rattle.pm_trains.specs.Trains.{Train, cars_at, train_of, is_among, first_car, oldest, youngest, with_cars, without_empty, without_first, left_standing}
 use Rattle.pm_trains.specs.Sound as line
 use Rattle.pm_trains.proofs.Numbers.{rise_changed, rise_emptied}
 use Rattle.pm_trains.proofs.Found.{cars_removed, last_changed, last_emptied, home_first}

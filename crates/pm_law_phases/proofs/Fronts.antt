@@ -1,18 +1,18 @@
 -- The first car of a train, and the front of the trains.
-use Rattle.std.proofs.Common.{◌≡◌, ◌⊎◌, ⊎_elim, ℕ, ◌==◌, ◌||◌, Bool, true, false, cond, refl, ap, sym, ◌∙◌, List, [], ◌∷◌, Option, Some, None}
+use Rattle.std.proofs.Common.{◌≡◌, ⊎_elim, ℕ, ◌==◌, true, cond, refl, ap, ◌∙◌, List, [], ◌∷◌, Option, Some, None}
 use Rattle.std.specs.Option.{IsSomeAnd, option_and_then, unwrap_or}
 use Rattle.std.specs.List.{slice_get}
 use Rattle.std.specs.Ordering.{nat_cmp}
 use Rattle.std.specs.Cmp.{nat_cmp_total, eq_by_cmp_equiv}
 use Rattle.std.specs.FinMap.{FinMap, get, remove, get-remove}
-use Rattle.std.proofs.lemmas.Bool.{eq-eqb, true≢false}
+use Rattle.std.proofs.lemmas.Bool.{eq-eqb}
 use Rattle.pm_trains.specs.Trains.{Train, is_among, first_car, oldest}
 use Rattle.pm_view.specs.declared.phase.Phase.TheVariants.{Sweeping}
 use Rattle.pm_view.specs.View.{SpaceView}
 use Rattle.pm_view.specs.Reading.{aside_in, is_aside}
 use Rattle.pm_view.specs.Law.{IsOldest, IsFront}
 use Rattle.pm_law_rows.proofs.SameSource.{tied_nat}
-use Rattle.pm_law_phases.proofs.Small.{some_same}
+use Rattle.pm_law_phases.proofs.Small.{some_same, or_left}
 use Rattle.pm_law_phases.proofs.Comes.{IsSwept, IsFirstDoomed}
 
 -- a value of a map of numbers once another key was taken out
@@ -23,11 +23,7 @@ at_remove m k q = get-remove nat_cmp_total m k q ∙ ap (λ b. cond b None (get 
 pub first_among : (cars : Option (List ℕ)) (c : ℕ) → option_and_then (λ cars. slice_get cars 0) cars ≡ Some c → is_among c (unwrap_or cars []) ≡ true
 first_among None c is = cc
 first_among (Some []) c is = cc
-first_among (Some (d ∷ cars)) c is = front (d == c) _ (eq-eqb d c (some_same d c is))
-  where
-    front : (b d : Bool) → b ≡ true → (b || d) ≡ true
-    front true d is = refl
-    front false d is = absurd (true≢false (sym is))
+first_among (Some (d ∷ cars)) c is = or_left (d == c) _ (eq-eqb d c (some_same d c is))
 
 pub first_cars : (o : Option (List ℕ)) (c : ℕ) → option_and_then (λ (cars : List ℕ). slice_get cars 0) o ≡ Some c → (rest : List ℕ) × (o ≡ Some (c ∷ rest))
 first_cars None c is = cc

@@ -1,5 +1,5 @@
 -- The lowest Live slot of a car.
-use Rattle.std.proofs.Common.{◌≡◌, ℕ, Bool, true, refl, ap, sym, ◌∙◌, List, Option, Some, None}
+use Rattle.std.proofs.Common.{◌≡◌, ℕ, true, refl, ap, sym, ◌∙◌, Option, Some, None}
 use Rattle.std.specs.Option.{option_map, option_and_then}
 use Rattle.std.specs.List.{find}
 use Rattle.std.specs.Cmp.{nat_cmp_total}

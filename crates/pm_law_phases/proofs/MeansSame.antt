@@ -1,5 +1,5 @@
 -- A space that means the same as another, and keeps the heap law, stands for the same worlds.
-use Rattle.std.proofs.Common.{◌≡◌, ℕ, false, refl, ap, sym, subst, ◌∙◌, List, Option, Some, None}
+use Rattle.std.proofs.Common.{◌≡◌, ℕ, false, ap, sym, subst, ◌∙◌, List, Some}
 use Rattle.std.specs.Option.{option_and_then}
 use Rattle.std.specs.FinMap.{get}
 use Rattle.pm_types.specs.declared.address.Addr.{Addr}

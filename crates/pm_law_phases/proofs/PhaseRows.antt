@@ -1,10 +1,10 @@
 -- The rows that only change the phase and the anchor.
-use Rattle.std.proofs.Common.{◌≡◌, ◌≢◌, ℕ, ◌+◌, ◌<◌, ◌==◌, ◌||◌, ◌&&◌, if◌then◌else◌, Bool, true, false, cond, not, refl, ap, sym, subst, ◌∙◌, List, [], ◌∷◌, ◌++◌, map, length, Option, Some, None, arith, is_some, IsTrue}
+use Rattle.std.proofs.Common.{◌≡◌, ℕ, ◌+◌, ◌<◌, ◌==◌, ◌||◌, ◌&&◌, if◌then◌else◌, Bool, true, false, cond, not, refl, ap, sym, subst, ◌∙◌, List, [], ◌∷◌, ◌++◌, map, length, Option, Some, None, arith, is_some, IsTrue}
 use Rattle.std.specs.Option.{IsSome, IsSomeAnd, option_map, option_and_then, unwrap_or}
-use Rattle.std.specs.List.{find, filter}
+use Rattle.std.specs.List.{filter}
 use Rattle.std.specs.FinMap.{get, entries, empty, get-empty, get-entries}
 use Rattle.std.specs.FinMap.Entries as map_entries
-use Rattle.std.proofs.lemmas.Bool.{eqb-true, eq-eqb, and_parts, true≢false, both_ways, false_from_ne_true, not_from_false, not-true}
+use Rattle.std.proofs.lemmas.Bool.{eqb-true, eq-eqb, true≢false, both_ways, false_from_ne_true}
 use Rattle.std.proofs.lemmas.Bool.Decides.{nat_tests}
 use Rattle.pm_types.specs.Orders.{source_cmp}
 use Rattle.pm_types.proofs.Orders.{sources_total, sources_antisymmetric}
@@ -15,12 +15,9 @@ use Rattle.pm_types.specs.declared.source.RefSource.{RefSource}
 use Rattle.pm_types.specs.declared.source.RefSource.TheVariants.{Root, Handle, Field}
 use Rattle.pm_types.specs.declared.source.Change.{Change}
 use Rattle.pm_cars.specs.Cars.{look_of, object_of}
-use Rattle.pm_cars.specs.declared.look.Look.{Look}
-use Rattle.pm_cars.specs.declared.look.Look.TheVariants as looks
 use Rattle.pm_trains.specs.Trains.{Train, HasCar, cars_at, is_among, train_of, first_car, oldest, youngest, rotated}
 use Rattle.pm_trains.specs.Sound as line
 use Rattle.pm_trains.proofs.Found.{stands_over}
-use Rattle.pm_view.specs.declared.phase.Phase.{Phase}
 use Rattle.pm_view.specs.declared.phase.Phase.TheVariants.{Idle, Draining, Moving, Sweeping, Doomed}
 use Rattle.pm_view.specs.Sources.{lies_in, slot_in}
 use Rattle.pm_view.specs.View.{Sources, SpaceView}
@@ -31,8 +28,8 @@ use Rattle.pm_view.specs.Seen as seen_words
 use Rattle.pm_view.specs.Law.{IsOldest, IsFront, IsAt, IsAnchor, HeapLaw}
 use Rattle.pm_view.specs.Candidates.{set_of, queue_of, is_beyond, is_named_by, is_bare, is_named_from, naming_trains, candidates, least_outside, referenced_car}
 use Rattle.pm_view.specs.Collecting.{selected, doomed, anchored, started, finished}
-use Rattle.pm_view.specs.Events.{has_change, changed_car, named_in, to_note, anchor_in, first_of, least, home, ways_out, MayNote}
-use Rattle.pm_law_rows.proofs.OpenTrain.{among_home, first_home}
+use Rattle.pm_view.specs.Events.{has_change, named_in, anchor_in, first_of, home, MayNote}
+use Rattle.pm_law_rows.proofs.OpenTrain.{among_home}
 use Rattle.pm_law_rows.proofs.Born.{youngest_stands}
 use Rattle.pm_law_rows.proofs.Rotating.{opened, opening_keeps_law, opening_stands, oldest_rotated, youngest_rotated}
 use Rattle.pm_law_phases.proofs.Small.{some_same, some_pair}

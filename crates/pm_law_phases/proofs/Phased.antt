@@ -1,43 +1,31 @@
 -- A phase that begins: the heap law is kept, and what the space stands for.
-use Rattle.std.proofs.Common.{◌≡◌, ◌≢◌, ℕ, ◌+◌, ◌<◌, ◌≤◌, ◌==◌, ◌||◌, Bool, true, false, cond, not, refl, ap, sym, subst, ◌∙◌, List, [], ◌∷◌, length, Option, Some, None, arith, is_some}
-use Rattle.std.specs.Option.{IsSome, option_and_then}
+use Rattle.std.proofs.Common.{◌≡◌, ℕ, ◌+◌, ◌≤◌, ◌==◌, ◌||◌, Bool, true, false, cond, refl, sym, subst, ◌∙◌, List, [], ◌∷◌, Option, Some}
 use Rattle.std.specs.List.{sum_by}
 use Rattle.std.specs.FinMap.{get}
-use Rattle.std.proofs.lemmas.Bool.{or_parts, or_from, eq-eqb, both_ways, true≢false, false_from_ne_true, not_from_false}
+use Rattle.std.proofs.lemmas.Bool.{or_parts, eq-eqb, both_ways, false_from_ne_true}
 use Rattle.std.proofs.lemmas.List.Sums.{sum_by-cons}
 use Rattle.pm_types.specs.declared.address.Addr.{Addr}
-use Rattle.pm_types.specs.declared.object.Object.{Object}
 use Rattle.pm_types.specs.declared.source.RefSource.{RefSource}
 use Rattle.pm_types.specs.declared.source.RefSource.TheVariants.{Root, Handle, Field}
-use Rattle.pm_cars.specs.Cars.{Car}
-use Rattle.pm_trains.specs.Trains.{Train, is_among, train_of, oldest, youngest}
-use Rattle.pm_model.specs.World.{World}
+use Rattle.pm_trains.specs.Trains.{is_among, youngest}
 use Rattle.pm_view.specs.declared.phase.Phase.{Phase}
 use Rattle.pm_view.specs.View.{SpaceView}
 use Rattle.pm_view.specs.Reading.{stored, cars_of, aside_in, from_in, is_aside, is_from}
 use Rattle.pm_view.specs.Counts.{standing_in, live_in}
 use Rattle.pm_view.specs.Seen.{seen}
-use Rattle.pm_view.specs.Law.{IsCar, IsAt, IsAnchor, HeapLaw}
-use Rattle.pm_view.specs.Represents.{Represents}
+use Rattle.pm_view.specs.Law.{IsAt, IsAnchor, HeapLaw}
 use Rattle.pm_law_rows.proofs.OpenTrain.{among_home, open_free}
-use Rattle.pm_law_phases.proofs.MeansSame.{MeansSame, means_same}
-use Rattle.pm_law_phases.proofs.SetAside.{IsSetAside, NoOutside, FromPasses, law_after_set_aside}
+use Rattle.pm_law_phases.proofs.MeansSame.{MeansSame}
+use Rattle.pm_law_phases.proofs.SetAside.{NoOutside, FromPasses, law_after_set_aside}
+use Rattle.pm_law_phases.proofs.Small.{or_left, or_right}
 
 -- sums over a list are one where each item counts for as much
 pub same_sums : (f g : ℕ → ℕ) (xs : List ℕ) → ((x : ℕ) → is_among x xs ≡ true → f x ≡ g x) → sum_by f xs ≡ sum_by g xs
 same_sums f g [] same = refl
 same_sums f g (x ∷ xs) same =
     sum_by-cons f x xs
-    ∙ (λ i. same x (first (x == x) (eq-eqb x x refl)) i + same_sums f g xs (λ y among. same y (later (x == y) among)) i)
+    ∙ (λ i. same x (or_left (x == x) _ (eq-eqb x x refl)) i + same_sums f g xs (λ y among. same y (or_right (x == y) among)) i)
     ∙ sym (sum_by-cons g x xs)
-  where
-    first : (b : Bool) → b ≡ true → (b || is_among x xs) ≡ true
-    first true is = refl
-    first false is = absurd (true≢false (sym is))
-
-    later : (b : Bool) {c : Bool} → c ≡ true → (b || c) ≡ true
-    later true is = refl
-    later false is = is
 
 -- the space in another phase with another anchor, in which the cars that pass are set aside too
 pub record IsPhased (view : SpaceView) (anchor : Option (Addr × ℕ)) (phase : Phase) (p : ℕ → Bool) : Type 0 where

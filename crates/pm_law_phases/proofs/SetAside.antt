@@ -1,5 +1,5 @@
 -- Cars that are set aside: sources and effective sets stay tied.
-use Rattle.std.proofs.Common.{◌≡◌, ℕ, Bool, true, false, cond, not, ◌||◌, ◌==◌, Option, Some, None, arith, ap, refl, sym, ◌∙◌, subst}
+use Rattle.std.proofs.Common.{◌≡◌, ℕ, Bool, true, false, ◌||◌, ◌==◌, Some, ap, refl, sym, ◌∙◌, subst}
 use Rattle.std.proofs.lemmas.Bool.{or_parts, or_from, not_from_false, not-true, cond-true, eqb-true, eq-eqb, both_ways, false_from_ne_true}
 use Rattle.pm_types.specs.declared.address.Addr.{Addr}
 use Rattle.pm_types.specs.declared.source.RefSource.{RefSource}
@@ -7,7 +7,7 @@ use Rattle.pm_types.specs.declared.source.RefSource.TheVariants.{Root, Handle, F
 use Rattle.pm_cars.specs.declared.look.Look.{Look}
 use Rattle.pm_cars.specs.declared.look.Look.TheVariants.{Live, Moved, Gone}
 use Rattle.pm_view.specs.Sources.{lies_in, outside, slot_in}
-use Rattle.pm_view.specs.Seen.{Seen, kept, IsLive, Leads, IsTied}
+use Rattle.pm_view.specs.Seen.{Seen, kept, Leads, IsTied}
 
 -- t is s with the cars that pass set aside too, and at most more cars are from-cars
 pub record IsSetAside (s t : Seen) (p : ℕ → Bool) : Type 0 where

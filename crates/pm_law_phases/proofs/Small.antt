@@ -1,8 +1,11 @@
 -- Small facts of options, tests and sums.
-use Rattle.std.proofs.Common.{◌≡◌, ℕ, ◌==◌, Bool, true, false, cond, ap, refl, sym, ◌∙◌, Option, Some, None, is_some, arith}
+use Rattle.std.proofs.Common.{◌≡◌, ℕ, ◌==◌, ◌||◌, Bool, true, false, ap, refl, sym, Option, Some, None, is_some, arith}
 use Rattle.std.proofs.lemmas.Bool.{true≢false}
 use Rattle.std.proofs.lemmas.Bool.Decides.{nat_tests}
 use Rattle.pm_types.specs.declared.address.Addr.{Addr}
+use Rattle.pm_cars.specs.Cars.{Car}
+use Rattle.pm_view.specs.Counts.{live_in}
+use Rattle.pm_law_rows.proofs.Shapes.{IsShapedAt}
 use Rattle.pm_law_rows.proofs.Spreading.{by_slots, changed}
 
 pub some_same : {A : Type 0} (x y : A) → Some x ≡ Some y → x ≡ y
@@ -20,6 +23,24 @@ turned m n = grind (arith, nat_tests)
 pub none_is : {A : Type 0} (o : Option A) → is_some o ≡ false → o ≡ None
 none_is None none = refl
 none_is (Some x) none = absurd (true≢false none)
+
+-- ---- tests of which one passes
+
+pub or_left : (b c : Bool) → b ≡ true → (b || c) ≡ true
+or_left true c is = refl
+or_left false c is = absurd (true≢false (sym is))
+
+pub or_right : (b : Bool) {c : Bool} → c ≡ true → (b || c) ≡ true
+or_right true is = refl
+or_right false is = is
+
+-- ---- cars of one shape
+
+pub shaped_live : (o p : Option Car) → IsShapedAt o p → live_in p ≡ live_in o
+shaped_live None None shaped = refl
+shaped_live None (Some d) shaped = absurd shaped
+shaped_live (Some c) None shaped = absurd shaped
+shaped_live (Some c) (Some d) shaped = shaped.live
 
 -- ---- what is queued of a source
 

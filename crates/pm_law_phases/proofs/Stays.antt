@@ -1,5 +1,5 @@
 -- Where objects stand after an event.
-use Rattle.std.proofs.Common.{◌≡◌, ℕ, ◌+◌, ◌==◌, ◌||◌, if◌then◌else◌, Bool, true, false, cond, refl, ap, sym, subst, ◌∙◌, List, [], ◌∷◌, Option, Some, None}
+use Rattle.std.proofs.Common.{◌≡◌, ℕ, ◌+◌, ◌==◌, if◌then◌else◌, Bool, true, false, refl, ap, sym, ◌∙◌, List, [], ◌∷◌, Option, Some, None}
 use Rattle.std.specs.Option.{option_map}
 use Rattle.std.specs.FinMap.{get}
 use Rattle.std.proofs.lemmas.Bool.{eqb-true, cond-false, both_ways, false_from_ne_true}
@@ -8,12 +8,12 @@ use Rattle.pm_types.specs.declared.object.Object.{Object}
 use Rattle.pm_types.specs.declared.source.RefSource.{RefSource}
 use Rattle.pm_types.specs.declared.source.Change.{Change}
 use Rattle.pm_cars.specs.Cars.{Car, object_of, without_slot}
-use Rattle.pm_trains.specs.Trains.{Train, Trains, train_of, youngest, rotated}
+use Rattle.pm_trains.specs.Trains.{Trains, train_of, youngest, rotated}
 use Rattle.pm_trains.proofs.Cars.{home_rotated}
-use Rattle.pm_view.specs.declared.phase.Phase.TheVariants.{Idle, Draining}
+use Rattle.pm_view.specs.declared.phase.Phase.TheVariants.{Draining}
 use Rattle.pm_view.specs.View.{Cars, SpaceView}
 use Rattle.pm_view.specs.Reading.{slot_at, object_at, id_at, aside_in, is_aside}
-use Rattle.pm_view.specs.Counts.{IsStandingAt, IsPlaced}
+use Rattle.pm_view.specs.Counts.{IsStandingAt}
 use Rattle.pm_view.specs.Law.{HeapLaw}
 use Rattle.pm_view.specs.Rows.{put_car, spread}
 use Rattle.pm_view.specs.Candidates.{queue_of}
@@ -23,7 +23,7 @@ use Rattle.pm_law_rows.proofs.Places.{slot_of}
 use Rattle.pm_law_rows.proofs.Built.{aside_same}
 use Rattle.pm_law_rows.proofs.Meaning.{id_same}
 use Rattle.pm_law_rows.proofs.SpreadKept.{reshaped_spread}
-use Rattle.pm_law_phases.proofs.Comes.{IsSelecting, IsDrained, IsStarting, IsEmptied, IsFinishing, IsSweeping}
+use Rattle.pm_law_phases.proofs.Comes.{IsSelecting, IsDrained, IsStarting, IsFinishing, IsSweeping}
 use Rattle.pm_law_phases.proofs.PhaseRows.{drained_aside, emptied_aside}
 use Rattle.pm_law_phases.proofs.Fronts.{swept_aside}
 

@@ -1,5 +1,5 @@
 -- What effective sets give once the references of an object were withdrawn.
-use Rattle.std.proofs.Common.{◌≡◌, ℕ, ◌==◌, ◌&&◌, Bool, true, false, cond, not, refl, ap, sym, ◌∙◌, List, [], ◌∷◌, ◌++◌, Option, Some, None, is_some}
+use Rattle.std.proofs.Common.{◌≡◌, ℕ, ◌==◌, ◌&&◌, Bool, true, false, cond, refl, ap, sym, ◌∙◌, List, [], ◌++◌, Option, Some, None, is_some}
 use Rattle.std.specs.Option.{option_map, option_flatten}
 use Rattle.std.specs.List.{slice_get}
 use Rattle.std.specs.FinMap.{get}
@@ -16,7 +16,7 @@ use Rattle.pm_view.specs.Barrier.{left, barrier, news}
 use Rattle.pm_view.specs.Collecting.{field_news}
 use Rattle.pm_law_rows.proofs.Spreading.{by_slots, hears, heard_change, changed}
 use Rattle.pm_law_rows.proofs.News.{as_changes, effective-told, news_of_barrier}
-use Rattle.pm_law_phases.proofs.FieldNews.{folded, folded_none, folded_field, effective_fields}
+use Rattle.pm_law_phases.proofs.FieldNews.{folded_none, folded_field, effective_fields}
 
 left_is : (aside : ℕ → Bool) (x : RefSource) (f : Option Addr) → left aside x f ++ [] ≡ barrier aside x f None
 left_is aside x None = refl

@@ -1,5 +1,5 @@
 -- A space whose places in cars that were not set aside are as before means what it meant.
-use Rattle.std.proofs.Common.{◌≡◌, ℕ, zero, suc, ◌+◌, true, false, not, refl, ap, sym, subst, ◌∙◌, List, [], ◌∷◌, map, Option, Some, None, arith}
+use Rattle.std.proofs.Common.{◌≡◌, ℕ, suc, ◌+◌, true, false, not, refl, ap, sym, ◌∙◌, List, [], ◌∷◌, map, Option, Some, None, arith}
 use Rattle.std.specs.Option.{option_map, option_and_then, option_flatten}
 use Rattle.std.specs.List.{slice_get}
 use Rattle.std.specs.FinMap.{get}
@@ -11,7 +11,7 @@ use Rattle.pm_types.specs.declared.source.RefSource.{RefSource}
 use Rattle.pm_types.specs.declared.source.RefSource.TheVariants.{Root, Handle, Field}
 use Rattle.pm_cars.specs.Cars.{object_of, look_of}
 use Rattle.pm_view.specs.View.{SpaceView}
-use Rattle.pm_view.specs.Reading.{slot_at, object_at, field_of, stored, is_aside, followed, resolve, id_at, named_by}
+use Rattle.pm_view.specs.Reading.{slot_at, object_at, field_of, stored, is_aside, followed, id_at, named_by}
 use Rattle.pm_view.specs.Seen.{seen, kept}
 use Rattle.pm_view.specs.Seen as seen_words
 use Rattle.pm_view.specs.Law.{HeapLaw}

@@ -1,10 +1,10 @@
 -- A car that goes: the heap law is kept, and what the space stands for.
-use Rattle.std.proofs.Common.{◌≡◌, ◌≢◌, ◌⊎◌, inl, inr, ⊎_elim, ℕ, ◌+◌, ◌<◌, ◌≤◌, ◌==◌, ◌&&◌, ◌||◌, if◌then◌else◌, Bool, true, false, cond, not, refl, ap, sym, subst, ◌∙◌, List, [], ◌∷◌, length, Option, Some, None, is_some, arith}
-use Rattle.std.specs.Option.{IsSome, IsSomeAnd, option_map, option_and_then, option_flatten, unwrap_or}
+use Rattle.std.proofs.Common.{◌≡◌, ◌≢◌, ℕ, ◌+◌, ◌≤◌, ◌==◌, ◌&&◌, ◌||◌, if◌then◌else◌, Bool, true, false, cond, not, refl, ap, sym, subst, ◌∙◌, List, [], ◌∷◌, length, Option, Some, None, is_some, arith}
+use Rattle.std.specs.Option.{option_map, option_and_then, unwrap_or}
 use Rattle.std.specs.List.{find, slice_get, sum_by}
-use Rattle.std.specs.FinMap.{get, remove, entries, nat_cmp-IsAntisymmetric}
+use Rattle.std.specs.FinMap.{get, entries, nat_cmp-IsAntisymmetric}
 use Rattle.std.specs.Cmp.{nat_cmp_total}
-use Rattle.std.proofs.lemmas.Bool.{eqb-true, eq-eqb, cond-true, cond-false, and_left, both_ways, true≢false, false_from_ne_true, not_from_false}
+use Rattle.std.proofs.lemmas.Bool.{eqb-true, eq-eqb, cond-true, cond-false, both_ways, true≢false, false_from_ne_true, not_from_false}
 use Rattle.std.proofs.lemmas.Bool.Decides.{nat_tests}
 use Rattle.pm_types.specs.declared.address.Addr.{Addr}
 use Rattle.pm_types.specs.declared.object.Object.{Object}
@@ -12,22 +12,20 @@ use Rattle.pm_types.specs.declared.object.Slot.{Slot}
 use Rattle.pm_types.specs.declared.object.Slot.TheVariants.{Live, Moved}
 use Rattle.pm_types.specs.declared.source.RefSource.{RefSource}
 use Rattle.pm_types.specs.declared.source.RefSource.TheVariants.{Root, Handle, Field}
-use Rattle.pm_types.specs.declared.source.Change.{Change}
 use Rattle.pm_cars.specs.Cars.{Car, object_of, look_of}
 use Rattle.pm_cars.specs.Entries.{holds_object}
-use Rattle.pm_cars.specs.declared.look.Look.TheVariants as looks
-use Rattle.pm_trains.specs.Trains.{Train, cars_at, train_of, is_among, first_car, oldest, youngest, without_first}
+use Rattle.pm_trains.specs.Trains.{Train, cars_at, train_of, is_among, oldest, youngest, without_first}
 use Rattle.pm_trains.specs.Sound as line
 use Rattle.pm_trains.proofs.Kept.{sound_removed}
 use Rattle.pm_view.specs.declared.phase.Phase.{Phase}
-use Rattle.pm_view.specs.declared.phase.Phase.TheVariants.{Idle, Draining, Moving, Sweeping, Doomed}
+use Rattle.pm_view.specs.declared.phase.Phase.TheVariants.{Idle}
 use Rattle.pm_view.specs.Sources.{lies_in}
-use Rattle.pm_view.specs.View.{Sources, SpaceView}
+use Rattle.pm_view.specs.View.{SpaceView}
 use Rattle.pm_view.specs.Reading.{slot_at, object_at, id_at, field_of, stored, cars_of, aside_in, from_in, is_aside, is_from}
-use Rattle.pm_view.specs.Effective.{effective, effective_in}
+use Rattle.pm_view.specs.Effective.{effective_in}
 use Rattle.pm_view.specs.Counts.{standing_in, live_in}
 use Rattle.pm_view.specs.Seen.{seen}
-use Rattle.pm_view.specs.Law.{IsCar, IsObject, IsAt, IsOldest, IsFront, IsAnchor, HeapLaw}
+use Rattle.pm_view.specs.Law.{IsAt, IsOldest, IsAnchor, HeapLaw}
 use Rattle.pm_view.specs.Collecting.{without_car, completing, freed_of_train}
 use Rattle.pm_view.specs.Events.{lowest_live, home}
 use Rattle.pm_law_rows.proofs.Places.{slot_of}
@@ -36,12 +34,12 @@ use Rattle.pm_law_rows.proofs.OpenTrain.{among_home, first_home}
 use Rattle.pm_law_phases.proofs.Small.{some_same, none_some, turned}
 use Rattle.pm_law_phases.proofs.Finds.{no_entry}
 use Rattle.pm_law_phases.proofs.MeansSame.{Keeps, keeps}
-use Rattle.pm_law_phases.proofs.Comes.{IsFreeing, IsFreeingDoomed, IsFirstDoomed}
+use Rattle.pm_law_phases.proofs.Comes.{IsFreeing, IsFreeingDoomed}
 use Rattle.pm_law_phases.proofs.Phased.{same_sums}
 use Rattle.pm_law_sweeps.proofs.FreedSeen.{IsFreedSeen, law_after_free}
-use Rattle.pm_law_sweeps.proofs.Agree.{Agrees, agrees_means}
+use Rattle.pm_law_sweeps.proofs.Agree.{agrees_means}
 use Rattle.pm_law_phases.proofs.Stays.{Stays, none}
-use Rattle.pm_law_phases.proofs.FirstGone.{bool_same, home_less, youngest_less, others_less, open_less, own_less, among_less, oldest_less}
+use Rattle.pm_law_phases.proofs.FirstGone.{home_less, youngest_less, others_less, open_less, own_less, among_less, oldest_less}
 use Rattle.pm_law_phases.proofs.Fronts.{IsFrontOf, at_remove, first_cars, front_of}
 
 -- a car with no Live slot has no object

@@ -1,5 +1,5 @@
 -- A car that goes, in which there is no object: sources and effective sets stay tied.
-use Rattle.std.proofs.Common.{◌≡◌, ℕ, Bool, true, false, cond, not, ◌&&◌, ◌==◌, Option, Some, None, ◌⊎◌, ⊎_elim, ap, refl, sym, ◌∙◌, subst}
+use Rattle.std.proofs.Common.{◌≡◌, ℕ, true, false, not, ◌&&◌, ◌==◌, Option, Some, None, ⊎_elim, ap, refl, sym, ◌∙◌, subst}
 use Rattle.std.proofs.lemmas.Bool.{and_from, and_left, and_cases, cases_Bool, not_from_false, not-true, cond-false, eqb-true, both_ways, false_from_ne_true}
 use Rattle.pm_types.specs.declared.address.Addr.{Addr}
 use Rattle.pm_types.specs.declared.source.RefSource.{RefSource}
@@ -7,7 +7,7 @@ use Rattle.pm_types.specs.declared.source.RefSource.TheVariants.{Root, Handle, F
 use Rattle.pm_cars.specs.declared.look.Look.{Look}
 use Rattle.pm_cars.specs.declared.look.Look.TheVariants.{Live, Moved, Gone}
 use Rattle.pm_view.specs.Sources.{lies_in, outside, slot_in}
-use Rattle.pm_view.specs.Seen.{Seen, kept, IsLive, Leads, IsTied}
+use Rattle.pm_view.specs.Seen.{Seen, kept, Leads, IsTied}
 use Rattle.pm_law_phases.proofs.Small.{none_some, none_from}
 
 -- t is s without the car c; its number is free again

@@ -1,47 +1,39 @@
 -- An object that is swept: the heap law is kept, and what the space stands for.
-use Rattle.std.proofs.Common.{◌≡◌, ◌⊎◌, inl, inr, ⊎_elim, ℕ, ◌+◌, ◌<◌, ◌≤◌, ◌==◌, ◌&&◌, ◌||◌, Bool, true, false, cond, not, refl, ap, sym, subst, ◌∙◌, List, [], ◌∷◌, ◌++◌, length, Option, Some, None, is_some, arith}
-use Rattle.std.specs.Option.{IsSome, option_map, option_and_then, option_flatten, unwrap_or}
-use Rattle.std.specs.List.{find, slice_get, sum_by}
-use Rattle.std.specs.Ordering.{nat_cmp}
-use Rattle.std.specs.Cmp.{nat_cmp_total, eq_by_cmp_equiv}
-use Rattle.std.specs.FinMap.{FinMap, get, insert, remove, entries, get-remove, nat_cmp-IsAntisymmetric}
-use Rattle.std.proofs.lemmas.Bool.{eqb-true, eq-eqb, cond-true, cond-false, both_ways, true≢false, false_from_ne_true}
+use Rattle.std.proofs.Common.{◌≡◌, ℕ, ◌<◌, ◌≤◌, ◌==◌, ◌&&◌, Bool, true, false, cond, refl, ap, sym, subst, ◌∙◌, List, ◌++◌, Option, Some, None, is_some, arith}
+use Rattle.std.specs.Option.{IsSome, option_map}
+use Rattle.std.specs.FinMap.{get, remove}
+use Rattle.std.proofs.lemmas.Bool.{eqb-true, cond-true, cond-false, both_ways, true≢false, false_from_ne_true}
 use Rattle.pm_types.specs.declared.address.Addr.{Addr}
 use Rattle.pm_types.specs.declared.object.Object.{Object}
 use Rattle.pm_types.specs.declared.object.Slot.{Slot}
-use Rattle.pm_types.specs.declared.object.Slot.TheVariants.{Live, Moved}
 use Rattle.pm_types.specs.declared.source.RefSource.{RefSource}
 use Rattle.pm_types.specs.declared.source.RefSource.TheVariants.{Root, Handle, Field}
 use Rattle.pm_types.specs.declared.source.Change.{Change}
-use Rattle.pm_cars.specs.Cars.{Car, IsSound, Slots, slot_room, one_live, one_moved, total, used, live_count, moved_count, object_of, look_of, without_slot}
-use Rattle.pm_cars.specs.Entries.{holds_object}
-use Rattle.pm_cars.proofs.Rooms.{total_remove, counted}
-use Rattle.pm_trains.specs.Trains.{is_among, first_car, youngest}
-use Rattle.pm_view.specs.declared.phase.Phase.TheVariants.{Idle, Draining, Moving, Sweeping, Doomed}
+use Rattle.pm_cars.specs.Cars.{Car, IsSound, Slots, slot_room, one_moved, total, object_of, look_of, without_slot}
+use Rattle.pm_cars.proofs.Rooms.{total_remove}
+use Rattle.pm_trains.specs.Trains.{youngest}
 use Rattle.pm_view.specs.Sources.{same_address, is_field_at}
-use Rattle.pm_view.specs.View.{Cars, SpaceView}
-use Rattle.pm_view.specs.Reading.{slot_at, object_at, field_of, stored, cars_of, aside_in, is_aside, is_from}
+use Rattle.pm_view.specs.View.{SpaceView}
+use Rattle.pm_view.specs.Reading.{slot_at, object_at, field_of, stored, cars_of, is_aside, is_from}
 use Rattle.pm_view.specs.Effective.{effective, effective_in}
-use Rattle.pm_view.specs.Barrier.{left, news, told}
+use Rattle.pm_view.specs.Barrier.{left, news}
 use Rattle.pm_view.specs.Counts.{standing_in, live_in}
 use Rattle.pm_view.specs.Seen.{seen}
-use Rattle.pm_view.specs.Law.{IsCar, IsObject, IsAnchor, HeapLaw}
+use Rattle.pm_view.specs.Law.{IsCar, HeapLaw}
 use Rattle.pm_view.specs.Rows.{put_car}
-use Rattle.pm_view.specs.Collecting.{field_news, without_slot_at, swept_some, swept}
-use Rattle.pm_view.specs.Events.{lowest_live}
-use Rattle.pm_law_rows.proofs.SameSource.{tied_nat, same_address-true}
+use Rattle.pm_view.specs.Collecting.{field_news, swept_some, swept}
+use Rattle.pm_law_rows.proofs.SameSource.{same_address-true}
 use Rattle.pm_law_rows.proofs.Spreading.{heard_change, changed}
 use Rattle.pm_law_rows.proofs.News.{at_insert, get-told}
 use Rattle.pm_law_rows.proofs.Places.{slot_of, object_has_car}
-use Rattle.pm_law_phases.proofs.Small.{some_same, none_some}
-use Rattle.pm_law_phases.proofs.Finds.{found_entry}
+use Rattle.pm_law_phases.proofs.Small.{some_same}
 use Rattle.pm_law_phases.proofs.MeansSame.{Keeps, keeps, unchanged_keeps}
-use Rattle.pm_law_phases.proofs.Comes.{IsSweeping, IsSwept, IsFirstDoomed}
+use Rattle.pm_law_phases.proofs.Comes.{IsSweeping}
 use Rattle.pm_law_phases.proofs.Phased.{same_sums}
 use Rattle.pm_law_sweeps.proofs.SweptSeen.{IsSweptSeen, law_after_sweep, apart}
-use Rattle.pm_law_sweeps.proofs.Agree.{Agrees, agrees_means}
+use Rattle.pm_law_sweeps.proofs.Agree.{agrees_means}
 use Rattle.pm_law_phases.proofs.Withdrawn.{same_itself, withdrawn_here, withdrawn_apart}
-use Rattle.pm_law_phases.proofs.Fronts.{at_remove, first_among, swept_aside}
+use Rattle.pm_law_phases.proofs.Fronts.{at_remove, swept_aside}
 use Rattle.pm_law_phases.proofs.Lowest.{lowest_is}
 
 -- t is the space without the object at a place of a car that is set aside; its references are withdrawn

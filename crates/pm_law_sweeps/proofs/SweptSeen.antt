@@ -1,5 +1,5 @@
 -- An object that is swept: sources and effective sets stay tied.
-use Rattle.std.proofs.Common.{◌≡◌, ℕ, Bool, true, false, cond, not, ◌&&◌, Option, Some, None, ◌⊎◌, ⊎_elim, ap, refl, sym, ◌∙◌, subst}
+use Rattle.std.proofs.Common.{◌≡◌, ℕ, true, false, not, Some, None, ⊎_elim, ap, refl, sym, ◌∙◌, subst}
 use Rattle.std.proofs.lemmas.Bool.{and_from, and_left, cases_Bool, not_from_false, not-true, cond-true, cond-false, both_ways, true≢false, false_from_ne_true}
 use Rattle.pm_types.specs.declared.address.Addr.{Addr}
 use Rattle.pm_types.specs.declared.source.RefSource.{RefSource}
@@ -7,9 +7,9 @@ use Rattle.pm_types.specs.declared.source.RefSource.TheVariants.{Root, Handle, F
 use Rattle.pm_cars.specs.declared.look.Look.{Look}
 use Rattle.pm_cars.specs.declared.look.Look.TheVariants.{Live, Moved, Gone}
 use Rattle.pm_view.specs.Sources.{same_address, is_field_at, outside, slot_in}
-use Rattle.pm_view.specs.Seen.{Seen, kept, IsLive, Leads, IsTied}
+use Rattle.pm_view.specs.Seen.{Seen, kept, Leads, IsTied}
 use Rattle.pm_law_rows.proofs.SameSource.{same_address-true}
-use Rattle.pm_law_rows.proofs.Spreading.{by_slots, changed, heard_change}
+use Rattle.pm_law_rows.proofs.Spreading.{changed, heard_change}
 use Rattle.pm_law_phases.proofs.Small.{none_some, none_from, left_none}
 
 -- t is s after the object at an address was dropped and its references withdrawn

@@ -29,7 +29,6 @@ use Rattle.pm_view.specs.Commands.{emptied, fresh, row, Picks, ArePicked, is_new
 use Rattle.pm_view.specs.Work.{queued, remembered, objects_in, emptying, dooming, front_car, work_in, work}
 use Rattle.pm_law_rows.proofs.News.{at_insert}
 use Rattle.pm_law_rows.proofs.Sums.{some_item}
-use Rattle.pm_law_rows.proofs.Shapes.{IsShapedAt}
 use Rattle.pm_law_rows.proofs.Built.{IsReshaped}
 use Rattle.pm_law_rows.proofs.Bytes.{bytes_shaped}
 use Rattle.pm_law_rows.proofs.SpreadKept.{reshaped_object, reshaped_itself, reshaped_news, reshaped_spread, spread_keeps_law}
@@ -37,13 +36,14 @@ use Rattle.pm_law_rows.proofs.OpenTrain.{among_home, first_home, tail_home, cars
 use Rattle.pm_law_rows.proofs.Rotating.{opened, cars_at_rotated, opening_keeps_law}
 use Rattle.pm_law_rows.proofs.Born.{born_gives}
 use Rattle.pm_law_commands.proofs.Births.{spent_law, may_be_born}
-use Rattle.pm_law_phases.proofs.Small.{some_same, none_some, none_is}
+use Rattle.pm_law_phases.proofs.Small.{some_same, none_some, none_is, shaped_live}
 use Rattle.pm_law_phases.proofs.PhaseRows.{oldest_has}
 use Rattle.pm_law_course.specs.Course.{is_close}
 use Rattle.pm_law_work.specs.Raises.{raises}
-use Rattle.pm_law_work.proofs.Sums.{no_more, sum_both, heard_by, few_news, told_once, own_places, queue_told}
+use Rattle.pm_law_work.proofs.Sums.{sum_both, heard_by, few_news, told_once, own_places, queue_told}
 use Rattle.pm_law_course.proofs.Rows.{OfRows, row_holds, object_made, new_holds}
 use Rattle.pm_law_phases.proofs.Fronts.{front_of}
+use Rattle.pm_law_moves.proofs.PutRow.{no_less_items}
 
 -- In the train that is collected at most so many changes more are queued than in a space, and nothing else that counts
 -- is more.
@@ -69,7 +69,7 @@ module _ (view t : SpaceView) (k : ℕ) (law : HeapLaw view) (is : AddsQueued vi
   same_cars n old = ap (λ o. unwrap_or o []) (is.cars n old)
 
   fewer_objects : (n : ℕ) → IsOldest ts n → sum_by (objects_in t) (cars_of ts n) ≤ sum_by (objects_in view) (cars_of ts n)
-  fewer_objects n old = no_more (objects_in t) (objects_in view) (cars_of ts n) (λ e among. is.objects n e old (among_home ts n e law.built.trains.single among))
+  fewer_objects n old = no_less_items (objects_in t) (objects_in view) (cars_of ts n) (λ e among. is.objects n e old (among_home ts n e law.built.trains.single among))
 
   doomed_adds : (n : ℕ) → IsOldest ts n → work_in t (Doomed n) ≤ work_in view (Doomed n)
   doomed_adds n old =
@@ -111,12 +111,6 @@ module _ (view t : SpaceView) (k : ℕ) (law : HeapLaw view) (is : AddsQueued vi
   adds_work = subst (λ p. work_in t p ≤ work view + 3 * k) (sym is.phase) (by_phase view.phase law.phase)
 
 -- ---- a source is set, a name bound, bytes changed
-
-shaped_live : (o p : Option Car) → IsShapedAt o p → live_in p ≡ live_in o
-shaped_live None None shaped = refl
-shaped_live None (Some d) shaped = absurd shaped
-shaped_live (Some c) None shaped = absurd shaped
-shaped_live (Some c) (Some d) shaped = shaped.live
 
 reshaped_adds : (view t : SpaceView) (cs : List (ℕ × Change)) → HeapLaw view → IsReshaped view t → t.queues ≡ told view.queues cs → work t ≤ work view + 3 * length cs
 reshaped_adds view t cs law same queues = adds_work view t (length cs) law (record {
@@ -259,7 +253,7 @@ module _ (view : SpaceView) (number : ℕ) (object : Object) (law : HeapLaw view
   put_adds None is = record {
     phase = refl;
     cars = λ n old. cars_appended view.trains.trains y number n old.1;
-    sum = λ n old. let most = no_more (queued t) (queued view) (cars_of view.trains.trains n) (λ e among. queue_most n e (among_home view.trains.trains n e law.built.trains.single among)) in omega (arith, most);
+    sum = λ n old. let most = no_less_items (queued t) (queued view) (cars_of view.trains.trains n) (λ e among. queue_most n e (among_home view.trains.trains n e law.built.trains.single among)) in omega (arith, most);
     queue = λ n e old home. let most = queue_most n e home in omega (arith, most);
     set = λ n e old home. let one : remembered t e ≡ remembered view e = ap (λ o. len (unwrap_or o empty)) (at_insert view.sets number empty e ∙ cond-false _ _ _ (other_number n e home)) in omega (arith, one);
     objects = λ n e old home. let one : objects_in t e ≡ objects_in view e = ap live_in (at_insert view.cars number (with_birth (new_car number) object) e ∙ cond-false _ _ _ (other_number n e home)) in omega (arith, one);

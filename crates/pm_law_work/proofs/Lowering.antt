@@ -1,5 +1,5 @@
 -- Each event in a collection that does not complete it lowers the work that is left.
-use Rattle.std.proofs.Common.{◌≡◌, ℕ, ◌+◌, ◌≤◌, ap, sym, ◌∙◌, List, [], arith}
+use Rattle.std.proofs.Common.{◌≡◌, ℕ, ◌+◌, ◌≤◌, ap, sym, ◌∙◌, arith}
 use Rattle.pm_types.specs.declared.address.Addr.{Addr}
 use Rattle.pm_view.specs.declared.phase.Phase.TheVariants.{Idle, Moving}
 use Rattle.pm_view.specs.View.{SpaceView}

@@ -1,22 +1,22 @@
 -- No event comes just where no collection is in progress and no car stands.
-use Rattle.std.proofs.Common.{◌≡◌, ◌⊎◌, inl, inr, ⊎_elim, ℕ, ◌<◌, ◌==◌, true, refl, ap, sym, subst, ◌∙◌, List, [], ◌∷◌, length, Option, Some, None, is_some, arith}
+use Rattle.std.proofs.Common.{◌≡◌, ◌⊎◌, ⊎_elim, ℕ, ◌<◌, ◌==◌, true, refl, ap, sym, subst, ◌∙◌, List, [], ◌∷◌, length, Option, Some, None, is_some, arith}
 use Rattle.std.specs.Option.{IsSomeAnd, option_and_then}
 use Rattle.std.specs.List.{slice_get, count_by}
 use Rattle.std.specs.FinMap.{get}
 use Rattle.std.proofs.lemmas.Bool.{true≢false}
-use Rattle.pm_trains.specs.Trains.{Train, HasCar, cars_at, train_of, first_car, oldest}
+use Rattle.pm_trains.specs.Trains.{cars_at, first_car, oldest}
 use Rattle.pm_trains.specs.Sound.{all_cars, places}
 use Rattle.pm_trains.proofs.Found.{oldest_none}
 use Rattle.pm_trains.proofs.Cars.{lost}
 use Rattle.pm_view.specs.declared.phase.Phase.TheVariants.{Idle, Draining, Doomed}
 use Rattle.pm_view.specs.View.{SpaceView}
-use Rattle.pm_view.specs.Law.{IsAt, IsOldest, HeapLaw}
+use Rattle.pm_view.specs.Law.{IsAt, HeapLaw}
 use Rattle.pm_view.specs.Events.{nothing, idle_row, row_in, next_row}
 use Rattle.pm_law_rows.proofs.OpenTrain.{first_home}
 use Rattle.pm_law_rows.proofs.Born.{none_from_some}
 use Rattle.pm_law_phases.proofs.Small.{none_some}
 use Rattle.pm_law_phases.proofs.PhaseRows.{oldest_has}
-use Rattle.pm_law_phases.proofs.Comes.{IsNothing, comes_where}
+use Rattle.pm_law_phases.proofs.Comes.{comes_where}
 
 -- a train that has a car has a first one
 has_first : (o : Option (List ℕ)) → IsSomeAnd o (λ cars. 0 < length cars) → (c : ℕ) × (option_and_then (λ (cars : List ℕ). slice_get cars 0) o ≡ Some c)

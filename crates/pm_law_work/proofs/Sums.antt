@@ -1,13 +1,12 @@
 -- Sums over the cars of a train, and what the cars are told.
-use Rattle.std.proofs.Common.{◌≡◌, ℕ, ◌+◌, ◌≤◌, ◌==◌, ◌||◌, Bool, true, false, cond, refl, ap, sym, subst, ◌∙◌, List, [], ◌∷◌, ◌++◌, length, Option, Some, None, arith}
+use Rattle.std.proofs.Common.{◌≡◌, ℕ, ◌+◌, ◌≤◌, ◌==◌, Bool, true, false, cond, refl, ap, sym, subst, ◌∙◌, List, [], ◌∷◌, ◌++◌, length, Option, Some, None, arith}
 use Rattle.std.specs.Option.{unwrap_or, option_map}
 use Rattle.std.specs.List.{sum_by, count_by}
 use Rattle.std.specs.FinMap.{get}
-use Rattle.std.proofs.lemmas.Bool.{eq-eqb, true≢false}
 use Rattle.std.proofs.lemmas.List.{length-append}
 use Rattle.std.proofs.lemmas.List.Sums.{sum_by-cons}
 use Rattle.pm_types.specs.declared.source.Change.{Change}
-use Rattle.pm_trains.specs.Trains.{Train, cars_at, is_among}
+use Rattle.pm_trains.specs.Trains.{Train, cars_at}
 use Rattle.pm_trains.specs.Sound as line
 use Rattle.pm_trains.proofs.Cars.{places_cons}
 use Rattle.pm_view.specs.View.{Queues}
@@ -15,24 +14,6 @@ use Rattle.pm_view.specs.Reading.{cars_of}
 use Rattle.pm_view.specs.Barrier.{told, news}
 use Rattle.pm_law_rows.proofs.News.{get-told}
 use Rattle.pm_law_phases.proofs.Small.{turned}
-
-first_among : (b c : Bool) → b ≡ true → (b || c) ≡ true
-first_among true c is = refl
-first_among false c is = absurd (true≢false (sym is))
-
-later_among : (b : Bool) {c : Bool} → c ≡ true → (b || c) ≡ true
-later_among true is = refl
-later_among false is = is
-
--- where each item of a list counts for no more, neither does the list
-pub no_more : (f g : ℕ → ℕ) (xs : List ℕ) → ((x : ℕ) → is_among x xs ≡ true → f x ≤ g x) → sum_by f xs ≤ sum_by g xs
-no_more f g [] le = omega arith
-no_more f g (x ∷ xs) le =
-    let one = sum_by-cons f x xs in
-    let two = sum_by-cons g x xs in
-    let here : f x ≤ g x = le x (first_among (x == x) _ (eq-eqb x x refl)) in
-    let rest = no_more f g xs (λ y among. le y (later_among (x == y) among)) in
-    omega (arith, one, two, here, rest)
 
 pub sum_both : (f g h : ℕ → ℕ) (xs : List ℕ) → ((x : ℕ) → f x ≤ g x + h x) → sum_by f xs ≤ sum_by g xs + sum_by h xs
 sum_both f g h [] le = omega arith

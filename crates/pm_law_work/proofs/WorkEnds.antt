@@ -1,33 +1,28 @@
 -- Sweeping an object, and freeing a car of a doomed train that keeps another, lower the work that is left.
-use Rattle.std.proofs.Common.{◌≡◌, ◌⊎◌, inl, inr, ⊎_elim, ℕ, ◌+◌, ◌<◌, ◌≤◌, ◌==◌, if◌then◌else◌, Bool, true, false, cond, refl, ap, sym, subst, ◌∙◌, List, [], ◌∷◌, length, Option, Some, None, is_some, arith}
-use Rattle.std.specs.Option.{IsSome, option_map, option_and_then, unwrap_or}
-use Rattle.std.specs.List.{find, sum_by}
-use Rattle.std.specs.Cmp.{nat_cmp_total}
-use Rattle.std.specs.FinMap.{get, remove, entries, nat_cmp-IsAntisymmetric}
-use Rattle.std.proofs.lemmas.Bool.{eqb-true, eq-eqb, cond-true, true≢false}
+use Rattle.std.proofs.Common.{◌≡◌, ⊎_elim, ℕ, ◌+◌, ◌≤◌, ◌==◌, if◌then◌else◌, Bool, true, false, cond, refl, ap, sym, subst, ◌∙◌, List, [], ◌∷◌, length, Option, Some, None, arith}
+use Rattle.std.specs.Option.{unwrap_or}
+use Rattle.std.specs.FinMap.{get}
+use Rattle.std.proofs.lemmas.Bool.{eqb-true, eq-eqb, cond-true}
 use Rattle.std.proofs.lemmas.List.Sums.{sum_by-cons}
 use Rattle.pm_types.specs.declared.address.Addr.{Addr}
 use Rattle.pm_types.specs.declared.object.Object.{Object}
 use Rattle.pm_types.specs.declared.object.Slot.{Slot}
-use Rattle.pm_types.specs.declared.object.Slot.TheVariants.{Live, Moved}
-use Rattle.pm_cars.specs.Cars.{Car, one_live, live_count, object_of, without_slot}
-use Rattle.pm_cars.specs.Entries.{holds_object}
+use Rattle.pm_types.specs.declared.object.Slot.TheVariants.{Live}
+use Rattle.pm_cars.specs.Cars.{one_live, live_count, object_of, without_slot}
 use Rattle.pm_cars.proofs.Rooms.{total_remove, counted}
-use Rattle.pm_trains.specs.Trains.{cars_at, is_among, without_first}
-use Rattle.pm_view.specs.declared.phase.Phase.TheVariants.{Idle, Draining, Moving, Sweeping, Doomed}
-use Rattle.pm_view.specs.View.{Cars, SpaceView}
+use Rattle.pm_trains.specs.Trains.{cars_at, is_among}
+use Rattle.pm_view.specs.declared.phase.Phase.TheVariants.{Sweeping, Doomed}
+use Rattle.pm_view.specs.View.{SpaceView}
 use Rattle.pm_view.specs.Reading.{object_at, cars_of}
 use Rattle.pm_view.specs.Counts.{live_in}
 use Rattle.pm_view.specs.Law.{IsAt, IsOldest, HeapLaw}
 use Rattle.pm_view.specs.Rows.{put_car}
 use Rattle.pm_view.specs.Collecting.{swept_some, swept, without_car, completing, freed_of_train}
-use Rattle.pm_view.specs.Events.{lowest_live}
 use Rattle.pm_view.specs.Work.{objects_in, dooming, work_in, work}
 use Rattle.pm_law_rows.proofs.News.{at_insert}
 use Rattle.pm_law_rows.proofs.Places.{slot_of}
 use Rattle.pm_law_rows.proofs.Sums.{no_less, grown}
 use Rattle.pm_law_phases.proofs.Small.{some_same, none_some}
-use Rattle.pm_law_phases.proofs.Finds.{found_entry}
 use Rattle.pm_law_phases.proofs.Comes.{IsSweeping, IsFirstDoomed, IsFreeingDoomed}
 use Rattle.pm_law_phases.proofs.FirstGone.{own_less}
 use Rattle.pm_law_phases.proofs.Fronts.{at_remove, first_among, first_cars}

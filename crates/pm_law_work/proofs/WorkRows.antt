@@ -1,31 +1,26 @@
 -- Each event that does not complete a collection lowers the work that is left.
-use Rattle.std.proofs.Common.{◌≡◌, ◌⊎◌, inl, inr, ⊎_elim, ℕ, suc, ◌+◌, ◌*◌, ◌-◌, ◌<◌, ◌≤◌, ◌==◌, ◌&&◌, ◌||◌, if◌then◌else◌, Bool, true, false, cond, not, refl, ap, sym, subst, ◌∙◌, List, [], ◌∷◌, length, Option, Some, None, is_some, arith}
-use Rattle.std.specs.Option.{IsSome, option_map, option_and_then, unwrap_or}
-use Rattle.std.specs.List.{find, slice_get, sum_by}
-use Rattle.std.specs.FinMap.{FinMap, get, insert, remove, len, entries, empty, len-insert, len-remove, len-entries, get-entries, nat_cmp-IsAntisymmetric}
+use Rattle.std.proofs.Common.{◌≡◌, ⊎_elim, ℕ, ◌+◌, ◌-◌, ◌<◌, ◌≤◌, ◌==◌, Bool, true, false, cond, refl, ap, sym, subst, ◌∙◌, List, [], ◌∷◌, length, Option, Some, None, is_some, arith}
+use Rattle.std.specs.Option.{IsSome, unwrap_or}
+use Rattle.std.specs.FinMap.{get, remove, len, entries, empty, len-insert, len-remove, len-entries, get-entries}
 use Rattle.std.specs.FinMap.Entries as map_entries
-use Rattle.std.specs.Cmp.{nat_cmp_total}
-use Rattle.std.proofs.lemmas.Bool.{eqb-true, eq-eqb, cond-true, cond-false, both_ways, true≢false}
-use Rattle.std.proofs.lemmas.List.Sums.{sum_by-cons}
+use Rattle.std.proofs.lemmas.Bool.{eqb-true, eq-eqb, true≢false}
 use Rattle.pm_types.specs.Orders.{source_cmp}
 use Rattle.pm_types.proofs.Orders.{sources_total}
 use Rattle.pm_types.specs.declared.address.Addr.{Addr}
 use Rattle.pm_types.specs.declared.source.RefSource.{RefSource}
 use Rattle.pm_types.specs.declared.source.Change.{Change}
-use Rattle.pm_trains.specs.Trains.{cars_at, is_among, first_car}
-use Rattle.pm_view.specs.declared.phase.Phase.{Phase}
-use Rattle.pm_view.specs.declared.phase.Phase.TheVariants.{Idle, Draining, Moving, Sweeping, Doomed}
+use Rattle.pm_trains.specs.Trains.{cars_at, is_among}
+use Rattle.pm_view.specs.declared.phase.Phase.TheVariants.{Draining, Moving}
 use Rattle.pm_view.specs.View.{Sources, SpaceView}
 use Rattle.pm_view.specs.Reading.{cars_of}
 use Rattle.pm_view.specs.Effective.{with_source}
 use Rattle.pm_view.specs.Law.{HeapLaw}
 use Rattle.pm_view.specs.Candidates.{set_of, queue_of}
-use Rattle.pm_view.specs.Collecting.{doomed, started, finished, set_takes, applied_front, applied_in, fixed}
+use Rattle.pm_view.specs.Collecting.{doomed, started, finished, applied_front, applied_in, fixed}
 use Rattle.pm_view.specs.Events.{has_change, changed_car}
-use Rattle.pm_view.specs.Work.{queued, remembered, objects_in, emptying, dooming, front_car, work_in, work}
+use Rattle.pm_view.specs.Work.{queued, remembered, objects_in, front_car, work_in, work}
 use Rattle.pm_law_rows.proofs.News.{at_insert}
 use Rattle.pm_law_rows.proofs.Sums.{grown}
-use Rattle.pm_law_phases.proofs.Small.{none_some}
 use Rattle.pm_law_phases.proofs.Finds.{found_passes}
 use Rattle.pm_law_phases.proofs.Comes.{IsDrained, IsStarting, IsEmptied, IsFinishing, IsChanged}
 use Rattle.pm_law_phases.proofs.PhaseRows.{drained_queue}
