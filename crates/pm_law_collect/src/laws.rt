@@ -15,42 +15,56 @@ ghost use Rattle.pm_view.specs.Events.{Row, start, move_out, next_row, after, wa
 /// law is kept, and every world that the space stands for stays. So no event changes what a client is answered, and
 /// what the world reaches stands after it.
 pub fn an_event_keeps_the_law_and_the_worlds()
-    ensures law { (view : SpaceView) (row : Row) (picked number : ℕ) → HeapLaw view → next_row view ≡ row → MayPick view picked row → MayPlace view number row
+    ensures law { (view : SpaceView) (row : Row) (picked number : ℕ) → HeapLaw view → next_row view ≡ row
+        → MayPick view picked row → MayPlace view number row
         → HeapLaw (after view picked number row) }
-    ensures world { (view : SpaceView) (world : World) (row : Row) (picked number : ℕ) → HeapLaw view → next_row view ≡ row → MayPick view picked row → MayPlace view number row
+    ensures world { (view : SpaceView) (world : World) (row : Row) (picked number : ℕ) → HeapLaw view
+        → next_row view ≡ row → MayPick view picked row → MayPlace view number row
         → Represents view world → Represents (after view picked number row) world }
 {}
 
 /// A law of places: an event changes the place of at most one object, and lets no object begin to stand. Only where a
 /// train is doomed, or the sweeping of a car begins, do objects end to stand, and the world reaches none of them.
 pub fn an_event_moves_one_object_at_most()
-    ensures moved { (view : SpaceView) (row : Row) (picked number id : ℕ) → HeapLaw view → next_row view ≡ row → MayPick view picked row → MayPlace view number row
+    ensures moved { (view : SpaceView) (row : Row) (picked number id : ℕ) → HeapLaw view → next_row view ≡ row
+        → MayPick view picked row → MayPlace view number row
         → moving_id view row ≡ Some id → IsPlaced (after view picked number row) id (goal_of picked row) }
-    ensures before { (view : SpaceView) (row : Row) (picked number id train : ℕ) → HeapLaw view → next_row view ≡ row → MayPick view picked row → MayPlace view number row
+    ensures before { (view : SpaceView) (row : Row) (picked number id train : ℕ) → HeapLaw view
+        → next_row view ≡ row → MayPick view picked row → MayPlace view number row
         → moving_id view row ≢ Some id → IsPlaced (after view picked number row) id train → IsPlaced view id train }
-    ensures after { (view : SpaceView) (row : Row) (picked number id train : ℕ) (a : Addr) → HeapLaw view → next_row view ≡ row → MayPick view picked row → MayPlace view number row
+    ensures after { (view : SpaceView) (row : Row) (picked number id train : ℕ) (a : Addr) → HeapLaw view
+        → next_row view ≡ row → MayPick view picked row → MayPlace view number row
         → moving_id view row ≢ Some id → IsStandingAt view id a → train_of view.trains.trains a.car ≡ Some train
-        → ended_by (after view picked number row) row a.car ≡ false → IsPlaced (after view picked number row) id train }
-    ensures reached { (view : SpaceView) (world : World) (row : Row) (picked number id : ℕ) → HeapLaw view → next_row view ≡ row → MayPick view picked row → MayPlace view number row
-        → Represents view world → IsReachable world.heap (IsHeld world) id → IsStanding (after view picked number row) id }
+        → ended_by (after view picked number row) row a.car ≡ false
+        → IsPlaced (after view picked number row) id train }
+    ensures reached { (view : SpaceView) (world : World) (row : Row) (picked number id : ℕ) → HeapLaw view
+        → next_row view ≡ row → MayPick view picked row → MayPlace view number row
+        → Represents view world → IsReachable world.heap (IsHeld world) id
+        → IsStanding (after view picked number row) id }
 {}
 
 /// A law of picks: where an event picks a train there is one to pick, and each that may be picked stands and is
 /// another one than that of the object.
 pub fn there_is_a_train_to_pick()
-    ensures noted { (view : SpaceView) (car : ℕ) (a : Addr) → HeapLaw view → next_row view ≡ start car a → 0 < length (ways_out view a) }
-    ensures moved { (view : SpaceView) (a : Addr) → HeapLaw view → next_row view ≡ move_out a → 0 < length (ways_out view a) }
-    ensures noted_to { (view : SpaceView) (car train : ℕ) (a : Addr) → HeapLaw view → next_row view ≡ start car a → IsTrue (is_among train (ways_out view a))
+    ensures noted { (view : SpaceView) (car : ℕ) (a : Addr) → HeapLaw view → next_row view ≡ start car a
+        → 0 < length (ways_out view a) }
+    ensures moved { (view : SpaceView) (a : Addr) → HeapLaw view → next_row view ≡ move_out a
+        → 0 < length (ways_out view a) }
+    ensures noted_to { (view : SpaceView) (car train : ℕ) (a : Addr) → HeapLaw view → next_row view ≡ start car a
+        → IsTrue (is_among train (ways_out view a))
         → IsSome (cars_at view.trains.trains train) × ((train == home view a.car) ≡ false) }
-    ensures moved_to { (view : SpaceView) (train : ℕ) (a : Addr) → HeapLaw view → next_row view ≡ move_out a → IsTrue (is_among train (ways_out view a))
+    ensures moved_to { (view : SpaceView) (train : ℕ) (a : Addr) → HeapLaw view → next_row view ≡ move_out a
+        → IsTrue (is_among train (ways_out view a))
         → IsSome (cars_at view.trains.trains train) × ((train == home view a.car) ≡ false) }
 {}
 
 /// A law of anchors: one that stands keeps its object and its train, until it moves there or its train is doomed.
 /// And a law of moves: no object moves to the end of the car in which it lies.
 pub fn an_anchor_stands_until_it_moves()
-    ensures anchor { (view : SpaceView) (row : Row) (picked number : ℕ) (anchor : Addr × ℕ) → clears row ≡ false → view.anchor ≡ Some anchor
+    ensures anchor { (view : SpaceView) (row : Row) (picked number : ℕ) (anchor : Addr × ℕ) → clears row ≡ false
+        → view.anchor ≡ Some anchor
         → (after view picked number row).anchor ≡ Some anchor }
-    ensures tail { (view : SpaceView) (row : Row) (picked number train car : ℕ) (a : Addr) → HeapLaw view → next_row view ≡ row → MayPick view picked row → MayPlace view number row
+    ensures tail { (view : SpaceView) (row : Row) (picked number train car : ℕ) (a : Addr) → HeapLaw view
+        → next_row view ≡ row → MayPick view picked row → MayPlace view number row
         → MovesTo picked row a train → tail view.trains.trains train ≡ Some car → (a.car == car) ≡ false }
 {}

@@ -12,10 +12,16 @@ ghost use Rattle.pm_law_course.specs.Course.{notes};
 /// then. Its object moves by one event alone, whatever is picked then, and to that train. No other event and no
 /// command notes one; it is cleared where its object moves and where a train is doomed.
 pub fn an_anchor_is_noted_with_its_train()
-    ensures noted { (view : SpaceView) (car picked number : ℕ) (a : Addr) → view.anchor ≡ None → (after view picked number (start car a)).anchor ≡ Some (a, picked) }
-    ensures no_other { (view : SpaceView) (row : Row) (picked number : ℕ) → notes row ≡ false → view.anchor ≡ None → (after view picked number row).anchor ≡ None }
-    ensures moves { (view : SpaceView) (row : Row) (picked to train : ℕ) (a : Addr) → next_row view ≡ row → view.anchor ≡ Some (a, to) → MovesTo picked row a train → row ≡ move_anchor a to }
-    ensures there { (view : SpaceView) (picked to train : ℕ) (a : Addr) → MovesTo picked (move_anchor a to) a train → train ≡ to }
-    ensures cleared { (view : SpaceView) (row : Row) (picked number : ℕ) → clears row ≡ true → (after view picked number row).anchor ≡ None }
-    ensures command { (view : SpaceView) (client : ℕ) (cmd : Cmd) (picks : Picks) → (row view client cmd picks).1.anchor ≡ view.anchor }
+    ensures noted { (view : SpaceView) (car picked number : ℕ) (a : Addr) → view.anchor ≡ None
+        → (after view picked number (start car a)).anchor ≡ Some (a, picked) }
+    ensures no_other { (view : SpaceView) (row : Row) (picked number : ℕ) → notes row ≡ false → view.anchor ≡ None
+        → (after view picked number row).anchor ≡ None }
+    ensures moves { (view : SpaceView) (row : Row) (picked to train : ℕ) (a : Addr) → next_row view ≡ row
+        → view.anchor ≡ Some (a, to) → MovesTo picked row a train → row ≡ move_anchor a to }
+    ensures there { (view : SpaceView) (picked to train : ℕ) (a : Addr) → MovesTo picked (move_anchor a to) a train
+        → train ≡ to }
+    ensures cleared { (view : SpaceView) (row : Row) (picked number : ℕ) → clears row ≡ true
+        → (after view picked number row).anchor ≡ None }
+    ensures command { (view : SpaceView) (client : ℕ) (cmd : Cmd) (picks : Picks)
+        → (row view client cmd picks).1.anchor ≡ view.anchor }
 {}

@@ -15,13 +15,20 @@ ghost use Rattle.pm_law_course.specs.Course.{completes};
 /// the going of the car that was swept, or of the last car of a doomed train, and with no other event and no command.
 /// A collection is in progress from the event that selects a train to the one that completes it.
 pub fn one_event_completes_a_collection()
-    ensures counted { (view : SpaceView) (row : Row) (picked number : ℕ) → (after view picked number row).completed ≡ cond (completes view row) (view.completed + 1) view.completed }
-    ensures ended { (view : SpaceView) (row : Row) (picked number : ℕ) → completes view row ≡ true → (after view picked number row).phase ≡ Idle }
-    ensures going { (view : SpaceView) (row : Row) (picked number : ℕ) → next_row view ≡ row → row ≢ nothing → completes view row ≡ false → (after view picked number row).phase ≢ Idle }
+    ensures counted { (view : SpaceView) (row : Row) (picked number : ℕ)
+        → (after view picked number row).completed ≡ cond (completes view row) (view.completed + 1) view.completed }
+    ensures ended { (view : SpaceView) (row : Row) (picked number : ℕ) → completes view row ≡ true
+        → (after view picked number row).phase ≡ Idle }
+    ensures going { (view : SpaceView) (row : Row) (picked number : ℕ) → next_row view ≡ row → row ≢ nothing
+        → completes view row ≡ false → (after view picked number row).phase ≢ Idle }
     ensures begun { (view : SpaceView) (train : ℕ) → next_row view ≡ select train → view.phase ≡ Idle }
-    ensures car { (view : SpaceView) (car picked number : ℕ) → get (after view picked number (free car)).cars car ≡ None }
-    ensures train { (view : SpaceView) (train car picked number : ℕ) → HeapLaw view → next_row view ≡ free_doomed train car → completes view (free_doomed train car) ≡ true
+    ensures car { (view : SpaceView) (car picked number : ℕ)
+        → get (after view picked number (free car)).cars car ≡ None }
+    ensures train { (view : SpaceView) (train car picked number : ℕ) → HeapLaw view
+        → next_row view ≡ free_doomed train car → completes view (free_doomed train car) ≡ true
         → cars_at (after view picked number (free_doomed train car)).trains.trains train ≡ None }
-    ensures command { (view : SpaceView) (client : ℕ) (cmd : Cmd) (picks : Picks) → (row view client cmd picks).1.completed ≡ view.completed }
-    ensures phase { (view : SpaceView) (client : ℕ) (cmd : Cmd) (picks : Picks) → (row view client cmd picks).1.phase ≡ view.phase }
+    ensures command { (view : SpaceView) (client : ℕ) (cmd : Cmd) (picks : Picks)
+        → (row view client cmd picks).1.completed ≡ view.completed }
+    ensures phase { (view : SpaceView) (client : ℕ) (cmd : Cmd) (picks : Picks)
+        → (row view client cmd picks).1.phase ≡ view.phase }
 {}

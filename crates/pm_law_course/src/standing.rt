@@ -13,7 +13,10 @@ ghost use Rattle.pm_view.specs.Represents.{IsHeld, Represents};
 /// A law of standing objects: what the names and registers of a world reach stands, in every space that stands for the
 /// world, and different identities that are reached are no more than the objects that stand.
 pub fn no_more_is_reached_than_stands()
-    ensures stands { (view : SpaceView) (world : World) (id : ℕ) → Represents view world → IsReachable world.heap (IsHeld world) id → IsStanding view id }
-    ensures few { (view : SpaceView) (world : World) (ids : List ℕ) → HeapLaw view → Represents view world → IsDistinct nat_eq ids
-        → ((id : ℕ) → IsTrue (is_among id ids) → IsReachable world.heap (IsHeld world) id) → length ids ≤ standing view }
+    ensures stands { (view : SpaceView) (world : World) (id : ℕ) → Represents view world
+        → IsReachable world.heap (IsHeld world) id → IsStanding view id }
+    ensures few { (view : SpaceView) (world : World) (ids : List ℕ) → HeapLaw view → Represents view world
+        → IsDistinct nat_eq ids
+        → ((id : ℕ) → IsTrue (is_among id ids) → IsReachable world.heap (IsHeld world) id)
+        → length ids ≤ standing view }
 {}

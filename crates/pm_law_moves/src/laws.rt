@@ -10,6 +10,7 @@ ghost use Rattle.pm_law_moves.specs.Moved.{HasMoved};
 /// A law of moves: an event that moves an object changes two places, the one that it leaves, which tells where it went,
 /// and the one to which it goes, which held nothing. The object has its identity and its bytes there.
 pub fn an_object_moves_to_one_place()
-    ensures { (view : SpaceView) (row : Row) (picked number train : ℕ) (a : Addr) → HeapLaw view → next_row view ≡ row → MayPick view picked row → MayPlace view number row
+    ensures { (view : SpaceView) (row : Row) (picked number train : ℕ) (a : Addr) → HeapLaw view
+        → next_row view ≡ row → MayPick view picked row → MayPlace view number row
         → MovesTo picked row a train → HasMoved view (after view picked number row) a }
 {}

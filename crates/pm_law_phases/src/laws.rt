@@ -14,8 +14,11 @@ ghost use Rattle.pm_view.specs.Events.{doom, finish, next_row};
 /// field of an object of the train; where a car begins to be swept, each that stores an address in the car is a field of
 /// an object of the car.
 pub fn nothing_outside_names_what_is_given_up()
-    ensures train { (view : SpaceView) (train : ℕ) (x : RefSource) (a : Addr) → HeapLaw view → next_row view ≡ doom train → stored view x ≡ Some a
-        → train_of view.trains.trains a.car ≡ Some train → lies_in (λ car. is_among car (cars_of view.trains.trains train)) x ≡ true }
-    ensures car { (view : SpaceView) (car : ℕ) (x : RefSource) (a : Addr) → HeapLaw view → next_row view ≡ finish car → stored view x ≡ Some a
+    ensures train { (view : SpaceView) (train : ℕ) (x : RefSource) (a : Addr) → HeapLaw view
+        → next_row view ≡ doom train → stored view x ≡ Some a
+        → train_of view.trains.trains a.car ≡ Some train
+        → lies_in (λ car. is_among car (cars_of view.trains.trains train)) x ≡ true }
+    ensures car { (view : SpaceView) (car : ℕ) (x : RefSource) (a : Addr) → HeapLaw view
+        → next_row view ≡ finish car → stored view x ≡ Some a
         → (car == a.car) ≡ true → lies_in (λ e. car == e) x ≡ true }
 {}

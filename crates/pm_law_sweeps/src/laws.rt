@@ -15,6 +15,8 @@ pub fn a_sweep_ends_one_object()
     ensures aside { (view : SpaceView) (a : Addr) → next_row view ≡ sweep a → is_aside view a.car ≡ true }
     ensures slots { (view : SpaceView) (picked number : ℕ) (a b : Addr) → HeapLaw view → next_row view ≡ sweep a
         → slot_at (after view picked number (sweep a)).cars b ≡ cond (same_address a b) None (slot_at view.cars b) }
-    ensures freed { (view : SpaceView) (car slot : ℕ) → next_row view ≡ free car → object_at view.cars (record { car = car; slot = slot }) ≡ None }
-    ensures freed_doomed { (view : SpaceView) (train car slot : ℕ) → next_row view ≡ free_doomed train car → object_at view.cars (record { car = car; slot = slot }) ≡ None }
+    ensures freed { (view : SpaceView) (car slot : ℕ) → next_row view ≡ free car
+        → object_at view.cars (record { car = car; slot = slot }) ≡ None }
+    ensures freed_doomed { (view : SpaceView) (train car slot : ℕ) → next_row view ≡ free_doomed train car
+        → object_at view.cars (record { car = car; slot = slot }) ≡ None }
 {}

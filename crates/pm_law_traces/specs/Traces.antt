@@ -11,7 +11,7 @@ use Rattle.pm_cars.specs.Cars.{Car}
 use Rattle.pm_view.specs.declared.phase.Phase.TheVariants.{Draining, Moving, Doomed}
 use Rattle.pm_view.specs.View.{SpaceView}
 use Rattle.pm_view.specs.Rows.{new_space}
-use Rattle.pm_view.specs.Events.{Row, next_row, after}
+use Rattle.pm_view.specs.Events.{Row, start, move_on, next_row, after}
 use Rattle.pm_law_rows.specs.Examples.{at}
 
 -- from one space on these events come, one after the other, and the other space is there after them; no train is picked
@@ -89,6 +89,14 @@ drained bytes = record new_space {
   phase = Draining 1;
   next = 7;
 }
+
+-- its first car begins to be emptied, and the open train 2 is picked for the anchor
+abbrev pub begun : List ℕ → SpaceView
+begun bytes = after (drained bytes) 2 0 (start 1 (at 2 0))
+
+-- its first object moves to the end of its own train; the least number that no car has is 3
+abbrev pub moved_on : List ℕ → SpaceView
+moved_on bytes = after (begun bytes) 0 3 (move_on (at 1 0) 1)
 
 -- The same after the first pass: object 1 is in car 3, at the end of its own train. The name stands for it now, and car
 -- 2 is emptied, whose first object is the anchor.

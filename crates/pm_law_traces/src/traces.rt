@@ -9,12 +9,13 @@ ghost use Rattle.pm_view.specs.Effective.{effective};
 ghost use Rattle.pm_view.specs.Candidates.{queue_of};
 ghost use Rattle.pm_view.specs.Events.{select, apply, doom, start, fix, move_anchor, move_on, sweep, free_doomed, nothing, next_row, after, ways_out};
 ghost use Rattle.pm_law_rows.specs.Examples.{at};
-ghost use Rattle.pm_law_traces.specs.Traces.{Run, cycle, collected, changed, used_again, drained, second_pass};
+ghost use Rattle.pm_law_traces.specs.Traces.{Run, cycle, collected, changed, used_again, drained, begun, moved_on, second_pass};
 
 /// Two objects that name each other, and that nothing else names: their train is selected, what was queued is applied,
 /// the train is doomed, its objects are swept and its car goes. Nothing stands then, and no event comes.
 pub fn a_cycle_goes()
-    ensures events { Run cycle (select 1 ∷ apply 1 ∷ apply 1 ∷ apply 1 ∷ apply 1 ∷ doom 1 ∷ sweep (at 1 0) ∷ sweep (at 1 1) ∷ free_doomed 1 1 ∷ []) collected }
+    ensures events { Run cycle (select 1 ∷ apply 1 ∷ apply 1 ∷ apply 1 ∷ apply 1 ∷ doom 1
+        ∷ sweep (at 1 0) ∷ sweep (at 1 1) ∷ free_doomed 1 1 ∷ []) collected }
     ensures end { next_row collected ≡ nothing }
 {}
 
@@ -38,12 +39,12 @@ pub fn a_number_is_used_again()
 pub fn an_anchor_ends_futile_passes()
     ensures noted { (bytes : List ℕ) → next_row (drained bytes) ≡ start 1 (at 2 0) }
     ensures way { (bytes : List ℕ) → ways_out (drained bytes) (at 2 0) ≡ 2 ∷ [] }
-    ensures anchor { (bytes : List ℕ) → (after (drained bytes) 2 0 (start 1 (at 2 0))).anchor ≡ Some (at 2 0, 2) }
-    ensures own { (bytes : List ℕ) → next_row (after (drained bytes) 2 0 (start 1 (at 2 0))) ≡ move_on (at 1 0) 1 }
+    ensures anchor { (bytes : List ℕ) → (begun bytes).anchor ≡ Some (at 2 0, 2) }
+    ensures own { (bytes : List ℕ) → next_row (begun bytes) ≡ move_on (at 1 0) 1 }
     ensures new_car { (bytes : List ℕ) → length bytes ≡ 4096
-        → cars_at (after (after (drained bytes) 2 0 (start 1 (at 2 0))) 0 3 (move_on (at 1 0) 1)).trains.trains 1 ≡ Some (1 ∷ 2 ∷ 3 ∷ []) }
+        → cars_at (moved_on bytes).trains.trains 1 ≡ Some (1 ∷ 2 ∷ 3 ∷ []) }
     ensures moved { (bytes : List ℕ) → length bytes ≡ 4096
-        → slot_at (after (after (drained bytes) 2 0 (start 1 (at 2 0))) 0 3 (move_on (at 1 0) 1)).cars (at 1 0) ≡ Some (Moved (at 3 0)) }
+        → slot_at (moved_on bytes).cars (at 1 0) ≡ Some (Moved (at 3 0)) }
     ensures leaves { (bytes : List ℕ) → next_row (second_pass bytes (Some (at 2 0, 2))) ≡ move_anchor (at 2 0) 2 }
     ensures futile { (bytes : List ℕ) → next_row (second_pass bytes None) ≡ move_on (at 2 0) 1 }
 {}

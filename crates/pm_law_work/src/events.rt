@@ -12,9 +12,12 @@ ghost use Rattle.pm_view.specs.Events.{Row, nothing, next_row, after, MayPick, M
 /// train is doomed, by three where a car begins to be emptied or an object moves, by two where a source is fixed, and by
 /// one else. No event comes just where no collection is in progress and no car stands.
 pub fn an_event_lowers_the_work_left()
-    ensures lowers { (view : SpaceView) (row : Row) (picked number : ℕ) → HeapLaw view → next_row view ≡ row → MayPick view picked row → MayPlace view number row
-        → view.phase ≢ Idle → (after view picked number row).completed ≡ view.completed → work (after view picked number row) + lowers row ≤ work view }
+    ensures lowers { (view : SpaceView) (row : Row) (picked number : ℕ) → HeapLaw view → next_row view ≡ row
+        → MayPick view picked row → MayPlace view number row
+        → view.phase ≢ Idle → (after view picked number row).completed ≡ view.completed
+        → work (after view picked number row) + lowers row ≤ work view }
     ensures idle { (view : SpaceView) → HeapLaw view → next_row view ≡ nothing → view.phase ≡ Idle }
     ensures empty { (view : SpaceView) (car : ℕ) → HeapLaw view → next_row view ≡ nothing → get view.cars car ≡ None }
-    ensures nothing { (view : SpaceView) → HeapLaw view → view.phase ≡ Idle → ((car : ℕ) → get view.cars car ≡ None) → next_row view ≡ nothing }
+    ensures nothing { (view : SpaceView) → HeapLaw view → view.phase ≡ Idle → ((car : ℕ) → get view.cars car ≡ None)
+        → next_row view ≡ nothing }
 {}
