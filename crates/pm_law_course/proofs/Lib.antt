@@ -1,0 +1,6 @@
+pub mod Rows
+pub mod Kept
+pub mod Completing
+pub mod Anchoring
+pub mod Bearing
+pub mod Counting

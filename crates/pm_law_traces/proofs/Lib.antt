@@ -1,0 +1,4 @@
+pub mod Maps
+pub mod Cycle
+pub mod Again
+pub mod Futile
