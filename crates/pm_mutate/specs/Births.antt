@@ -1,12 +1,16 @@
 -- Where an object is born.
-use Rattle.std.specs.Prelude.{◌≡◌, ℕ, Option, Some, None, IsSomeAnd}
+use Rattle.std.specs.Prelude.{◌≡◌, ◌≤◌, ℕ, List, Option, Some, None, IsSomeAnd}
 use Rattle.std.specs.FinMap.{get}
 use Rattle.pm_types.specs.declared.object.Object.{Object}
 use Rattle.pm_types.specs.declared.source.RefSource.TheVariants.{Handle}
-use Rattle.pm_trains.specs.Trains.{youngest}
+use Rattle.pm_types.specs.declared.reply.Reply.{Reply}
+use Rattle.pm_types.specs.declared.reply.Reply.TheVariants.{Ident}
+use Rattle.pm_trains.specs.Trains.{Trains, HasCar, youngest}
 use Rattle.pm_cars.specs.Cars.{Car, Fits, with_birth}
 use Rattle.pm_view.specs.View.{Cars, SpaceView}
 use Rattle.pm_view.specs.Rows.{with_car, tail_for, put_car, with_count, born, birthplace, spent, spread, IsVacant}
+use Rattle.pm_view.specs.Commands.{row_new}
+use Rattle.pm_mutate.specs.Picked.{IsForSomeCar}
 
 -- the tail of the open train, where an object of this room fits it
 abbrev pub open_tail : SpaceView → ℕ → Option ℕ
@@ -34,10 +38,26 @@ pub record IsOpened (view : SpaceView) (room : ℕ) (after : SpaceView) (car : �
 abbrev pub FitsIn : Cars → ℕ → ℕ → Type 0
 FitsIn cars car room = IsSomeAnd (get cars car) (λ (it : Car). Fits it room)
 
+-- an object is in the next slot of this car
+abbrev pub with_born : Cars → ℕ → Object → Cars
+with_born cars car object = put_car cars car (get cars car) (λ it. with_birth it object)
+
 -- an object is in the next slot of this car, and one more was born in the open train
 abbrev pub with_object_in : SpaceView → ℕ → Object → SpaceView
-with_object_in view car object = with_count (record view { cars = put_car view.cars car (get view.cars car) (λ it. with_birth it object) })
+with_object_in view car object = with_count (record view { cars = with_born view.cars car object })
 
 -- an object is born under the next identity, in a new car of this number where one is needed, and a register holds it
 abbrev pub born_held : SpaceView → ℕ → ℕ → Object → ℕ → SpaceView
 born_held view client reg object number = spread (born (spent view) number object) (Handle client reg) (Some (birthplace (spent view) number object))
+
+-- an object is born so, and the identity is the reply
+abbrev pub IsHeldNew : SpaceView → ℕ → ℕ → Object → Reply × SpaceView → Type 0
+IsHeldNew view client reg object given = IsForSomeCar view (λ number. (Ident object.id, born_held view client reg object number)) given
+
+-- this is the row of `new`
+abbrev pub IsRowOfNew : SpaceView → ℕ → ℕ → ℕ → List ℕ → Reply × SpaceView → Type 0
+IsRowOfNew view client reg count bytes given = IsForSomeCar view (λ number. row_new view client reg count bytes number) given
+
+-- where 1,024 objects were born in the open train it has a car
+abbrev pub HasCarWhereFull : Trains → Type 0
+HasCarWhereFull it = 1024 ≤ it.births → HasCar it.trains (youngest it.trains)

@@ -1,16 +1,11 @@
-ghost use Rattle.std.specs.Prelude.{◌≡◌, ◌<◌, true, false, None, IfOk, OnErr};
-ghost use Rattle.std.specs.FinMap.{get};
+ghost use Rattle.std.specs.Prelude.{◌≡◌, ◌<◌, true, false, IfOk, OnErr};
 ghost use Rattle.pm_types.specs.declared.limits.TheConstants.{CLIENTS, REGISTERS};
-ghost use Rattle.pm_model.specs.World.{World};
-ghost use Rattle.pm_model.specs.Answer.{answer, is_refusal};
 ghost use Rattle.pm_view.specs.Commands.{is_act, is_new, HasRegisters};
 ghost use Rattle.pm_view.specs.Law.{HeapLaw};
 ghost use Rattle.pm_view.specs.Objects.{KeepsObjects};
-ghost use Rattle.pm_view.specs.Represents.{Represents};
-ghost use Rattle.pm_law_commands.specs.Served.{IsServed};
 ghost use Rattle.pm_space.specs.Shown.{view, KeepsRest};
 ghost use Rattle.pm_mutate.specs.Picked.{IsRow};
-ghost use Rattle.pm_mutate.specs.Acts.{IsBirth};
+ghost use Rattle.pm_mutate.specs.Acts.{Serves, IsStill, IsBirth};
 
 use crate::birth::new;
 use crate::bytes::put;
@@ -126,8 +121,8 @@ pub fn act<F: Drop>(
     requires client { client < CLIENTS }
     requires act { is_act cmd.now ≡ true }
     ensures row { IfOk result (λ reply. IsRow (view space.old.parts) client cmd.now (reply, view space.new.parts)) }
-    ensures served { IfOk result (λ reply. (world : World) → Represents (view space.old.parts) world → get world.heap world.next ≡ None → IsServed (reply, view space.new.parts) (answer world client cmd.now)) }
-    ensures refused { IfOk result (λ reply. is_refusal cmd.now reply ≡ true → view space.new.parts ≡ view space.old.parts) }
+    ensures served { IfOk result (λ reply. Serves (view space.old.parts) client cmd.now reply (view space.new.parts)) }
+    ensures refused { IfOk result (λ reply. IsStill (view space.old.parts) cmd.now reply (view space.new.parts)) }
     ensures still { is_new cmd.now ≡ false → KeepsObjects (view space.old.parts) (view space.new.parts) }
     ensures born { IfOk result (λ reply. IsBirth (view space.old.parts) cmd.now reply (view space.new.parts)) }
     ensures err { OnErr result (view space.new.parts ≡ view space.old.parts) }

@@ -1,18 +1,15 @@
 ghost use Rattle.std.specs.Prelude.{◌≡◌, ◌≤◌, ◌<◌, ◌||◌, nat_lt, true, replicate, length, None, Some, IsSomeAnd, IfOk, OnErr};
 ghost use Rattle.std.specs.FinMap.{get};
 ghost use Rattle.pm_types.specs.declared.limits.TheConstants.{CLIENTS, REGISTERS, FIELDS, OBJECT_BYTES};
-ghost use Rattle.pm_types.specs.declared.reply.Reply.TheVariants.{Ident};
 ghost use Rattle.pm_types.specs.declared.source.RefSource.TheVariants.{Handle};
 ghost use Rattle.pm_trains.specs.declared.trains.TheConstants.{BIRTHS};
 ghost use Rattle.pm_cars.specs.Cars.{object_room, with_birth};
 ghost use Rattle.pm_snap.specs.Snapped.{is_ready};
 ghost use Rattle.pm_view.specs.Law.{HeapLaw};
 ghost use Rattle.pm_view.specs.Rows.{put_car, next_of, spread};
-ghost use Rattle.pm_view.specs.Commands.{row_new};
 ghost use Rattle.pm_space.specs.Linked.{sets_of, AreHoused, HasRoom, HasRoomFor};
 ghost use Rattle.pm_space.specs.Shown.{view, cars_of, KeepsRest};
-ghost use Rattle.pm_mutate.specs.Picked.{IsForSomeCar};
-ghost use Rattle.pm_mutate.specs.Births.{FitsIn, with_object_in, born_held};
+ghost use Rattle.pm_mutate.specs.Births.{FitsIn, with_born, with_object_in, IsHeldNew, IsRowOfNew};
 
 use crate::placing::place_for;
 use crate::reading::register;
@@ -42,7 +39,7 @@ fn bear_in(cars: &mut Table<Held>, car: u64, object: Object) -> u32
     requires ready { is_ready cars.old car ≡ true }
     requires birth { IsSomeAnd (get cars.old.current car) (λ held. 0 < held.car.spare) }
     requires fits { FitsIn (cars_of cars.old) car (object_room object) }
-    ensures cars { cars_of cars.new ≡ put_car (cars_of cars.old) car (get (cars_of cars.old) car) (λ it. with_birth it object) }
+    ensures cars { cars_of cars.new ≡ with_born (cars_of cars.old) car object }
     ensures slot { result ≡ next_of (get (cars_of cars.old) car) }
     ensures frozen { cars.new.frozen ≡ cars.old.frozen }
 {
@@ -114,7 +111,7 @@ fn hold_new<F>(
     requires fields { length object.fields ≤ FIELDS }
     requires bytes { length object.bytes ≤ OBJECT_BYTES }
     requires next { parts.old.next ≤ 4294967295 }
-    ensures ok { IfOk result (λ reply. let v = view parts.old in IsForSomeCar v (λ number. (Ident object.id, born_held v client reg object number)) (reply, view parts.new)) }
+    ensures ok { IfOk result (λ reply. IsHeldNew (view parts.old) client reg object (reply, view parts.new)) }
     ensures err { OnErr result (view parts.new ≡ view parts.old) }
     ensures rest { KeepsRest parts.old parts.new }
 {
@@ -150,7 +147,7 @@ pub fn new<F>(
 ) -> Result<Reply, NoMemory>
     requires client { client < CLIENTS }
     requires law { HeapLaw (view parts.old) }
-    ensures ok { IfOk result (λ reply. let v = view parts.old in IsForSomeCar v (λ number. row_new v client reg count bytes.now number) (reply, view parts.new)) }
+    ensures ok { IfOk result (λ reply. IsRowOfNew (view parts.old) client reg count bytes.now (reply, view parts.new)) }
     ensures err { OnErr result (view parts.new ≡ view parts.old) }
     ensures rest { KeepsRest parts.old parts.new }
 {

@@ -6,7 +6,7 @@ ghost use Rattle.pm_trains.specs.Trains.{HasCar, youngest};
 ghost use Rattle.pm_view.specs.Rows.{if_fits, with_open_train};
 ghost use Rattle.pm_space.specs.Linked.{KeepsRoom};
 ghost use Rattle.pm_space.specs.Shown.{view, cars_of, IsLinked, IsPrepared, KeepsRest};
-ghost use Rattle.pm_mutate.specs.Births.{open_tail, IsOpened, FitsIn};
+ghost use Rattle.pm_mutate.specs.Births.{open_tail, IsOpened, FitsIn, HasCarWhereFull};
 
 use pm_snap::Table;
 use pm_space::{Held, Parts, open_car, open_car_in_new_train};
@@ -124,7 +124,7 @@ fn place_in_new_train<F>(parts: &mut Parts<F>, alloc: Global, room: u32) -> Resu
 pub(crate) fn place_for<F>(parts: &mut Parts<F>, alloc: Global, room: u32) -> Result<u64, NoMemory>
     requires linked { IsLinked (view parts.old) }
     requires small { room ≤ 16370 }
-    requires filled { BIRTHS ≤ parts.old.trains.births → HasCar parts.old.trains.trains (youngest parts.old.trains.trains) }
+    requires filled { HasCarWhereFull parts.old.trains }
     ensures place { IfOk result (λ car. IsOpened (with_open_train (view parts.old)) room (view parts.new) car) }
     ensures fits { IfOk result (λ car. FitsIn (view parts.new).cars car room) }
     ensures prepared { IfOk result (λ car. IsPrepared parts.new car 1) }
