@@ -7,3 +7,4 @@ pub mod CountingUp
 pub mod OpenedCars
 pub mod Rooms
 pub mod Leading
+pub mod Fronts

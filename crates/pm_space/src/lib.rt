@@ -22,6 +22,7 @@ pub use links::{LinkTable, Links};
 pub use opening::{open_car, open_car_in_new_train};
 pub use parts::Parts;
 pub use room::{make_room, make_room_for_each};
+pub use setting::set;
 pub use sources::resolve;
 pub use space::Space;
 pub use spreading::spread;

@@ -36,7 +36,7 @@ fn set_field(cars: &mut Table<Held>, at: Addr, index: u32, to: Option<Addr>) -> 
 
 /// Lets the source store the address, of which nobody hears. What is frozen stays. After want of memory all
 /// is as it was.
-pub(crate) fn set<F>(
+pub fn set<F>(
     parts: &mut Parts<F>,
     source: RefSource,
     to: Option<Addr>,
