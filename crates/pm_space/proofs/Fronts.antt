@@ -23,7 +23,7 @@ lost_is queues car [] is = insert_again queues car [] is
 lost_is queues car (change ∷ changes) is = refl
 
 module _ (v : Linked) (car : ℕ) (it w : Links) (found : get v car ≡ Some it) where
-  waits : waiting (queues_of v) car ≡ it.queue.changes
+  pub waits : waiting (queues_of v) car ≡ it.queue.changes
   waits = ap (λ (o : Option (List Change)). unwrap_or o []) (at_car queue_of v car it found)
 
   -- the set that took the front

@@ -1,0 +1,6 @@
+pub mod Views
+pub mod Fields
+pub mod Swept
+pub mod Searches
+pub mod Lowest
+pub mod Fixes
