@@ -4,3 +4,5 @@ pub mod Swept
 pub mod Searches
 pub mod Lowest
 pub mod Fixes
+pub mod Rows
+pub mod Lawful

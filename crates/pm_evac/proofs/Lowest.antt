@@ -11,7 +11,7 @@ use Rattle.pm_cars.specs.Cars.{Car, object_of, object_at, IsLive, IsLowestLive}
 use Rattle.pm_cars.specs.Entries.{holds_object}
 use Rattle.pm_evac.proofs.Searches.{lower_failed, found_there, none_there}
 
-holds_some : (s : Slot) → holds_object s ≡ true → IsSome (object_of (Some s))
+pub holds_some : (s : Slot) → holds_object s ≡ true → IsSome (object_of (Some s))
 holds_some (Live object) is = refl
 holds_some (Moved to) is = absurd (true≢false (sym is))
 

@@ -2,6 +2,7 @@
 #![tactic(auto)]
 
 mod applying;
+mod events;
 mod finding;
 mod fixing;
 mod freeing;
@@ -9,6 +10,7 @@ mod sources;
 mod sweeping;
 
 pub use applying::apply;
+pub use events::{apply_one, finish_car, fix_one, free_car, sweep_one};
 pub use finding::{anchor_in, changed_car, has_change, lowest_live};
 pub use fixing::fix;
 pub use freeing::{finish, free};
