@@ -6,3 +6,4 @@ pub mod Lowest
 pub mod Fixes
 pub mod Rows
 pub mod Lawful
+pub mod Counting

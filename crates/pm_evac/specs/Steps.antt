@@ -7,7 +7,9 @@ use Rattle.pm_types.specs.declared.event.Step.TheVariants.{Nothing, Selected, Ap
 use Rattle.pm_trains.specs.Trains.{Train, first_car}
 use Rattle.pm_view.specs.declared.phase.Phase.{Phase}
 use Rattle.pm_view.specs.declared.phase.Phase.TheVariants as phases
+use Rattle.pm_model.specs.World.{World}
 use Rattle.pm_view.specs.View.{SpaceView}
+use Rattle.pm_view.specs.Represents.{Represents}
 use Rattle.pm_view.specs.Reading.{id_at, cars_of}
 use Rattle.pm_view.specs.Events.{Row, nothing, select, apply, doom, start, fix, move_anchor, move_out, move_on, finish, sweep, free, free_doomed, next_row, after, MayPick, MayPlace}
 use Rattle.pm_space.specs.Counted.{capped}
@@ -81,3 +83,7 @@ swept_in trains (phases.Doomed train) = first_car trains train
 
 abbrev pub swept_car : SpaceView → Option ℕ
 swept_car view = swept_in view.trains.trains view.phase
+
+-- the space stands for each world for which it stood
+abbrev pub KeepsWorlds : SpaceView → SpaceView → Type 0
+KeepsWorlds old new = (world : World) → Represents old world → Represents new world

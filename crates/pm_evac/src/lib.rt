@@ -2,7 +2,8 @@
 #![tactic(auto)]
 
 mod applying;
-mod events;
+mod calls;
+pub mod events;
 mod finding;
 mod fixing;
 mod freeing;
@@ -10,7 +11,7 @@ mod sources;
 mod sweeping;
 
 pub use applying::apply;
-pub use events::{apply_one, finish_car, fix_one, free_car, sweep_one};
+pub use calls::{apply_one, finish_car, fix_one, free_car, sweep_one};
 pub use finding::{anchor_in, changed_car, has_change, lowest_live};
 pub use fixing::fix;
 pub use freeing::{finish, free};
