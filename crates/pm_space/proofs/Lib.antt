@@ -8,3 +8,4 @@ pub mod OpenedCars
 pub mod Rooms
 pub mod Leading
 pub mod Readiness
+pub mod Fronts

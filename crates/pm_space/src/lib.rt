@@ -24,6 +24,7 @@ pub use opening::{open_car, open_car_in_new_train};
 pub use parts::Parts;
 pub use readying::{make_ready, make_room_for_birth};
 pub use room::{make_room, make_room_for_each};
+pub use setting::set;
 pub use sources::resolve;
 pub use space::Space;
 pub use spreading::spread;
