@@ -1,0 +1,16 @@
+pub mod Both
+pub mod Numerals
+pub mod NameTests
+pub mod HexDigits
+pub mod Hexes
+pub mod Steps
+pub mod ResultSteps
+pub mod ValueLaws
+pub mod ValuesLaws
+pub mod FirstLaws
+pub mod SaidLaws
+pub mod PlainWords
+pub mod BodyLaws
+pub mod ScriptLaws
+pub mod ReadLines
+pub mod ReadValues

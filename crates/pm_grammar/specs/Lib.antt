@@ -1,0 +1,6 @@
+pub mod HexDigits
+pub mod Words
+pub mod Lines
+pub mod Script
+pub mod Values
+pub mod Reading
