@@ -42,7 +42,7 @@ counted_by : (test : Bool) (read : Result (List Value) Cause) (values : List Val
 counted_by true read values is = (refl, is)
 counted_by false read values is = absurd cc
 
-counted_found : (ks : List Kind) (words : List (List ℕ)) (values : List Value) → counted_at ks words ≡ Ok values → (map kind_of values ≡ ks) × AreSpelled values words
+pub counted_found : (ks : List Kind) (words : List (List ℕ)) (values : List Value) → counted_at ks words ≡ Ok values → (map kind_of values ≡ ks) × AreSpelled values words
 unfolding counted_at
 counted_found ks words values is =
     let here = counted_by (length words == length ks) (values_at ks words) values is in
@@ -87,7 +87,7 @@ said_found (word ∷ words) line is =
     let begins = both_ok (ok_or (first_at word) cause.Client) (λ f. said_at f words) line is in
     said_by begins.0 word words line (first_found word begins.0 (some_ok _ _ _ begins.1)) (asked_found begins.0 words line begins.2)
 
-same_count : (m n : ℕ) → m ≡ n → (m == n) ≡ true
+pub same_count : (m n : ℕ) → m ≡ n → (m == n) ≡ true
 same_count m n is = grind (arith, nat_tests)
 
 counted_again : (values : List Value) (words : List (List ℕ)) → AreSpelled values words → counted_at (map kind_of values) words ≡ Ok values
@@ -116,10 +116,10 @@ long_by : (test : Bool) (read : Result Line Cause) (line : Line) → (if test th
 long_by true read line is = absurd cc
 long_by false read line is = (refl, is)
 
-not_long : (m n : ℕ) → nat_lt m n ≡ false → n ≤ m
+pub not_long : (m n : ℕ) → nat_lt m n ≡ false → n ≤ m
 not_long m n is = grind (arith, nat_tests)
 
-within : (m n : ℕ) → n ≤ m → nat_lt m n ≡ false
+pub within : (m n : ℕ) → n ≤ m → nat_lt m n ≡ false
 within m n le = grind (arith, nat_tests)
 
 -- what is read of a line is what it spells

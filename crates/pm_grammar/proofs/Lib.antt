@@ -12,5 +12,8 @@ pub mod SaidLaws
 pub mod PlainWords
 pub mod BodyLaws
 pub mod ScriptLaws
+pub mod CauseLaws
+pub mod BadLaws
+pub mod SpellingLaws
 pub mod ReadLines
 pub mod ReadValues

@@ -10,7 +10,8 @@ use Rattle.pm_grammar.specs.declared.fault.LineFault.TheVariants.{Bad, Memory}
 use Rattle.pm_grammar.specs.declared.verb.Kind.{Kind}
 use Rattle.pm_grammar.specs.declared.value.Value.{Value}
 use Rattle.pm_grammar.specs.Values.{value_of}
-use Rattle.pm_grammar.specs.Reading.{Fails, kind_cause, values_at}
+use Rattle.pm_grammar.specs.Words.{kind_cause}
+use Rattle.pm_grammar.specs.Reading.{Fails, values_at}
 
 -- the next word is read before those after it
 turn : (ks : List Kind) (ws : List (List ℕ)) (n : ℕ) (k : Kind) (w : List ℕ) → n < length ks → n < length ws → k ≡ get_or ks n k → w ≡ get_or ws n w

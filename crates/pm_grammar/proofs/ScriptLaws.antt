@@ -19,7 +19,7 @@ use Rattle.pm_grammar.proofs.BodyLaws.{body_found, body_again, body_spoken}
 then_lines : ℕ → List ℕ → List (List ℕ) → Result (List Line) ScriptFault
 then_lines n body bodies = numbered n (line_at body) >>= λ line. lines_at (n + 1) bodies >>= λ lines. Ok (line ∷ lines)
 
-numbered_ok : (n : ℕ) (read : Result Line Cause) (line : Line) → numbered n read ≡ Ok line → read ≡ Ok line
+pub numbered_ok : (n : ℕ) (read : Result Line Cause) (line : Line) → numbered n read ≡ Ok line → read ≡ Ok line
 numbered_ok n (Ok x) line is = cc
 numbered_ok n (Err e) line is = absurd cc
 
@@ -59,10 +59,10 @@ many m n lt = grind (arith, nat_tests)
 few : (m n : ℕ) → n ≤ m → nat_lt m n ≡ false
 few m n le = grind (arith, nat_tests)
 
-not_many : (m n : ℕ) → nat_lt m n ≡ false → n ≤ m
+pub not_many : (m n : ℕ) → nat_lt m n ≡ false → n ≤ m
 not_many m n is = grind (arith, nat_tests)
 
-are_many : (m n : ℕ) → nat_lt m n ≡ true → m < n
+pub are_many : (m n : ℕ) → nat_lt m n ≡ true → m < n
 are_many m n is = grind (arith, nat_tests)
 
 -- too many lines

@@ -5,9 +5,9 @@ use Rattle.pm_base.specs.Results.{◌>>=◌}
 use Rattle.pm_grammar.specs.declared.fault.Cause.{Cause}
 use Rattle.pm_grammar.specs.declared.verb.Kind.{Kind}
 use Rattle.pm_grammar.specs.declared.value.Value.{Value}
-use Rattle.pm_grammar.specs.Words.{kind_of, IsSpelled, AreSpelled}
+use Rattle.pm_grammar.specs.Words.{kind_of, IsSpelled, AreSpelled, kind_cause}
 use Rattle.pm_grammar.specs.Values.{value_of}
-use Rattle.pm_grammar.specs.Reading.{kind_cause, values_at}
+use Rattle.pm_grammar.specs.Reading.{values_at}
 use Rattle.pm_grammar.proofs.ResultSteps.{both_ok, some_ok}
 use Rattle.pm_grammar.proofs.ValueLaws.{value_found, value_again}
 

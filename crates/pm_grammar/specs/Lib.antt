@@ -4,3 +4,4 @@ pub mod Lines
 pub mod Script
 pub mod Values
 pub mod Reading
+pub mod Bad

@@ -11,12 +11,11 @@ use Rattle.pm_grammar.specs.declared.fault.LineFault.TheVariants as line_fault
 use Rattle.pm_grammar.specs.declared.fault.ScriptFault.{ScriptFault}
 use Rattle.pm_grammar.specs.declared.fault.ScriptFault.TheVariants as script_fault
 use Rattle.pm_grammar.specs.declared.verb.Kind.{Kind}
-use Rattle.pm_grammar.specs.declared.verb.Kind.TheVariants as kind
 use Rattle.pm_grammar.specs.declared.verb.First.{First}
 use Rattle.pm_grammar.specs.declared.value.Value.{Value}
 use Rattle.pm_grammar.specs.declared.line.Line.{Line}
 use Rattle.pm_grammar.specs.Lines.{lines_of, is_silent, words_of}
-use Rattle.pm_grammar.specs.Words.{kinds}
+use Rattle.pm_grammar.specs.Words.{kinds, kind_cause}
 use Rattle.pm_grammar.specs.Values.{first_at, verb_at, value_of, line_of}
 
 -- a fault of a line is what reading gives; want of memory may come at any time
@@ -52,13 +51,6 @@ Answers (Err fault) read = Stops fault read
 abbrev pub Tells : {X Y : Type 0} → (X → Y) → Result X ScriptFault → Result Y ScriptFault → Type 0
 Tells view (Ok x) read = read ≡ Ok (view x)
 Tells view (Err fault) read = Stops fault read
-
--- why a word is not of its kind
-abbrev pub kind_cause : Kind → Cause
-kind_cause kind.Register = cause.Number
-kind_cause kind.Number = cause.Number
-kind_cause kind.Hex = cause.Hex
-kind_cause kind.Name = cause.Name
 
 -- the values of the words, from left to right
 unfoldable pub values_at : List Kind → List (List ℕ) → Result (List Value) Cause

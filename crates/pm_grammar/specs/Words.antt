@@ -4,6 +4,8 @@ use Rattle.hex.specs.Hex.{IsBytes}
 use Rattle.pm_types.specs.declared.limits.TheConstants.{CLIENTS, REGISTERS}
 use Rattle.pm_types.specs.Names.{IsName}
 use Rattle.pm_model.specs.Text.{pairs}
+use Rattle.pm_grammar.specs.declared.fault.Cause.{Cause}
+use Rattle.pm_grammar.specs.declared.fault.Cause.TheVariants as cause
 use Rattle.pm_grammar.specs.declared.verb.Verb.{Verb}
 use Rattle.pm_grammar.specs.declared.verb.Verb.TheVariants as verb
 use Rattle.pm_grammar.specs.declared.verb.Kind.{Kind}
@@ -87,11 +89,19 @@ abbrev pub IsFirst : First → Type 0
 IsFirst (first.Client client) = client < CLIENTS
 IsFirst first.Bang = Unit {0}
 
+-- the kind of a value
 abbrev pub kind_of : Value → Kind
 kind_of (value.Register register) = kind.Register
 kind_of (value.Number number) = kind.Number
 kind_of (value.Hex bytes) = kind.Hex
 kind_of (value.Name name) = kind.Name
+
+-- why a word is not of its kind
+abbrev pub kind_cause : Kind → Cause
+kind_cause kind.Register = cause.Number
+kind_cause kind.Number = cause.Number
+kind_cause kind.Hex = cause.Hex
+kind_cause kind.Name = cause.Name
 
 -- the word spells the bytes: a dash where there are none, and otherwise two hexadecimal digits for each, in either case
 abbrev pub IsHexWord : List ℕ → List ℕ → Type 0

@@ -13,7 +13,7 @@ mod value;
 mod verb;
 
 pub use fault::{Cause, ScriptFault};
-pub use laws::a_script_has_one_reading;
+pub use laws::{a_script_has_no_fault, a_script_has_one_reading, spelled_lines_are_read_again};
 pub use limits::LINE_BYTES;
 pub use line::Line;
 pub use script::{Script, read_script};

@@ -1,7 +1,10 @@
-ghost use Rattle.std.specs.Prelude.{◌≡◌, ◌≤◌, ◌<◌, List, length, nat_eq, count_by, IfOk, Ok};
+ghost use Rattle.std.specs.Prelude.{◌≡◌, ◌≤◌, ◌<◌, List, length, nat_eq, count_by, IfOk, IfErr, Ok, Err, ◌⊎◌};
 ghost use Rattle.std.specs.List.{slice_split};
 ghost use Rattle.pm_types.specs.declared.limits.TheConstants.{SCRIPT_LINES, SOURCE_BYTES};
+ghost use Rattle.pm_grammar.specs.declared.fault.ScriptFault.{ScriptFault as Fault};
+ghost use Rattle.pm_grammar.specs.declared.fault.ScriptFault.TheVariants as script_fault;
 ghost use Rattle.pm_grammar.specs.declared.line.Line.{Line as Says};
+ghost use Rattle.pm_grammar.specs.Bad.{IsBad};
 ghost use Rattle.pm_grammar.specs.Lines.{lines_of, is_silent};
 ghost use Rattle.pm_grammar.specs.Reading.{Answers, Tells, numbered, line_at, lines_at, script_at};
 ghost use Rattle.pm_grammar.specs.Script.{IsScript, AreLines};
@@ -128,17 +131,18 @@ fn read_all(alloc: Global, bytes: &[u8]) -> Result<Vec<Line>, ScriptFault>
     read_lines(alloc, bytes)
 }
 
-/// The lines that the bytes spell, of those that say something. Each fault comes exactly where its rule says so, but that
-/// want of memory may come at any time.
-#[tactic(auto, using(crate::proofs::ScriptLaws::script_found, crate::proofs::ScriptLaws::lines_of_script))]
+/// The lines that the bytes spell, of those that say something. `Line` tells the first bad line, and `TooManyLines` that
+/// there are more than 65,536, which goes before; want of memory may come at any time. `TooLong` is never answered.
 pub fn read_script(alloc: Global, bytes: &[u8]) -> Result<Script, ScriptFault>
     requires { length bytes.now ≤ SOURCE_BYTES }
     // What is read is what the bytes spell.
     ensures found { IfOk result (λ script. IsScript bytes.now script) }
     // What they spell is read, unless memory runs out.
     ensures only { (lines : List Says) → IsScript bytes.now lines → Answers result (Ok lines) }
-    // Which fault it is.
-    ensures exact { Answers result (script_at bytes.now) }
+    // A fault is the first that applies to the bytes, but that memory may run out at any time.
+    ensures bad { IfErr result (λ fault. (fault ≡ script_fault.Memory) ⊎ IsBad fault bytes.now) }
+    // The first that applies is told, unless memory runs out.
+    ensures told { (fault : Fault) → IsBad fault bytes.now → Answers result (Err fault) }
 {
     let lines = read_all(alloc, bytes)?;
     Ok(Script::from_vec(lines))

@@ -6,7 +6,8 @@ ghost use Rattle.hex.specs.Hex.{decode_of};
 ghost use Rattle.pm_grammar.specs.declared.fault.Cause.TheVariants as causes;
 ghost use Rattle.pm_types.specs.declared.limits.TheConstants.{CLIENTS, REGISTERS};
 ghost use Rattle.pm_grammar.specs.Values.{is_digit, is_numeral, number_of, number_below, name_of, some_bytes, hex_of, first_at, value_of};
-ghost use Rattle.pm_grammar.specs.Reading.{kind_cause, Finds};
+ghost use Rattle.pm_grammar.specs.Reading.{Finds};
+ghost use Rattle.pm_grammar.specs.Words.{kind_cause};
 
 use crate::fault::{Cause, LineFault};
 use crate::verb::{First, Kind};
