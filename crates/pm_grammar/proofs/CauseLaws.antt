@@ -1,5 +1,5 @@
 -- The cause that is told of a bad line is the first that applies, and the first that applies is told.
-use Rattle.std.proofs.Common.{◌≡◌, ◌⊎◌, inl, inr, ℕ, suc, ◌+◌, ◌<◌, ◌≤◌, ◌==◌, Bool, true, false, List, [], ◌∷◌, length, map, Option, Some, None, Result, Ok, Err, refl, ap, sym, subst, ◌∙◌, arith, nat_lt, if◌then◌else◌}
+use Rattle.std.proofs.Common.{◌≡◌, ◌⊎◌, inl, inr, ℕ, suc, ◌<◌, ◌≤◌, ◌==◌, Bool, true, false, List, [], ◌∷◌, length, Option, Some, None, Result, Ok, Err, refl, ap, sym, subst, ◌∙◌, arith, nat_lt, if◌then◌else◌}
 use Rattle.std.proofs.lemmas.Bool.{eqb-true}
 use Rattle.std.proofs.lemmas.Bool.Decides.{nat_tests}
 use Rattle.std.specs.Option.{ok_or}
@@ -11,9 +11,8 @@ use Rattle.pm_grammar.specs.declared.verb.Kind.{Kind}
 use Rattle.pm_grammar.specs.declared.verb.Kind.TheVariants as kind
 use Rattle.pm_grammar.specs.declared.verb.First.{First}
 use Rattle.pm_grammar.specs.declared.value.Value.{Value}
-use Rattle.pm_grammar.specs.declared.line.Line.{Line}
 use Rattle.pm_grammar.specs.Lines.{words_of}
-use Rattle.pm_grammar.specs.Words.{word_of, kinds, belongs, kind_of, kind_cause, first_word, IsFirst, IsSpelled}
+use Rattle.pm_grammar.specs.Words.{word_of, kinds, belongs, kind_cause, first_word, IsFirst}
 use Rattle.pm_grammar.specs.Values.{first_at, verb_at, value_of, line_of}
 use Rattle.pm_grammar.specs.Reading.{values_at, counted_at, said_at, first_said_at, line_at}
 use Rattle.pm_grammar.specs.Bad.{LacksFirst, LacksVerb, Asks, HasOtherCount, IsOfKind, IsFirstWrong, HasWrongWord, IsCause}

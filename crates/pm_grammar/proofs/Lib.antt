@@ -15,5 +15,6 @@ pub mod ScriptLaws
 pub mod CauseLaws
 pub mod BadLaws
 pub mod SpellingLaws
+pub mod TextLemmas
 pub mod ReadLines
 pub mod ReadValues

@@ -11,9 +11,9 @@ use Rattle.pm_grammar.specs.declared.line.Line.{Line}
 use Rattle.pm_grammar.specs.Lines.{lines_of, is_silent, spoken}
 use Rattle.pm_grammar.specs.Words.{IsFirst}
 use Rattle.pm_grammar.specs.Reading.{Stops, line_at, numbered, lines_at, script_at}
-use Rattle.pm_grammar.specs.Script.{first_of, IsBody, AreBodies, IsScript, AreLines}
+use Rattle.pm_grammar.specs.Script.{first_of, AreBodies, IsScript, AreLines}
 use Rattle.pm_grammar.proofs.ResultSteps.{both_ok}
-use Rattle.pm_grammar.proofs.BodyLaws.{body_found, body_again, body_spoken}
+use Rattle.pm_grammar.proofs.BodyLaws.{body_found, body_again}
 
 -- one line, and those after it
 then_lines : ℕ → List ℕ → List (List ℕ) → Result (List Line) ScriptFault

@@ -1,13 +1,13 @@
 -- Lines that are spelled are read again.
-use Rattle.std.proofs.Common.{◌≡◌, ℕ, suc, ◌+◌, ◌<◌, ◌≤◌, Bool, true, false, cond, not, List, [], ◌∷◌, ◌++◌, length, map, refl, ap, sym, subst, ◌∙◌, arith, nat_eq, append_assoc, if◌then◌else◌}
+use Rattle.std.proofs.Common.{◌≡◌, ℕ, ◌≤◌, Bool, true, false, cond, not, List, [], ◌∷◌, ◌++◌, length, map, refl, ap, sym, subst, ◌∙◌, arith, nat_eq, append_assoc, if◌then◌else◌}
 use Rattle.std.proofs.lemmas.List.{length-map}
 use Rattle.std.specs.List.{AllByRecursion, onto_first}
 use Rattle.pm_grammar.specs.declared.value.Value.{Value}
 use Rattle.pm_grammar.specs.declared.value.Value.TheVariants as value
 use Rattle.pm_grammar.specs.declared.line.Line.{Line}
-use Rattle.pm_grammar.specs.Lines.{lines_of, is_silent, spoken, ended}
+use Rattle.pm_grammar.specs.Lines.{lines_of, spoken, ended}
 use Rattle.pm_grammar.specs.Words.{IsSpelled, AreSpelled, IsValue, value_word}
-use Rattle.pm_grammar.specs.Script.{said, first_of, IsBody, AreBodies, IsScript, IsLine, spelling, text_of, HasSpelling}
+use Rattle.pm_grammar.specs.Script.{said, IsBody, AreBodies, IsScript, IsLine, spelling, text_of, HasSpelling}
 use Rattle.pm_grammar.proofs.HexDigits.{printed_again}
 use Rattle.pm_grammar.proofs.PlainWords.{Lacks}
 use Rattle.pm_grammar.proofs.BodyLaws.{body_spoken, body_lacks}

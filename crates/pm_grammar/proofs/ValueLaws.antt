@@ -1,5 +1,5 @@
 -- What a word stands for is what spells it.
-use Rattle.std.proofs.Common.{◌≡◌, ℕ, ◌<◌, ◌^◌, ◌==◌, Bool, true, false, ◌&&◌, List, [], ◌∷◌, length, map, Option, Some, None, Ok, refl, ap, sym, subst, ◌∙◌, arith, nat_lt, nat_le, decimal, IsTrue, if◌then◌else◌}
+use Rattle.std.proofs.Common.{◌≡◌, ℕ, ◌<◌, ◌^◌, Bool, true, ◌&&◌, List, [], ◌∷◌, length, Option, Some, None, refl, ap, sym, subst, ◌∙◌, arith, nat_lt, nat_le, decimal, IsTrue, if◌then◌else◌}
 use Rattle.std.proofs.lemmas.Bool.{ltb-true, leb-true, lt-ltb}
 use Rattle.std.specs.Option.{option_map}
 use Rattle.std.specs.List.{AllByRecursion, list_all}
@@ -9,7 +9,7 @@ use Rattle.pm_grammar.specs.declared.verb.Kind.{Kind}
 use Rattle.pm_grammar.specs.declared.verb.Kind.TheVariants as kind
 use Rattle.pm_grammar.specs.declared.value.Value.{Value}
 use Rattle.pm_grammar.specs.declared.value.Value.TheVariants as value
-use Rattle.pm_grammar.specs.Words.{kind_of, IsHexWord, IsSpelled}
+use Rattle.pm_grammar.specs.Words.{kind_of, IsSpelled}
 use Rattle.pm_grammar.specs.Values.{number_of, number_below, is_name, name_of, hex_of, value_of}
 use Rattle.pm_grammar.proofs.Both.{first_true, second_true}
 use Rattle.pm_grammar.proofs.Steps.{both, mapped, guarded, passed}

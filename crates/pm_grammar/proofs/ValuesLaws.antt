@@ -1,5 +1,5 @@
 -- What words stand for, one after the other, is what they spell.
-use Rattle.std.proofs.Common.{◌≡◌, ℕ, suc, List, [], ◌∷◌, length, map, Some, Ok, Result, refl, ap, sym, subst, ◌∙◌, arith}
+use Rattle.std.proofs.Common.{◌≡◌, ℕ, suc, List, [], ◌∷◌, length, map, Ok, Result, refl, ap, subst, ◌∙◌, arith}
 use Rattle.std.specs.Option.{ok_or}
 use Rattle.pm_base.specs.Results.{◌>>=◌}
 use Rattle.pm_grammar.specs.declared.fault.Cause.{Cause}

@@ -1,5 +1,5 @@
 -- Why bytes are no script: too many of them, too many lines, or the first bad line with its first cause.
-use Rattle.std.specs.Prelude.{◌≡◌, ℕ, ◌+◌, ◌<◌, ◌≤◌, ◌⊎◌, true, false, List, [], ◌∷◌, ◌++◌, length}
+use Rattle.std.specs.Prelude.{◌≡◌, ℕ, ◌+◌, ◌<◌, ◌≤◌, ◌⊎◌, true, false, List, ◌∷◌, ◌++◌, length}
 use Rattle.pm_types.specs.declared.limits.TheConstants.{SCRIPT_LINES, SOURCE_BYTES}
 use Rattle.pm_grammar.specs.declared.limits.TheConstants.{LINE_BYTES}
 use Rattle.pm_grammar.specs.declared.fault.Cause.{Cause}

@@ -5,3 +5,4 @@ pub mod Script
 pub mod Values
 pub mod Reading
 pub mod Bad
+pub mod Texts

@@ -1,7 +1,7 @@
 -- Scripts: which bytes are a script, and of which lines.
 use Rattle.std.specs.Prelude.{◌≡◌, ℕ, ◌≤◌, List, [], ◌∷◌, map, length}
 use Rattle.std.specs.List.{AllByRecursion, flat_map, join_with_byte}
-use Rattle.pm_types.specs.declared.limits.TheConstants.{CLIENTS, SCRIPT_LINES, SOURCE_BYTES}
+use Rattle.pm_types.specs.declared.limits.TheConstants.{SCRIPT_LINES, SOURCE_BYTES}
 use Rattle.pm_types.specs.declared.command.Cmd.{Cmd}
 use Rattle.pm_types.specs.declared.command.Cmd.TheVariants as cmd
 use Rattle.pm_grammar.specs.declared.limits.TheConstants.{LINE_BYTES}

@@ -1,11 +1,7 @@
-use Rattle.std.proofs.Common.{◌≡◌, ◌∙◌, ◌+◌, ℕ, List, length, map, sym, ap, subst, arith, Bor, refl, [], ◌∷◌, ◌++◌}
+use Rattle.std.proofs.Common.{◌∙◌, ℕ, List, length, map, sym, ap, arith, Bor}
 use Rattle.std.proofs.lemmas.Result.{err_from_is_err_and}
 use Rattle.std.proofs.lemmas.List.{get_or-map, length_push, length-map}
 use Rattle.std.proofs.lemmas.Slice.Zip.{zip_turn, zip_end}
-use Rattle.pm_grammar.specs.declared.value.Value.{Value}
-use Rattle.pm_grammar.specs.declared.fault.LineFault.{LineFault}
-use Rattle.pm_grammar.specs.Reading.{Fails, values_at}
-use Rattle.pm_base.proofs.Fronts.{with_front}
 use Rattle.pm_grammar.proofs.ReadValues.{failed, went_on, all_read}
 use Rattle.pm_grammar.proofs.body.read_values.Goals as goal
 

@@ -1,10 +1,9 @@
-use Rattle.std.proofs.Common.{◌≡◌, ◌∙◌, ◌+◌, ◌≤◌, ◌<◌, List, length, nat_eq, sym, ap, subst, arith, Result}
+use Rattle.std.proofs.Common.{◌∙◌, ◌≤◌, List, length, nat_eq, sym, ap, subst, arith, Result}
 use Rattle.std.proofs.lemmas.List.Splits.{length-slice_split}
 use Rattle.pm_grammar.specs.declared.line.Line.{Line}
 use Rattle.pm_grammar.specs.declared.fault.ScriptFault.{ScriptFault}
 use Rattle.pm_grammar.specs.Lines.{lines_of}
 use Rattle.pm_grammar.specs.Reading.{Tells, lines_at}
-use Rattle.pm_grammar.proofs.ReadLines.{parts}
 use Rattle.pm_grammar.proofs.ScriptLaws.{script_many, script_few}
 use Rattle.pm_grammar.proofs.script.read_all.Goals as goal
 

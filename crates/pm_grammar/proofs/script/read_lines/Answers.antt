@@ -1,11 +1,9 @@
-use Rattle.std.proofs.Common.{◌≡◌, ◌∙◌, ◌+◌, ◌<◌, ℕ, List, length, nat_eq, sym, ap, subst, arith, rules, tests, Ok}
+use Rattle.std.proofs.Common.{◌≡◌, ◌∙◌, ◌+◌, ℕ, length, nat_eq, sym, subst, arith, rules, tests, Ok}
 use Rattle.std.proofs.lemmas.Result.{err_from_is_err_and}
 use Rattle.std.proofs.lemmas.List.{length_push}
 use Rattle.std.proofs.lemmas.Iterator.Consumers.{YieldsList-turn, YieldsList-end}
 use Rattle.std.proofs.lemmas.Iterator.Splits.{YieldsList-from_slice_split}
-use Rattle.pm_base.proofs.Fronts.{with_front}
 use Rattle.pm_grammar.specs.declared.line.Line.{Line}
-use Rattle.pm_grammar.specs.declared.fault.ScriptFault.{ScriptFault}
 use Rattle.pm_grammar.specs.Reading.{Stops, line_at, numbered, lines_at}
 use Rattle.pm_grammar.proofs.ReadLines.{parts, passed_over, line_more, bad_ends, lines_done}
 use Rattle.pm_grammar.proofs.script.read_lines.Goals as goal

@@ -1,6 +1,4 @@
-use Rattle.std.proofs.Common.{◌≡◌, ◌∙◌, List, Ok, Err, sym, ap, subst, IfErr}
-use Rattle.pm_grammar.specs.declared.line.Line.{Line}
-use Rattle.pm_grammar.specs.declared.fault.ScriptFault.{ScriptFault}
+use Rattle.std.proofs.Common.{◌∙◌, Ok, sym, ap, subst}
 use Rattle.pm_grammar.proofs.BadLaws.{bad_stops, fault_told, ok_told}
 use Rattle.std.proofs.lemmas.Result.{err_from_is_err_and}
 use Rattle.pm_grammar.specs.Script.{IsScript}
