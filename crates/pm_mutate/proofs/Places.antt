@@ -48,13 +48,6 @@ asked_none table room number is = ap (option_and_then (λ (car : Car). if has_ro
 pub fits_there : (table : Snapped Held) (room number : ℕ) (held : Held) → Some held ≡ get table.current number → Fits held.car.car room → FitsIn (shown.cars_of table) number room
 fits_there table room number held is fits = subst (λ o. IsSomeAnd o (λ (car : Car). Fits car room)) (sym (get_car table number (Some held) is)) fits
 
--- a car whose room alone changed looks as before
-pub same_cars : (table : Snapped Held) (number : ℕ) (held w : Held) → Some held ≡ get table.current number → car_of w ≡ car_of held → shown.cars_of (with_value table number w) ≡ shown.cars_of table
-same_cars table number held w is same =
-    cars_added table number w
-    ∙ ap (insert (shown.cars_of table) number) same
-    ∙ insert_again (shown.cars_of table) number (car_of held) (get_car table number (Some held) is)
-
 -- a car that stands is in the table
 pub in_table : (table : Snapped Held) (number : ℕ) → IsSome (get (shown.cars_of table) number) → IsSome (get table.current number)
 in_table table number some = by_case (get table.current number) (subst IsSome (get-mapped nat_cmp car_of table.current number) some)

@@ -1,15 +1,13 @@
-ghost use Rattle.std.specs.Prelude.{◌≡◌, ◌≤◌, ◌<◌, true, IsSome, IsSomeAnd, IfSome, IfOk, OnOk, OnErr};
+ghost use Rattle.std.specs.Prelude.{◌≡◌, ◌≤◌, ◌<◌, IsSome, IfSome, IfOk, OnOk, OnErr};
 ghost use Rattle.std.specs.FinMap.{get};
-ghost use Rattle.pm_snap.specs.Snapped.{is_ready};
 ghost use Rattle.pm_trains.specs.declared.trains.TheConstants.{BIRTHS};
 ghost use Rattle.pm_trains.specs.Trains.{HasCar, youngest};
 ghost use Rattle.pm_view.specs.Rows.{if_fits, with_open_train};
 ghost use Rattle.pm_space.specs.Linked.{KeepsRoom};
-ghost use Rattle.pm_space.specs.Shown.{view, cars_of, IsLinked, IsPrepared, KeepsRest};
+ghost use Rattle.pm_space.specs.Shown.{view, IsLinked, IsPrepared, KeepsRest};
 ghost use Rattle.pm_mutate.specs.Births.{open_tail, IsOpened, FitsIn, HasCarWhereFull};
 
-use pm_snap::Table;
-use pm_space::{Held, Parts, open_car, open_car_in_new_train};
+use pm_space::{Parts, make_room_for_birth, open_car, open_car_in_new_train};
 use pm_trains::{BIRTHS, a_new_train_is_the_youngest};
 use pm_types::NoMemory;
 use std::alloc::Global;
@@ -39,19 +37,6 @@ fn tail_with_room<F>(parts: &Parts<F>, room: u32) -> Option<u64>
     }
 }
 
-// Makes a car that stands ready, with memory for one birth.
-fn make_ready(cars: &mut Table<Held>, car: u64) -> Result<(), NoMemory>
-    requires there { IsSome (get cars.old.current car) }
-    ensures cars { cars_of cars.new ≡ cars_of cars.old }
-    ensures ready { OnOk result (is_ready cars.new car ≡ true) }
-    ensures birth { OnOk result (IsSomeAnd (get cars.new.current car) (λ held. 0 < held.car.spare)) }
-    ensures frozen { cars.new.frozen ≡ cars.old.frozen }
-{
-    let held = cars.change(car)?;
-    held.car.reserve()?;
-    Ok(())
-}
-
 // Prepares a car that stands for a birth: it is ready, with memory for the birth, and its queue has room for a
 // change.
 fn prepare<F>(parts: &mut Parts<F>, car: u64) -> Result<(), NoMemory>
@@ -62,7 +47,7 @@ fn prepare<F>(parts: &mut Parts<F>, car: u64) -> Result<(), NoMemory>
     ensures rest { KeepsRest parts.old parts.new }
 {
     parts.links.reserve(car, 1)?;
-    make_ready(&mut parts.cars, car)?;
+    make_room_for_birth(&mut parts.cars, car)?;
     Ok(())
 }
 
