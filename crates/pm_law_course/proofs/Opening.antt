@@ -12,7 +12,7 @@ use Rattle.pm_trains.proofs.Found.{last_changed, last_emptied, last_pushed}
 use Rattle.pm_view.specs.declared.phase.Phase.TheVariants.{Draining}
 use Rattle.pm_view.specs.View.{SpaceView}
 use Rattle.pm_view.specs.Reading.{object_at, cars_of}
-use Rattle.pm_view.specs.Rows.{with_stored, tail_for, place_in}
+use Rattle.pm_view.specs.Rows.{tail_for, place_in}
 use Rattle.pm_view.specs.Candidates.{queue_of}
 use Rattle.pm_view.specs.Collecting.{applied_front, put_away, settled, moved_some, moved, swept_some, without_car, completing}
 use Rattle.pm_view.specs.Events.{Row, nothing, select, apply, doom, start, fix, move_anchor, move_out, move_on, finish, sweep, free, free_doomed, after, home}
