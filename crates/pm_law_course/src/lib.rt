@@ -8,6 +8,9 @@ mod completion;
 mod standing;
 
 pub use anchors::an_anchor_is_noted_with_its_train;
-pub use births::no_command_adds_to_the_train_that_is_collected;
+pub use births::{
+    an_event_opens_a_train_where_it_selects_the_open_one,
+    no_command_adds_to_the_train_that_is_collected,
+};
 pub use completion::one_event_completes_a_collection;
 pub use standing::no_more_is_reached_than_stands;

@@ -3,4 +3,6 @@
 
 mod laws;
 
-pub use laws::nothing_outside_names_what_is_given_up;
+pub use laws::{
+    an_object_moves_on_where_nothing_outside_names_it, nothing_outside_names_what_is_given_up,
+};
