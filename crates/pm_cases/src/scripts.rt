@@ -26,11 +26,7 @@ pub(crate) fn push_read(alloc: Global, script: &[u8], out: &mut String) -> Resul
 }
 
 /// Adds each line of the script that says something, or why it is none.
-pub(crate) fn push_read_lines(
-    alloc: Global,
-    script: &[u8],
-    out: &mut String,
-) -> Result<(), Fault> {
+pub(crate) fn push_read_lines(alloc: Global, script: &[u8], out: &mut String) -> Result<(), Fault> {
     match read(alloc, script)? {
         Ok(script) => {
             for line in script.as_slice() {

@@ -1,7 +1,7 @@
 -- What single words and lists of values stand for: nothing, where they stand for none.
-use Rattle.std.specs.Prelude.{ℕ, ◌^◌, ◌&&◌, ◌||◌, ◌==◌, Bool, not, List, [], ◌∷◌, length, Option, Some, None, Result, Ok, Err, nat_le, nat_lt, slice_index, codes, if◌then◌else◌}
+use Rattle.std.specs.Prelude.{◌≡◌, ℕ, ◌^◌, ◌&&◌, ◌||◌, ◌==◌, Bool, not, List, [], ◌∷◌, length, Option, Some, None, Result, Ok, Err, nat_le, nat_lt, slice_index, codes, if◌then◌else◌}
 use Rattle.std.specs.List.{list_all, find}
-use Rattle.std.specs.Option.{option_map}
+use Rattle.std.specs.Option.{MatchOption, option_map}
 use Rattle.std.specs.Cmp.Lexicographic.{pointwise}
 use Rattle.std.specs.Str.Parse.{digits_value}
 use Rattle.hex.specs.Hex.{decode_of}
@@ -87,6 +87,10 @@ bytes_in values = None
 abbrev pub name_in : List Value → Option (List ℕ × List Value)
 name_in (value.Name name ∷ values) = Some (name, values)
 name_in values = None
+
+-- what was taken from the front, and what is left
+abbrev pub Takes : {X : Type 0} → Option X → Option (X × List Value) → List Value → Type 0
+Takes taken read left = MatchOption taken (read ≡ None) (λ x. read ≡ Some (x, left))
 
 -- the command that a client asks so
 unfoldable pub command_of : Verb → List Value → Option Cmd

@@ -1,5 +1,5 @@
-ghost use Rattle.std.specs.Prelude.{◌≡◌, MatchOption};
-ghost use Rattle.pm_grammar.specs.Values.{register_in, number_in, bytes_in, name_in, command_of, events_of, line_of};
+ghost use Rattle.std.specs.Prelude.{◌≡◌};
+ghost use Rattle.pm_grammar.specs.Values.{Takes, register_in, number_in, bytes_in, name_in, command_of, events_of, line_of};
 
 use crate::line::Line;
 use crate::value::Value;
@@ -9,7 +9,7 @@ use std::collections::VecDeque;
 
 // The register that stands first.
 fn register(values: &mut VecDeque<Value>) -> Option<Reg>
-    ensures { MatchOption result (register_in values.old.items ≡ None) (λ reg. register_in values.old.items ≡ Some (reg, values.new.items)) }
+    ensures { Takes result (register_in values.old.items) values.new.items }
 {
     match values.pop_front()? {
         Value::Register(reg) => Some(reg),
@@ -19,7 +19,7 @@ fn register(values: &mut VecDeque<Value>) -> Option<Reg>
 
 // The number that stands first.
 fn number(values: &mut VecDeque<Value>) -> Option<u32>
-    ensures { MatchOption result (number_in values.old.items ≡ None) (λ number. number_in values.old.items ≡ Some (number, values.new.items)) }
+    ensures { Takes result (number_in values.old.items) values.new.items }
 {
     match values.pop_front()? {
         Value::Number(number) => Some(number),
@@ -29,7 +29,7 @@ fn number(values: &mut VecDeque<Value>) -> Option<u32>
 
 // The bytes that stand first.
 fn bytes(values: &mut VecDeque<Value>) -> Option<Bytes>
-    ensures { MatchOption result (bytes_in values.old.items ≡ None) (λ bytes. bytes_in values.old.items ≡ Some (bytes, values.new.items)) }
+    ensures { Takes result (bytes_in values.old.items) values.new.items }
 {
     match values.pop_front()? {
         Value::Hex(bytes) => Some(bytes),
@@ -39,7 +39,7 @@ fn bytes(values: &mut VecDeque<Value>) -> Option<Bytes>
 
 // The name that stands first.
 fn name(values: &mut VecDeque<Value>) -> Option<Name>
-    ensures { MatchOption result (name_in values.old.items ≡ None) (λ name. name_in values.old.items ≡ Some (name, values.new.items)) }
+    ensures { Takes result (name_in values.old.items) values.new.items }
 {
     match values.pop_front()? {
         Value::Name(name) => Some(name),

@@ -1,5 +1,5 @@
 //! The grammar of scripts and the texts of replies: bytes in, lines of what clients ask out; replies in, bytes out.
-//! Which bytes are a script, and of which lines, stands in `specs/Script.antt`; why bytes are none, in `specs/Bad.antt`.
+//! Which bytes are a script, and of which lines, stands in `specs/Script.antt`; why bytes are none in `specs/Bad.antt`.
 #![tactic(auto)]
 
 mod body;

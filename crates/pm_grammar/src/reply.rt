@@ -105,8 +105,8 @@ fn put_ending(out: &mut [u8], at: usize, ending: Ending<'_>) -> usize
     }
 }
 
-/// Puts the entry's reply line at the front of `out`, and answers the line's length. The rest of `out` is as it was. The
-/// client is below 8, and a reply shows 4,096 bytes at most, as an object has.
+/// Puts the entry's reply line at the front of `out`, and answers the line's length in bytes. The rest of `out` is as it
+/// was, and no memory is taken. The client is below 8, and a reply shows 4,096 bytes at most, as an object has.
 pub fn reply_into(entry: &Entry, out: &mut [u8]) -> usize
     requires room { 8195 ≤ length out.old }
     requires client { entry.now.client < CLIENTS }

@@ -16,8 +16,8 @@ use pm_types::{SCRIPT_LINES, SOURCE_BYTES};
 use std::alloc::Global;
 use std::marker::Model;
 
-/// The lines of a script that say something, in order, seen as a list of them. There are at most 65,536, and each client
-/// is one of 0 to 7.
+/// The lines of a script that say something, in order, seen as a list of them. There are at most 65,536, and each
+/// client is one of 0 to 7.
 #[derive(Debug, Drop)]
 pub struct Script {
     lines: Vec<Line>,
@@ -36,7 +36,7 @@ impl Model for Script {
 }
 
 impl Script {
-    /// These lines.
+    /// These lines, of which there are at most 65,536, each with a client below 8.
     pub fn from_vec(lines: Vec<Line>) -> Self
         requires { AreLines lines.items }
         ensures { result ≡ lines.items }
@@ -131,8 +131,9 @@ fn read_all(alloc: Global, bytes: &[u8]) -> Result<Vec<Line>, ScriptFault>
     read_lines(alloc, bytes)
 }
 
-/// The lines that the bytes spell, of those that say something. `Line` tells the first bad line, and `TooManyLines` that
-/// there are more than 65,536, which goes before; want of memory may come at any time. `TooLong` is never answered.
+/// The lines that the bytes spell, of those that say something. There are at most 268,435,456 bytes. `Line` tells the
+/// first bad line, `TooManyLines` that there are more than 65,536, which goes before; want of memory may come at any
+/// time, and `TooLong` is never answered.
 pub fn read_script(alloc: Global, bytes: &[u8]) -> Result<Script, ScriptFault>
     requires { length bytes.now ≤ SOURCE_BYTES }
     // What is read is what the bytes spell.
