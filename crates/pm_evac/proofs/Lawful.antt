@@ -161,7 +161,7 @@ stale_held v car x to is = by_entry (least_stale v car) refl is
     by_place e found None goes = absurd (let none : ◌≡◌ {A = Option (RefSource × Addr)} None (Some (x, to)) = goes in cc)
     by_place e found (Some b) goes =
         let first = subst (FindsFirstThat (λ source slot. has_gone (went (slot_at v.cars (named_in car (source, slot))))) (set_of v car)) found
-            (first_found (λ source slot. has_gone (went (slot_at v.cars (named_in car (source, slot))))) (set_of v car)) in
+        (first_found (λ source slot. has_gone (went (slot_at v.cars (named_in car (source, slot))))) (set_of v car)) in
         (e.1, subst (λ x. get (set_of v car) x ≡ Some e.1) (first_same e.0 x b to goes) first.there)
 
     by_entry : (o : Option (RefSource × ℕ)) → least_stale v car ≡ o → option_and_then (λ e. option_map {U = RefSource × Addr} (λ to. (e.0, to)) (went (slot_at v.cars (named_in car e)))) o ≡ Some (x, to) → (slot : ℕ) × (get (set_of v car) x ≡ Some slot)
