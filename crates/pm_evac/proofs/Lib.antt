@@ -7,3 +7,5 @@ pub mod Fixes
 pub mod Rows
 pub mod Lawful
 pub mod Counting
+pub mod Beyond
+pub mod Skips

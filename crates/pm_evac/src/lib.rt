@@ -7,6 +7,7 @@ pub mod events;
 mod finding;
 mod fixing;
 mod freeing;
+mod skipping;
 mod sources;
 mod sweeping;
 
@@ -15,5 +16,6 @@ pub use calls::{apply_one, finish_car, fix_one, free_car, sweep_one};
 pub use finding::{anchor_in, changed_car, has_change, lowest_live};
 pub use fixing::fix;
 pub use freeing::{finish, free};
+pub use skipping::outside;
 pub use sources::{Entry, least, stale};
 pub use sweeping::sweep;
