@@ -1,5 +1,5 @@
 -- A number that is used again while the train of its old car is doomed.
-use Rattle.std.proofs.Common.{◌≡◌, ℕ, ap, ◌∙◌, [], ◌∷◌, Some, None}
+use Rattle.std.proofs.Common.{◌≡◌, ℕ, refl, ap, sym, ◌∙◌, [], ◌∷◌, Option, Some, None}
 use Rattle.std.specs.Option.{unwrap_or, option_map, option_and_then}
 use Rattle.std.specs.List.{find}
 use Rattle.std.specs.Cmp.{nat_cmp_total}
@@ -14,7 +14,9 @@ use Rattle.pm_types.specs.declared.source.Change.{Change}
 use Rattle.pm_cars.specs.Cars.{Car, object_of, without_slot}
 use Rattle.pm_cars.specs.Entries.{holds_object}
 use Rattle.pm_view.specs.View.{Sources, SpaceView}
-use Rattle.pm_view.specs.Reading.{object_at, slot_at}
+use Rattle.pm_view.specs.Sources.{slot_in}
+use Rattle.pm_view.specs.Law.{HeapLaw}
+use Rattle.pm_view.specs.Reading.{field_of, object_at, slot_at}
 use Rattle.pm_view.specs.Effective.{effective, effective_in}
 use Rattle.pm_view.specs.Barrier.{pushed}
 use Rattle.pm_view.specs.Rows.{put_car}
@@ -22,6 +24,7 @@ use Rattle.pm_view.specs.Candidates.{queue_of}
 use Rattle.pm_view.specs.Collecting.{swept_some}
 use Rattle.pm_view.specs.Events.{sweep, doomed_row, next_row, after}
 use Rattle.pm_law_rows.specs.Examples.{at}
+use Rattle.pm_law_traces.specs.Wrong.{misled}
 use Rattle.pm_law_traces.specs.Traces.{changed, with_one_field, bare_object, used_again}
 use Rattle.pm_law_traces.proofs.Maps.{one_entry}
 
@@ -96,3 +99,22 @@ gone_after =
     ap (λ (v : SpaceView). slot_at v.cars (at 2 0)) is_then
     ∙ ap (option_and_then (λ (car : Car). get car.slots 0)) (get-insert nat_cmp_total used_again.cars 2 (without_slot old_car 0) 2)
     ∙ get-remove nat_cmp_total old_car.slots 0 0
+
+-- ---- where the new car is told that the field names a slot
+
+pub misled_breaks : HeapLaw misled → ⊥
+misled_breaks law = absurd (none_some (sym (ap (λ o. slot_in 1 (field_of (object_of o) 0)) gone) ∙ (law.tied.holds 1 (Field (at 2 0) 0) 0 refl told).1))
+  where
+    told : effective misled 1 (Field (at 2 0) 0) ≡ Some 0
+    told =
+        (λ i. effective_in (set_there i) (get-insert nat_cmp_total used_again.queues 1 (changed (Field (at 2 0) 0) (Some 0) ∷ []) 1 i) (Field (at 2 0) 0))
+        ∙ get-insert sources_total held_set (Field (at 2 0) 0) 0 (Field (at 2 0) 0)
+
+    gone : slot_at misled.cars (at 2 0) ≡ None
+    gone =
+        ap (λ o. slot_at (put_car used_again.cars 2 o (λ car. without_slot car 0)) (at 2 0)) old_there
+        ∙ ap (option_and_then (λ (car : Car). get car.slots 0)) (get-insert nat_cmp_total used_again.cars 2 (without_slot old_car 0) 2)
+        ∙ get-remove nat_cmp_total old_car.slots 0 0
+
+    none_some : ◌≡◌ {A = Option ℕ} None (Some 0) → ⊥
+    none_some is = cc

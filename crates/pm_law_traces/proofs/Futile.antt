@@ -41,7 +41,7 @@ module _ (view : SpaceView) (train : ℕ) where
 
 -- a car that remembers one source, for a place that holds an object
 module _ (view : SpaceView) (car : ℕ) (x : RefSource) (slot : ℕ) (w : Slot) (set : entries (set_of view car) ≡ (x, slot) ∷ []) (there : slot_at view.cars (record { car = car; slot = slot }) ≡ Some w) (stays : has_gone (went (Some w)) ≡ false) where
-  nothing_stale : to_fix view car ≡ None
+  pub nothing_stale : to_fix view car ≡ None
   nothing_stale =
       ap (λ es. option_and_then (λ (e : RefSource × ℕ). option_map (λ to. (e.0, to)) (went (slot_at view.cars (named_in car e)))) (find (λ (e : RefSource × ℕ). has_gone (went (slot_at view.cars (named_in car e)))) es)) set
       ∙ ap (λ b. option_and_then (λ (e : RefSource × ℕ). option_map (λ to. (e.0, to)) (went (slot_at view.cars (named_in car e)))) (cond b (Some (x, slot)) None)) (ap (λ o. has_gone (went o)) there ∙ stays)
