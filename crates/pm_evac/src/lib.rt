@@ -10,6 +10,8 @@ mod freeing;
 mod skipping;
 mod sources;
 mod sweeping;
+#[cfg(test)]
+mod tests;
 
 pub use applying::apply;
 pub use calls::{apply_one, finish_car, fix_one, free_car, sweep_one};
