@@ -4,9 +4,11 @@
 
 mod drawn;
 mod fault;
+mod queued;
 mod spaced;
 
 use fault::Fault;
+use queued::push_queued;
 use spaced::{push_births, push_drawn, push_names};
 use std::alloc::Global;
 use std::fmt::Write;
@@ -33,6 +35,7 @@ fn take(alloc: Global, line: &str, out: &mut String) -> Result<(), Fault> {
         "drawn" => push_drawn(alloc, number(text)?, out)?,
         "births" => push_births(alloc, number(text)?, out)?,
         "names" => push_names(alloc, number(text)?, out)?,
+        "queued" => push_queued(alloc, number(text)?, out)?,
         _ => return Err(Fault::Step),
     }
     Ok(())
