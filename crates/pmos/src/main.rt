@@ -62,30 +62,35 @@ fn run<E: Sink>(rt: &HostRuntime, words: &[&str], errors: &mut E) -> u8
 }
 
 // Runs the program over the words, of which the texts are lent.
-fn run_words<E: Sink>(
-    rt: &HostRuntime,
-    words: &[String],
-    errors: &mut E,
-) -> Result<u8, AllocError>
+fn run_words<E: Sink>(rt: &HostRuntime, words: &[String], errors: &mut E) -> Result<u8, AllocError>
     ensures usage { IfOk result (λ status. SpellsNothing (map string_bytes words.now)
         → (status ≡ 1) ⊎ (status ≡ 7)) }
     ensures command { IfOk result (λ status. status ≡ 1 → SpellsNothing (map string_bytes words.now)) }
     ensures told { IfOk result (λ status. TellsEnd E.written E.count errors.old errors.new status) }
     ensures untold { OnErr result (errors.new ≡ errors.old) }
 {
-    let texts = texts(rt.alloc(), words)?;
-    Ok(run(rt, texts.as_slice(), errors))
+    match texts(rt.alloc(), words) {
+        Ok(texts) => Ok(run(rt, texts.as_slice(), errors)),
+        Err(error) => Err(error),
+    }
+}
+
+// Runs the program over the words of the command line.
+fn run_all<E: Sink>(rt: &HostRuntime, errors: &mut E) -> Result<u8, AllocError>
+    ensures told { IfOk result (λ status. TellsEnd E.written E.count errors.old errors.new status) }
+    ensures untold { OnErr result (errors.new ≡ errors.old) }
+{
+    match words(rt) {
+        Ok(words) => run_words(rt, words.as_slice(), errors),
+        Err(error) => Err(error),
+    }
 }
 
 // The status with which the program ends. Where there is no memory for its words, that is told.
 fn end<E: Sink>(rt: &HostRuntime, errors: &mut E) -> u8
     ensures { TellsEnd E.written E.count errors.old errors.new result }
 {
-    let outcome = match words(rt) {
-        Ok(words) => run_words(rt, words.as_slice(), errors),
-        Err(error) => Err(error),
-    };
-    match outcome {
+    match run_all(rt, errors) {
         Ok(status) => status,
         Err(_) => {
             tell(errors, &Detail::Memory);
