@@ -96,7 +96,7 @@ fn birth(alloc: Global, it: Choice) -> Result<Cmd, Fault>
 {
     Ok(Cmd::New {
         reg: it.reg,
-        count: it.count + 1,
+        count: it.count.saturating_add(1),
         bytes: bytes(alloc, it.index, it.byte)?,
     })
 }
