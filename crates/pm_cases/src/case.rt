@@ -8,6 +8,7 @@ use crate::inner::{
 };
 use crate::replayed::push_alike;
 use crate::running::{INIT, RUN, Run, Setting, run};
+use crate::scripts::{push_read, push_read_lines, push_texts};
 use crate::shown::{push_last, push_named, push_run, push_run_in_line};
 use crate::spelling::{bytes, counted, first_word, number, numbered, push_lines, written_out};
 use std::alloc::Global;
@@ -115,6 +116,13 @@ impl Case {
         Ok(())
     }
 
+    // The script so far, and these lines; the next run begins anew.
+    fn script(&mut self, alloc: Global, lines: &str) -> Result<Vec<u8>, Fault> {
+        push_lines(&mut self.setting(alloc)?.script, lines)?;
+        let plain = Setting::new(alloc, RUN)?;
+        Ok(self.setting.take().unwrap_or(plain).script)
+    }
+
     // How many calls opening makes of this disk.
     fn opening<R: AllocGlobal>(&self, rt: &R) -> Result<u64, Fault> {
         let ended = run_lines(rt, self.disk.as_slice().to_vec(rt.alloc())?, "")?;
@@ -198,6 +206,9 @@ impl Case {
             }
             "show" => self.show(alloc, text, out)?,
             "last" => push_last(alloc, ended(&self.last)?, number(text)?, out)?,
+            "read" => push_read(alloc, self.script(alloc, text)?.as_slice(), out)?,
+            "lines" => push_read_lines(alloc, self.script(alloc, text)?.as_slice(), out)?,
+            "texts" => push_texts(alloc, ended(&self.last)?.journal.as_slice(), out)?,
             "images" => push_images(rt, ended(&self.last)?, text, out)?,
             "oracle" => push_alike(alloc, ended(&self.last)?.journal.as_slice(), out)?,
             "at" => {

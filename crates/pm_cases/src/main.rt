@@ -9,6 +9,7 @@ mod generated;
 mod inner;
 mod replayed;
 mod running;
+mod scripts;
 mod shown;
 mod spelling;
 

@@ -1,5 +1,5 @@
 -- Whatever event of the collector comes next, the heap law is kept, and what the space stands for.
-use Rattle.std.proofs.Common.{◌≡◌, ℕ, ◌+◌, ◌≤◌, ◌==◌, if◌then◌else◌, Bool, true, false, List, [], ◌∷◌, length, ap, sym, ◌∙◌, Option, Some, None, arith}
+use Rattle.std.proofs.Common.{◌≡◌, ℕ, ◌==◌, if◌then◌else◌, Bool, true, false, List, [], ◌∷◌, length, ap, sym, ◌∙◌, Option, Some, None}
 use Rattle.pm_types.specs.declared.address.Addr.{Addr}
 use Rattle.std.proofs.lemmas.Bool.{true≢false}
 use Rattle.pm_types.specs.declared.object.Object.{Object}
@@ -14,21 +14,17 @@ use Rattle.pm_view.specs.View.{SpaceView}
 use Rattle.pm_view.specs.Counts.{IsStandingAt, IsPlaced}
 use Rattle.pm_view.specs.Law.{HeapLaw}
 use Rattle.pm_view.specs.Candidates.{queue_of}
-use Rattle.pm_view.specs.declared.phase.Phase.TheVariants.{Idle, Moving}
-use Rattle.pm_view.specs.Work.{work, lowers}
-use Rattle.pm_law_collect.proofs.WorkRows.{applied_lowers, doomed_lowers, started_lowers, finished_lowers, fixed_lowers, moved_lowers}
-use Rattle.pm_law_collect.proofs.WorkEnds.{swept_lowers, freed_lowers}
 use Rattle.pm_view.specs.Events.{Row, nothing, select, apply, doom, start, fix, move_anchor, move_out, move_on, finish, sweep, free, free_doomed, next_row, after, MayPick, MayPlace, moving_id, goal_of, ended_by, clears, MovesTo}
-use Rattle.pm_law_collect.proofs.MeansSame.{Keeps}
-use Rattle.pm_law_collect.proofs.Small.{none_some}
-use Rattle.pm_law_collect.proofs.Stays.{Stays, none, stays_itself, selected_stays, doomed_stays, started_stays, finished_stays, applied_stays, fixed_stays, swept_stays}
-use Rattle.pm_law_collect.proofs.Comes.{comes_where}
-use Rattle.pm_law_collect.proofs.PhaseRows.{selected_keeps, doomed_keeps, started_keeps, finished_keeps}
-use Rattle.pm_law_collect.proofs.Requeued.{unchanged_keeps, applied_keeps}
-use Rattle.pm_law_collect.proofs.FixRow.{fixed_keeps}
-use Rattle.pm_law_collect.proofs.MoveRows.{same_some, anchor_tail, out_tail, train_tail, anchor_car, anchor_moves, object_moves_out, object_moves_on}
-use Rattle.pm_law_collect.proofs.SweepRow.{swept_keeps}
-use Rattle.pm_law_collect.proofs.FreeRow.{freed_goes, freed_doomed_goes}
+use Rattle.pm_law_phases.proofs.MeansSame.{Keeps, unchanged_keeps}
+use Rattle.pm_law_phases.proofs.Small.{none_some}
+use Rattle.pm_law_phases.proofs.Stays.{Stays, stays_itself, selected_stays, doomed_stays, started_stays, finished_stays, applied_stays, fixed_stays, swept_stays}
+use Rattle.pm_law_phases.proofs.Comes.{comes_where}
+use Rattle.pm_law_phases.proofs.PhaseRows.{selected_keeps, doomed_keeps, started_keeps, finished_keeps}
+use Rattle.pm_law_changes.proofs.Requeued.{applied_keeps}
+use Rattle.pm_law_changes.proofs.FixRow.{fixed_keeps}
+use Rattle.pm_law_moves.proofs.MoveRows.{same_some, anchor_tail, out_tail, train_tail, anchor_moves, object_moves_out, object_moves_on}
+use Rattle.pm_law_sweeps.proofs.SweepRow.{swept_keeps}
+use Rattle.pm_law_sweeps.proofs.FreeRow.{freed_goes, freed_doomed_goes}
 
 pub event_keeps : (view : SpaceView) (picked number : ℕ) (row : Row) → HeapLaw view → next_row view ≡ row → MayPick view picked row → MayPlace view number row → Keeps view (after view picked number row)
 event_keeps view picked number nothing law next may vacant = unchanged_keeps view law
@@ -86,33 +82,6 @@ module _ (view t : SpaceView) (moving : Option ℕ) (ends : ℕ → Bool) (stays
 
   pub placed_after : (id train : ℕ) (a : Addr) → (moving ≡ Some id → ⊥) → ends a.car ≡ false → IsStandingAt view id a → train_of view.trains.trains a.car ≡ Some train → IsPlaced t id train
   placed_after id train a still left at home = let now = stays.forth id a still left at in (a, now.0, now.1 ∙ home)
-
--- and each event in a collection that does not complete it lowers the work that is left
-pub event_lowers : (view : SpaceView) (picked number : ℕ) (row : Row) → HeapLaw view → next_row view ≡ row → MayPick view picked row → MayPlace view number row
-    → (view.phase ≡ Idle → ⊥) → (after view picked number row).completed ≡ view.completed → work (after view picked number row) + lowers row ≤ work view
-event_lowers view picked number nothing law next may vacant busy still = omega arith
-event_lowers view picked number (select train) law next may vacant busy still = absurd (busy (comes_where view (select train) next).idle)
-event_lowers view picked number (apply car) law next may vacant busy still = applied_lowers view car (comes_where view (apply car) next)
-event_lowers view picked number (doom train) law next may vacant busy still = doomed_lowers view train (comes_where view (doom train) next)
-event_lowers view picked number (start car a) law next may vacant busy still = started_lowers view car picked a (comes_where view (start car a) next)
-event_lowers view picked number (fix car source to) law next may vacant busy still = fixed_lowers view car source to law (comes_where view (fix car source to) next)
-event_lowers view picked number (move_anchor a to) law next may vacant busy still =
-    let is = comes_where view (move_anchor a to) next in
-    let own = anchor_car view a to number law is vacant in
-    let goes = (anchor_moves view a to number law is vacant).3 in
-    moved_lowers view (after view picked number (move_anchor a to)) a (is.emptied.moving ∙ ap Moving (sym own)) (ap (queue_of view) own ∙ is.emptied.applied) goes
-event_lowers view picked number (move_out a) law next may vacant busy still =
-    let is = comes_where view (move_out a) next in
-    let own : a.car ≡ is.car = ap (λ (a : Addr). a.car) is.here in
-    moved_lowers view (after view picked number (move_out a)) a (is.emptied.moving ∙ ap Moving (sym own)) (ap (queue_of view) own ∙ is.emptied.applied) (object_moves_out view a picked number law is may vacant).3
-event_lowers view picked number (move_on a train) law next may vacant busy still =
-    let is = comes_where view (move_on a train) next in
-    let own : a.car ≡ is.car = ap (λ (a : Addr). a.car) is.here in
-    moved_lowers view (after view picked number (move_on a train)) a (is.emptied.moving ∙ ap Moving (sym own)) (ap (queue_of view) own ∙ is.emptied.applied) (object_moves_on view a train number law is vacant).3
-event_lowers view picked number (finish car) law next may vacant busy still = finished_lowers view car (comes_where view (finish car) next)
-event_lowers view picked number (sweep a) law next may vacant busy still = swept_lowers view a (comes_where view (sweep a) next)
-event_lowers view picked number (free car) law next may vacant busy still = absurd (omega (arith, still))
-event_lowers view picked number (free_doomed train car) law next may vacant busy still = freed_lowers view train car law (comes_where view (free_doomed train car) next) still
 
 -- no object moves to the car in which it lies
 pub event_tails : (view : SpaceView) (picked number : ℕ) (row : Row) → HeapLaw view → next_row view ≡ row → MayPick view picked row → MayPlace view number row

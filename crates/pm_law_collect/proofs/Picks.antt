@@ -1,5 +1,5 @@
 -- Where a train is picked there is one to pick.
-use Rattle.std.proofs.Common.{◌≡◌, ℕ, ◌+◌, ◌<◌, ◌==◌, ◌&&◌, ◌||◌, if◌then◌else◌, Bool, true, false, cond, not, refl, ap, sym, subst, ◌∙◌, List, [], ◌∷◌, ◌++◌, map, length, Option, Some, None, is_some, arith, IsTrue}
+use Rattle.std.proofs.Common.{◌≡◌, ℕ, ◌<◌, ◌==◌, ◌&&◌, if◌then◌else◌, Bool, true, false, cond, not, refl, ap, sym, subst, ◌∙◌, List, [], ◌∷◌, ◌++◌, map, length, Option, Some, None, is_some, arith, IsTrue}
 use Rattle.std.specs.Option.{IsSome, option_map, option_and_then, unwrap_or}
 use Rattle.std.specs.List.{find, filter, list_any}
 use Rattle.std.specs.FinMap.{get, entries}
@@ -11,22 +11,21 @@ use Rattle.pm_types.specs.declared.source.RefSource.{RefSource}
 use Rattle.pm_types.specs.declared.source.RefSource.TheVariants.{Root, Handle, Field}
 use Rattle.pm_cars.specs.Cars.{Car, object_of}
 use Rattle.pm_trains.specs.Trains.{Train, cars_at, is_among, train_of, youngest}
-use Rattle.pm_trains.specs.Sound as line
 use Rattle.pm_view.specs.Sources.{lies_in}
 use Rattle.pm_view.specs.View.{SpaceView}
 use Rattle.pm_view.specs.Reading.{object_at, field_of, stored, cars_of, is_aside}
 use Rattle.pm_view.specs.Effective.{effective}
-use Rattle.pm_view.specs.Law.{IsOldest, HeapLaw}
+use Rattle.pm_view.specs.Law.{HeapLaw}
 use Rattle.pm_view.specs.Candidates.{set_of, is_beyond, is_bare, is_named_by, is_named_from, naming_trains, candidates, least_outside, referenced_car}
-use Rattle.pm_view.specs.Events.{named_in, to_note, home, ways_out}
-use Rattle.pm_law_rows.proofs.Places.{slot_of, object_has_car}
+use Rattle.pm_view.specs.Events.{named_in, home, ways_out}
+use Rattle.pm_law_rows.proofs.Places.{slot_of}
 use Rattle.pm_law_rows.proofs.OpenTrain.{among_home}
 use Rattle.pm_law_rows.proofs.Born.{home_among}
-use Rattle.pm_law_collect.proofs.Small.{some_same, none_some}
-use Rattle.pm_law_collect.proofs.Finds.{found_passes, found_entry}
-use Rattle.pm_law_collect.proofs.Comes.{IsStarting, IsMovingOut, IsDrained}
-use Rattle.pm_law_collect.proofs.PhaseRows.{drained_aside, drained_oldest, drained_set, emptied_aside, emptied_set, remembered_leads, pick_stands}
-use Rattle.pm_law_collect.proofs.MoveRows.{front, home_is}
+use Rattle.pm_law_phases.proofs.Small.{some_same, none_some, or_left, or_right}
+use Rattle.pm_law_phases.proofs.Finds.{found_passes, found_entry}
+use Rattle.pm_law_phases.proofs.Comes.{IsStarting, IsMovingOut}
+use Rattle.pm_law_phases.proofs.PhaseRows.{drained_aside, drained_oldest, drained_set, emptied_aside, emptied_set, remembered_leads, pick_stands}
+use Rattle.pm_law_moves.proofs.MoveRows.{front, home_is}
 
 -- ---- what is found in a list is in it
 
@@ -34,17 +33,9 @@ any_found : {X : Type 0} (p q : X → Bool) (xs : List X) (x : X) → find p xs 
 any_found p q [] x is holds = absurd (none_some x is)
 any_found p q (y ∷ ys) x is holds = by_case (p y) is (λ later. any_found p q ys x later holds)
   where
-    front_true : (b d : Bool) → b ≡ true → (b || d) ≡ true
-    front_true true d is = refl
-    front_true false d is = absurd (true≢false (sym is))
-
-    either : (b : Bool) {d : Bool} → d ≡ true → (b || d) ≡ true
-    either true is = refl
-    either false is = is
-
     by_case : (b : Bool) → cond b (Some y) (find p ys) ≡ Some x → (find p ys ≡ Some x → list_any q ys ≡ true) → list_any q (y ∷ ys) ≡ true
-    by_case true is later = front_true (q y) (list_any q ys) (subst (λ x. q x ≡ true) (sym (some_same y x is)) holds)
-    by_case false is later = either (q y) (later is)
+    by_case true is later = or_left (q y) (list_any q ys) (subst (λ x. q x ≡ true) (sym (some_same y x is)) holds)
+    by_case false is later = or_right (q y) (later is)
 
 -- a train that has a car and passes is left by a filter
 left_by : (ts : List Train) (n c : ℕ) (test : Train → Bool) → train_of ts c ≡ Some n → ((t : Train) → t.number ≡ n → is_among c t.cars ≡ true → test t ≡ true) → 0 < length (map (λ (t : Train). t.number) (filter test ts))

@@ -1,3 +1,6 @@
 pub mod Looks
 pub mod FreeNumbers
 pub mod Emptying
+pub mod Places
+pub mod Born
+pub mod Carried

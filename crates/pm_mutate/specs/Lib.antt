@@ -1,2 +1,4 @@
 pub mod Picked
 pub mod Closing
+pub mod Births
+pub mod Acts

@@ -1,3 +1,4 @@
 pub mod Written
 pub mod Runs
 pub mod Storing
+pub mod Stepping

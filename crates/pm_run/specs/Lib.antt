@@ -1,3 +1,4 @@
+pub mod Causes
 pub mod Writing
 pub mod Events
 pub mod Running

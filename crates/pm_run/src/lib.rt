@@ -6,5 +6,7 @@ mod event;
 mod output;
 mod run;
 mod settling;
+mod stop;
 
-pub use run::{Stop, run_lines};
+pub use run::run_lines;
+pub use stop::Stop;

@@ -1,40 +1,24 @@
 //! The lines of a script, one after another.
-ghost use Rattle.std.specs.Prelude.{◌≡◌, ◌⊎◌, ◌≤◌, List, ℕ, [], ◌∷◌, ◌++◌, length, vec_capacity, Some, None, OnOk, OnErr, IsErrOf, true};
+ghost use Rattle.std.specs.Prelude.{◌≡◌, ◌≤◌, List, ℕ, [], ◌++◌, length, vec_capacity, OnOk, OnErr, true};
 ghost use Rattle.pm_base.specs.Counts.{Rose};
-ghost use Rattle.pm_disk.specs.Disk.{LeavesOnly};
-ghost use Rattle.pm_model.specs.World.{World};
 ghost use Rattle.pm_model.specs.Plain.{is_plain, ArePlain};
-ghost use Rattle.pm_model.specs.Journal.{requests_of};
 ghost use Rattle.pm_model.specs.Text.{text};
-ghost use Rattle.pm_model.specs.declared.request.Request.{Request as Line};
 ghost use Rattle.pm_shadow.specs.Pages.{state, disk_of};
-ghost use Rattle.pm_run.specs.Events.{entry_of};
-ghost use Rattle.pm_run.specs.Images.{IsSettled, IsInProgress};
-ghost use Rattle.pm_run.specs.Storing.{IsReady, Stores, LeavesOfRun};
-ghost use Rattle.pm_run.specs.Running.{Runs, RanSome};
-ghost use Rattle.pm_run.specs.Writing.{Wrote, WrotePart};
+ghost use Rattle.pm_run.specs.Causes.{why, CountsSink, IsDone, IsElsewhere};
+ghost use Rattle.pm_run.specs.Running.{AnswersLines, StepsTo, StepsOnDisk, RunsOnDisk};
+ghost use Rattle.pm_run.specs.Storing.{IsReady};
+ghost use Rattle.pm_run.specs.Writing.{Wrote, WrotePart, WroteAll, WritesOn, WroteRun};
 
 use crate::event::make_event;
 use crate::output::{BUFFER_BYTES, add_line, flush};
+use crate::stop::{Stop, stop_of};
 use pm_disk::Disk;
-use pm_io::Sink;
+use pm_io::{Failed, Sink};
 use pm_memory::Memory;
 use pm_model::Request;
-use pm_save::SaveFault;
 use pm_shadow::Pages;
 use pm_types::Entry;
 use std::alloc::Global;
-
-/// Why a run stopped before its end.
-#[derive(Clone, Copy, Debug, PartialEq, Eq)]
-pub enum Stop {
-    /// Memory ran out.
-    Memory,
-    /// The sink failed.
-    Writing,
-    /// The disk failed.
-    Device,
-}
 
 // Answers a request and writes its reply. Where the disk or memory ends the run, every reply so far is written.
 fn step<D: Disk, K: Sink>(
@@ -49,42 +33,12 @@ fn step<D: Disk, K: Sink>(
     requires room { BUFFER_BYTES ≤ vec_capacity out.old }
     requires ready { IsReady (state pages.old) world.old.settled }
     requires plain { is_plain request.cmd ≡ true }
-    ensures runs { OnOk result ((start : World) (lines rest : List Line) → Runs start lines world.old journal.old.items (request ∷ rest)
-        → Runs start lines world.new journal.new.items rest) }
-    ensures ran { OnErr result ((start : World) (lines rest : List Line) → Runs start lines world.old journal.old.items (request ∷ rest)
-        → RanSome start lines world.new journal.new.items) }
-
-    ensures ready { OnOk result (IsReady (state pages.new) world.new.settled) }
-    ensures stores { OnOk result (Stores D.contents D.image (state pages.old) (disk_of pages.old) world.old
-        → Stores D.contents D.image (state pages.new) (disk_of pages.new) world.new) }
-    ensures settled { OnOk result (Stores D.contents D.image (state pages.old) (disk_of pages.old) world.old
-        → LeavesOnly D.moment D.since (disk_of pages.old) (disk_of pages.new) (λ left. IsSettled world.old left ⊎ IsSettled world.new left)) }
-    ensures leaves { OnErr result (Stores D.contents D.image (state pages.old) (disk_of pages.old) world.old
-        → LeavesOnly D.moment D.since (disk_of pages.old) (disk_of pages.new) (λ left. IsSettled world.old left ⊎ (IsSettled world.new left ⊎ IsInProgress world.new left))) }
-    ensures last { (IsErrOf result Stop.Device → ⊥) → Stores D.contents D.image (state pages.old) (disk_of pages.old) world.old
-        → (left : List ℕ) → D.image (disk_of pages.new) left → IsSettled world.new left }
-    ensures device { IsErrOf result Stop.Device → Stores D.contents D.image (state pages.old) (disk_of pages.old) world.old
-        → (left : List ℕ) → D.image (disk_of pages.new) left → IsSettled world.new left ⊎ IsInProgress world.new left }
-    ensures grows { (journal.new.items ≡ journal.old.items) ⊎ (journal.new.items ≡ journal.old.items ++ entry_of world.old request ∷ []) }
-    ensures still { world.old.saving ≡ None → disk_of pages.new ≡ disk_of pages.old }
-    ensures pushed { OnOk result (journal.new.items ≡ journal.old.items ++ entry_of world.old request ∷ []) }
-    ensures device_cause { IsErrOf result Stop.Device → Rose (D.count (disk_of pages.old)) (D.count (disk_of pages.new)) }
-    ensures device_count { (IsErrOf result Stop.Device → ⊥) → D.count (disk_of pages.new) ≡ D.count (disk_of pages.old) }
-    ensures unread { (D.made (disk_of pages.new)).past ≡ (D.made (disk_of pages.old)).past }
-
-    ensures wrote { OnOk result ((before : List ℕ) → Wrote before (K.written sink.old) out.old.items (text journal.old.items)
-        → Wrote before (K.written sink.new) out.new.items (text journal.new.items)) }
-    ensures part { OnErr result ((before : List ℕ) → Wrote before (K.written sink.old) out.old.items (text journal.old.items)
-        → WrotePart before (K.written sink.new) (text journal.new.items)) }
-    ensures memory { IsErrOf result Stop.Memory → ¬ (Rose (K.count sink.old) (K.count sink.new))
-        → (before : List ℕ) → Wrote before (K.written sink.old) out.old.items (text journal.old.items)
-        → K.written sink.new ≡ Some (before ++ text journal.new.items) }
-    ensures failed { IsErrOf result Stop.Device → ¬ (Rose (K.count sink.old) (K.count sink.new))
-        → (before : List ℕ) → Wrote before (K.written sink.old) out.old.items (text journal.old.items)
-        → K.written sink.new ≡ Some (before ++ text journal.new.items) }
+    ensures steps { StepsTo (why result) request world.old world.new journal.old.items journal.new.items }
+    ensures disk { StepsOnDisk D.contents D.image D.moment D.since D.count D.made (state pages.old) (state pages.new)
+        (disk_of pages.old) (disk_of pages.new) world.old world.new (why result) }
+    ensures sink { WritesOn K.written K.count sink.old sink.new out.old.items out.new.items
+        (text journal.old.items) (text journal.new.items) (why result) }
     ensures capacity { BUFFER_BYTES ≤ vec_capacity out.new }
-    ensures counted { OnOk result (K.count sink.new ≡ K.count sink.old) }
-    ensures cause { IsErrOf result Stop.Writing → Rose (K.count sink.old) (K.count sink.new) }
 {
     match make_event(alloc, world, pages, journal, request) {
         Ok(()) => {
@@ -94,13 +48,9 @@ fn step<D: Disk, K: Sink>(
                 Err(_) => Err(Stop::Writing),
             }
         }
-        Err(SaveFault::Memory) => {
+        Err(fault) => {
             flush_what_goes(sink, out);
-            Err(Stop::Memory)
-        }
-        Err(SaveFault::Disk) => {
-            flush_what_goes(sink, out);
-            Err(Stop::Device)
+            Err(stop_of(fault))
         }
     }
 }
@@ -109,7 +59,7 @@ fn step<D: Disk, K: Sink>(
 fn flush_what_goes<K: Sink>(sink: &mut K, out: &mut Vec<u8>)
     ensures capacity { vec_capacity out.new ≡ vec_capacity out.old }
     ensures whole { ¬ (Rose (K.count sink.old) (K.count sink.new)) → (before text : List ℕ)
-        → Wrote before (K.written sink.old) out.old.items text → K.written sink.new ≡ Some (before ++ text) }
+        → Wrote before (K.written sink.old) out.old.items text → WroteAll before (K.written sink.new) text }
     ensures part { (before text : List ℕ) → Wrote before (K.written sink.old) out.old.items text
         → WrotePart before (K.written sink.new) text }
 {
@@ -120,23 +70,22 @@ fn flush_what_goes<K: Sink>(sink: &mut K, out: &mut Vec<u8>)
 }
 
 // Writes what is left in the buffer, and finishes the sink.
-fn end<K: Sink>(sink: &mut K, out: &mut Vec<u8>) -> Result<(), Stop>
+fn end<K: Sink>(sink: &mut K, out: &mut Vec<u8>) -> Result<(), Failed>
     ensures wrote { OnOk result ((before text : List ℕ) → Wrote before (K.written sink.old) out.old.items text
-        → K.written sink.new ≡ Some (before ++ text)) }
+        → WroteAll before (K.written sink.new) text) }
     ensures finished { OnOk result ((before text : List ℕ) → Wrote before (K.written sink.old) out.old.items text
         → K.finished sink.new ≡ length (before ++ text)) }
     ensures part { OnErr result ((before text : List ℕ) → Wrote before (K.written sink.old) out.old.items text
         → WrotePart before (K.written sink.new) text) }
     ensures counted { OnOk result (K.count sink.new ≡ K.count sink.old) }
     ensures cause { OnErr result (Rose (K.count sink.old) (K.count sink.new)) }
-    ensures stop { OnErr result (IsErrOf result Stop.Writing) }
 {
     match flush(sink, out) {
         Ok(()) => match sink.finish() {
             Ok(()) => Ok(()),
-            Err(_) => Err(Stop::Writing),
+            Err(failed) => Err(failed),
         },
-        Err(_) => Err(Stop::Writing),
+        Err(failed) => Err(failed),
     }
 }
 
@@ -151,36 +100,14 @@ fn run_all<D: Disk, K: Sink>(
     out: &mut Vec<u8>,
 ) -> Result<(), Stop>
     requires empty { journal.old.items ≡ [] }
-    requires empty_buffer { out.old.items ≡ [] }
     requires room { BUFFER_BYTES ≤ vec_capacity out.old }
     requires ready { IsReady (state pages.old) world.old.settled }
     requires plain { ArePlain lines.items }
-    ensures ran { RanSome world.old lines.items world.new journal.new.items }
-    ensures all { OnOk result (requests_of journal.new.items ≡ lines.items) }
-
-    ensures leaves { Stores D.contents D.image (state pages.old) (disk_of pages.old) world.old
-        → LeavesOfRun D.moment D.since (disk_of pages.old) (disk_of pages.new) (D.image (disk_of pages.old)) world.old journal.new.items }
-    ensures last { (IsErrOf result Stop.Device → ⊥) → Stores D.contents D.image (state pages.old) (disk_of pages.old) world.old
-        → (left : List ℕ) → D.image (disk_of pages.new) left → IsSettled world.new left }
-    ensures device { IsErrOf result Stop.Device → Stores D.contents D.image (state pages.old) (disk_of pages.old) world.old
-        → (left : List ℕ) → D.image (disk_of pages.new) left → IsSettled world.new left ⊎ IsInProgress world.new left }
-    ensures device_cause { IsErrOf result Stop.Device → Rose (D.count (disk_of pages.old)) (D.count (disk_of pages.new)) }
-    ensures device_count { (IsErrOf result Stop.Device → ⊥) → D.count (disk_of pages.new) ≡ D.count (disk_of pages.old) }
-    ensures unread { (D.made (disk_of pages.new)).past ≡ (D.made (disk_of pages.old)).past }
-    ensures still { world.old.saving ≡ None → journal.new.items ≡ [] → disk_of pages.new ≡ disk_of pages.old }
-
-    ensures wrote { OnOk result ((before : List ℕ) → K.written sink.old ≡ Some before
-        → Wrote before (K.written sink.new) out.new.items (text journal.new.items)) }
-    ensures part { OnErr result ((before : List ℕ) → K.written sink.old ≡ Some before
-        → WrotePart before (K.written sink.new) (text journal.new.items)) }
-    ensures memory { IsErrOf result Stop.Memory → ¬ (Rose (K.count sink.old) (K.count sink.new))
-        → (before : List ℕ) → K.written sink.old ≡ Some before
-        → K.written sink.new ≡ Some (before ++ text journal.new.items) }
-    ensures failed { IsErrOf result Stop.Device → ¬ (Rose (K.count sink.old) (K.count sink.new))
-        → (before : List ℕ) → K.written sink.old ≡ Some before
-        → K.written sink.new ≡ Some (before ++ text journal.new.items) }
-    ensures counted { OnOk result (K.count sink.new ≡ K.count sink.old) }
-    ensures cause { IsErrOf result Stop.Writing → Rose (K.count sink.old) (K.count sink.new) }
+    ensures answers { AnswersLines world.old lines.items world.new journal.new.items (IsDone (why result)) }
+    ensures disk { RunsOnDisk D.contents D.image D.moment D.since D.count D.made (state pages.old)
+        (disk_of pages.old) (disk_of pages.new) world.old world.new journal.new.items (why result) }
+    ensures sink { WritesOn K.written K.count sink.old sink.new out.old.items out.new.items
+        (text journal.old.items) (text journal.new.items) (why result) }
 {
     let mut rest = lines.into_iter();
     while let Some(request) = rest.next() {
@@ -209,40 +136,14 @@ pub fn run_lines<D: Disk, K: Sink>(
     requires empty { journal.old.items ≡ [] }
     requires ready { IsReady (state pages.old) world.old.settled }
     requires plain { ArePlain lines.items }
-    ensures ran { RanSome world.old lines.items world.new journal.new.items }
-    ensures all { OnOk result (requests_of journal.new.items ≡ lines.items) }
-
+    ensures answers { AnswersLines world.old lines.items world.new journal.new.items (IsDone (why result)) }
     // Where the disk tells its contents and had the copy that was opened: what a crash at any moment leaves, and what
     // it leaves at the end.
-    ensures leaves { Stores D.contents D.image (state pages.old) (disk_of pages.old) world.old
-        → LeavesOfRun D.moment D.since (disk_of pages.old) (disk_of pages.new) (D.image (disk_of pages.old)) world.old journal.new.items }
-    ensures last { (IsErrOf result Stop.Device → ⊥) → Stores D.contents D.image (state pages.old) (disk_of pages.old) world.old
-        → (left : List ℕ) → D.image (disk_of pages.new) left → IsSettled world.new left }
-    ensures device { IsErrOf result Stop.Device → Stores D.contents D.image (state pages.old) (disk_of pages.old) world.old
-        → (left : List ℕ) → D.image (disk_of pages.new) left → IsSettled world.new left ⊎ IsInProgress world.new left }
-    ensures device_cause { IsErrOf result Stop.Device → Rose (D.count (disk_of pages.old)) (D.count (disk_of pages.new)) }
-    ensures device_count { (IsErrOf result Stop.Device → ⊥) → D.count (disk_of pages.new) ≡ D.count (disk_of pages.old) }
-    // No read reached past the end of what the disk told.
-    ensures unread { (D.made (disk_of pages.new)).past ≡ (D.made (disk_of pages.old)).past }
-    // Where no event was made the disk was not called.
-    ensures still { world.old.saving ≡ None → journal.new.items ≡ [] → disk_of pages.new ≡ disk_of pages.old }
-
-    ensures wrote { OnOk result ((before : List ℕ) → K.written sink.old ≡ Some before
-        → K.written sink.new ≡ Some (before ++ text journal.new.items)) }
-    ensures finished { OnOk result ((before : List ℕ) → K.written sink.old ≡ Some before
-        → K.finished sink.new ≡ length (before ++ text journal.new.items)) }
-    ensures part { OnErr result ((before : List ℕ) → K.written sink.old ≡ Some before
-        → WrotePart before (K.written sink.new) (text journal.new.items)) }
-
-    // Where memory ran out or the disk failed, and the sink did not, every reply so far was written.
-    ensures memory { IsErrOf result Stop.Memory → ¬ (Rose (K.count sink.old) (K.count sink.new))
-        → (before : List ℕ) → K.written sink.old ≡ Some before
-        → K.written sink.new ≡ Some (before ++ text journal.new.items) }
-    ensures failed { IsErrOf result Stop.Device → ¬ (Rose (K.count sink.old) (K.count sink.new))
-        → (before : List ℕ) → K.written sink.old ≡ Some before
-        → K.written sink.new ≡ Some (before ++ text journal.new.items) }
-    ensures counted { OnOk result (K.count sink.new ≡ K.count sink.old) }
-    ensures cause { IsErrOf result Stop.Writing → Rose (K.count sink.old) (K.count sink.new) }
+    ensures disk { RunsOnDisk D.contents D.image D.moment D.since D.count D.made (state pages.old)
+        (disk_of pages.old) (disk_of pages.new) world.old world.new journal.new.items (why result) }
+    ensures sink { WroteRun K.written K.finished K.count sink.old sink.new (text journal.new.items)
+        (IsDone (why result)) (IsElsewhere (why result)) }
+    ensures cause { CountsSink (why result) (K.count sink.old) (K.count sink.new) }
 {
     let Ok(mut out) = Vec::with_capacity(alloc, BUFFER_BYTES) else {
         return Err(Stop::Memory);
@@ -250,6 +151,12 @@ pub fn run_lines<D: Disk, K: Sink>(
     if journal.reserve(lines.len()).is_err() {
         return Err(Stop::Memory);
     }
-    run_all(alloc, lines, world, pages, sink, journal, &mut out)?;
-    end(sink, &mut out)
+    match run_all(alloc, lines, world, pages, sink, journal, &mut out) {
+        Ok(()) => {}
+        Err(stop) => return Err(stop),
+    }
+    match end(sink, &mut out) {
+        Ok(()) => Ok(()),
+        Err(_) => Err(Stop::Writing),
+    }
 }

@@ -1,11 +1,10 @@
 //! Settling the copy in progress.
-ghost use Rattle.std.specs.Prelude.{◌≡◌, ◌⊎◌, ℕ, List, None, OnOk, OnErr, IfOk};
-ghost use Rattle.pm_disk.specs.Disk.{LeavesOnly};
+ghost use Rattle.std.specs.Prelude.{◌≡◌, OnOk, OnErr, IfOk};
 ghost use Rattle.pm_model.specs.Answer.{answer_settle};
 ghost use Rattle.pm_shadow.specs.Pages.{state, disk_of};
-ghost use Rattle.pm_run.specs.Images.{IsSettled, IsInProgress};
-ghost use Rattle.pm_save.specs.Running.{HasCause, OnMemory};
-ghost use Rattle.pm_run.specs.Storing.{IsReady, Stores};
+ghost use Rattle.pm_run.specs.Causes.{why};
+ghost use Rattle.pm_run.specs.Events.{MakesEvent};
+ghost use Rattle.pm_run.specs.Storing.{IsReady};
 
 use pm_disk::Disk;
 use pm_memory::Memory;
@@ -21,18 +20,8 @@ fn write_begun<D: Disk>(
     pages: &mut Pages<D>,
 ) -> Result<(), SaveFault>
     requires { IsReady (state pages.old) world.now.settled }
-    ensures ready { OnOk result (IsReady (state pages.new) (answer_settle world.now world.now.saving).1.settled) }
-    ensures stores { OnOk result (Stores D.contents D.image (state pages.old) (disk_of pages.old) world.now
-        → Stores D.contents D.image (state pages.new) (disk_of pages.new) (answer_settle world.now world.now.saving).1) }
-    ensures settled { OnOk result (Stores D.contents D.image (state pages.old) (disk_of pages.old) world.now
-        → LeavesOnly D.moment D.since (disk_of pages.old) (disk_of pages.new) (λ left. IsSettled world.now left ⊎ IsSettled (answer_settle world.now world.now.saving).1 left)) }
-    ensures memory { OnMemory result (Stores D.contents D.image (state pages.old) (disk_of pages.old) world.now
-        → LeavesOnly D.moment D.since (disk_of pages.old) (disk_of pages.new) (IsSettled world.now)) }
-    ensures device { OnErr result (Stores D.contents D.image (state pages.old) (disk_of pages.old) world.now
-        → LeavesOnly D.moment D.since (disk_of pages.old) (disk_of pages.new) (λ left. IsSettled world.now left ⊎ IsInProgress world.now left)) }
-    ensures cause { HasCause (D.count (disk_of pages.old)) (D.count (disk_of pages.new)) result }
-    ensures unread { (D.made (disk_of pages.new)).past ≡ (D.made (disk_of pages.old)).past }
-    ensures still { world.now.saving ≡ None → disk_of pages.new ≡ disk_of pages.old }
+    ensures { MakesEvent D.contents D.image D.moment D.since D.count D.made (state pages.old) (state pages.new)
+        (disk_of pages.old) (disk_of pages.new) world.now (answer_settle world.now world.now.saving).1 (why result) }
 {
     match world.in_progress() {
         Some((number, copy)) => match settle(alloc, pages, *number, copy) {
@@ -53,20 +42,11 @@ pub(crate) fn settle_now<D: Disk>(
     ensures reply { IfOk result (λ reply. reply ≡ (answer_settle world.old world.old.saving).0) }
     ensures world { OnOk result (world.new ≡ (answer_settle world.old world.old.saving).1) }
     ensures world_stays { OnErr result (world.new ≡ world.old) }
-    ensures ready { OnOk result (IsReady (state pages.new) world.new.settled) }
-    ensures stores { OnOk result (Stores D.contents D.image (state pages.old) (disk_of pages.old) world.old
-        → Stores D.contents D.image (state pages.new) (disk_of pages.new) world.new) }
-    ensures settled { OnOk result (Stores D.contents D.image (state pages.old) (disk_of pages.old) world.old
-        → LeavesOnly D.moment D.since (disk_of pages.old) (disk_of pages.new) (λ left. IsSettled world.old left ⊎ IsSettled world.new left)) }
-    ensures memory { OnMemory result (Stores D.contents D.image (state pages.old) (disk_of pages.old) world.old
-        → LeavesOnly D.moment D.since (disk_of pages.old) (disk_of pages.new) (IsSettled world.old)) }
-    ensures device { OnErr result (Stores D.contents D.image (state pages.old) (disk_of pages.old) world.old
-        → LeavesOnly D.moment D.since (disk_of pages.old) (disk_of pages.new) (λ left. IsSettled world.old left ⊎ IsInProgress world.old left)) }
-    ensures cause { HasCause (D.count (disk_of pages.old)) (D.count (disk_of pages.new)) result }
-    ensures unread { (D.made (disk_of pages.new)).past ≡ (D.made (disk_of pages.old)).past }
-    // Where no copy is in progress the disk is not called.
-    ensures still { world.old.saving ≡ None → disk_of pages.new ≡ disk_of pages.old }
+    ensures disk { MakesEvent D.contents D.image D.moment D.since D.count D.made (state pages.old) (state pages.new)
+        (disk_of pages.old) (disk_of pages.new) world.old world.new (why result) }
 {
-    write_begun(alloc, world, pages)?;
-    Ok(world.settle())
+    match write_begun(alloc, world, pages) {
+        Ok(()) => Ok(world.settle()),
+        Err(fault) => Err(fault),
+    }
 }

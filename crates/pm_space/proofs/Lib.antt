@@ -7,3 +7,5 @@ pub mod CountingUp
 pub mod OpenedCars
 pub mod Rooms
 pub mod Leading
+pub mod Readiness
+pub mod Fronts

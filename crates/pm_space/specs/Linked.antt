@@ -1,8 +1,9 @@
 -- Remembered sets and queues of cars, as a space shows them.
-use Rattle.std.specs.Prelude.{◌≡◌, ℕ, ◌+◌, ◌≤◌, ◌==◌, ◌&&◌, Bool, not, cond, if◌then◌else◌, List, [], Option, Some, None, IsSome}
+use Rattle.std.specs.Prelude.{◌≡◌, ℕ, ◌+◌, ◌≤◌, ◌==◌, ◌&&◌, Bool, not, cond, if◌then◌else◌, List, [], ◌∷◌, Option, Some, None, IsSome}
 use Rattle.std.specs.List.{sum_by}
 use Rattle.std.specs.Ordering.{nat_cmp}
-use Rattle.std.specs.FinMap.{FinMap, get}
+use Rattle.std.specs.FinMap.{FinMap, get, insert, remove, empty}
+use Rattle.std.specs.Option.{unwrap_or}
 use Rattle.pm_base.specs.Mapped.{mapped}
 use Rattle.pm_types.specs.declared.address.Addr.{Addr}
 use Rattle.pm_types.specs.declared.source.Change.{Change}
@@ -10,6 +11,8 @@ use Rattle.pm_trains.specs.Trains.{Train, train_of}
 use Rattle.pm_types.specs.declared.source.RefSource.{RefSource}
 use Rattle.pm_view.specs.Sources.{outside}
 use Rattle.pm_view.specs.Barrier.{told, left, in_one_car}
+use Rattle.pm_view.specs.Effective.{with_source}
+use Rattle.pm_view.specs.Collecting.{set_takes}
 use Rattle.pm_view.specs.View.{Sources, Sets, Queues}
 use Rattle.pm_space.specs.declared.links.Links.{Links}
 
@@ -79,3 +82,26 @@ is_heard aside source car = outside car source && not (aside car)
 -- what the old address's car is told, unless the new address lies in it too
 abbrev pub left_for_another : (ℕ → Bool) → RefSource → Option Addr → Option Addr → List (ℕ × Change)
 left_for_another aside source old new = if in_one_car old new then [] else left aside source old
+
+-- the changes that wait in a car's queue, the front first, none where no such car is
+abbrev pub waiting : Queues → ℕ → List Change
+waiting queues car = unwrap_or (get queues car) []
+
+-- a remembered set that took the first of these changes
+abbrev pub took_front : Sources → List Change → Sources
+took_front set [] = set
+took_front set (change ∷ changes) = with_source set change.source change.slot
+
+-- the remembered sets where that of a car took the first of these changes
+abbrev pub with_front : Sets → ℕ → List Change → Sets
+with_front sets car [] = sets
+with_front sets car (change ∷ changes) = set_takes sets car change
+
+-- the queues where that of a car, which has these changes, lost the first
+abbrev pub without_front : Queues → ℕ → List Change → Queues
+without_front queues car [] = queues
+without_front queues car (change ∷ changes) = insert queues car changes
+
+-- the remembered sets where that of a car has forgotten a source
+abbrev pub without_source : Sets → ℕ → RefSource → Sets
+without_source sets car source = insert sets car (remove (unwrap_or (get sets car) empty) source)

@@ -69,10 +69,18 @@ pub record IsLinked (view : SpaceView) : Type 0 where
   pub trains : (car : ℕ) → is_some (train_of view.trains.trains car) ≡ is_some (get view.cars car)
   pub sets : (car : ℕ) → is_some (get view.sets car) ≡ is_some (get view.cars car)
 
+-- the car of this number stands, and has room for one birth
+abbrev pub HasBirthRoom : Snapped Held → ℕ → Type 0
+HasBirthRoom table number = IsSomeAnd (get table.current number) (λ (held : Held). 0 < held.car.spare)
+
+-- each car that was ready is so
+abbrev pub KeepsReady : Snapped Held → Snapped Held → Type 0
+KeepsReady old new = (car : ℕ) → is_ready old car ≡ true → is_ready new car ≡ true
+
 -- a car that was opened is ready, and has room for a birth, and its queue for so many changes
 pub record IsPrepared {F : Type 0} (parts : Parts F) (number room : ℕ) : Type 0 where
   pub ready : is_ready parts.cars number ≡ true
-  pub birth : IsSomeAnd (get parts.cars.current number) (λ (held : Held). 0 < held.car.spare)
+  pub birth : HasBirthRoom parts.cars number
   pub changes : HasRoom parts.links number room
 
 -- the space with a new open train, in which nothing was born

@@ -1,11 +1,12 @@
-ghost use Rattle.std.specs.Prelude.{◌≡◌, ◌+◌, ◌==◌, ℕ, cond, [], ◌∷◌, OnOk, OnErr, None, is_some};
+ghost use Rattle.std.specs.Prelude.{◌≡◌, ◌+◌, ◌==◌, ℕ, cond, [], ◌∷◌, drop, OnOk, OnErr, None, is_some, IsSome};
 ghost use Rattle.std.specs.Option.{option_copied};
 ghost use Rattle.std.specs.FinMap as map;
-ghost use Rattle.pm_space.specs.Linked.{sets_of, queues_of, HasRoom, UsesRoom, Tells};
+ghost use Rattle.pm_view.specs.Effective.{with_source};
+ghost use Rattle.pm_space.specs.Linked.{sets_of, queues_of, HasRoom, UsesRoom, Tells, waiting, took_front, with_front, without_front, without_source};
 
 use pm_delta::Queue;
 use pm_remset::Remset;
-use pm_types::{Change, NoMemory};
+use pm_types::{Change, NoMemory, RefSource};
 use std::alloc::Global;
 use std::collections::BTreeMap;
 use std::marker::Model;
@@ -35,6 +36,36 @@ impl Model for LinkTable {
     ghost coded = { map.code coded_ℕ both.the_row.coded };
 
     ghost view = { λ it. map.from_entries it.links.entries };
+}
+
+// A remembered set takes a change. After want of memory it is as it was.
+fn take_change(set: &mut Remset, change: Change) -> Result<(), NoMemory>
+    ensures ok { OnOk result (set.new ≡ with_source set.old change.source change.slot) }
+    ensures err { OnErr result (set.new ≡ set.old) }
+{
+    match change.slot {
+        Some(slot) => set.put(change.source, slot),
+        None => {
+            set.take(change.source);
+            Ok(())
+        }
+    }
+}
+
+// A remembered set takes the change that waits longest, and then the queue loses it. After want of memory
+// both are as they were.
+fn take_front(set: &mut Remset, queue: &mut Queue) -> Result<(), NoMemory>
+    ensures set { OnOk result (set.new ≡ took_front set.old queue.old.changes) }
+    ensures queue { OnOk result (queue.new.changes ≡ drop 1 queue.old.changes) }
+    ensures err_set { OnErr result (set.new ≡ set.old) }
+    ensures err_queue { OnErr result (queue.new ≡ queue.old) }
+{
+    let Some(change) = queue.front().copied() else {
+        return Ok(());
+    };
+    take_change(set, change)?;
+    queue.pop();
+    Ok(())
 }
 
 impl LinkTable {
@@ -106,6 +137,32 @@ impl LinkTable {
             Ok(_) => Ok(()),
             Err(_) => Err(NoMemory),
         }
+    }
+
+    /// The change that waits longest in the car's queue goes into the car's remembered set, and leaves the
+    /// queue; where none waits, nothing is done. After want of memory all is as it was.
+    pub fn apply_front(&mut self, car: u64) -> Result<(), NoMemory>
+        ensures sets { OnOk result (sets_of self.new ≡ with_front (sets_of self.old) car (waiting (queues_of self.old) car)) }
+        ensures queues { OnOk result (queues_of self.new ≡ without_front (queues_of self.old) car (waiting (queues_of self.old) car)) }
+        ensures err { OnErr result (self.new ≡ self.old) }
+    {
+        let Some(links) = self.links.get_mut(&car) else {
+            return Ok(());
+        };
+        take_front(&mut links.set, &mut links.queue)
+    }
+
+    /// Takes a source out of the remembered set of a car that has links. It takes no memory.
+    pub fn forget(&mut self, car: u64, source: RefSource)
+        requires { IsSome (map.get (sets_of self.old) car) }
+        ensures sets { sets_of self.new ≡ without_source (sets_of self.old) car source }
+        ensures queues { queues_of self.new ≡ queues_of self.old }
+        ensures kept { (other more : ℕ) → HasRoom self.old other more → HasRoom self.new other more }
+    {
+        let Some(links) = self.links.get_mut(&car) else {
+            return;
+        };
+        links.set.take(source);
     }
 
     /// Takes the links of a car away. It takes no memory.

@@ -4,7 +4,7 @@ ghost use Rattle.pm_snap.specs.Snapped.{with_value, without, is_ready, IsLowestU
 ghost use Rattle.pm_trains.specs.Trains.{cars_at, youngest, HasCar};
 ghost use Rattle.pm_view.specs.Rows.{with_car, IsVacant};
 ghost use Rattle.pm_space.specs.Linked.{sets_of, queues_of, HasRoom, KeepsRoom};
-ghost use Rattle.pm_space.specs.Shown.{view, empty_held, IsLinked, IsPrepared, with_car_in_new_train, KeepsRest};
+ghost use Rattle.pm_space.specs.Shown.{view, empty_held, IsLinked, IsPrepared, with_car_in_new_train, KeepsReady, KeepsRest};
 
 use crate::held::Held;
 use crate::links::LinkTable;
@@ -69,8 +69,8 @@ fn take_out(cars: &mut Table<Held>, links: &mut LinkTable, number: u64)
 
 /// Opens a car at the end of a train, under the lowest number that no car has, and answers that number: it
 /// has no slot, an empty remembered set and an empty queue. It is ready, and has room for one birth, and its
-/// queue for so many changes. Room that was made before and what is frozen stay. After want of memory all is
-/// as it was.
+/// queue for so many changes. Cars that are ready stay so; room that was made before and what is frozen stay.
+/// After want of memory all is as it was.
 pub fn open_car<F>(
     parts: &mut Parts<F>,
     alloc: Global,
@@ -85,6 +85,7 @@ pub fn open_car<F>(
     ensures err { OnErr result (view parts.new ≡ view parts.old) }
     ensures linked { IsLinked (view parts.new) }
     ensures kept { KeepsRoom parts.old.links parts.new.links }
+    ensures ready { KeepsReady parts.old.cars parts.new.cars }
     ensures rest { KeepsRest parts.old parts.new }
 {
     let number = add_car(&mut parts.cars, &mut parts.links, alloc, room)?;
@@ -114,6 +115,7 @@ pub fn open_car_in_new_train<F>(
     ensures err { OnErr result (view parts.new ≡ view parts.old) }
     ensures linked { IsLinked (view parts.new) }
     ensures kept { KeepsRoom parts.old.links parts.new.links }
+    ensures ready { KeepsReady parts.old.cars parts.new.cars }
     ensures rest { KeepsRest parts.old parts.new }
 {
     parts.trains.sound();

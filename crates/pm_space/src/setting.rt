@@ -36,11 +36,7 @@ fn set_field(cars: &mut Table<Held>, at: Addr, index: u32, to: Option<Addr>) -> 
 
 /// Lets the source store the address, of which nobody hears. What is frozen stays. After want of memory all
 /// is as it was.
-pub(crate) fn set<F>(
-    parts: &mut Parts<F>,
-    source: RefSource,
-    to: Option<Addr>,
-) -> Result<(), NoMemory>
+pub fn set<F>(parts: &mut Parts<F>, source: RefSource, to: Option<Addr>) -> Result<(), NoMemory>
     requires there { IsThere (view parts.old) source }
     requires value { HasValue source to }
     ensures ok { OnOk result (view parts.new ≡ with_stored (view parts.old) source to) }

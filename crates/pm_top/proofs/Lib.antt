@@ -1,3 +1,9 @@
 pub mod Ran
 pub mod NotMade
 pub mod Opened
+pub mod Worded
+pub mod Stores
+pub mod Scripts
+pub mod Faults
+pub mod Programs
+pub mod Former

@@ -1,10 +1,10 @@
 -- How a run leaves the disk, from its parts.
-use Rattle.std.proofs.Common.{◌≡◌, ◌⊎◌, inl, inr, ⊎_elim, ℕ, List, [], Option, Some, Ok, Err, refl, sym, ap, subst, ◌∙◌}
+use Rattle.std.proofs.Common.{◌≡◌, ◌⊎◌, inl, inr, ⊎_elim, ℕ, ◌<◌, ◌≤◌, List, [], Option, Some, Ok, Err, refl, sym, ap, subst, ◌∙◌, arith}
 use Rattle.pm_types.specs.declared.entry.Entry.{Entry}
 use Rattle.pm_types.specs.declared.fault.OpenFault.{OpenFault}
 use Rattle.pm_types.specs.declared.fault.OpenFault.TheVariants.{NotAStore, Version, Damaged, Malformed, Broken, Disk, Memory as NoRoom}
 use Rattle.pm_disk.specs.Disk.{LeavesOnly}
-use Rattle.pm_disk.proofs.RunLemmas.{weaker, joined}
+use Rattle.pm_disk.proofs.RunLemmas.{started, weaker, joined}
 use Rattle.pm_model.specs.World.{World, Copy, begin}
 use Rattle.pm_model.specs.Journal.{IsLegal, after}
 use Rattle.pm_image.specs.Stands.{Stands}
@@ -16,17 +16,19 @@ use Rattle.pm_image.proofs.StandsLaws.{one_copy}
 use Rattle.pm_shadow.specs.State.{State}
 use Rattle.pm_shadow.specs.Runs.{OnlyLooks}
 use Rattle.pm_shadow.specs.Attaching.{IsFaultOf}
+use Rattle.pm_reopen.specs.Reopening.{IsReopenFaultOf}
 use Rattle.pm_plain.specs.Plain.{Opens, readable, reopened}
 use Rattle.pm_plain.proofs.PlainLaws.{reopened_stands}
 use Rattle.pm_run.specs.Images.{IsOfRun}
 use Rattle.pm_run.specs.Storing.{Stores, LeavesOfRun}
 use Rattle.pm_top.specs.declared.ended.Detail.{Detail}
 use Rattle.pm_top.specs.declared.ended.Detail.TheVariants.{Fine, Usage, Unread, Reading, Writing, Device, NotEmpty, Refused, Memory}
-use Rattle.pm_top.specs.Ends.{HasOpened, IsStopped, not_opened}
+use Rattle.pm_top.specs.Ends.{not_opened}
+use Rattle.pm_top.specs.Stages.{IsPast, IsBefore, unreached, the_store, the_events}
 use Rattle.pm_top.specs.Disks.{IsLastOf, IsRefusedFor, LeavesDisk}
 
 -- a run over a store that was opened refuses nothing
-stopped_for : (bytes : List ℕ) (detail : Detail) → IsStopped detail → IsRefusedFor bytes detail
+stopped_for : (bytes : List ℕ) (detail : Detail) → the_events < unreached detail → IsRefusedFor bytes detail
 stopped_for bytes Fine is = tt
 stopped_for bytes Usage is = tt
 stopped_for bytes Unread is = tt
@@ -34,18 +36,28 @@ stopped_for bytes (Reading before after) is = tt
 stopped_for bytes (Writing before after) is = tt
 stopped_for bytes (Device before after) is = tt
 stopped_for bytes (NotEmpty n) is = tt
-stopped_for bytes (Refused fault) is = absurd is
+stopped_for bytes (Refused fault) is = absurd (omega arith)
 stopped_for bytes Memory is = tt
 
 -- a store that is not opened is not run
-pub none_opened : (fault : OpenFault) → HasOpened (not_opened fault) [] → ⊥
-none_opened NotAStore has = has
-none_opened (Version version) has = has
-none_opened (Damaged page kept found) has = has
-none_opened (Malformed page at) has = has
-none_opened Broken has = has
-none_opened (Disk before after) has = has refl
-none_opened NoRoom has = has refl
+pub none_opened : (fault : OpenFault) → IsPast the_store (not_opened fault) [] → ⊥
+none_opened NotAStore past = absurd (omega arith)
+none_opened (Version version) past = absurd (omega arith)
+none_opened (Damaged page kept found) past = absurd (omega arith)
+none_opened (Malformed page at) past = absurd (omega arith)
+none_opened Broken past = absurd (omega arith)
+none_opened (Disk before after) past = absurd (omega arith)
+none_opened NoRoom past = absurd (omega arith)
+
+-- it was tried
+pub tried_open : (fault : OpenFault) → the_store < unreached (not_opened fault)
+tried_open NotAStore = omega arith
+tried_open (Version version) = omega arith
+tried_open (Damaged page kept found) = omega arith
+tried_open (Malformed page at) = omega arith
+tried_open Broken = omega arith
+tried_open (Disk before after) = omega arith
+tried_open NoRoom = omega arith
 
 -- a header that is refused is not opened
 current_refused : (bytes : List ℕ) (fault : OpenFault) → current bytes ≡ Err fault → reopened bytes ≡ Err fault
@@ -61,6 +73,16 @@ refused_by_header bytes Broken is = absurd is
 refused_by_header bytes (Disk before after) is = tt
 refused_by_header bytes NoRoom is = tt
 
+-- and what stands behind one
+pub refused_behind : (bytes : List ℕ) (fault : OpenFault) → IsReopenFaultOf bytes fault → IsRefusedFor bytes (not_opened fault)
+refused_behind bytes NotAStore is = absurd is
+refused_behind bytes (Version version) is = absurd is
+refused_behind bytes (Damaged page kept found) is = absurd is
+refused_behind bytes (Malformed page at) is = absurd is
+refused_behind bytes Broken is = is
+refused_behind bytes (Disk before after) is = tt
+refused_behind bytes NoRoom is = tt
+
 module _ {D : Type 0} (contents : D → Option (List ℕ)) (image : D → List ℕ → Type 0) (moment : D → ℕ) (since : D → ℕ → List ℕ → Type 0) where
   -- a store that was opened, and run
   pub opened_run : (start mid end : D) (s : State) (number : ℕ) (copy : Copy) (detail : Detail) (journal : List Entry) → OnlyLooks contents image moment since start mid
@@ -70,7 +92,7 @@ module _ {D : Type 0} (contents : D → Option (List ℕ)) (image : D → List �
       → IsLegal (begin number copy) journal
       → (Stores contents image s mid (begin number copy) → LeavesOfRun moment since mid end (image mid) (begin number copy) journal)
       → (Stores contents image s mid (begin number copy) → (left : List ℕ) → image end left → IsLastOf detail (after (begin number copy) journal) left)
-      → (journal ≡ [] → end ≡ mid) → IsStopped detail
+      → (journal ≡ [] → end ≡ mid) → the_events < unreached detail
       → LeavesDisk contents image moment since start end detail journal
   opened_run start mid end s number copy detail journal looks found opens stores legal leaves last still stopped = record {
     legal = λ bytes told number_ copy_ stands. subst (λ (w : World). IsLegal w journal) (same bytes told number_ copy_ stands) legal;
@@ -83,6 +105,7 @@ module _ {D : Type 0} (contents : D → Option (List ℕ)) (image : D → List �
     opened = λ bytes told has. (number, copy, opens bytes told);
     refused = λ bytes told. stopped_for bytes detail stopped;
     quiet = λ none. (ap contents (still none) ∙ looks.told, subst (λ (d : D). LeavesOnly moment since start d (image start)) (sym (still none)) looks.leaves);
+    uncalled = λ before. absurd (omega (arith, before, stopped));
   }
     where
       P : ℕ → Copy → List ℕ → Type 0
@@ -94,22 +117,38 @@ module _ {D : Type 0} (contents : D → Option (List ℕ)) (image : D → List �
           λ i. begin (one.0 i) (one.1 i)
 
   -- a store that was not opened
-  pub refused_run : (start end : D) (detail : Detail) → (HasOpened detail [] → ⊥) → contents end ≡ contents start → LeavesOnly moment since start end (image start)
+  pub refused_run : (start end : D) (detail : Detail) → (IsPast the_store detail [] → ⊥) → the_store < unreached detail → contents end ≡ contents start → LeavesOnly moment since start end (image start)
       → ((bytes : List ℕ) → contents start ≡ Some bytes → IsRefusedFor bytes detail) → LeavesDisk contents image moment since start end detail []
-  refused_run start end detail none told leaves refused = record {
+  refused_run start end detail none tried told leaves refused = record {
     legal = λ bytes is number copy stands. tt;
     images = λ bytes is number copy stands. weaker moment since start end (image start) (λ left. image start left ⊎ IsOfRun (begin number copy) [] left) leaves (λ left was. inl was);
     last = λ bytes is number copy stands has. absurd (none has);
     opened = λ bytes is has. absurd (none has);
     refused = refused;
     quiet = λ empty. (told, leaves);
+    uncalled = λ before. absurd (omega (arith, before, tried));
   }
 
+  -- a disk that was not called
+  pub uncalled_run : (disk : D) (detail : Detail) → ((left : List ℕ) → since disk (moment disk) left → image disk left) → (IsPast the_store detail [] → ⊥)
+      → ((bytes : List ℕ) → IsRefusedFor bytes detail) → LeavesDisk contents image moment since disk disk detail []
+  uncalled_run disk detail now none refused =
+      let leaves = started moment since disk (image disk) now in
+      record {
+        legal = λ bytes is number copy stands. tt;
+        images = λ bytes is number copy stands. weaker moment since disk disk (image disk) (λ left. image disk left ⊎ IsOfRun (begin number copy) [] left) leaves (λ left was. inl was);
+        last = λ bytes is number copy stands has. absurd (none has);
+        opened = λ bytes is has. absurd (none has);
+        refused = λ bytes is. refused bytes;
+        quiet = λ empty. (refl, leaves);
+        uncalled = λ before. refl;
+      }
+
   -- the disk was looked at before
-  pub attached_run : (first start end : D) (detail : Detail) (journal : List Entry) → contents start ≡ contents first → LeavesOnly moment since first start (image first)
+  pub attached_run : (first start end : D) (detail : Detail) (journal : List Entry) → the_store < unreached detail → contents start ≡ contents first → LeavesOnly moment since first start (image first)
       → ((left : List ℕ) → image start left → since start (moment first) left)
       → LeavesDisk contents image moment since start end detail journal → LeavesDisk contents image moment since first end detail journal
-  attached_run first start end detail journal told leaves now run = record {
+  attached_run first start end detail journal tried told leaves now run = record {
     legal = λ bytes is. run.legal bytes (told ∙ is);
     images = λ bytes is number copy stands.
         joined moment since first start end (λ left. image first left ⊎ IsOfRun (begin number copy) journal left)
@@ -122,4 +161,5 @@ module _ {D : Type 0} (contents : D → Option (List ℕ)) (image : D → List �
     quiet = λ none.
         let still = run.quiet none in
         (still.0 ∙ told, joined moment since first start end (image first) leaves (weaker moment since start end (image start) (image first) still.1 (λ left was. leaves.each left (now left was))));
+    uncalled = λ before. absurd (omega (arith, before, tried));
   }

@@ -1,16 +1,13 @@
 -- How the program ends.
-use Rattle.std.specs.Prelude.{◌≡◌, ℕ, codes, decimal, List, [], ◌++◌}
+use Rattle.std.specs.Prelude.{◌≡◌, ℕ, codes, decimal, List, [], ◌++◌, Option, Some, None}
 use Rattle.hex.specs.Hex.{encode_lower}
 use Rattle.pm_base.specs.Counts.{ShowsRise}
-use Rattle.pm_types.specs.declared.entry.Entry.{Entry}
 use Rattle.pm_types.specs.declared.fault.OpenFault.{OpenFault}
 use Rattle.pm_types.specs.declared.fault.OpenFault.TheVariants.{NotAStore, Version, Damaged, Malformed, Broken, Disk, Memory as NoRoom}
 use Rattle.pm_types.specs.declared.fault.InitFault.{InitFault}
 use Rattle.pm_types.specs.declared.fault.InitFault.TheVariants.{NotEmpty as NotEmptied, Disk as InitDisk, Memory as InitMemory}
-use Rattle.pm_model.specs.declared.request.Request.{Request}
-use Rattle.pm_model.specs.World.{Copy, begin}
-use Rattle.pm_model.specs.Journal.{IsLegal, requests_of}
-use Rattle.pm_script.specs.Script.{IsScript}
+use Rattle.pm_run.specs.declared.stop.Stop.{Stop}
+use Rattle.pm_run.specs.declared.stop.Stop.TheVariants.{Memory as StopMemory, Writing as StopWriting, Device as StopDevice}
 use Rattle.pm_top.specs.declared.ended.Detail.{Detail}
 use Rattle.pm_top.specs.declared.ended.Detail.TheVariants.{Fine, Usage, Unread, Reading, Writing, Device, NotEmpty, Refused, Memory}
 
@@ -76,90 +73,19 @@ abbrev pub NamesRule : Detail → Type 0
 NamesRule (Refused fault) = IsOfStore fault
 NamesRule detail = Unit {0}
 
--- the ends of a run in which the source was read to its end, and its bytes are a script
-abbrev pub IsPastScript : Detail → List Entry → Type 0
-IsPastScript Fine journal = Unit {0}
-IsPastScript (Writing before after) journal = Unit {0}
-IsPastScript (Device before after) journal = Unit {0}
-IsPastScript (Refused fault) journal = Unit {0}
-IsPastScript Memory journal = journal ≡ [] → ⊥
-IsPastScript detail journal = ⊥
+-- why a run of lines stopped that ended so, if it did
+abbrev pub stop_in : Detail → Option Stop
+stop_in (Writing before after) = Some StopWriting
+stop_in (Device before after) = Some StopDevice
+stop_in Memory = Some StopMemory
+stop_in detail = None
 
--- the ends of a run in which the store was opened: all is fine or the sink failed, or some event was made
-abbrev pub HasOpened : Detail → List Entry → Type 0
-HasOpened Fine journal = Unit {0}
-HasOpened (Writing before after) journal = Unit {0}
-HasOpened (Device before after) journal = journal ≡ [] → ⊥
-HasOpened Memory journal = journal ≡ [] → ⊥
-HasOpened detail journal = ⊥
-
--- the ends before the disk was called
-abbrev pub IsBeforeDisk : Detail → Type 0
-IsBeforeDisk Usage = Unit {0}
-IsBeforeDisk Unread = Unit {0}
-IsBeforeDisk (Reading before after) = Unit {0}
-IsBeforeDisk detail = ⊥
-
--- the ends before the first event
-abbrev pub IsBeforeRun : Detail → Type 0
-IsBeforeRun Usage = Unit {0}
-IsBeforeRun Unread = Unit {0}
-IsBeforeRun (Reading before after) = Unit {0}
-IsBeforeRun (NotEmpty bytes) = Unit {0}
-IsBeforeRun (Refused fault) = Unit {0}
-IsBeforeRun detail = ⊥
-
--- the ends for want of memory and for a failure of the disk, after which every reply so far is written
-abbrev pub IsWritten : Detail → Type 0
-IsWritten Memory = Unit {0}
-IsWritten (Device before after) = Unit {0}
-IsWritten detail = ⊥
-
--- the bytes are a script, and the journal serves a first part of its lines, which may be none or all
-pub record ServesPart (bytes : List ℕ) (journal : List Entry) : Type 0 where
-  pub lines : List Request
-  pub rest : List Request
-  pub script : IsScript bytes lines
-  pub served : requests_of journal ++ rest ≡ lines
-
--- the ends of a run over a store that was opened
-abbrev pub IsStopped : Detail → Type 0
-IsStopped Fine = Unit {0}
-IsStopped (Writing before after) = Unit {0}
-IsStopped (Device before after) = Unit {0}
-IsStopped Memory = Unit {0}
-IsStopped detail = ⊥
-
--- the ends of a run
-abbrev pub IsRunEnd : Detail → Type 0
-IsRunEnd Usage = ⊥
-IsRunEnd (NotEmpty bytes) = ⊥
-IsRunEnd (Refused fault) = IsOfStore fault
-IsRunEnd detail = Unit {0}
-
--- the ends of a run once the source was read
-abbrev pub IsPastReading : Detail → Type 0
-IsPastReading Usage = ⊥
-IsPastReading (Reading before after) = ⊥
-IsPastReading (NotEmpty bytes) = ⊥
-IsPastReading detail = Unit {0}
-
--- the ends of a run that tried to open the store
-abbrev pub IsTried : Detail → Type 0
-IsTried Fine = Unit {0}
-IsTried (Writing before after) = Unit {0}
-IsTried (Device before after) = Unit {0}
-IsTried (Refused fault) = IsOfStore fault
-IsTried Memory = Unit {0}
-IsTried detail = ⊥
-
--- the journal serves a first part of these lines, which may be none or all
-abbrev pub ServesSome : List Request → List Entry → Type 0
-ServesSome lines journal = (rest : List Request) × (requests_of journal ++ rest ≡ lines)
-
--- the journal is legal from the world of some copy, also where the disk tells nothing
-abbrev pub IsBegun : List Entry → Type 0
-IsBegun journal = (number : ℕ) × (copy : Copy) × IsLegal (begin number copy) journal
+-- how the program ends after a run of lines, by the counts of the disk and of the sink before and after it
+abbrev pub ended_by : Option Stop → ℕ → ℕ → ℕ → ℕ → Detail
+ended_by None disk_before disk_after sink_before sink_after = Fine
+ended_by (Some StopMemory) disk_before disk_after sink_before sink_after = Memory
+ended_by (Some StopWriting) disk_before disk_after sink_before sink_after = Writing sink_before sink_after
+ended_by (Some StopDevice) disk_before disk_after sink_before sink_after = Device disk_before disk_after
 
 -- how the program ends where a store is not opened
 abbrev pub not_opened : OpenFault → Detail

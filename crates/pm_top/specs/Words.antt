@@ -1,23 +1,22 @@
 -- The words of the command line.
-use Rattle.std.specs.Prelude.{ℕ, ◌==◌, ◌&&◌, Bool, false, not, List, [], ◌∷◌, codes}
-use Rattle.std.specs.Cmp.Lexicographic.{pointwise}
+use Rattle.std.specs.Prelude.{◌≡◌, ℕ, List, [], ◌∷◌, codes}
+use Rattle.pm_top.specs.declared.command_line.Command.{Command}
+use Rattle.pm_top.specs.declared.command_line.Command.TheVariants.{Init, Run}
 
--- a file's name: not empty, and its first byte is no dash
-abbrev pub is_file : List ℕ → Bool
-is_file [] = false
-is_file (b ∷ bytes) = not (b == 45)
+-- a file's name: it is not empty, and does not begin with a dash, which is 45
+pub record IsFile (word : List ℕ) : Type 0 where
+  pub first : ℕ
+  pub rest : List ℕ
+  pub is_word : word ≡ first ∷ rest
+  pub no_dash : first ≡ 45 → ⊥
 
--- `run FILE serial`
-abbrev pub is_run : List (List ℕ) → Bool
-is_run [] = false
-is_run (command ∷ []) = false
-is_run (command ∷ file ∷ []) = false
-is_run (command ∷ file ∷ order ∷ []) = pointwise ◌==◌ command (codes "run") && is_file file && pointwise ◌==◌ order (codes "serial")
-is_run (command ∷ file ∷ order ∷ more ∷ words) = false
-
+-- these are the words of this command
+abbrev pub Spells : List (List ℕ) → Command → Type 0
 -- `init FILE`
-abbrev pub is_init : List (List ℕ) → Bool
-is_init [] = false
-is_init (command ∷ []) = false
-is_init (command ∷ file ∷ []) = pointwise ◌==◌ command (codes "init") && is_file file
-is_init (command ∷ file ∷ more ∷ words) = false
+Spells words Init = (file : List ℕ) × IsFile file × (words ≡ codes "init" ∷ file ∷ [])
+-- `run FILE serial`
+Spells words Run = (file : List ℕ) × IsFile file × (words ≡ codes "run" ∷ file ∷ codes "serial" ∷ [])
+
+-- these are the words of no command
+abbrev pub SpellsNothing : List (List ℕ) → Type 0
+SpellsNothing words = (command : Command) → Spells words command → ⊥

@@ -1,8 +1,10 @@
 ghost use Rattle.std.specs.Prelude.{◌≡◌};
-ghost use Rattle.pm_top.specs.Ends.{status_of};
+ghost use Rattle.pm_run.specs.Causes.{why};
+ghost use Rattle.pm_top.specs.Ends.{status_of, ended_by};
 
 use pm_disk::Disk;
 use pm_io::{Sink, Source};
+use pm_run::Stop;
 use pm_types::{Entry, OpenFault};
 
 /// How the program ended.
@@ -59,6 +61,30 @@ impl Detail {
             Detail::NotEmpty(_) | Detail::Refused(_) => 6,
             Detail::Memory => 7,
         }
+    }
+}
+
+/// How the program ends after a run of lines, by the counts of faults of the disk and of the sink before and after it.
+pub(crate) fn ended_by(
+    outcome: Result<(), Stop>,
+    disk_before: u64,
+    disk_after: u64,
+    sink_before: u64,
+    sink_after: u64,
+) -> Detail
+    ensures { result ≡ ended_by (why outcome) disk_before disk_after sink_before sink_after }
+{
+    match outcome {
+        Ok(()) => Detail::Fine,
+        Err(Stop::Memory) => Detail::Memory,
+        Err(Stop::Writing) => Detail::Writing {
+            before: sink_before,
+            after: sink_after,
+        },
+        Err(Stop::Device) => Detail::Device {
+            before: disk_before,
+            after: disk_after,
+        },
     }
 }
 

@@ -1,9 +1,7 @@
 //! Making a store.
-ghost use Rattle.std.specs.Prelude.{◌≡◌, ℕ, List, [], Some, length, ◌<◌};
-ghost use Rattle.pm_disk.specs.Disk.{SameImages};
-ghost use Rattle.pm_image.specs.Blank.{blank_store};
-ghost use Rattle.pm_top.specs.Ends.{status_of, ShowsDevice, not_made};
-ghost use Rattle.pm_top.specs.Disks.{MakesStore};
+ghost use Rattle.std.specs.Prelude.{◌≡◌};
+ghost use Rattle.pm_top.specs.Ends.{status_of, not_made};
+ghost use Rattle.pm_top.specs.Commands.{ShowsCauses, MakesStore};
 
 use crate::ended::end_with;
 use crate::{Detail, Ended};
@@ -32,12 +30,10 @@ pub(crate) fn make_store<D: Disk, S: Source, K: Sink>(
     sink: K,
 ) -> Ended<D, S, K>
     ensures status { result.status ≡ status_of result.detail }
-    ensures journal { result.journal.items ≡ [] }
-    ensures source { result.source ≡ source }
-    ensures sink { result.sink ≡ sink }
-    ensures makes { MakesStore D.contents D.image D.count disk result.disk result.detail }
-    ensures device { ShowsDevice result.detail (D.count disk) (D.count result.disk) }
-    ensures reads { (D.made result.disk).past ≡ (D.made disk).past }
+    ensures causes { ShowsCauses D.count D.made S.count K.count disk result.disk source result.source
+        sink result.sink result.detail }
+    ensures makes { MakesStore D.contents D.image disk result.disk source result.source
+        sink result.sink result.detail result.journal.items }
 {
     match init(alloc, &mut disk) {
         Ok(()) => end_with(Detail::Fine, Vec::new(alloc), disk, source, sink),

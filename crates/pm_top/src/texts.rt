@@ -1,80 +1,130 @@
 //! What the program writes on standard error.
-ghost use Rattle.std.specs.Prelude.{◌≡◌, ◌≤◌, ◌++◌, length, IfOk, OnOk, codes, decimal};
+ghost use Rattle.std.specs.Prelude.{◌≡◌, ◌+◌, ◌≤◌, ◌++◌, length, IfOk, codes, decimal};
 ghost use Rattle.hex.specs.Hex.{encode_lower};
+ghost use Rattle.arrayvec.specs.ArrayVec.{array_vec_len};
 ghost use Rattle.pm_top.specs.Ends.{detail_line, refusal_line};
 
 use crate::Detail;
+use arrayvec::ArrayVec;
 use hex::encode_to_slice;
-use pm_script::append_numbered;
+use itoa::Buffer;
 use pm_types::{NoMemory, OpenFault};
 use std::alloc::Global;
 
-// A word or more, and a digest in 64 digits.
-fn append_digest(out: &mut Vec<u8>, words: &[u8], digest: &[u8; 32]) -> Result<(), NoMemory>
-    ensures { OnOk result (out.new.items ≡ out.old.items ++ words.now ++ encode_lower digest.now) }
+/// The most bytes of a line: words, two digests of 64 digits, and a number of 20.
+pub(crate) const DETAIL_BYTES: usize = 256;
+
+/// A line, which takes no memory.
+pub(crate) type Line = ArrayVec<u8, DETAIL_BYTES>;
+
+// Appends bytes, for which there is room.
+fn append(line: &mut Line, bytes: &[u8])
+    requires { array_vec_len line.old + length bytes.now ≤ DETAIL_BYTES }
+    ensures text { line.new.items ≡ line.old.items ++ bytes.now }
+    ensures len { array_vec_len line.new ≡ array_vec_len line.old + length bytes.now }
+{
+    line.try_extend_from_slice(bytes).unwrap();
+}
+
+// Appends a number in decimal digits, of which it has 20 at most.
+fn append_number(line: &mut Line, number: u64)
+    requires { array_vec_len line.old + 20 ≤ DETAIL_BYTES }
+    ensures text { line.new.items ≡ line.old.items ++ decimal number }
+    ensures len { array_vec_len line.new ≤ array_vec_len line.old + 20 }
+{
+    let mut buffer = Buffer::new();
+    append(line, buffer.format(number).as_bytes());
+}
+
+// Appends a digest in 64 digits.
+fn append_digest(line: &mut Line, digest: &[u8; 32])
+    requires { array_vec_len line.old + 64 ≤ DETAIL_BYTES }
+    ensures text { line.new.items ≡ line.old.items ++ encode_lower digest.now }
+    ensures len { array_vec_len line.new ≡ array_vec_len line.old + 64 }
 {
     let mut digits = [0; 64];
     encode_to_slice(digest, &mut digits).unwrap();
-    out.extend_from_slice(words)?;
-    out.extend_from_slice(&digits)?;
-    Ok(())
+    append(line, &digits);
+}
+
+// A line of words alone.
+fn line_with(words: &[u8]) -> Line
+    requires { length words.now ≤ DETAIL_BYTES }
+    ensures text { result.items ≡ words.now }
+    ensures len { array_vec_len result ≡ length words.now }
+{
+    let mut line = Line::new();
+    append(&mut line, words);
+    line
 }
 
 // A line with a number at its end.
-fn numbered_line(alloc: Global, words: &[u8], number: u64) -> Result<Vec<u8>, NoMemory>
-    requires { length words.now ≤ 4096 }
-    ensures { IfOk result (λ text. text.items ≡ words.now ++ decimal number ++ codes "\n") }
+fn numbered_line(words: &[u8], number: u64) -> Line
+    requires { length words.now ≤ 128 }
+    ensures { result.items ≡ words.now ++ decimal number ++ codes "\n" }
 {
-    let mut text = Vec::new(alloc);
-    append_numbered(&mut text, words, number)?;
-    text.push(b'\n')?;
-    Ok(text)
+    let mut line = line_with(words);
+    append_number(&mut line, number);
+    append(&mut line, b"\n");
+    line
 }
 
 // The line of a page that is damaged.
-fn damaged_line(
-    alloc: Global,
-    page: u64,
-    kept: &[u8; 32],
-    found: &[u8; 32],
-) -> Result<Vec<u8>, NoMemory>
-    ensures { IfOk result (λ text. text.items ≡ refusal_line (OpenFault.Damaged page kept.now found.now)) }
+fn damaged_line(page: u64, kept: &[u8; 32], found: &[u8; 32]) -> Line
+    ensures { result.items ≡ refusal_line (OpenFault.Damaged page kept.now found.now) }
 {
-    let mut text = Vec::new(alloc);
-    append_numbered(&mut text, b"pmos: damaged page ", page)?;
-    append_digest(&mut text, b" kept ", kept)?;
-    append_digest(&mut text, b" found ", found)?;
-    text.push(b'\n')?;
-    Ok(text)
+    let mut line = line_with(b"pmos: damaged page ");
+    append_number(&mut line, page);
+    append(&mut line, b" kept ");
+    append_digest(&mut line, kept);
+    append(&mut line, b" found ");
+    append_digest(&mut line, found);
+    append(&mut line, b"\n");
+    line
 }
 
 // The line of a page that is malformed.
-fn malformed_line(alloc: Global, page: u64, at: u32) -> Result<Vec<u8>, NoMemory>
-    ensures { IfOk result (λ text. text.items ≡ refusal_line (OpenFault.Malformed page at)) }
+fn malformed_line(page: u64, at: u32) -> Line
+    ensures { result.items ≡ refusal_line (OpenFault.Malformed page at) }
 {
-    let mut text = Vec::new(alloc);
-    append_numbered(&mut text, b"pmos: malformed page ", page)?;
-    append_numbered(&mut text, b" at ", u64::from(at))?;
-    text.push(b'\n')?;
-    Ok(text)
+    let mut line = line_with(b"pmos: malformed page ");
+    append_number(&mut line, page);
+    append(&mut line, b" at ");
+    append_number(&mut line, u64::from(at));
+    append(&mut line, b"\n");
+    line
 }
 
 // The line of a store that is refused.
-fn refusal_text(alloc: Global, fault: &OpenFault) -> Result<Vec<u8>, NoMemory>
-    ensures { IfOk result (λ text. text.items ≡ refusal_line fault.now) }
+fn refusal_of(fault: &OpenFault) -> Line
+    ensures { result.items ≡ refusal_line fault.now }
 {
-    let text: &[u8] = match fault {
-        OpenFault::NotAStore => b"pmos: not a store\n",
-        OpenFault::Version(version) => {
-            return numbered_line(alloc, b"pmos: version ", u64::from(*version));
-        }
-        OpenFault::Damaged { page, kept, found } => return damaged_line(alloc, *page, kept, found),
-        OpenFault::Malformed { page, at } => return malformed_line(alloc, *page, *at),
-        OpenFault::Broken => b"pmos: store not read\n",
-        OpenFault::Disk { .. } => b"pmos: disk fault\n",
-        OpenFault::Memory => b"pmos: no memory\n",
-    };
-    Ok(text.to_vec(alloc)?)
+    match fault {
+        OpenFault::NotAStore => line_with(b"pmos: not a store\n"),
+        OpenFault::Version(version) => numbered_line(b"pmos: version ", u64::from(*version)),
+        OpenFault::Damaged { page, kept, found } => damaged_line(*page, kept, found),
+        OpenFault::Malformed { page, at } => malformed_line(*page, *at),
+        OpenFault::Broken => line_with(b"pmos: store not read\n"),
+        OpenFault::Disk { .. } => line_with(b"pmos: disk fault\n"),
+        OpenFault::Memory => line_with(b"pmos: no memory\n"),
+    }
+}
+
+/// The line of an end. It takes no memory.
+pub(crate) fn line_of(detail: &Detail) -> Line
+    ensures { result.items ≡ detail_line detail.now }
+{
+    match detail {
+        Detail::Fine => line_with(b""),
+        Detail::Usage => line_with(b"pmos: usage\n"),
+        Detail::Unread => line_with(b"pmos: script not read\n"),
+        Detail::Reading { .. } => line_with(b"pmos: read fault\n"),
+        Detail::Writing { .. } => line_with(b"pmos: write fault\n"),
+        Detail::Device { .. } => line_with(b"pmos: disk fault\n"),
+        Detail::NotEmpty(bytes) => numbered_line(b"pmos: not empty ", *bytes),
+        Detail::Refused(fault) => refusal_of(fault),
+        Detail::Memory => line_with(b"pmos: no memory\n"),
+    }
 }
 
 /// The line that the program writes on standard error where it ended so. It has its newline; there is nothing to
@@ -82,16 +132,5 @@ fn refusal_text(alloc: Global, fault: &OpenFault) -> Result<Vec<u8>, NoMemory>
 pub fn detail_text(alloc: Global, detail: &Detail) -> Result<Vec<u8>, NoMemory>
     ensures { IfOk result (λ text. text.items ≡ detail_line detail.now) }
 {
-    let text: &[u8] = match detail {
-        Detail::Fine => b"",
-        Detail::Usage => b"pmos: usage\n",
-        Detail::Unread => b"pmos: script not read\n",
-        Detail::Reading { .. } => b"pmos: read fault\n",
-        Detail::Writing { .. } => b"pmos: write fault\n",
-        Detail::Device { .. } => b"pmos: disk fault\n",
-        Detail::NotEmpty(bytes) => return numbered_line(alloc, b"pmos: not empty ", *bytes),
-        Detail::Refused(fault) => return refusal_text(alloc, fault),
-        Detail::Memory => b"pmos: no memory\n",
-    };
-    Ok(text.to_vec(alloc)?)
+    Ok(line_of(detail).as_slice().to_vec(alloc)?)
 }

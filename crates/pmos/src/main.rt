@@ -2,15 +2,15 @@
 //! leaves all else to `pm_top`.
 #![tactic(auto)]
 
-ghost use Rattle.std.specs.Prelude.{◌≡◌, ◌↔◌, ◌||◌, map, false, string_bytes, IfOk};
-ghost use Rattle.pm_top.specs.Words.{is_run, is_init};
-ghost use Rattle.pm_top.specs.Ends.{status_of};
+ghost use Rattle.std.specs.Prelude.{◌≡◌, ◌⊎◌, map, string_bytes, IfOk, OnErr};
+ghost use Rattle.pm_top.specs.Words.{SpellsNothing};
+ghost use Rattle.pm_top.specs.Program.{TellsEnd};
 
 use pm_file::FileDisk;
-use pm_io::{StdSink, StdSource};
-use pm_top::{Detail, detail_text, pmos};
+use pm_io::{Sink, StdSink, StdSource};
+use pm_top::{Detail, program, tell};
 use std::alloc::{AllocError, Global};
-use std::io::{ErrorKind, Write};
+use std::io::ErrorKind;
 use std::process::ExitCode;
 use std::{env, io};
 
@@ -49,35 +49,57 @@ fn path_of<'a>(words: &[&'a str]) -> &'a str {
     }
 }
 
-// Runs the program over the real file, input and output, and answers its status and how it ended.
-fn run(rt: &HostRuntime, words: &[String]) -> Result<(u8, Detail), AllocError>
-    ensures status { IfOk result (λ ended. ended.0 ≡ status_of ended.1) }
-    ensures usage { IfOk result (λ ended. (ended.1 ≡ Detail.Usage) ↔ ((is_run (map string_bytes words.now) || is_init (map string_bytes words.now)) ≡ false)) }
+// Runs the program over the real file, input and output, and answers its status.
+fn run<E: Sink>(rt: &HostRuntime, words: &[&str], errors: &mut E) -> u8
+    ensures usage { SpellsNothing (map (λ word. word.now) words.now) → (result ≡ 1) ⊎ (result ≡ 7) }
+    ensures command { result ≡ 1 → SpellsNothing (map (λ word. word.now) words.now) }
+    ensures told { TellsEnd E.written E.count errors.old errors.new result }
 {
-    let texts = texts(rt.alloc(), words)?;
-    let Ok(disk) = FileDisk::at(*rt, rt.alloc(), path_of(&texts)) else {
-        return Err(AllocError);
-    };
+    let disk = FileDisk::at(*rt, rt.alloc(), path_of(words));
     let source = StdSource::new(rt.reader());
     let sink = StdSink::new(io::writer(rt));
-    let ended = pmos(rt, texts.as_slice(), disk, source, sink);
-    Ok((ended.status, ended.detail))
+    program(rt, words, disk, source, sink, errors)
 }
 
-// The status with which the program ends, and how it ended.
-fn end(rt: &HostRuntime) -> (u8, Detail)
-    ensures { result.0 ≡ status_of result.1 }
+// Runs the program over the words, of which the texts are lent.
+fn run_words<E: Sink>(rt: &HostRuntime, words: &[String], errors: &mut E) -> Result<u8, AllocError>
+    ensures usage { IfOk result (λ status. SpellsNothing (map string_bytes words.now)
+        → (status ≡ 1) ⊎ (status ≡ 7)) }
+    ensures command { IfOk result (λ status. status ≡ 1 → SpellsNothing (map string_bytes words.now)) }
+    ensures told { IfOk result (λ status. TellsEnd E.written E.count errors.old errors.new status) }
+    ensures untold { OnErr result (errors.new ≡ errors.old) }
+{
+    match texts(rt.alloc(), words) {
+        Ok(texts) => Ok(run(rt, texts.as_slice(), errors)),
+        Err(error) => Err(error),
+    }
+}
+
+// Runs the program over the words of the command line.
+fn run_all<E: Sink>(rt: &HostRuntime, errors: &mut E) -> Result<u8, AllocError>
+    ensures told { IfOk result (λ status. TellsEnd E.written E.count errors.old errors.new status) }
+    ensures untold { OnErr result (errors.new ≡ errors.old) }
 {
     match words(rt) {
-        Ok(words) => run(rt, words.as_slice()).unwrap_or((7, Detail::Memory)),
-        Err(_) => (7, Detail::Memory),
+        Ok(words) => run_words(rt, words.as_slice(), errors),
+        Err(error) => Err(error),
+    }
+}
+
+// The status with which the program ends. Where there is no memory for its words, that is told.
+fn end<E: Sink>(rt: &HostRuntime, errors: &mut E) -> u8
+    ensures { TellsEnd E.written E.count errors.old errors.new result }
+{
+    match run_all(rt, errors) {
+        Ok(status) => status,
+        Err(_) => {
+            tell(errors, &Detail::Memory);
+            7
+        }
     }
 }
 
 fn main(rt: HostRuntime) -> ExitCode {
-    let (status, detail) = end(&rt);
-    if let Ok(text) = detail_text(rt.alloc(), &detail) {
-        let _ = rt.stderr().write_all(text.as_slice());
-    }
-    ExitCode::from(status)
+    let mut errors = StdSink::new(rt.stderr());
+    ExitCode::from(end(&rt, &mut errors))
 }

@@ -1,70 +1,54 @@
-use Rattle.std.proofs.Common.{◌⊎◌, ⊎_elim, sym, subst, List, inl, inr}
-use Rattle.pm_disk.proofs.RunLemmas.{weaker}
-use Rattle.pm_types.specs.declared.entry.Entry.{Entry}
-use Rattle.pm_model.specs.World.{World}
-use Rattle.pm_model.specs.Text.{text}
-use Rattle.pm_shadow.specs.Pages.{disk_of}
-use Rattle.pm_run.specs.Images.{IsSettled, IsInProgress}
-use Rattle.pm_run.specs.Writing.{Wrote}
-use Rattle.pm_run.proofs.Runs.{runs_on, ran_some}
-use Rattle.pm_run.proofs.Storing.{of_memory}
+use Rattle.std.proofs.Common.{Some, sym, subst, ap, arith}
+use Rattle.pm_model.specs.Text.{text, reply_line}
+use Rattle.pm_shadow.specs.Pages.{state, disk_of}
+use Rattle.pm_run.specs.declared.stop.Stop.{Stop}
+use Rattle.pm_run.specs.Events.{entry_of}
+use Rattle.pm_run.specs.Running.{StepsTo, StepsOnDisk}
+use Rattle.pm_run.specs.Writing.{WritesOn}
+use Rattle.pm_run.proofs.Runs.{text_grown, stops_unanswered}
+use Rattle.pm_run.proofs.Written.{line_went, line_lost, rest_went}
+use Rattle.pm_run.proofs.Stepping.{line_answered, line_unwritten, line_failed}
 use Rattle.pm_run.proofs.run.step.Goals as goal
 
-pub returns-in-Ok-add_line-clause-runs : goal.returns-in-Ok-add_line-clause-runs
-returns-in-Ok-add_line-clause-runs g c start lines rest runs =
-    runs_on start lines c.args.world.now c.make_event.new.world c.args.journal.now.items c.make_event.new.journal.items c.args.request rest runs c.in-Ok.ensures.journal c.in-Ok.ensures.world
+pub returns-in-Ok-add_line-clause-disk : goal.returns-in-Ok-add_line-clause-disk
+returns-in-Ok-add_line-clause-disk g c =
+    line_answered g.D.Disk.contents g.D.Disk.image g.D.Disk.moment g.D.Disk.since g.D.Disk.count g.D.Disk.made (state c.args.pages.now) (state c.make_event.new.pages)
+    (disk_of c.args.pages.now) (disk_of c.make_event.new.pages) c.args.world.now c.make_event.new.world c.in-Ok.ensures.disk
 
-pub returns-in-Err-clause-ran : goal.returns-in-Err-clause-ran
-returns-in-Err-clause-ran g c start lines rest runs =
-    ran_some start lines c.make_event.new.world c.make_event.new.journal.items rest
-    (runs_on start lines c.args.world.now c.make_event.new.world c.args.journal.now.items c.make_event.new.journal.items c.args.request rest runs c.in-Ok.ensures.journal c.in-Ok.ensures.world)
+pub returns-in-Err-add_line-clause-disk : goal.returns-in-Err-add_line-clause-disk
+returns-in-Err-add_line-clause-disk g c =
+    line_unwritten g.D.Disk.contents g.D.Disk.image g.D.Disk.moment g.D.Disk.since g.D.Disk.count g.D.Disk.made (state c.args.pages.now) (state c.make_event.new.pages)
+    (disk_of c.args.pages.now) (disk_of c.make_event.new.pages) c.args.world.now c.make_event.new.world c.in-Ok.ensures.disk
 
-pub returns-in-Err-Memory-clause-last : goal.returns-in-Err-Memory-clause-last
-returns-in-Err-Memory-clause-last g c other stores left now =
-    let leaves = of_memory c.in-Err-Memory.field-0 c.in-Err-Memory.field-0-is c.in-Err-Memory.ensures.memory stores in
-    subst (λ (w : World). IsSettled w left) (sym c.in-Err-Memory.ensures.world_stays)
-    (leaves.each left (g.met.D.Disk.counts_now (disk_of c.make_event.new.pages) (g.D.Disk.moment (disk_of c.args.pages.now)) left leaves.later now))
+pub returns-in-Ok-add_line-clause-sink : goal.returns-in-Ok-add_line-clause-sink
+returns-in-Ok-add_line-clause-sink g c =
+    line_went g.K.Sink.written g.K.Sink.count c.args.sink.now c.add_line.new.sink c.args.out.now.items c.add_line.new.out.items (text c.args.journal.now.items) (reply_line c.index.result.now) (text c.make_event.new.journal.items)
+    (text_grown c.args.journal.now.items c.make_event.new.journal.items (entry_of c.args.world.now c.args.request) c.index.result.now c.len-last.result c.in-Ok.ensures.answers.pushed (omega (arith, c.len-last.ensures, c.make_event.new.journal.ok)) c.index.ensures)
+    c.in-Ok-add_line.ensures.counted c.in-Ok-add_line.ensures.wrote
 
-pub returns-in-Err-Memory-clause-memory : goal.returns-in-Err-Memory-clause-memory
-returns-in-Err-Memory-clause-memory g c is still before wrote =
-    c.flush_what_goes.ensures.whole still before (text c.make_event.new.journal.items)
-    (subst (λ (j : List Entry). Wrote before (g.K.Sink.written c.args.sink.now) c.args.out.now.items (text j)) (sym c.in-Err-Memory.ensures.journal_stays) wrote)
+pub returns-in-Err-add_line-clause-sink : goal.returns-in-Err-add_line-clause-sink
+returns-in-Err-add_line-clause-sink g c =
+    line_lost g.K.Sink.written g.K.Sink.count c.args.sink.now c.add_line.new.sink c.args.out.now.items c.add_line.new.out.items (text c.args.journal.now.items) (reply_line c.index.result.now) (text c.make_event.new.journal.items)
+    (text_grown c.args.journal.now.items c.make_event.new.journal.items (entry_of c.args.world.now c.args.request) c.index.result.now c.len-last.result c.in-Ok.ensures.answers.pushed (omega (arith, c.len-last.ensures, c.make_event.new.journal.ok)) c.index.ensures)
+    c.in-Err-add_line.ensures.cause c.in-Err-add_line.ensures.part
 
-pub returns-in-Err-Disk-clause-failed : goal.returns-in-Err-Disk-clause-failed
-returns-in-Err-Disk-clause-failed g c is still before wrote =
-    c.flush_what_goes-in-Err-Disk.ensures.whole still before (text c.make_event.new.journal.items)
-    (subst (λ (j : List Entry). Wrote before (g.K.Sink.written c.args.sink.now) c.args.out.now.items (text j)) (sym c.in-Err-Disk.ensures.journal_stays) wrote)
+pub returns-in-Err-clause-steps : goal.returns-in-Err-clause-steps
+returns-in-Err-clause-steps g c =
+    subst (λ (stop : Stop). StepsTo (Some stop) c.args.request c.args.world.now c.make_event.new.world c.args.journal.now.items c.make_event.new.journal.items) (sym c.stop_of.ensures)
+    (stops_unanswered c.in-Err.fault c.args.request c.args.world.now c.make_event.new.world c.args.journal.now.items c.make_event.new.journal.items c.in-Err.ensures.nothing)
 
-pub returns-in-Err-Disk-clause-device : goal.returns-in-Err-Disk-clause-device
-returns-in-Err-Disk-clause-device g c is stores left now =
-    let leaves = c.in-Err-Disk.ensures.device stores in
-    subst (λ (w : World). IsSettled w left ⊎ IsInProgress w left) (sym c.in-Err-Disk.ensures.world_stays)
-    (leaves.each left (g.met.D.Disk.counts_now (disk_of c.make_event.new.pages) (g.D.Disk.moment (disk_of c.args.pages.now)) left leaves.later now))
+pub returns-in-Err-clause-disk : goal.returns-in-Err-clause-disk
+returns-in-Err-clause-disk g c =
+    subst (λ (stop : Stop). StepsOnDisk g.D.Disk.contents g.D.Disk.image g.D.Disk.moment g.D.Disk.since g.D.Disk.count g.D.Disk.made (state c.args.pages.now) (state c.make_event.new.pages)
+    (disk_of c.args.pages.now) (disk_of c.make_event.new.pages) c.args.world.now c.make_event.new.world (Some stop)) (sym c.stop_of.ensures)
+    (line_failed g.D.Disk.contents g.D.Disk.image g.D.Disk.moment g.D.Disk.since g.D.Disk.count g.D.Disk.made (state c.args.pages.now) (state c.make_event.new.pages)
+    (disk_of c.args.pages.now) (disk_of c.make_event.new.pages) c.args.world.now c.make_event.new.world c.in-Err.fault
+    (λ left there later. g.met.D.Disk.counts_now (disk_of c.make_event.new.pages) (g.D.Disk.moment (disk_of c.args.pages.now)) left later there)
+    c.in-Err.ensures.nothing.stays c.in-Err.ensures.disk)
 
-pub returns-in-Err-Disk-clause-leaves : goal.returns-in-Err-Disk-clause-leaves
-returns-in-Err-Disk-clause-leaves g c stores =
-    weaker g.D.Disk.moment g.D.Disk.since (disk_of c.args.pages.now) (disk_of c.make_event.new.pages)
-    (λ left. IsSettled c.args.world.now left ⊎ IsInProgress c.args.world.now left)
-    (λ left. IsSettled c.args.world.now left ⊎ (IsSettled c.make_event.new.world left ⊎ IsInProgress c.make_event.new.world left))
-    (c.in-Err-Disk.ensures.device stores)
-    (λ left either. ⊎_elim (λ was. inl was) (λ is. inr (inr (subst (λ (w : World). IsInProgress w left) (sym c.in-Err-Disk.ensures.world_stays) is))) either)
-
-pub returns-in-Err-Memory-clause-leaves : goal.returns-in-Err-Memory-clause-leaves
-returns-in-Err-Memory-clause-leaves g c stores =
-    weaker g.D.Disk.moment g.D.Disk.since (disk_of c.args.pages.now) (disk_of c.make_event.new.pages)
-    (IsSettled c.args.world.now)
-    (λ left. IsSettled c.args.world.now left ⊎ (IsSettled c.make_event.new.world left ⊎ IsInProgress c.make_event.new.world left))
-    (of_memory c.in-Err-Memory.field-0 c.in-Err-Memory.field-0-is c.in-Err-Memory.ensures.memory stores) (λ left was. inl was)
-
-pub returns-in-Err-clause-leaves : goal.returns-in-Err-clause-leaves
-returns-in-Err-clause-leaves g c stores =
-    weaker g.D.Disk.moment g.D.Disk.since (disk_of c.args.pages.now) (disk_of c.make_event.new.pages)
-    (λ left. IsSettled c.args.world.now left ⊎ IsSettled c.make_event.new.world left)
-    (λ left. IsSettled c.args.world.now left ⊎ (IsSettled c.make_event.new.world left ⊎ IsInProgress c.make_event.new.world left))
-    (c.in-Ok.ensures.settled stores) (λ left either. ⊎_elim (λ was. inl was) (λ is. inr (inl is)) either)
-
-pub returns-in-Ok-add_line-clause-last : goal.returns-in-Ok-add_line-clause-last
-returns-in-Ok-add_line-clause-last g c other stores left now = (c.in-Ok.ensures.stores stores).only left now
-
-pub returns-in-Err-clause-last : goal.returns-in-Err-clause-last
-returns-in-Err-clause-last g c other stores left now = (c.in-Ok.ensures.stores stores).only left now
+pub returns-in-Err-clause-sink : goal.returns-in-Err-clause-sink
+returns-in-Err-clause-sink g c =
+    subst (λ (stop : Stop). WritesOn g.K.Sink.written g.K.Sink.count c.args.sink.now c.flush_what_goes.new.sink c.args.out.now.items c.flush_what_goes.new.out.items
+    (text c.args.journal.now.items) (text c.make_event.new.journal.items) (Some stop)) (sym c.stop_of.ensures)
+    (rest_went g.K.Sink.written g.K.Sink.count c.args.sink.now c.flush_what_goes.new.sink c.args.out.now.items c.flush_what_goes.new.out.items
+    (text c.args.journal.now.items) (text c.make_event.new.journal.items) c.in-Err.fault (ap text c.in-Err.ensures.nothing.same) c.flush_what_goes.ensures.whole c.flush_what_goes.ensures.part)

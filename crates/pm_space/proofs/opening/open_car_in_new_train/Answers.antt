@@ -1,10 +1,11 @@
 use Rattle.std.proofs.Common.{◌<◌, refl, sym, ap, subst, ◌∙◌, IsSome, IsSomeAnd}
 use Rattle.std.specs.FinMap.{get}
-use Rattle.pm_snap.specs.Snapped.{is_ready, without}
+use Rattle.pm_snap.specs.Snapped.{with_value, is_ready, without}
 use Rattle.pm_trains.specs.Trains.{appended, rotated, youngest}
 use Rattle.pm_space.specs.declared.held.Held.{Held}
 use Rattle.pm_space.specs.Linked.{sets_of, queues_of}
-use Rattle.pm_space.specs.Shown.{view, cars_of, empty_held, in_new_train, IsLinked}
+use Rattle.pm_space.specs.Shown.{KeepsReady, view, cars_of, empty_held, in_new_train, IsLinked}
+use Rattle.pm_space.proofs.Readiness.{kept_by_value, kept_by_taking}
 use Rattle.pm_space.proofs.OpenedCars.{unlinked, not_some, free_car, lowest_vacant, given, has_birth, ready, cars_added, cars_undone, opened_view, same_view, kept_room, linked_opened, linked_in_new_train, new_train_stands}
 use Rattle.pm_space.proofs.opening.open_car_in_new_train.Goals as goal
 
@@ -65,3 +66,13 @@ returns-in-Ok-clause-linked g c =
 
 pub returns-in-Err-clause-linked : goal.returns-in-Err-clause-linked
 returns-in-Err-clause-linked g c = subst IsLinked (sym (returns-in-Err-clause-err g c)) c.requires.linked
+
+pub returns-in-Ok-clause-ready : goal.returns-in-Ok-clause-ready
+returns-in-Ok-clause-ready g c =
+    subst (KeepsReady c.args.parts.now.cars) (sym c.in_ok-number.ensures.cars) (kept_by_value c.args.parts.now.cars c.in_ok-number.number (empty_held c.in_ok-number.number))
+
+pub returns-in-Err-clause-ready : goal.returns-in-Err-clause-ready
+returns-in-Err-clause-ready g c =
+    let added = with_value c.args.parts.now.cars c.in_ok-number.number (empty_held c.in_ok-number.number) in
+    subst (KeepsReady c.args.parts.now.cars) (sym (c.take_out.ensures.cars ∙ ap (λ t. without t c.in_ok-number.number) c.in_ok-number.ensures.cars))
+    (λ car is. kept_by_taking added c.in_ok-number.number car (kept_by_value c.args.parts.now.cars c.in_ok-number.number (empty_held c.in_ok-number.number) car is))

@@ -1,0 +1,173 @@
+-- What the heap law gives for the next event.
+use Rattle.std.proofs.Common.{◌≡◌, ℕ, ◌<◌, ◌==◌, arith, Bool, true, false, cond, refl, ap, sym, subst, ◌∙◌, List, [], ◌∷◌, length, Option, Some, None, IsSome, IsSomeAnd, IsTrue, is_some}
+use Rattle.std.specs.Option.{option_map, option_and_then, option_flatten, unwrap_or}
+use Rattle.std.specs.List.{slice_get}
+use Rattle.std.specs.List as list
+use Rattle.std.specs.FinMap.{get, entries, empty, get-empty}
+use Rattle.std.proofs.lemmas.Bool.{true≢false, eqb-true, eq-eqb}
+use Rattle.pm_types.specs.Orders.{source_cmp}
+use Rattle.pm_types.specs.declared.address.Addr.{Addr}
+use Rattle.pm_types.specs.declared.object.Object.{Object}
+use Rattle.pm_types.specs.declared.object.Slot.{Slot}
+use Rattle.pm_types.specs.declared.source.RefSource.{RefSource}
+use Rattle.pm_types.specs.declared.source.RefSource.TheVariants.{Root, Handle, Field}
+use Rattle.pm_types.specs.declared.source.Change.{Change}
+use Rattle.pm_cars.specs.Cars.{Car, object_of}
+use Rattle.pm_cars.specs.Entries.{holds_object}
+use Rattle.pm_trains.specs.Trains.{Train, cars_at, first_car, oldest, train_of, HasCar, is_among}
+use Rattle.pm_trains.specs.Sound as line
+use Rattle.pm_trains.specs.Changes.{StandsIn}
+use Rattle.pm_trains.proofs.Found.{stands_over}
+use Rattle.pm_remset.specs.Remembered.{FindsFirstThat}
+use Rattle.pm_remset.proofs.First.{first_found}
+use Rattle.pm_law_rows.proofs.OpenTrain.{first_home}
+use Rattle.pm_view.specs.declared.phase.Phase.TheVariants.{Draining, Moving, Sweeping}
+use Rattle.pm_view.specs.View.{Sources, SpaceView}
+use Rattle.pm_view.specs.Reading.{slot_at, object_at, stored, is_aside, aside_in}
+use Rattle.pm_view.specs.Effective.{effective_in}
+use Rattle.pm_view.specs.Sources.{slot_in}
+use Rattle.pm_view.specs.Law.{HeapLaw, IsAt, IsFront, IsOldest}
+use Rattle.pm_view.specs.Candidates.{set_of, queue_of}
+use Rattle.pm_view.specs.Events.{went, has_gone, named_in, least_stale, to_fix, lowest_live}
+use Rattle.pm_space.specs.Linked.{AreHoused}
+use Rattle.pm_space.specs.Shown.{IsThere}
+use Rattle.pm_evac.proofs.Searches.{found_there}
+use Rattle.pm_evac.proofs.Lowest.{holds_some}
+
+-- each car that has a remembered set is in a train
+pub law_houses : (v : SpaceView) → HeapLaw v → AreHoused v.sets v.trains.trains
+law_houses v law car there = law.built.linked car ∙ sym (law.built.sets car) ∙ there
+
+-- the oldest train with a car has a car
+pub oldest_has : (low n : ℕ) (ts : List Train) → line.Rise low ts → oldest ts ≡ Some n → HasCar ts n
+oldest_has low n [] rising is = absurd cc
+oldest_has low n (t ∷ ts) rising is = by_case (length t.cars == 0) refl is (oldest_has t.number n ts rising.1)
+  where
+    later : (o : Option (List ℕ)) → cars_at ts n ≡ o → IsSomeAnd o (λ cars. 0 < length cars) → (b : Bool) → (t.number == n) ≡ b → IsSomeAnd (cond b (Some t.cars) o) (λ cars. 0 < length cars)
+    later None at has b same = absurd has
+    later (Some cars) at has true same = let over = stands_over t.number n cars ts rising.1 at in let one = eqb-true t.number n same in absurd (omega (arith, over, one))
+    later (Some cars) at has false same = has
+
+    some_cars : (cars : List ℕ) → (length cars == 0) ≡ false → 0 < length cars
+    some_cars [] none = absurd (true≢false none)
+    some_cars (c ∷ cs) some = omega arith
+
+    here : (b : Bool) → b ≡ true → (o : Option (List ℕ)) → 0 < length t.cars → IsSomeAnd (cond b (Some t.cars) o) (λ cars. 0 < length cars)
+    here true is o has = has
+    here false is o has = absurd (true≢false (sym is))
+
+    by_case : (b : Bool) → (length t.cars == 0) ≡ b → cond b (oldest ts) (Some t.number) ≡ Some n → (oldest ts ≡ Some n → HasCar ts n) → HasCar (t ∷ ts) n
+    by_case true none is rest = later (cars_at ts n) refl (rest is) (t.number == n) refl
+    by_case false some is rest = let same : t.number ≡ n = cc in here (t.number == n) (eq-eqb t.number n same) (cars_at ts n) (some_cars t.cars some)
+
+some_of : {X : Type 0} (o : Option X) (P : X → Type 0) → IsSomeAnd o P → IsSome o
+some_of None P there = absurd there
+some_of (Some x) P there = refl
+
+module _ (v : SpaceView) (law : HeapLaw v) where
+  -- a train that is drained stands
+  pub drained_stands : (train : ℕ) → v.phase ≡ Draining train → IsSome (cars_at v.trains.trains train)
+  drained_stands train at =
+      let oldest : IsAt (Draining train) v.trains.trains v.anchor = subst (λ p. IsAt p v.trains.trains v.anchor) at law.phase in
+      some_of (cars_at v.trains.trains train) (λ cars. 0 < length cars) (oldest_has 0 train v.trains.trains law.built.trains.rising oldest.0)
+
+  -- a car that is in a train stands
+  pub car_stands : (car : ℕ) → IsSome (train_of v.trains.trains car) → IsSome (get v.cars car)
+  car_stands car there = sym (law.built.linked car) ∙ there
+
+  front_home : (car : ℕ) → IsFront v.trains.trains car → IsSome (train_of v.trains.trains car)
+  front_home car front = by_case (oldest v.trains.trains) front
+    where
+      by_case : (o : Option ℕ) → IsSomeAnd o (λ train. IsOldest v.trains.trains train × (first_car v.trains.trains train ≡ Some car)) → IsSome (train_of v.trains.trains car)
+      by_case None front = absurd front
+      by_case (Some train) front = ap is_some (first_home v.trains.trains train car law.built.trains.single front.1)
+
+  -- the car that is swept is in a train
+  pub swept_home : (car : ℕ) → v.phase ≡ Sweeping car → IsSome (train_of v.trains.trains car)
+  swept_home car at = front_home car (subst (λ p. IsAt p v.trains.trains v.anchor) at law.phase)
+
+-- a train in which a car stands has one
+pub train_has : (ts : List Train) (car n : ℕ) → StandsIn ts car n → HasCar ts n
+train_has ts car n there = by_case (cars_at ts n) there
+  where
+    some_cars : (cars : List ℕ) → IsTrue (is_among car cars) → 0 < length cars
+    some_cars [] among = absurd (true≢false (sym among))
+    some_cars (c ∷ cs) among = omega arith
+
+    by_case : (o : Option (List ℕ)) → IsSomeAnd o (λ cars. IsTrue (is_among car cars)) → IsSomeAnd o (λ cars. 0 < length cars)
+    by_case None there = there
+    by_case (Some cars) there = some_cars cars there
+
+-- the lowest Live slot of a car has an object
+pub lowest_lives : (v : SpaceView) (car slot : ℕ) → lowest_live v car ≡ Some slot → IsSome (object_at v.cars (record { car = car; slot = slot }))
+lowest_lives v car slot low = by_car (get v.cars car) low
+  where
+    by_entry : (it : Car) (o : Option (ℕ × Slot)) → list.find (λ (e : ℕ × Slot). holds_object e.1) (entries it.slots) ≡ o → option_map (λ (e : ℕ × Slot). e.0) o ≡ Some slot → IsSome (object_of (get it.slots slot))
+    by_entry it None found low = absurd (let none : ◌≡◌ {A = Option ℕ} None (Some slot) = low in cc)
+    by_entry it (Some e) found low =
+        let there = found_there holds_object it.slots e found in
+        let same : e.0 ≡ slot = cc in
+        subst (λ o. IsSome (object_of o)) (sym (ap (get it.slots) (sym same) ∙ there.0)) (holds_some e.1 there.1)
+
+    by_car : (o : Option Car) → option_and_then (λ (it : Car). option_map (λ (e : ℕ × Slot). e.0) (list.find (λ (e : ℕ × Slot). holds_object e.1) (entries it.slots))) o ≡ Some slot
+        → IsSome (object_of (option_and_then (λ (it : Car). get it.slots slot) o))
+    by_car None low = absurd (let none : ◌≡◌ {A = Option ℕ} None (Some slot) = low in cc)
+    by_car (Some it) low = by_entry it (list.find (λ (e : ℕ × Slot). holds_object e.1) (entries it.slots)) refl low
+
+-- ---- a source that is to be fixed
+
+set_alone : (s : Option Sources) (q : Option (List Change)) (x : RefSource) → unwrap_or q [] ≡ [] → effective_in s q x ≡ get (unwrap_or s empty) x
+set_alone None q x none = sym (get-empty source_cmp x)
+set_alone (Some s) None x none = refl
+set_alone (Some s) (Some []) x none = refl
+set_alone (Some s) (Some (c ∷ cs)) x none = absurd (let some : c ∷ cs ≡ [] = none in cc)
+
+flat_some : (o : Option (Option Addr)) (a : Addr) → option_flatten o ≡ Some a → is_some o ≡ true
+flat_some None a is = absurd (let none : ◌≡◌ {A = Option Addr} None (Some a) = is in cc)
+flat_some (Some o) a is = refl
+
+-- a source that stores an address is there
+stores_there : (v : SpaceView) (x : RefSource) (a : Addr) → HeapLaw v → stored v x ≡ Some a → IsThere v x
+stores_there v (Root n) a law is = ap is_some is
+stores_there v (Handle c r) a law is = law.named.registers c r a is
+stores_there v (Field b i) a law is = flat_some (option_and_then (λ (o : Object). slice_get o.fields i) (object_at v.cars b)) a is
+
+-- a source that a car remembers which is not set aside, and has no queued change, is there
+pub remembered_there : (v : SpaceView) (car : ℕ) (x : RefSource) (slot : ℕ) → HeapLaw v → is_aside v car ≡ false → queue_of v car ≡ [] → get (set_of v car) x ≡ Some slot → IsThere v x
+remembered_there v car x slot law kept applied held =
+    let holds = law.tied.holds car x slot kept (set_alone (get v.sets car) (get v.queues car) x applied ∙ held) in
+    by_case (stored v x) refl holds.1
+  where
+    by_case : (o : Option Addr) → stored v x ≡ o → slot_in car o ≡ Some slot → IsThere v x
+    by_case None is names = absurd (let none : ◌≡◌ {A = Option ℕ} None (Some slot) = names in cc)
+    by_case (Some a) is names = stores_there v x a law is
+
+-- a car that remembers a source has a remembered set
+pub remembers : (v : SpaceView) (car : ℕ) (x : RefSource) (slot : ℕ) → get (set_of v car) x ≡ Some slot → IsSome (get v.sets car)
+remembers v car x slot held = by_case (get v.sets car) held
+  where
+    by_case : (o : Option Sources) → get (unwrap_or o empty) x ≡ Some slot → IsSome o
+    by_case None held = absurd (let none : ◌≡◌ {A = Option ℕ} None (Some slot) = sym (get-empty source_cmp x) ∙ held in cc)
+    by_case (Some s) held = refl
+
+first_same : (x y : RefSource) (a b : Addr) → ◌≡◌ {A = Option (RefSource × Addr)} (Some (x, a)) (Some (y, b)) → x ≡ y
+first_same x y a b is = let both : ◌≡◌ {A = RefSource × Addr} (x, a) (y, b) = cc in ap (λ (p : RefSource × Addr). p.0) both
+
+-- the source that is to be fixed is remembered
+pub stale_held : (v : SpaceView) (car : ℕ) (x : RefSource) (to : Addr) → to_fix v car ≡ Some (x, to) → (slot : ℕ) × (get (set_of v car) x ≡ Some slot)
+stale_held v car x to is = by_entry (least_stale v car) refl is
+  where
+    by_place : (e : RefSource × ℕ) → least_stale v car ≡ Some e → (o : Option Addr) → option_map {U = RefSource × Addr} (λ to. (e.0, to)) o ≡ Some (x, to) → (slot : ℕ) × (get (set_of v car) x ≡ Some slot)
+    by_place e found None goes = absurd (let none : ◌≡◌ {A = Option (RefSource × Addr)} None (Some (x, to)) = goes in cc)
+    by_place e found (Some b) goes =
+        let first = subst (FindsFirstThat (λ source slot. has_gone (went (slot_at v.cars (named_in car (source, slot))))) (set_of v car)) found
+        (first_found (λ source slot. has_gone (went (slot_at v.cars (named_in car (source, slot))))) (set_of v car)) in
+        (e.1, subst (λ x. get (set_of v car) x ≡ Some e.1) (first_same e.0 x b to goes) first.there)
+
+    by_entry : (o : Option (RefSource × ℕ)) → least_stale v car ≡ o → option_and_then (λ e. option_map {U = RefSource × Addr} (λ to. (e.0, to)) (went (slot_at v.cars (named_in car e)))) o ≡ Some (x, to) → (slot : ℕ) × (get (set_of v car) x ≡ Some slot)
+    by_entry None found is = absurd (let none : ◌≡◌ {A = Option (RefSource × Addr)} None (Some (x, to)) = is in cc)
+    by_entry (Some e) found is = by_place e found (went (slot_at v.cars (named_in car e))) is
+
+-- no car that is emptied is set aside
+pub emptied_kept : (v : SpaceView) (car : ℕ) → v.phase ≡ Moving car → is_aside v car ≡ false
+emptied_kept v car at = ap (λ p. aside_in p v.trains.trains car) at

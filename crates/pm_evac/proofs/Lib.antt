@@ -1,0 +1,11 @@
+pub mod Views
+pub mod Fields
+pub mod Swept
+pub mod Searches
+pub mod Lowest
+pub mod Fixes
+pub mod Rows
+pub mod Lawful
+pub mod Counting
+pub mod Beyond
+pub mod Skips

@@ -1,0 +1,139 @@
+ghost use Rattle.std.specs.Prelude.{◌≡◌, IfOk, OnErr};
+ghost use Rattle.pm_view.specs.Law.{HeapLaw};
+ghost use Rattle.pm_view.specs.Events.{next_row};
+ghost use Rattle.pm_space.specs.Shown.{view, KeepsRest};
+ghost use Rattle.pm_evac.specs.Steps.{IsEvent, IsApply, IsFix, IsFinish, IsSweep, IsFree, swept_car};
+
+use crate::applying::apply;
+use crate::finding::{changed_car, lowest_live};
+use crate::fixing::fix;
+use crate::freeing::{finish, free};
+use crate::sources::stale;
+use crate::sweeping::sweep;
+use pm_space::Parts;
+use pm_types::{Addr, NoMemory, Step};
+use pm_view::Phase;
+use std::alloc::Global;
+
+/// Makes the next event where it applies a change: while a train is drained that of the first of its cars that has a
+/// queued change, and while a car is emptied that car's own. After want of memory all is as it was.
+pub fn apply_one<F>(parts: &mut Parts<F>) -> Result<Step, NoMemory>
+    requires law { HeapLaw (view parts.old) }
+    requires row { IsApply (next_row (view parts.old)) }
+    ensures ok { IfOk result (λ step. IsEvent (view parts.old) (view parts.new) step) }
+    ensures err { OnErr result (view parts.new ≡ view parts.old) }
+    ensures rest { KeepsRest parts.old parts.new }
+{
+    match parts.phase {
+        Phase::Draining(train) => {
+            let Some(car) = changed_car(parts, train) else {
+                unreachable!()
+            };
+            apply(parts, car)?;
+            let _completed = parts.completed;
+            Ok(Step::Applied { car })
+        }
+        Phase::Moving(car) => {
+            apply(parts, car)?;
+            let _completed = parts.completed;
+            Ok(Step::Applied { car })
+        }
+        Phase::Idle | Phase::Sweeping(_) | Phase::Doomed(_) => unreachable!(),
+    }
+}
+
+/// Makes the next event where it fixes a source: the least source that the car which is emptied remembers and that
+/// names a Moved slot stores the address to which the object went. After want of memory all is as it was.
+pub fn fix_one<F>(parts: &mut Parts<F>) -> Result<Step, NoMemory>
+    requires law { HeapLaw (view parts.old) }
+    requires row { IsFix (next_row (view parts.old)) }
+    ensures ok { IfOk result (λ step. IsEvent (view parts.old) (view parts.new) step) }
+    ensures err { OnErr result (view parts.new ≡ view parts.old) }
+    ensures rest { KeepsRest parts.old parts.new }
+{
+    let Phase::Moving(car) = parts.phase else {
+        unreachable!()
+    };
+    let Some((source, to)) = stale(parts, car) else {
+        unreachable!()
+    };
+    fix(parts, car, source, to)?;
+    let _completed = parts.completed;
+    Ok(Step::Fixed { car })
+}
+
+/// Makes the next event where the car that is emptied is swept from now on. It takes no memory.
+pub fn finish_car<F>(parts: &mut Parts<F>) -> Step
+    requires row { IsFinish (next_row (view parts.old)) }
+    ensures event { IsEvent (view parts.old) (view parts.new) result }
+    ensures rest { KeepsRest parts.old parts.new }
+{
+    let Phase::Moving(car) = parts.phase else {
+        unreachable!()
+    };
+    finish(parts, car);
+    let _completed = parts.completed;
+    Step::Finished { car }
+}
+
+// The car whose objects are swept: the one that was emptied, or the first one of a doomed train.
+fn swept_car<F>(parts: &Parts<F>) -> Option<u64>
+    ensures { result ≡ swept_car (view parts.now) }
+{
+    match parts.phase {
+        Phase::Sweeping(car) => Some(car),
+        Phase::Doomed(train) => parts.trains.first_car(train),
+        Phase::Idle | Phase::Draining(_) | Phase::Moving(_) => None,
+    }
+}
+
+/// Makes the next event where it sweeps an object: the lowest Live slot of the car that is swept, or of the first car
+/// of a doomed train, is Gone. After want of memory all is as it was.
+pub fn sweep_one<F>(parts: &mut Parts<F>, alloc: Global) -> Result<Step, NoMemory>
+    requires law { HeapLaw (view parts.old) }
+    requires row { IsSweep (next_row (view parts.old)) }
+    ensures ok { IfOk result (λ step. IsEvent (view parts.old) (view parts.new) step) }
+    ensures err { OnErr result (view parts.new ≡ view parts.old) }
+    ensures rest { KeepsRest parts.old parts.new }
+{
+    let Some(car) = swept_car(parts) else {
+        unreachable!()
+    };
+    let Some(slot) = lowest_live(parts, car) else {
+        unreachable!()
+    };
+    let id = sweep(parts, alloc, Addr { car, slot })?;
+    let _completed = parts.completed;
+    Ok(Step::Swept { id })
+}
+
+/// Makes the next event where it frees a car that has no object left: the one that was swept, with which the
+/// collection is completed, or the first one of a doomed train, with which it is where no other is left. After want of
+/// memory all is as it was.
+pub fn free_car<F>(parts: &mut Parts<F>) -> Result<Step, NoMemory>
+    requires law { HeapLaw (view parts.old) }
+    requires row { IsFree (next_row (view parts.old)) }
+    ensures ok { IfOk result (λ step. IsEvent (view parts.old) (view parts.new) step) }
+    ensures err { OnErr result (view parts.new ≡ view parts.old) }
+    ensures rest { KeepsRest parts.old parts.new }
+{
+    match parts.phase {
+        Phase::Sweeping(car) => {
+            let train = parts.trains.train_of(car);
+            free(parts, train, car, true)?;
+            Ok(Step::Freed {
+                car,
+                completed: true,
+            })
+        }
+        Phase::Doomed(train) => {
+            let Some(car) = parts.trains.first_car(train) else {
+                unreachable!()
+            };
+            let completed = parts.trains.cars(train).len() == 1;
+            free(parts, train, car, completed)?;
+            Ok(Step::Freed { car, completed })
+        }
+        Phase::Idle | Phase::Draining(_) | Phase::Moving(_) => unreachable!(),
+    }
+}

@@ -1,0 +1,29 @@
+-- Steps that may end in a fault, one after another.
+use Rattle.std.proofs.Common.{◌≡◌, ◌⊎◌, inl, inr, Option, Some, None, Result, Ok, Err, refl, ap}
+use Rattle.std.specs.Option.{ok_or}
+use Rattle.pm_base.specs.Results.{◌>>=◌}
+
+-- where two steps gave something, each did
+pub both_ok : {A B E : Type 0} (first : Result A E) (second : A → Result B E) (y : B) → (first >>= second) ≡ Ok y → (x : A) × (first ≡ Ok x) × (second x ≡ Ok y)
+both_ok (Ok x) second y is = (x, refl, is)
+both_ok (Err e) second y is = absurd cc
+
+-- where something was there, it is what was given
+pub some_ok : {A E : Type 0} (o : Option A) (e : E) (x : A) → ok_or o e ≡ Ok x → o ≡ Some x
+some_ok (Some y) e x is = cc
+some_ok None e x is = absurd cc
+
+-- where two steps ended in a fault, one of them did
+pub one_err : {A B E : Type 0} (first : Result A E) (second : A → Result B E) (e : E) → (first >>= second) ≡ Err e → (first ≡ Err e) ⊎ ((x : A) × (first ≡ Ok x) × (second x ≡ Err e))
+one_err (Ok x) second e is = inr (x, refl, is)
+one_err (Err d) second e is = let same : d ≡ e = cc is in inl (ap Err same)
+
+-- where nothing was there, that is the fault
+pub none_err : {A E : Type 0} (o : Option A) (d e : E) → ok_or o d ≡ Err e → (o ≡ None) × (d ≡ e)
+none_err None d e is = (refl, cc is)
+none_err (Some x) d e is = absurd (let bad : Ok x ≡ Err e = is in cc bad)
+
+-- where the second step can not fail, the first did
+pub first_err : {A B E : Type 0} (first : Result A E) (f : A → B) (e : E) → (first >>= λ x. Ok (f x)) ≡ Err e → first ≡ Err e
+first_err (Ok x) f e is = absurd cc
+first_err (Err d) f e is = let same : d ≡ e = cc is in ap Err same

@@ -1,0 +1,21 @@
+//! The grammar of scripts and the texts of replies: bytes in, lines of what clients ask out; replies in, bytes out.
+//! Which bytes are a script, and of which lines, stands in `specs/Script.antt`; why bytes are none in `specs/Bad.antt`.
+#![tactic(auto)]
+
+mod body;
+mod command;
+mod fault;
+mod laws;
+mod limits;
+mod line;
+mod reply;
+mod script;
+mod value;
+mod verb;
+
+pub use fault::{Cause, ScriptFault};
+pub use laws::{a_script_has_no_fault, a_script_has_one_reading, spelled_lines_are_read_again};
+pub use limits::LINE_BYTES;
+pub use line::Line;
+pub use reply::{REPLY_BYTES, journal_text, reply_into, reply_text};
+pub use script::{Script, read_script};

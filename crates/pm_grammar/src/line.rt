@@ -1,0 +1,16 @@
+use pm_types::Cmd;
+
+/// What one line of a script asks.
+#[derive(Debug, Drop)]
+pub enum Line {
+    /// A client asks a command.
+    Client {
+        /// The client's number, 0 to 7.
+        client: u32,
+        cmd: Cmd,
+    },
+    /// So many events of the collector.
+    Gc(u32),
+    /// So many events that write a page of a checkpoint.
+    Flush(u32),
+}

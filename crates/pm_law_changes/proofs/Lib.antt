@@ -1,0 +1,3 @@
+pub mod Requeued
+pub mod FixRow
+pub mod Changing

@@ -1,0 +1,7 @@
+pub mod Rows
+pub mod Kept
+pub mod Completing
+pub mod Anchoring
+pub mod Bearing
+pub mod Counting
+pub mod Opening

@@ -1,0 +1,14 @@
+pub mod Small
+pub mod Finds
+pub mod MeansSame
+pub mod SetAside
+pub mod Phased
+pub mod Comes
+pub mod Fronts
+pub mod PhaseRows
+pub mod FieldNews
+pub mod Withdrawn
+pub mod FirstGone
+pub mod Stays
+pub mod Outside
+pub mod Lowest

@@ -1,0 +1,5 @@
+pub mod Agree
+pub mod SweptSeen
+pub mod SweepRow
+pub mod FreedSeen
+pub mod FreeRow

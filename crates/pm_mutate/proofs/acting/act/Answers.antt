@@ -1,0 +1,14 @@
+use Rattle.pm_space.specs.Shown.{view}
+use Rattle.pm_mutate.proofs.Carried.{refused_still, born_so}
+use Rattle.pm_mutate.proofs.acting.act.Goals as goal
+
+pub returns-clause-refused : goal.returns-clause-refused
+returns-clause-refused g c =
+    let v = view c.args.space.now.parts in
+    refused_still v (view c.run.new.parts) c.args.client c.args.cmd.now c.run.result c.run.ensures.row (λ picks refused. c.a_refused_command_leaves_the_space.ensures v c.args.client c.args.cmd.now picks refused)
+
+pub returns-clause-born : goal.returns-clause-born
+returns-clause-born g c =
+    let v = view c.args.space.now.parts in
+    born_so c.run.result v (view c.run.new.parts) c.args.client c.args.cmd.now c.sound_registers.ensures c.run.ensures.row
+    (λ reg count bytes picks small are is. c.new_adds_one_object_in_the_open_train.ensures v c.args.client reg count bytes picks c.args.space.now.kept c.requires.client small are is)

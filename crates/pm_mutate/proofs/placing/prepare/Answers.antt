@@ -1,0 +1,5 @@
+use Rattle.pm_mutate.proofs.Places.{in_table}
+use Rattle.pm_mutate.proofs.placing.prepare.Goals as goal
+
+pub make_room_for_birth-requires : goal.make_room_for_birth-requires
+make_room_for_birth-requires g c = record { there = in_table c.args.parts.now.cars c.args.car c.requires.there }

@@ -1,0 +1,28 @@
+-- What a command does, beyond its row.
+use Rattle.std.specs.Prelude.{◌≡◌, ℕ, true, None}
+use Rattle.std.specs.FinMap.{get}
+use Rattle.pm_types.specs.declared.address.Addr.{Addr}
+use Rattle.pm_types.specs.declared.command.Cmd.{Cmd}
+use Rattle.pm_types.specs.declared.command.Cmd.TheVariants.{New}
+use Rattle.pm_types.specs.declared.reply.Reply.{Reply}
+use Rattle.pm_types.specs.declared.reply.Reply.TheVariants.{Ident}
+use Rattle.pm_model.specs.World.{World}
+use Rattle.pm_model.specs.Answer.{answer, is_refusal}
+use Rattle.pm_view.specs.View.{SpaceView}
+use Rattle.pm_view.specs.Represents.{Represents}
+use Rattle.pm_view.specs.Objects.{AddsObject}
+use Rattle.pm_law_commands.specs.Served.{IsServed}
+
+-- for every world that the space stands for, and in which no object has the next identity, the reply is the world's
+-- answer, and the space after it keeps the heap law and stands for the next world
+abbrev pub Serves : SpaceView → ℕ → Cmd → Reply → SpaceView → Type 0
+Serves view client cmd reply after = (world : World) → Represents view world → get world.heap world.next ≡ None → IsServed (reply, after) (answer world client cmd)
+
+-- a command that is refused leaves the space as it is
+abbrev pub IsStill : SpaceView → Cmd → Reply → SpaceView → Type 0
+IsStill view cmd reply after = is_refusal cmd reply ≡ true → after ≡ view
+
+-- a `new` that is not refused adds one object, under the next identity, in the open train
+abbrev pub IsBirth : SpaceView → Cmd → Reply → SpaceView → Type 0
+IsBirth view (New reg count bytes) reply after = reply ≡ Ident view.next → (place : Addr) × AddsObject view after view.next place
+IsBirth view cmd reply after = Unit {0}

@@ -1,0 +1,128 @@
+ghost use Rattle.std.specs.Prelude.{◌≡◌, ◌≤◌, ◌<◌, IsSome, IfSome, IfOk, OnOk, OnErr};
+ghost use Rattle.std.specs.FinMap.{get};
+ghost use Rattle.pm_trains.specs.declared.trains.TheConstants.{BIRTHS};
+ghost use Rattle.pm_trains.specs.Trains.{HasCar, youngest};
+ghost use Rattle.pm_view.specs.Rows.{if_fits, with_open_train};
+ghost use Rattle.pm_space.specs.Linked.{KeepsRoom};
+ghost use Rattle.pm_space.specs.Shown.{view, IsLinked, IsPrepared, KeepsRest};
+ghost use Rattle.pm_mutate.specs.Births.{open_tail, IsOpened, FitsIn, HasCarWhereFull};
+
+use pm_space::{Parts, make_room_for_birth, open_car, open_car_in_new_train};
+use pm_trains::{BIRTHS, a_new_train_is_the_youngest};
+use pm_types::NoMemory;
+use std::alloc::Global;
+
+/// The number at which no new train is opened.
+const LAST_TRAIN: u64 = 1 << 62;
+
+// The car, where it stands and an object of this room, in bytes, fits it.
+fn if_fits<F>(parts: &Parts<F>, room: u32, car: u64) -> Option<u64>
+    ensures car { result ≡ if_fits (view parts.now) room car }
+    ensures fits { IfSome result (λ it. FitsIn (view parts.now).cars it room) }
+{
+    match parts.cars.get(car) {
+        Some(held) => { if held.car.fits(room) { Some(car) } else { None } }
+        None => None,
+    }
+}
+
+// The tail of the open train, where an object of this room, in bytes, fits it.
+fn tail_with_room<F>(parts: &Parts<F>, room: u32) -> Option<u64>
+    ensures tail { result ≡ open_tail (view parts.now) room }
+    ensures fits { IfSome result (λ car. FitsIn (view parts.now).cars car room) }
+{
+    match parts.trains.tail(parts.trains.youngest()) {
+        Some(car) => if_fits(parts, room, car),
+        None => None,
+    }
+}
+
+// Prepares a car that stands for a birth: it is ready, with memory for the birth, and its queue has room for a
+// change.
+fn prepare<F>(parts: &mut Parts<F>, car: u64) -> Result<(), NoMemory>
+    requires there { IsSome (get (view parts.old).cars car) }
+    ensures view { view parts.new ≡ view parts.old }
+    ensures prepared { OnOk result (IsPrepared parts.new car 1) }
+    ensures kept { KeepsRoom parts.old.links parts.new.links }
+    ensures rest { KeepsRest parts.old parts.new }
+{
+    parts.links.reserve(car, 1)?;
+    make_room_for_birth(&mut parts.cars, car)?;
+    Ok(())
+}
+
+// The car of the open train in which an object of this room is born: its tail, or a new car.
+fn place_in_open_train<F>(parts: &mut Parts<F>, alloc: Global, room: u32) -> Result<u64, NoMemory>
+    requires linked { IsLinked (view parts.old) }
+    requires small { room ≤ 16370 }
+    ensures place { IfOk result (λ car. IsOpened (view parts.old) room (view parts.new) car) }
+    ensures fits { IfOk result (λ car. FitsIn (view parts.new).cars car room) }
+    ensures prepared { IfOk result (λ car. IsPrepared parts.new car 1) }
+    ensures err { OnErr result (view parts.new ≡ view parts.old) }
+    ensures linked { IsLinked (view parts.new) }
+    ensures births { parts.new.trains.births ≡ parts.old.trains.births }
+    ensures kept { KeepsRoom parts.old.links parts.new.links }
+    ensures rest { KeepsRest parts.old parts.new }
+{
+    let _number = parts.cars.vacant();
+    match tail_with_room(parts, room) {
+        Some(car) => {
+            prepare(parts, car)?;
+            Ok(car)
+        }
+        None => {
+            let train = parts.trains.youngest();
+            let car = open_car(parts, alloc, train, 1)?;
+            Ok(car)
+        }
+    }
+}
+
+// The car in which an object of this room is born, in a new open train.
+fn place_in_new_train<F>(parts: &mut Parts<F>, alloc: Global, room: u32) -> Result<u64, NoMemory>
+    requires linked { IsLinked (view parts.old) }
+    requires small { room ≤ 16370 }
+    requires full { BIRTHS ≤ parts.old.trains.births }
+    requires filled { HasCar parts.old.trains.trains (youngest parts.old.trains.trains) }
+    ensures place { IfOk result (λ car. IsOpened (with_open_train (view parts.old)) room (view parts.new) car) }
+    ensures fits { IfOk result (λ car. FitsIn (view parts.new).cars car room) }
+    ensures prepared { IfOk result (λ car. IsPrepared parts.new car 1) }
+    ensures err { OnErr result (view parts.new ≡ view parts.old) }
+    ensures linked { IsLinked (view parts.new) }
+    ensures births { OnOk result (parts.new.trains.births ≡ 0) }
+    ensures kept { KeepsRoom parts.old.links parts.new.links }
+    ensures rest { KeepsRest parts.old parts.new }
+{
+    parts.trains.sound();
+    a_new_train_is_the_youngest();
+    if parts.trains.youngest() >= LAST_TRAIN {
+        return Err(NoMemory);
+    }
+    let car = open_car_in_new_train(parts, alloc, 1)?;
+    Ok(car)
+}
+
+/// The car in which an object of this room, in bytes, is born: the tail of the open train where it has room,
+/// and else a new car; in a new open train where 1,024 objects were born in the one before. The car is
+/// prepared for the birth. After want of memory all is as it was; it is answered too where the open train's
+/// number has reached its bound, 2^62.
+pub(crate) fn place_for<F>(parts: &mut Parts<F>, alloc: Global, room: u32) -> Result<u64, NoMemory>
+    requires linked { IsLinked (view parts.old) }
+    requires small { room ≤ 16370 }
+    requires filled { HasCarWhereFull parts.old.trains }
+    ensures place { IfOk result (λ car. IsOpened (with_open_train (view parts.old)) room (view parts.new) car) }
+    ensures fits { IfOk result (λ car. FitsIn (view parts.new).cars car room) }
+    ensures prepared { IfOk result (λ car. IsPrepared parts.new car 1) }
+    ensures err { OnErr result (view parts.new ≡ view parts.old) }
+    ensures linked { IsLinked (view parts.new) }
+    ensures births { OnOk result (parts.new.trains.births < BIRTHS) }
+    ensures kept { KeepsRoom parts.old.links parts.new.links }
+    ensures rest { KeepsRest parts.old parts.new }
+{
+    if parts.trains.births() < BIRTHS {
+        let car = place_in_open_train(parts, alloc, room)?;
+        return Ok(car);
+    }
+    let car = place_in_new_train(parts, alloc, room)?;
+    Ok(car)
+}

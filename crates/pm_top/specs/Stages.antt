@@ -1,0 +1,75 @@
+-- The stages that a run passes, in their order, and what each end says of them.
+use Rattle.std.specs.Prelude.{◌≡◌, ℕ, ◌≤◌, List, [], ◌∷◌}
+use Rattle.pm_types.specs.declared.entry.Entry.{Entry}
+use Rattle.pm_top.specs.declared.ended.Detail.{Detail}
+use Rattle.pm_top.specs.declared.ended.Detail.TheVariants.{Fine, Usage, Unread, Reading, Writing, Device, NotEmpty, Refused, Memory}
+
+-- no stage
+abbrev pub at_start : ℕ
+at_start = 0
+
+-- the words are read, as those of a run
+abbrev pub the_words : ℕ
+the_words = 1
+
+-- the source is read to its end
+abbrev pub the_source : ℕ
+the_source = 2
+
+-- its bytes are read as a script
+abbrev pub the_script : ℕ
+the_script = 3
+
+-- the store on the disk is opened
+abbrev pub the_store : ℕ
+the_store = 4
+
+-- the events are made, and their replies gathered and put
+abbrev pub the_events : ℕ
+the_events = 5
+
+-- the last replies are put, and all are finished
+abbrev pub the_output : ℕ
+the_output = 6
+
+-- past all stages
+abbrev pub at_end : ℕ
+at_end = 7
+
+-- The last stage that a run which ended so surely did. Where it made an event, it had opened the store.
+abbrev pub behind : Detail → List Entry → ℕ
+behind Fine journal = the_output
+behind Usage journal = at_start
+behind Unread journal = the_words
+behind (Reading before after) journal = the_words
+behind (Writing before after) journal = the_store
+behind (Device before after) [] = the_script
+behind (Device before after) (entry ∷ journal) = the_store
+behind (NotEmpty bytes) journal = at_start
+behind (Refused fault) journal = the_script
+behind Memory [] = the_words
+behind Memory (entry ∷ journal) = the_store
+
+-- the first stage that it surely did not begin
+abbrev pub unreached : Detail → ℕ
+unreached Fine = at_end
+unreached Usage = the_source
+unreached Unread = the_store
+unreached (Reading before after) = the_script
+unreached (Writing before after) = at_end
+unreached (Device before after) = the_output
+unreached (NotEmpty bytes) = the_events
+unreached (Refused fault) = the_events
+unreached Memory = the_output
+
+-- a run that ended so surely did this stage
+abbrev pub IsPast : ℕ → Detail → List Entry → Type 0
+IsPast stage detail journal = stage ≤ behind detail journal
+
+-- it surely did not begin this stage
+abbrev pub IsBefore : ℕ → Detail → Type 0
+IsBefore stage detail = unreached detail ≤ stage
+
+-- it may have done all the stages before this one, and surely did not begin it
+abbrev pub StopsBefore : ℕ → Detail → Type 0
+StopsBefore stage detail = unreached detail ≡ stage

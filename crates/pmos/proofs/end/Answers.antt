@@ -1,0 +1,13 @@
+use Rattle.std.proofs.Common.{refl, subst}
+use Rattle.pm_top.specs.declared.ended.Detail.TheVariants.{Memory}
+use Rattle.pm_top.specs.Ends.{detail_line}
+use Rattle.pm_top.specs.Program.{Tells}
+use Rattle.pmos.proofs.end.Goals as goal
+
+pub returns-in-Err : goal.returns-in-Err
+returns-in-Err g c =
+    record {
+      detail = Memory;
+      is_status = refl;
+      told = subst (λ (errors : g.row.E.Denot). Tells g.E.Sink.written g.E.Sink.count errors c.tell.new.errors (detail_line Memory)) c.in-Err.ensures.untold c.tell.ensures;
+    }
