@@ -65,8 +65,8 @@ module _ {D S K : Type 0} (disk_count : D → ℕ) (made : D → Made) (source_c
       → ShowsCauses disk_count made source_count sink_count disk end source source sink sink (not_opened fault)
   reopen_causes disk end source sink NotAStore cause reads = absurd cause
   reopen_causes disk end source sink (Version version) cause reads = absurd cause
-  reopen_causes disk end source sink (Damaged page kept found) cause reads = absurd cause
-  reopen_causes disk end source sink (Malformed page at) cause reads = absurd cause
+  reopen_causes disk end source sink (Damaged page kept found) cause reads = record { reading = refl; writing = refl; device = cause; rule = tt; reads = reads }
+  reopen_causes disk end source sink (Malformed page at) cause reads = record { reading = refl; writing = refl; device = cause; rule = tt; reads = reads }
   reopen_causes disk end source sink Broken cause reads = record { reading = refl; writing = refl; device = cause; rule = tt; reads = reads }
   reopen_causes disk end source sink (Disk before after) cause reads = record { reading = refl; writing = tt; device = cause; rule = tt; reads = reads }
   reopen_causes disk end source sink NoRoom cause reads = record { reading = refl; writing = tt; device = cause; rule = tt; reads = reads }

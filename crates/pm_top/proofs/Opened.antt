@@ -77,8 +77,8 @@ refused_by_header bytes NoRoom is = tt
 pub refused_behind : (bytes : List ℕ) (fault : OpenFault) → IsReopenFaultOf bytes fault → IsRefusedFor bytes (not_opened fault)
 refused_behind bytes NotAStore is = absurd is
 refused_behind bytes (Version version) is = absurd is
-refused_behind bytes (Damaged page kept found) is = absurd is
-refused_behind bytes (Malformed page at) is = absurd is
+refused_behind bytes (Damaged page kept found) is = is
+refused_behind bytes (Malformed page at) is = is
 refused_behind bytes Broken is = is
 refused_behind bytes (Disk before after) is = tt
 refused_behind bytes NoRoom is = tt
