@@ -6,3 +6,4 @@ pub mod PlainLaws
 pub mod CopyLaws
 pub mod LaidLaws
 pub mod KeptLaws
+pub mod Stores

@@ -1,11 +1,14 @@
 -- The stores that this stage opens: those that stand for a copy whose fields are null, with no slot that is Moved.
-use Rattle.std.specs.Prelude.{◌≡◌, ℕ, Bool, false, List, is_none, Result, Ok, Err, if◌then◌else◌}
+use Rattle.std.specs.Prelude.{◌≡◌, ℕ, Bool, false, List, is_none, Some, Result, Ok, Err, if◌then◌else◌}
 use Rattle.std.specs.List.{list_all}
+use Rattle.std.specs.FinMap.{get}
+use Rattle.pm_types.specs.Names.{IsName}
 use Rattle.pm_types.specs.declared.fault.OpenFault.{OpenFault}
 use Rattle.pm_types.specs.declared.fault.OpenFault.TheVariants.{Broken}
 use Rattle.pm_types.specs.declared.object.Slot.{Slot}
 use Rattle.pm_types.specs.declared.object.Slot.TheVariants.{Live, Moved}
 use Rattle.pm_model.specs.World.{Copy}
+use Rattle.pm_model.specs.Plain.{IsPlainCopy}
 use Rattle.pm_image.specs.declared.settled.KeptPage.{KeptPage}
 use Rattle.pm_base.specs.Results.{◌>>=◌}
 use Rattle.pm_image.specs.Opening.{current}
@@ -42,3 +45,8 @@ reopened bytes = do
 pub record Opens (bytes : List ℕ) (number : ℕ) (copy : Copy) : Type 0 where
   pub stands : Stands bytes number copy
   pub reads : reopened bytes ≡ Ok (number, copy)
+
+-- A copy that a store can hold, as far as this stage goes: it is plain, and its roots have names.
+pub record IsStorable (copy : Copy) : Type 0 where
+  pub plain : IsPlainCopy copy
+  pub names : (name : List ℕ) (id : ℕ) → get copy.roots name ≡ Some id → IsName name

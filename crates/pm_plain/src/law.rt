@@ -1,4 +1,5 @@
-ghost use Rattle.std.specs.Prelude.{◌≡◌, ℕ, List, true, Ok};
+ghost use Rattle.std.specs.Prelude.{◌≡◌, ℕ, ◌≤◌, List, true, Ok};
+ghost use Rattle.pm_types.specs.declared.limits.TheConstants.{LAST_COPY};
 ghost use Rattle.pm_layout.specs.declared.header.Header.{Header};
 ghost use Rattle.pm_model.specs.World.{Copy, empty_copy};
 ghost use Rattle.pm_model.specs.Plain.{IsPlainCopy};
@@ -10,7 +11,7 @@ ghost use Rattle.pm_shadow.specs.State.{State, published};
 ghost use Rattle.pm_shadow.specs.Images.{Holds, Renews};
 ghost use Rattle.pm_shadow.specs.Copies.{KeepsNoFewer};
 ghost use Rattle.pm_plain.specs.Kept.{HasCopy, HasNextCopy, AreClaimed};
-ghost use Rattle.pm_plain.specs.Plain.{is_plain, reopened, Opens};
+ghost use Rattle.pm_plain.specs.Plain.{is_plain, reopened, Opens, IsStorable};
 
 /// What a plan of a copy says is read again from the pages that it stands on, and is that copy.
 pub fn what_is_laid_out_is_read()
@@ -29,6 +30,11 @@ pub fn what_is_opened_stands()
     ensures opens { (bytes : List ℕ) (found : Opened) → opened bytes ≡ Ok found → is_plain found.graph ≡ true → Opens bytes found.current.header.epoch (copy_in found) }
     // A new store is opened.
     ensures blank { Opens blank_store 0 empty_copy }
+{}
+
+/// Each copy that is plain and whose roots have names has a store, under each number that a header can hold.
+pub fn a_copy_has_a_store()
+    ensures { (number : ℕ) (copy : Copy) → number ≤ LAST_COPY → IsStorable copy → (bytes : List ℕ) × Opens bytes number copy }
 {}
 
 /// While the next copy is written, each image of the disk is opened as the current one; once its header is
