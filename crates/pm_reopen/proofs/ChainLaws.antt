@@ -21,7 +21,7 @@ use Rattle.pm_image.proofs.Results.{both_true}
 use Rattle.pm_base.proofs.Fronts.{with_front, regroup}
 use Rattle.pm_base.proofs.Results.{bind_ok, bound}
 use Rattle.pm_reopen.specs.declared.fault.ReadFault.{ReadFault}
-use Rattle.pm_reopen.specs.Reading.{Fails, link_at, IsThere, IsEntryThere, root_count, page_numbers, IsSound}
+use Rattle.pm_reopen.specs.Reading.{Fails, link_at, IsThere, IsEntryThere, IsEntryNamed, root_count, page_numbers, IsSound}
 use Rattle.pm_reopen.proofs.Faults.{fails_too}
 use Rattle.pm_reopen.proofs.ReadLaws.{err_same}
 use Rattle.pm_reopen.proofs.Lists.{all_both}
@@ -118,6 +118,11 @@ entries_there count met [] next = tt
 entries_there count met (Car car train page digest ∷ entries) next = (free_there count met.pages page next.0.free, entries_there count (meeting met (Car car train page digest)) entries next.1)
 entries_there count met (Root name at ∷ entries) next = (tt, entries_there count (meeting met (Root name at)) entries next.1)
 
+entries_named : (count : ℕ) (met : Met) (entries : List CatEntry) → AreNext (Some count) met entries → AllByRecursion IsEntryNamed entries
+entries_named count met [] next = tt
+entries_named count met (Car car train page digest ∷ entries) next = (tt, entries_named count (meeting met (Car car train page digest)) entries next.1)
+entries_named count met (Root name at ∷ entries) next = (next.0.named, entries_named count (meeting met (Root name at)) entries next.1)
+
 roots_met : (count : ℕ) (met : Met) (entries : List CatEntry) (before : ℕ) → AreNext (Some count) met entries → met.roots ≤ ROOTS → met.roots ≡ before
     → ((meeting_all met entries).roots ≡ before + root_count entries) × ((meeting_all met entries).roots ≤ ROOTS)
 roots_met count met [] before next few is = (omega (arith, is), few)
@@ -171,5 +176,7 @@ sound_on count met front page read has there sound is =
       pages = subst (λ (ps : List ℕ). AllByRecursion (IsThere count) ps) (sym (numbers_both front ((page, read) ∷ []))) (all_both (IsThere count) (page_numbers front) (page ∷ []) sound.pages (there, tt));
       entries = subst (λ (es : List CatEntry). AllByRecursion (IsEntryThere count) es) (sym (one_more front page read))
           (all_both (IsEntryThere count) (entries_of front) read.entries sound.entries (entries_there count (meeting_next met read.next) read.entries has.entries));
+      names = subst (λ (es : List CatEntry). AllByRecursion IsEntryNamed es) (sym (one_more front page read))
+          (all_both IsEntryNamed (entries_of front) read.entries sound.names (entries_named count (meeting_next met read.next) read.entries has.entries));
       roots = omega (arith, roots.0, roots.1);
     }

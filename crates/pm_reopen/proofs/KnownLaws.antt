@@ -3,7 +3,9 @@ use Rattle.std.proofs.Common.{◌≡◌, ℕ, zero, suc, ◌+◌, ◌<◌, ◌�
 use Rattle.std.specs.Prelude.{IsSome}
 use Rattle.std.specs.List.{list_all, flat_map, AllByRecursion}
 use Rattle.std.specs.Cmp.{nat_cmp_total}
-use Rattle.std.specs.Ordering.{nat_cmp, eq_by_cmp}
+use Rattle.std.specs.declared.cmp.Ordering.{Ordering}
+use Rattle.std.specs.declared.cmp.Ordering.TheVariants.{Less, Equal, Greater}
+use Rattle.std.specs.Ordering.{nat_cmp, eq_by_cmp, is_eq}
 use Rattle.std.specs.FinMap.{find, get, len, from_entries, get-from_entries, len-empty, len-insert, contains_key}
 use Rattle.std.specs.FinSet as set
 use Rattle.std.proofs.lemmas.Bool.{eqb-true}
@@ -16,9 +18,10 @@ use Rattle.pm_layout.specs.Spelling.{HasSpelling}
 use Rattle.pm_model.specs.Heap.{Object, Heap}
 use Rattle.pm_model.specs.World.{Roots, Copy}
 use Rattle.pm_types.specs.Orders.{name_cmp}
+use Rattle.pm_types.specs.Names.{IsName}
 use Rattle.pm_model.specs.Copying.{copied}
 use Rattle.pm_model.specs.Plain.{IsPlainObject, IsPlainCopy}
-use Rattle.pm_types.proofs.Orders.{names_total}
+use Rattle.pm_types.proofs.Orders.{names_total, names_antisymmetric}
 use Rattle.pm_model.proofs.Reached.{copied_kept, copied_reached, copied_again}
 use Rattle.pm_image.specs.declared.catalog.CatEntry.{CatEntry}
 use Rattle.pm_image.specs.declared.catalog.CatEntry.TheVariants.{Car, Root}
@@ -26,9 +29,9 @@ use Rattle.pm_image.specs.declared.settled.KeptPage.{KeptPage}
 use Rattle.pm_image.specs.CarPages.{Numbers, is_taken, AreFree}
 use Rattle.pm_image.specs.Graphs.{images_of, slot_in, slot_named, identity_in, resolved, heap_of, named_root, listed_root, roots_of}
 use Rattle.pm_image.proofs.Results.{both_true}
-use Rattle.pm_plain.specs.Plain.{is_plain_car}
+use Rattle.pm_plain.specs.Plain.{is_plain_car, IsStorable}
 use Rattle.pm_reopen.specs.Building.{held_in, held_in_all, held_in_cars, has_slot, IsBuilt}
-use Rattle.pm_reopen.specs.Reading.{IsCar, root_count}
+use Rattle.pm_reopen.specs.Reading.{IsCar, IsEntryNamed, root_count}
 use Rattle.pm_reopen.proofs.Lists.{all_both}
 use Rattle.pm_reopen.proofs.BuiltLaws.{heap_built, from_over, tied_test, resolved_named}
 
@@ -215,3 +218,41 @@ built_plain count next cars entries copy some last are few built =
     subst IsPlainCopy (sym built.is_copy)
     (copied_plain (heap_of (images_of cars)) (roots_of (images_of cars) entries) next some last (heap_known count next cars plain are) (λ name id is. root_there cars entries name id plain is)
     (omega (arith, few_entries (flat_map (listed_root (images_of cars)) entries), few_listed cars entries, few)))
+
+-- ---- the names of its roots
+
+equal : (r : Ordering) → is_eq r ≡ true → r ≡ Equal
+equal Less is = cc
+equal Equal is = refl
+equal Greater is = cc
+
+-- what is found is found at one of the keys
+found_key : (es : List (List ℕ × ℕ)) (q : List ℕ) (x : ℕ) → AllByRecursion (λ (e : List ℕ × ℕ). IsName e.0) es → find name_cmp q es ≡ Some x → IsName q
+found_key [] q x all is = cc
+found_key (e ∷ es) q x all is =
+    elim (eq_by_cmp name_cmp q e.0) as (λ b. eq_by_cmp name_cmp q e.0 ≡ b → cond b (Some e.1) (find name_cmp q es) ≡ Some x → IsName q) [
+      | true ↦ λ tied here. subst IsName (sym (names_antisymmetric q e.0 (equal (name_cmp q e.0) tied))) all.0
+      | false ↦ λ apart there. found_key es q x all.1 there
+    ] refl is
+
+one_named : (name : List ℕ) (found : Option ℕ) → IsName name → AllByRecursion (λ (e : List ℕ × ℕ). IsName e.0) (named_root name found)
+one_named name None is = tt
+one_named name (Some id) is = (is, tt)
+
+listed_named : (cars : List KeptPage) (entries : List CatEntry) → AllByRecursion IsEntryNamed entries → AllByRecursion (λ (e : List ℕ × ℕ). IsName e.0) (flat_map (listed_root (images_of cars)) entries)
+listed_named cars [] named = tt
+listed_named cars (Car car train page digest ∷ entries) named = listed_named cars entries named.1
+listed_named cars (Root name at ∷ entries) named =
+    all_both (λ (e : List ℕ × ℕ). IsName e.0) (named_root name (resolved (images_of cars) at)) (flat_map (listed_root (images_of cars)) entries)
+    (one_named name (resolved (images_of cars) at) named.0) (listed_named cars entries named.1)
+
+-- what is built is a copy that a store can hold
+pub built_fits : (count next : ℕ) (cars : List KeptPage) (entries : List CatEntry) (copy : Copy) → 0 < next → next ≤ 4294967296 → AllByRecursion (IsCar count next) cars → root_count entries ≤ ROOTS
+    → AllByRecursion IsEntryNamed entries → IsBuilt cars entries next copy → IsStorable copy
+built_fits count next cars entries copy some last are few named built = record {
+  plain = built_plain count next cars entries copy some last are few built;
+  names = λ name id is.
+      let roots : get (roots_of (images_of cars) entries) name ≡ Some id = ap (λ (c : Copy). get c.roots name) (sym built.is_copy) ∙ is in
+      found_key (flat_map (listed_root (images_of cars)) entries) name id (listed_named cars entries named)
+      (sym (get-from_entries names_total (flat_map (listed_root (images_of cars)) entries) name) ∙ roots);
+}

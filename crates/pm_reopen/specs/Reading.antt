@@ -5,6 +5,7 @@ use Rattle.std.specs.List.{AllByRecursion}
 use Rattle.std.specs.FinSet as set
 use Rattle.pm_base.specs.Counts.{Rose}
 use Rattle.pm_types.specs.declared.limits.TheConstants.{FIELDS, ROOTS, PAGE_BYTES}
+use Rattle.pm_types.specs.Names.{IsName}
 use Rattle.pm_types.specs.declared.fault.OpenFault.{OpenFault}
 use Rattle.pm_types.specs.declared.fault.OpenFault.TheVariants.{Damaged, Malformed as MalformedAt, Broken}
 use Rattle.pm_disk.specs.declared.disk.Disk.{Ghosts}
@@ -130,6 +131,11 @@ abbrev pub IsEntryThere : ℕ → CatEntry → Type 0
 IsEntryThere count (Car car train page digest) = IsThere count page
 IsEntryThere count (Root name at) = Unit {0}
 
+-- the root that an entry lists has a name
+abbrev pub IsEntryNamed : CatEntry → Type 0
+IsEntryNamed (Car car train page digest) = Unit {0}
+IsEntryNamed (Root name at) = IsName name
+
 -- how many roots are listed
 abbrev pub root_count : List CatEntry → ℕ
 root_count [] = 0
@@ -140,12 +146,13 @@ root_count (Root name at ∷ entries) = root_count entries + 1
 abbrev pub page_numbers : Catalog → List ℕ
 page_numbers catalog = map (λ (page : ℕ × CatalogPage). page.0) catalog
 
--- The pages of a catalog and those of its cars are pages of the store, its entries fit their pages, and the roots are
--- not too many.
+-- The pages of a catalog and those of its cars are pages of the store, its entries fit their pages, and the roots have
+-- names and are not too many.
 pub record IsSound (count : ℕ) (catalog : Catalog) : Type 0 where
   pub fits : AllByRecursion (λ (page : ℕ × CatalogPage). catalog_used page.1.entries ≤ PAGE_BYTES) catalog
   pub pages : AllByRecursion (IsThere count) (page_numbers catalog)
   pub entries : AllByRecursion (IsEntryThere count) (entries_of catalog)
+  pub names : AllByRecursion IsEntryNamed (entries_of catalog)
   pub roots : root_count (entries_of catalog) ≤ ROOTS
 
 -- A car stands on a page of the store, and has a page after some that were read.

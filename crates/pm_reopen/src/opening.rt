@@ -5,10 +5,9 @@ ghost use Rattle.pm_types.specs.declared.fault.OpenFault.TheVariants.{Broken};
 ghost use Rattle.pm_disk.specs.Disk.{IfTold};
 ghost use Rattle.pm_layout.specs.Headers.{HasHeaderSpelling};
 ghost use Rattle.pm_model.specs.World.{Copy};
-ghost use Rattle.pm_model.specs.Plain.{IsPlainCopy};
 ghost use Rattle.pm_image.specs.declared.settled.KeptPage.{KeptPage};
 ghost use Rattle.pm_image.specs.Graphs.{images_of, Graph as Found, entries_of, graph_of, linked, sites_of, used_pages};
-ghost use Rattle.pm_plain.specs.Plain.{is_plain, readable, reopened};
+ghost use Rattle.pm_plain.specs.Plain.{is_plain, readable, reopened, IsStorable};
 ghost use Rattle.pm_plain.specs.Kept.{HasCopy};
 ghost use Rattle.pm_shadow.specs.declared.page_use.PageUse.TheVariants.{Claimed};
 ghost use Rattle.pm_shadow.specs.Uses.{IsListed};
@@ -108,7 +107,7 @@ fn read_copy<D: Disk>(alloc: Global, pages: &mut Pages<D>) -> Result<(Vec<u64>, 
     requires first { IsThere (state pages.old).count (state pages.old).header.first }
     requires spelled { HasHeaderSpelling (state pages.old).header }
     ensures read { IfOk result (λ read. IsRead (state pages.old).count (state pages.old).header (D.contents (disk_of pages.old)) read.0.items read.1) }
-    ensures plain { IfOk result (λ read. IsPlainCopy read.1) }
+    ensures fits { IfOk result (λ read. IsStorable read.1) }
     ensures fault { IfErr result (λ e. IfTold (D.contents (disk_of pages.old)) (λ bytes. Fails {X = Found} e (readable (graph_of (store_of (state pages.old).count bytes) (state pages.old).header)))) }
     ensures looked { Looked pages.old pages.new }
     ensures counts { CountsOrUnheld (D.count (disk_of pages.old)) (D.count (disk_of pages.new)) result }
@@ -132,7 +131,7 @@ fn open<D: Disk>(alloc: Global, pages: &mut Pages<D>) -> Result<Graph, ReadFault
     requires attached { state pages.old ≡ attached (state pages.old).slot (state pages.old).header (state pages.old).count (state pages.old).closed }
     requires spelled { HasHeaderSpelling (state pages.old).header }
     requires current { IfTold (D.contents (disk_of pages.old)) (λ bytes. IsCurrent (state pages.old) bytes) }
-    ensures plain { IfOk result IsPlainCopy }
+    ensures fits { IfOk result IsStorable }
     ensures found { IfOk result (λ copy. IfTold (D.contents (disk_of pages.old)) (λ bytes. reopened bytes ≡ Ok ((state pages.old).header.epoch, copy))) }
     ensures has { IfOk result (λ copy. IfTold (D.contents (disk_of pages.new)) (λ bytes. HasCopy (state pages.new) bytes copy)) }
     ensures next { IfOk result (λ copy. copy.next ≡ (state pages.old).header.next) }
@@ -200,7 +199,7 @@ pub fn read_graph<D: Disk>(
 }
 
 /// Opens the copy behind the current header of a store that was just attached: its catalog and its cars are
-/// read, and the pages that they stand on are known from then on. Each field of the copy is null. Nothing is
+/// read, and the pages that they stand on are known from then on. Each field of the copy is null, and each root has a name. Nothing is
 /// written, and no page is claimed.
 ///
 /// # Errors
@@ -213,7 +212,7 @@ pub fn open_copy<D: Disk>(alloc: Global, pages: &mut Pages<D>) -> Result<Graph, 
     requires spelled { HasHeaderSpelling (state pages.old).header }
     requires current { IfTold (D.contents (disk_of pages.old)) (λ bytes. IsCurrent (state pages.old) bytes) }
     // What is opened is the copy of which the bytes of the disk are a spelling.
-    ensures plain { IfOk result IsPlainCopy }
+    ensures fits { IfOk result IsStorable }
     ensures found { IfOk result (λ copy. IfTold (D.contents (disk_of pages.old)) (λ bytes. reopened bytes ≡ Ok ((state pages.old).header.epoch, copy))) }
     ensures next { IfOk result (λ copy. copy.next ≡ (state pages.old).header.next) }
     // Its pages are kept from then on, and none is claimed.

@@ -8,7 +8,7 @@ use Rattle.pm_shadow.specs.Pages.{disk_of}
 use Rattle.pm_reopen.specs.declared.fault.ReadFault.{ReadFault}
 use Rattle.pm_reopen.specs.Building.{IsBuilt}
 use Rattle.pm_reopen.specs.Reading.{store_of, root_count}
-use Rattle.pm_reopen.proofs.KnownLaws.{built_plain}
+use Rattle.pm_reopen.proofs.KnownLaws.{built_fits}
 use Rattle.pm_reopen.proofs.OpenLaws.{whole_read, unheld_fails, readable_fails, held_counts, loose_counts}
 use Rattle.pm_reopen.proofs.opening.read_copy.Goals as goal
 
@@ -40,9 +40,9 @@ returns-clause-read g c =
     whole_read c.args.pages.now.count header (g.D.Disk.contents (disk_of c.args.pages.now)) c.in_ok-chain.chain c.in_ok-chain.cars c.in_ok-used.used.items c.in_ok-used.copy c.in_ok-chain.ensures.whole
     (λ bytes told. c.in_ok-chain.ensures.gives bytes told) c.in_ok-used.ensures.pages built
 
-pub returns-clause-plain : goal.returns-clause-plain
-returns-clause-plain g c =
+pub returns-clause-fits : goal.returns-clause-fits
+returns-clause-fits g c =
     let header = c.args.pages.now.header in
     let whole = c.in_ok-chain.ensures.whole in
     let built = subst (λ (h : Header). IsBuilt c.in_ok-chain.cars (entries_of c.in_ok-chain.chain) h.next c.in_ok-used.copy) c.header.ensures c.in_ok-used.ensures.built in
-    built_plain c.args.pages.now.count header.next c.in_ok-chain.cars (entries_of c.in_ok-chain.chain) c.in_ok-used.copy c.requires.spelled.some c.requires.spelled.last whole.cars_are whole.sound.roots built
+    built_fits c.args.pages.now.count header.next c.in_ok-chain.cars (entries_of c.in_ok-chain.chain) c.in_ok-used.copy c.requires.spelled.some c.requires.spelled.last whole.cars_are whole.sound.roots whole.sound.names built
