@@ -25,6 +25,9 @@ use Rattle.pm_top.specs.declared.ended.Detail.{Detail}
 use Rattle.pm_top.specs.declared.ended.Detail.TheVariants.{Fine, Usage, Unread, Reading, Writing, Device, NotEmpty, Refused, Memory}
 use Rattle.pm_top.specs.Ends.{stop_in, ended_by, ShowsReading, ShowsWriting, ShowsDevice, NamesRule}
 use Rattle.pm_top.specs.Stages.{IsPast, IsBefore, StopsBefore, unreached, the_words, the_script, the_events, the_output}
+use Rattle.pm_image.specs.Blank.{blank_store}
+use Rattle.pm_plain.specs.Plain.{Opens}
+use Rattle.pm_plain.proofs.PlainLaws.{blank_opens}
 use Rattle.pm_top.specs.Journals.{IsBegun}
 use Rattle.pm_top.specs.Commands.{ShowsCauses}
 
@@ -49,13 +52,13 @@ plain_closed copy plain = record {
 }
 
 -- a journal that is legal from the world of a copy that a store can stand for
-pub begun_by : (number : ℕ) (copy : Copy) (journal : List Entry) → IsPlainCopy copy → IsLegal (begin number copy) journal → IsBegun journal
-begun_by number copy journal plain legal =
-    record { number = number; copy = copy; plain = plain; closed = begin_closed number copy (plain_closed copy plain); legal = legal }
+pub begun_by : (number : ℕ) (copy : Copy) (journal : List Entry) → (bytes : List ℕ) × Opens bytes number copy → IsPlainCopy copy → IsLegal (begin number copy) journal → IsBegun journal
+begun_by number copy journal has plain legal =
+    record { number = number; copy = copy; store = has.0; stands = has.1.stands; plain = plain; closed = begin_closed number copy (plain_closed copy plain); legal = legal }
 
 -- an empty journal is one
 pub none_begun : (journal : List Entry) → journal ≡ [] → IsBegun journal
-none_begun journal none = begun_by 0 empty_copy journal plain_empty (subst (IsLegal (begin 0 empty_copy)) (sym none) tt)
+none_begun journal none = begun_by 0 empty_copy journal (blank_store, blank_opens) plain_empty (subst (IsLegal (begin 0 empty_copy)) (sym none) tt)
 
 -- ---- ends of a run of lines
 

@@ -6,6 +6,7 @@ use Rattle.pm_model.specs.World.{Copy, begin}
 use Rattle.pm_model.specs.Closed.{IsClosed}
 use Rattle.pm_model.specs.Plain.{IsPlainCopy}
 use Rattle.pm_model.specs.Journal.{IsLegal, requests_of, Serves}
+use Rattle.pm_image.specs.Stands.{Stands}
 use Rattle.pm_script.specs.Script.{IsScript}
 use Rattle.pm_top.specs.declared.ended.Detail.{Detail}
 use Rattle.pm_top.specs.declared.ended.Detail.TheVariants.{Unread}
@@ -15,6 +16,9 @@ use Rattle.pm_top.specs.Stages.{IsPast, unreached, the_words, the_script, the_st
 pub record IsBegun (journal : List Entry) : Type 0 where
   pub number : ℕ
   pub copy : Copy
+  -- these bytes stand for the copy under the number
+  pub store : List ℕ
+  pub stands : Stands store number copy
   -- the copy is within the limits, all of it is reached by its names, and its fields are null
   pub plain : IsPlainCopy copy
   -- in its world whatever is named is an object

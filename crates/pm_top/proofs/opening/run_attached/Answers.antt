@@ -1,9 +1,11 @@
-use Rattle.std.proofs.Common.{◌≡◌, ◌∙◌, ap, sym, subst, refl, Ok, ℕ, ◌≤◌, List, [], false, arith}
+use Rattle.std.proofs.Common.{rules, ◌≡◌, ◌∙◌, ap, sym, subst, refl, Ok, ℕ, ◌≤◌, List, [], false, arith}
 use Rattle.pm_types.specs.declared.entry.Entry.{Entry}
+use Rattle.pm_types.specs.declared.limits.TheConstants.{LAST_COPY}
 use Rattle.pm_model.specs.World.{begin}
 use Rattle.pm_shadow.specs.State.{State}
 use Rattle.pm_shadow.specs.Pages.{state, disk_of, current_kept}
 use Rattle.pm_plain.proofs.KeptLaws.{held_opens}
+use Rattle.pm_plain.proofs.Stores.{has_store}
 use Rattle.pm_top.specs.declared.ended.Detail.{Detail}
 use Rattle.pm_top.specs.Ends.{not_opened}
 use Rattle.pm_top.specs.Disks.{LeavesDisk}
@@ -35,6 +37,7 @@ returns-in-Ok-clause-store g c =
     let looks = c.open_copy.ensures.looks in
     let ran = c.run_on_pages.ensures in
     let epoch : (state pages).header.epoch ≡ (state c.args.pages).header.epoch = ap (λ (s : State). s.header.epoch) c.in-Ok.ensures.state in
+    let last : (state pages).header.epoch ≤ LAST_COPY = search rules in
     let sound : (state pages).failed ≡ false = ap (λ (s : State). s.failed) c.in-Ok.ensures.state ∙ ap (λ (s : State). s.failed) c.requires.attached in
     let leaves =
     opened_run g.D.Disk.contents g.D.Disk.image g.D.Disk.moment g.D.Disk.since start (disk_of pages) c.run_on_pages.result.disk (state pages) (state pages).header.epoch copy
@@ -55,7 +58,7 @@ returns-in-Ok-clause-store g c =
     ran.answers.legal ran.disk.leaves ran.disk.last (ran.disk.still refl) ran.stops in
     store_run g.D.Disk.contents g.D.Disk.image g.D.Disk.moment g.D.Disk.since g.K.Sink.written g.K.Sink.finished g.K.Sink.count start c.run_on_pages.result.disk c.args.sink c.run_on_pages.result.sink
     c.run_on_pages.result.detail c.run_on_pages.result.journal.items ran.stops
-    (begun_by (state pages).header.epoch copy c.run_on_pages.result.journal.items c.in-Ok.ensures.plain ran.answers.legal) leaves ran.replies
+    (begun_by (state pages).header.epoch copy c.run_on_pages.result.journal.items (has_store (state pages).header.epoch copy last c.in-Ok.ensures.fits) c.in-Ok.ensures.fits.plain ran.answers.legal) leaves ran.replies
 
 pub returns-in-Ok-clause-causes : goal.returns-in-Ok-clause-causes
 returns-in-Ok-clause-causes g c =
@@ -92,3 +95,6 @@ returns-in-Err-clause-causes g c =
     _ _ _ _ _ _ _ _ _ _ (e.detail ∙ c.not_opened.ensures) (ap (λ v. v.items) e.journal) (e.disk ∙ c.into_disk-disk.ensures) e.source e.sink
     (reopen_causes g.D.Disk.count g.D.Disk.made g.S.Source.count g.K.Sink.count (disk_of c.args.pages) (disk_of c.open_copy.new.pages) c.args.source c.args.sink fault c.in-Err.ensures.cause
     (ap (λ made. made.past) c.open_copy.ensures.made))
+
+pub run_on_pages-requires-clause-plain : goal.run_on_pages-requires-clause-plain
+run_on_pages-requires-clause-plain g c = c.in-Ok.ensures.fits.plain
