@@ -140,7 +140,7 @@ stands_at : (page : ℕ) (items : List Item) (id : ℕ) (object : Object) → fi
 stands_at page [] id object is = absurd (none-some object is)
 stands_at page (item ∷ items) id object is =
     elim (eq_by_cmp nat_cmp id item.0) as (λ b. eq_by_cmp nat_cmp id item.0 ≡ b → cond b (Some item.1) (find nat_cmp id items) ≡ Some object
-        → id_at ((item ∷ []) ∷ map (λ (placed : Placed). placed.items) (singles (page + 1) items)) (cond b 0 (suc (before items id))) 0 ≡ Some id) [
+    → id_at ((item ∷ []) ∷ map (λ (placed : Placed). placed.items) (singles (page + 1) items)) (cond b 0 (suc (before items id))) 0 ≡ Some id) [
       | true ↦ λ tied here. ap (λ (n : ℕ). Some n) (sym (eqb-true id item.0 (sym (tied_nat id item.0) ∙ tied)))
       | false ↦ λ apart there. stands_at (page + 1) items id object there
     ] refl is
@@ -481,8 +481,8 @@ module _ (number : ℕ) (copy : Copy) (fits : IsStorable copy) (last : number �
       ap (λ (bytes : List ℕ). get_or bytes 16383 0) behind
       ∙ get_or_append_left (opened_page number copy) (zeros ++ (listed_bytes copy ++ held_bytes copy)) 0 16383 (omega (arith, length-opened))
       ∙ unfold opened_page gap in (
-        get_or-append_right {X = ℕ} (spelled number copy) (replicate 16287 0 ++ 0xa5 ∷ []) 96 16383 0 length-spelled (omega arith)
-        ∙ get_or-append_right {X = ℕ} (replicate 16287 0) (0xa5 ∷ []) 16287 16287 0 (length-replicate {A = ℕ} 16287 0) (omega arith)
+      get_or-append_right {X = ℕ} (spelled number copy) (replicate 16287 0 ++ 0xa5 ∷ []) 96 16383 0 length-spelled (omega arith)
+      ∙ get_or-append_right {X = ℕ} (replicate 16287 0) (0xa5 ∷ []) 16287 16287 0 (length-replicate {A = ℕ} 16287 0) (omega arith)
       )
 
   gate_1 : get_or (store_for number copy) 32767 0 ≡ 0

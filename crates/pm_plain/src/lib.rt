@@ -3,4 +3,7 @@
 
 mod law;
 
-pub use law::{a_copy_has_a_store, an_image_is_opened_as_its_copy, what_is_laid_out_is_read, what_is_opened_stands};
+pub use law::{
+    a_copy_has_a_store, an_image_is_opened_as_its_copy, what_is_laid_out_is_read,
+    what_is_opened_stands,
+};
