@@ -9,3 +9,4 @@ pub mod Lawful
 pub mod Counting
 pub mod Beyond
 pub mod Skips
+pub mod Choices

@@ -1,3 +1,4 @@
 pub mod Steps
 pub mod Named
 pub mod Sought
+pub mod Ways

@@ -1,5 +1,5 @@
 -- What an event answers, and the space after it.
-use Rattle.std.specs.Prelude.{◌≡◌, ℕ, ◌==◌, true, not, is_some, List, length, Option, Some, None}
+use Rattle.std.specs.Prelude.{◌≡◌, ℕ, ◌==◌, Bool, true, not, if◌then◌else◌, is_some, List, length, Option, Some, None}
 use Rattle.std.specs.Option.{unwrap_or}
 use Rattle.pm_types.specs.declared.address.Addr.{Addr}
 use Rattle.pm_types.specs.declared.event.Step.{Step}
@@ -11,12 +11,17 @@ use Rattle.pm_model.specs.World.{World}
 use Rattle.pm_view.specs.View.{SpaceView}
 use Rattle.pm_view.specs.Represents.{Represents}
 use Rattle.pm_view.specs.Reading.{id_at, cars_of}
+use Rattle.pm_view.specs.Collecting.{without_car, completing}
 use Rattle.pm_view.specs.Events.{Row, nothing, select, apply, doom, start, fix, move_anchor, move_out, move_on, finish, sweep, free, free_doomed, next_row, after, MayPick, MayPlace}
 use Rattle.pm_space.specs.Counted.{capped}
 
 -- a space whose count of completed collections stands still at the greatest number of 64 bits
 abbrev pub counted : SpaceView → SpaceView
 counted view = record view { completed = capped view.completed }
+
+-- a car of a train goes, and where it completes the collection that is counted
+abbrev pub freed : SpaceView → ℕ → ℕ → Bool → SpaceView
+freed view train car completes = counted (if completes then completing (without_car view train car) else without_car view train car)
 
 -- the identity of the object at an address
 abbrev pub identity : SpaceView → Addr → ℕ

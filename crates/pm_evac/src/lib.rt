@@ -10,6 +10,7 @@ mod freeing;
 mod skipping;
 mod sources;
 mod sweeping;
+mod ways;
 #[cfg(test)]
 mod tests;
 

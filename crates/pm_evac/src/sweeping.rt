@@ -1,13 +1,11 @@
 ghost use Rattle.std.specs.Prelude.{◌≡◌, ℕ, IfSome, IfOk, OnOk, OnErr, IsSome, Some, length, ◌<◌, ◌^◌};
 ghost use Rattle.std.specs.Option.{option_copied};
-ghost use Rattle.pm_types.specs.declared.source.RefSource.TheVariants.{Field};
 ghost use Rattle.pm_view.specs.Reading.{object_at, aside_in};
-ghost use Rattle.pm_view.specs.Barrier.{left};
-ghost use Rattle.pm_view.specs.Collecting.{field_news, without_slot_at, swept};
+ghost use Rattle.pm_view.specs.Collecting.{without_slot_at, swept};
 ghost use Rattle.pm_space.specs.Linked.{sets_of, queues_of, AreHoused, HasRoom, Tells, times};
 ghost use Rattle.pm_space.specs.Shown.{view, cars_of, KeepsRest};
 ghost use Rattle.pm_evac.specs.Steps.{identity};
-ghost use Rattle.pm_evac.specs.Named.{named_by};
+ghost use Rattle.pm_evac.specs.Named.{named_by, withdrawals};
 
 use pm_cars::Look;
 use pm_snap::Table;
@@ -50,7 +48,7 @@ fn withdraw(links: &mut LinkTable, trains: &Trains, phase: Phase, at: Addr, fiel
     requires housed { AreHoused (sets_of links.old) trains.now.trains }
     requires room { (car : ℕ) → HasRoom links.old car (named_by fields.now car) }
     ensures sets { sets_of links.new ≡ sets_of links.old }
-    ensures queues { Tells links.old links.new (field_news (λ index field. left (aside_in phase trains.now.trains) (Field at index) field) 0 fields.now) }
+    ensures queues { Tells links.old links.new (withdrawals (aside_in phase trains.now.trains) at fields.now) }
 {
     for index in 0..fields.len() as u32 {
         let source = RefSource::Field { at, index };
