@@ -1,8 +1,9 @@
 -- Which trains have an object that names another, sought source by source.
-use Rattle.std.proofs.Common.{◌≡◌, ℕ, zero, suc, ◌+◌, ◌<◌, ◌==◌, ◌&&◌, ◌||◌, arith, Bool, true, false, cond, not, if◌then◌else◌, refl, ap, sym, subst, ◌∙◌, List, [], ◌∷◌, ◌++◌, length, take, get_or, map, Option, Some, None, is_some}
+use Rattle.std.proofs.Common.{◌≡◌, ℕ, zero, suc, ◌+◌, ◌<◌, ◌≤◌, ◌==◌, ◌&&◌, ◌||◌, arith, Bool, true, false, cond, not, if◌then◌else◌, refl, ap, sym, ◌∙◌, List, [], ◌∷◌, ◌++◌, length, take, get_or, map, Option, Some, None, is_some}
 use Rattle.std.specs.Option.{option_and_then, unwrap_or}
 use Rattle.std.specs.List.{AllByRecursion, filter, list_any}
 use Rattle.std.specs.List as list
+use Rattle.std.specs.List.Sorted.{IsStrictlySortedBy}
 use Rattle.std.specs.FinMap.{get, entries, empty, get-empty}
 use Rattle.std.proofs.lemmas.Bool.{true≢false, false_from_ne_true, eqb-true}
 use Rattle.std.proofs.lemmas.Bool.Decides.{nat_tests}
@@ -11,7 +12,7 @@ use Rattle.pm_types.specs.Orders.{source_cmp}
 use Rattle.pm_types.specs.declared.address.Addr.{Addr}
 use Rattle.pm_types.specs.declared.source.RefSource.{RefSource}
 use Rattle.pm_types.specs.declared.source.RefSource.TheVariants.{Root, Handle, Field}
-use Rattle.pm_trains.specs.Trains.{Train, cars_at, train_of, is_among, youngest}
+use Rattle.pm_trains.specs.Trains.{Train, train_of, is_among, youngest}
 use Rattle.pm_trains.specs.Sound as line
 use Rattle.pm_trains.proofs.Numbers.{cars_there}
 use Rattle.pm_remset.specs.Remembered.{Remembered, FindsFirstThat, AppendsSources, first_that}
@@ -23,7 +24,6 @@ use Rattle.pm_view.specs.Reading.{cars_of}
 use Rattle.pm_view.specs.Sources.{lies_in}
 use Rattle.pm_view.specs.Law.{HeapLaw}
 use Rattle.pm_view.specs.Candidates.{set_of, is_bare, is_named_by, is_named_from, naming_trains, candidates}
-use Rattle.pm_space.specs.Shown.{IsLinked}
 use Rattle.pm_evac.specs.Ways.{naming_train, is_train, numbered}
 
 -- ---- lists
@@ -66,12 +66,16 @@ any_sources set slot sources test given =
         let there = given.all e.0 (finds.there ∙ ap Some (eqb-true e.1 slot passes.0)) in
         list_any_at test given.sources there.0 e.0 there.1 (ap test there.2 ∙ passes.1)
 
+none_sorted : IsStrictlySortedBy source_cmp []
+unfolding IsStrictlySortedBy
+none_sorted = tt
+
 -- no source is remembered by a car that has no set
 pub none_appended : (slot : ℕ) → AppendsSources empty slot [] []
 none_appended slot = record {
   sources = [];
   appended = refl;
-  in_order = tt;
+  in_order = none_sorted;
   each_names = tt;
   all = λ source is. absurd (let none : ◌≡◌ {A = Option ℕ} None (Some slot) = sym (get-empty source_cmp source) ∙ is in cc);
 }
@@ -181,11 +185,8 @@ module _ (v : SpaceView) (law : HeapLaw v) (train : ℕ) (a : Addr) (sources : L
   -- the trains that were found are those that name the object
   pub naming_is : (homes : ℕ → Bool) → ((n : ℕ) → homes n ≡ list_any (λ source. is_train (naming_train v.trains.trains train source) n) sources) → numbered homes v.trains.trains ≡ naming_trains v train a
   naming_is homes found =
-      ap (map (λ (t : Train). t.number)) (filter_same (λ (t : Train). homes t.number) (is_named_from v train a) ts (λ k d inside. one (get_or ts k d) (cars_are ts law.built.trains.rising law.built.trains.single train k d inside)))
+      ap (map (λ (t : Train). t.number)) (filter_same (λ (t : Train). homes t.number) (is_named_from v train a) v.trains.trains (λ k d inside. one (get_or v.trains.trains k d) (cars_are v.trains.trains law.built.trains.rising law.built.trains.single train k d inside)))
     where
-      abbrev ts : List Train
-      ts = v.trains.trains
-
       one : (t : Train) → cars_of v.trains.trains t.number ≡ t.cars → homes t.number ≡ is_named_from v train a t
       one t cars =
           found t.number
@@ -213,3 +214,8 @@ none_named ts train at index none = by_case (train_of ts at.car) none
     by_case : (o : Option ℕ) → is_some o ≡ false → None ≡ option_and_then (λ home. cond (home == train) None (Some home)) o
     by_case None none = refl
     by_case (Some home) none = absurd (true≢false none)
+
+-- a car that is in no train has none
+pub none_home : (o : Option ℕ) → is_some o ≡ false → 0 ≡ unwrap_or o 0
+none_home None none = refl
+none_home (Some home) none = absurd (true≢false none)

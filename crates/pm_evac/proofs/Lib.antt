@@ -10,3 +10,8 @@ pub mod Counting
 pub mod Beyond
 pub mod Skips
 pub mod Choices
+pub mod Carried
+pub mod Places
+pub mod MoveRows
+pub mod Planning
+pub mod Chosen

@@ -7,6 +7,7 @@ ghost use Rattle.pm_space.specs.Shown.{view, cars_of, KeepsRest};
 ghost use Rattle.pm_evac.specs.Steps.{identity};
 ghost use Rattle.pm_evac.specs.Named.{named_by, withdrawals};
 
+use crate::telling::add_named;
 use pm_cars::Look;
 use pm_snap::Table;
 use pm_space::{Held, LinkTable, Parts, make_room_for_each, tell_all};
@@ -20,11 +21,7 @@ fn named_cars(alloc: Global, fields: &[Option<Addr>]) -> Result<Vec<u64>, NoMemo
     ensures { IfOk result (λ cars. (car : ℕ) → times car cars.items ≡ named_by fields.now car) }
 {
     let mut cars = Vec::new(alloc);
-    for field in fields {
-        if let Some(at) = field {
-            cars.push(at.car)?;
-        }
-    }
+    add_named(&mut cars, fields)?;
     Ok(cars)
 }
 
@@ -68,8 +65,8 @@ fn take_object(cars: &mut Table<Held>, at: Addr) -> Result<Object, NoMemory>
     Ok(held.car.drop_slot(at.slot))
 }
 
-// The object at an address, lent; `None` where there is none.
-fn object_in(cars: &Table<Held>, at: Addr) -> Option<&Object>
+/// The object at an address, lent; `None` where there is none.
+pub(crate) fn object_in(cars: &Table<Held>, at: Addr) -> Option<&Object>
     ensures object { option_copied result ≡ object_at (cars_of cars.now) at }
     ensures small { IfSome result (λ object. length object.now.fields < 2 ^ 32) }
 {

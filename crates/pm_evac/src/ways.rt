@@ -1,11 +1,13 @@
-ghost use Rattle.std.specs.Prelude.{◌≡◌, ℕ, if◌then◌else◌, [], ◌∷◌, ◌++◌, IfOk, OnOk};
+ghost use Rattle.std.specs.Prelude.{◌≡◌, ◌<◌, ℕ, if◌then◌else◌, [], ◌∷◌, ◌++◌, length, IfOk, OnOk};
 ghost use Rattle.std.specs.List.{list_any};
 ghost use Rattle.std.specs.Ordering.{nat_cmp};
 ghost use Rattle.std.specs.BTreeSet as sorted;
 ghost use Rattle.pm_trains.specs.Trains.{is_among};
+ghost use Rattle.pm_place.specs.Choosers.{IsChooser, IsPicked};
 ghost use Rattle.pm_remset.specs.Remembered.{AppendsSources};
 ghost use Rattle.pm_view.specs.Law.{HeapLaw};
 ghost use Rattle.pm_view.specs.Candidates.{set_of, is_bare, candidates};
+ghost use Rattle.pm_view.specs.Events.{home, ways_out};
 ghost use Rattle.pm_space.specs.Shown.{view, IsLinked};
 ghost use Rattle.pm_evac.specs.Ways.{naming_train, is_train, numbered};
 
@@ -140,4 +142,30 @@ pub fn ways_out<F>(
     }
     ways.push(open_train)?;
     Ok(ways)
+}
+
+/// The train of a car, 0 where the car does not stand.
+pub(crate) fn home<F>(parts: &Parts<F>, car: u64) -> u64
+    requires { IsLinked (view parts.now) }
+    ensures { result ≡ home (view parts.now) car }
+{
+    if !parts.links.has(car) {
+        return 0;
+    }
+    parts.trains.train_of(car)
+}
+
+/// The train that the chooser picks among those to which the object at an address may go. There is one.
+pub fn pick_way<F: Fn(&[u64]) -> usize + Drop>(
+    parts: &Parts<F>,
+    alloc: Global,
+    at: Addr,
+) -> Result<u64, NoMemory>
+    requires chooser { IsChooser F.Fn parts.now.place }
+    requires law { HeapLaw (view parts.now) }
+    requires some { 0 < length (ways_out (view parts.now) at) }
+    ensures { IfOk result (λ train. IsPicked F.Fn parts.now.place (ways_out (view parts.now) at) train) }
+{
+    let ways = ways_out(parts, alloc, home(parts, at.car), at)?;
+    Ok(parts.place.pick(&ways))
 }
