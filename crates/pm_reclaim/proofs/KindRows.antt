@@ -1,6 +1,7 @@
 -- Which kind of event comes next, and where no train is picked.
-use Rattle.std.proofs.Common.{◌≡◌, ℕ, true, false, Bool, refl, ap, sym, subst, ◌∙◌, List, [], ◌∷◌, Option, Some, None, is_some}
-use Rattle.std.specs.List.{find}
+use Rattle.std.proofs.Common.{◌≡◌, ℕ, ◌<◌, length, arith, true, false, Bool, refl, ap, sym, subst, ◌∙◌, List, [], ◌∷◌, Option, Some, None, is_some}
+use Rattle.std.specs.List.{find, slice_get}
+use Rattle.std.specs.Option.{IsSomeAnd, option_and_then}
 use Rattle.std.specs.Borrow.{Bor}
 use Rattle.std.specs.Fn.{Shared}
 use Rattle.std.specs.FinMap.{entries}
@@ -8,17 +9,18 @@ use Rattle.std.proofs.lemmas.Bool.{true≢false}
 use Rattle.pm_types.specs.declared.address.Addr.{Addr}
 use Rattle.pm_types.specs.declared.source.RefSource.{RefSource}
 use Rattle.pm_types.specs.declared.source.Change.{Change}
+use Rattle.pm_trains.specs.Trains.{Train, cars_at, first_car, HasCar}
 use Rattle.pm_view.specs.View.{SpaceView}
 use Rattle.pm_view.specs.Candidates.{set_of, is_beyond, least_outside}
 use Rattle.pm_view.specs.Events.{Row, nothing, select, apply, doom, start, fix, move_anchor, move_out, move_on, finish, sweep, free, free_doomed, has_change, first_of, least, draining_row, moving_row, sweeping_row, doomed_row}
 use Rattle.pm_evac.specs.Steps.{IsApply, IsFix, IsMove, IsFinish, IsSweep, IsFree, IsChosen}
-use Rattle.pm_reclaim.specs.declared.collecting.Next.{Next}
-use Rattle.pm_reclaim.specs.declared.collecting.Next.TheVariants as kinds
+use Rattle.pm_reclaim.specs.declared.collecting.Kind.{Kind}
+use Rattle.pm_reclaim.specs.declared.collecting.Kind.TheVariants as kinds
 use Rattle.pm_reclaim.specs.Rows.{IsNothing, IsSelect, IsDecide}
 use Rattle.pm_reclaim.specs.Kinds.{kind_of, swept_kind}
 
 -- what each kind is
-abbrev pub IsOfKind : Next → Row → Type 0
+abbrev pub IsOfKind : Kind → Row → Type 0
 IsOfKind kinds.Nothing row = IsNothing row
 IsOfKind kinds.Select row = IsSelect row
 IsOfKind kinds.Apply row = IsApply row
@@ -44,7 +46,7 @@ own_kind (sweep a) = tt
 own_kind (free car) = tt
 own_kind (free_doomed t car) = tt
 
-pub of_kind : (row : Row) (kind : Next) → kind ≡ kind_of row → IsOfKind kind row
+pub of_kind : (row : Row) (kind : Kind) → kind ≡ kind_of row → IsOfKind kind row
 of_kind row kind is = subst (λ k. IsOfKind k row) (sym is) (own_kind row)
 
 -- no train is picked where one is selected, or nothing comes
@@ -124,17 +126,17 @@ module _ (car train : ℕ) where
 
   pub moves_other : (q : List Change) (s : Option (RefSource × Addr)) (a : Option (Addr × ℕ)) (e : Option (RefSource × ℕ)) (x : RefSource × ℕ) → has_change q ≡ false → is_some s ≡ false → is_some a ≡ false
       → kinds.Move ≡ kind_of (moving_row car train q s a e (Some x))
-  moves_other (c ∷ cs) s a e x none fixed free = absurd (true≢false none)
-  moves_other [] (Some y) a e x none fixed free = absurd (true≢false fixed)
-  moves_other [] None (Some y) e x none fixed free = absurd (true≢false free)
-  moves_other [] None None (Some y) x none fixed free = refl
-  moves_other [] None None None x none fixed free = refl
+  moves_other (c ∷ cs) s a e x none fixed loose = absurd (true≢false none)
+  moves_other [] (Some y) a e x none fixed loose = absurd (true≢false fixed)
+  moves_other [] None (Some y) e x none fixed loose = absurd (true≢false loose)
+  moves_other [] None None (Some y) x none fixed loose = refl
+  moves_other [] None None None x none fixed loose = refl
 
   pub finishes : (q : List Change) (s : Option (RefSource × Addr)) (a : Option (Addr × ℕ)) → has_change q ≡ false → is_some s ≡ false → is_some a ≡ false → kinds.Finish ≡ kind_of (moving_row car train q s a None None)
-  finishes (c ∷ cs) s a none fixed free = absurd (true≢false none)
-  finishes [] (Some y) a none fixed free = absurd (true≢false fixed)
-  finishes [] None (Some y) none fixed free = absurd (true≢false free)
-  finishes [] None None none fixed free = refl
+  finishes (c ∷ cs) s a none fixed loose = absurd (true≢false none)
+  finishes [] (Some y) a none fixed loose = absurd (true≢false fixed)
+  finishes [] None (Some y) none fixed loose = absurd (true≢false loose)
+  finishes [] None None none fixed loose = refl
 
 pub swept_row_kind : (car : ℕ) (o : Option ℕ) → swept_kind o ≡ kind_of (sweeping_row car o)
 swept_row_kind car None = refl
@@ -143,3 +145,29 @@ swept_row_kind car (Some slot) = refl
 pub doomed_row_kind : (train car : ℕ) (o : Option ℕ) → swept_kind o ≡ kind_of (doomed_row train car o)
 doomed_row_kind train car None = refl
 doomed_row_kind train car (Some slot) = refl
+
+-- ---- rows that are known
+
+pub nothing_is : (row : Row) → IsNothing row → row ≡ nothing
+nothing_is nothing is = refl
+nothing_is (select t) is = absurd is
+nothing_is (apply car) is = absurd is
+nothing_is (doom t) is = absurd is
+nothing_is (start car a) is = absurd is
+nothing_is (fix car source to) is = absurd is
+nothing_is (move_anchor a to) is = absurd is
+nothing_is (move_out a) is = absurd is
+nothing_is (move_on a t) is = absurd is
+nothing_is (finish car) is = absurd is
+nothing_is (sweep a) is = absurd is
+nothing_is (free car) is = absurd is
+nothing_is (free_doomed t car) is = absurd is
+
+-- a train that has a car has a first one
+pub has_first : (ts : List Train) (train : ℕ) → HasCar ts train → first_car ts train ≡ None → ⊥
+has_first ts train has none = by_cars (cars_at ts train) has none
+  where
+    by_cars : (o : Option (List ℕ)) → IsSomeAnd o (λ cars. 0 < length cars) → option_and_then (λ (cars : List ℕ). slice_get cars 0) o ≡ None → ⊥
+    by_cars None has none = has
+    by_cars (Some []) has none = omega (arith, has)
+    by_cars (Some (c ∷ cs)) has none = true≢false (ap is_some none)

@@ -20,9 +20,9 @@ use pm_types::{NoMemory, Step};
 use pm_view::Phase;
 use std::alloc::Global;
 
-/// Which event of the collector comes next.
+/// The kinds of events of the collector.
 #[derive(Clone, Copy, Debug, PartialEq, Eq)]
-pub enum Next {
+pub enum Kind {
     /// None.
     Nothing,
     /// A train is selected.
@@ -44,63 +44,63 @@ pub enum Next {
 }
 
 // While a train is drained.
-fn next_draining<F>(parts: &Parts<F>, train: u64) -> Next
+fn next_draining<F>(parts: &Parts<F>, train: u64) -> Kind
     requires law { HeapLaw (view parts.now) }
     requires phase { (view parts.now).phase ≡ Draining train }
     ensures { result ≡ kind_of (next_row (view parts.now)) }
 {
     match changed_car(parts, train) {
-        Some(_) => Next::Apply,
-        None => Next::Decide,
+        Some(_) => Kind::Apply,
+        None => Kind::Decide,
     }
 }
 
 // While a car is emptied.
-fn next_moving<F>(parts: &Parts<F>, car: u64) -> Next
+fn next_moving<F>(parts: &Parts<F>, car: u64) -> Kind
     requires phase { (view parts.now).phase ≡ Moving car }
     ensures { result ≡ kind_of (next_row (view parts.now)) }
 {
     if has_change(&parts.links, car) {
-        return Next::Apply;
+        return Kind::Apply;
     }
     if stale(parts, car).is_some() {
-        return Next::Fix;
+        return Kind::Fix;
     }
     if anchor_in(parts, car).is_some() {
-        return Next::Move;
+        return Kind::Move;
     }
     match least(parts, car) {
-        Some(_) => Next::Move,
-        None => Next::Finish,
+        Some(_) => Kind::Move,
+        None => Kind::Finish,
     }
 }
 
 // While the objects of a car are swept.
-fn next_swept<F>(parts: &Parts<F>, car: u64) -> Next
+fn next_swept<F>(parts: &Parts<F>, car: u64) -> Kind
     ensures { result ≡ swept_kind (lowest_live (view parts.now) car) }
 {
     match lowest_live(parts, car) {
-        Some(_) => Next::Sweep,
-        None => Next::Free,
+        Some(_) => Kind::Sweep,
+        None => Kind::Free,
     }
 }
 
-/// Which event comes next, on parts that keep the heap law.
-pub fn next<F>(parts: &Parts<F>) -> Next
+/// The kind of the event that comes next, on parts that keep the heap law.
+pub fn next_kind<F>(parts: &Parts<F>) -> Kind
     requires { HeapLaw (view parts.now) }
     ensures { result ≡ kind_of (next_row (view parts.now)) }
 {
     match parts.phase {
         Phase::Idle => match parts.trains.oldest() {
-            Some(_) => Next::Select,
-            None => Next::Nothing,
+            Some(_) => Kind::Select,
+            None => Kind::Nothing,
         },
         Phase::Draining(train) => next_draining(parts, train),
         Phase::Moving(car) => next_moving(parts, car),
         Phase::Sweeping(car) => next_swept(parts, car),
         Phase::Doomed(train) => match parts.trains.first_car(train) {
             Some(car) => next_swept(parts, car),
-            None => Next::Nothing,
+            None => Kind::Nothing,
         },
     }
 }
@@ -125,15 +125,15 @@ pub fn collect_one<F: Fn(&[u64]) -> usize + Drop>(
     requires { IsChooser F.Fn space.old.parts.place }
     ensures { MakesEvent F.Fn space.old.parts space.new.parts result }
 {
-    match next(&space.parts) {
-        Next::Nothing => Ok(rest(space)),
-        Next::Select => select(space, alloc),
-        Next::Apply => apply_one(space),
-        Next::Decide => decide(space, alloc),
-        Next::Fix => fix_one(space),
-        Next::Move => move_one(space, alloc),
-        Next::Finish => Ok(finish_car(space)),
-        Next::Sweep => sweep_one(space, alloc),
-        Next::Free => free_car(space),
+    match next_kind(&space.parts) {
+        Kind::Nothing => Ok(rest(space)),
+        Kind::Select => select(space, alloc),
+        Kind::Apply => apply_one(space),
+        Kind::Decide => decide(space, alloc),
+        Kind::Fix => fix_one(space),
+        Kind::Move => move_one(space, alloc),
+        Kind::Finish => Ok(finish_car(space)),
+        Kind::Sweep => sweep_one(space, alloc),
+        Kind::Free => free_car(space),
     }
 }

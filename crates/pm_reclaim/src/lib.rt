@@ -5,6 +5,6 @@ mod collecting;
 mod deciding;
 mod selecting;
 
-pub use collecting::{Next, collect_one, next};
+pub use collecting::{Kind, collect_one, next_kind};
 pub use deciding::{decide, decide_next};
 pub use selecting::{MOST_TRAINS, select, select_next};
