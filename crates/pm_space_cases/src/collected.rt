@@ -118,7 +118,28 @@ fn look<F: Fn(&[u64]) -> usize + Drop>(
     Ok(())
 }
 
-// Makes so many events, and looks at all that is reached after each.
+// Asks for the identity and the bytes of what each of a client's four registers holds, which changes nothing.
+fn glance<F: Fn(&[u64]) -> usize + Drop>(
+    space: &mut Space<F>,
+    oracle: &mut Oracle,
+    alloc: Global,
+    client: u32,
+    tally: &mut Tally,
+) -> Result<(), Fault>
+    requires client { client < 8 }
+    requires chooser { IsChooser F.Fn space.old.parts.place }
+    ensures { IsChooser F.Fn space.new.parts.place }
+{
+    for number in 0..4 {
+        let reg = register(number)?;
+        ask(space, oracle, alloc, client, &Cmd::IdOf { reg }, tally)?;
+        ask(space, oracle, alloc, client, &Cmd::Show { reg }, tally)?;
+    }
+    Ok(())
+}
+
+// Makes so many events, glances at the registers after each, and looks at all that is reached after the last. A look
+// changes registers, so that the collector would not come on if it followed each event.
 fn collect<F: Fn(&[u64]) -> usize + Drop>(
     space: &mut Space<F>,
     oracle: &mut Oracle,
@@ -137,10 +158,11 @@ fn collect<F: Fn(&[u64]) -> usize + Drop>(
         if matches!(step, Step::Moved { .. }) {
             tally.moved = tally.moved.saturating_add(1);
         }
-        look(space, oracle, alloc, 0, tally)?;
-        look(space, oracle, alloc, 1, tally)?;
+        glance(space, oracle, alloc, 0, tally)?;
+        glance(space, oracle, alloc, 1, tally)?;
     }
-    Ok(())
+    look(space, oracle, alloc, 0, tally)?;
+    look(space, oracle, alloc, 1, tally)
 }
 
 // Gives up all that two clients reach, and makes so many events.
@@ -211,8 +233,8 @@ fn push_plan<F: Fn(&[u64]) -> usize + Drop>(
 }
 
 /// `CHOOSER N E SIZE`: N commands that are drawn, over a new space and beside the plain slow program, of objects of up to
-/// three times SIZE bytes, and after each of them E events, after each of which all that the two clients reach is looked
-/// at; then all is given up, and 20,000 events are made. The chooser picks the `first` train, the `last` or the `middle`
+/// three times SIZE bytes, and after each of them E events, after each of which the registers of the two clients are looked
+/// at, and after the last all that they reach; then all is given up, and 20,000 events are made. The chooser picks the `first` train, the `last` or the `middle`
 /// one. It adds how many replies were others than the plain slow program's, and how many objects stand at the end.
 pub(crate) fn push_collected(alloc: Global, text: &str, out: &mut String) -> Result<(), Fault> {
     let mut words = text.split(' ');

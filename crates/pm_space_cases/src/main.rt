@@ -12,7 +12,7 @@ mod spaced;
 use collected::push_collected;
 use fault::Fault;
 use queued::push_queued;
-use scripted::push_script;
+use scripted::{Shows, push_script};
 use spaced::{push_births, push_drawn, push_names};
 use std::alloc::Global;
 use std::fmt::Write;
@@ -40,7 +40,10 @@ fn take(alloc: Global, line: &str, out: &mut String) -> Result<(), Fault> {
         "births" => push_births(alloc, number(text)?, out)?,
         "names" => push_names(alloc, number(text)?, out)?,
         "collected" => push_collected(alloc, text, out)?,
-        "script" => push_script(alloc, text, out)?,
+        "script" => push_script(alloc, text, Shows::All, out)?,
+        "replies" => push_script(alloc, text, Shows::Replies, out)?,
+        "end" => push_script(alloc, text, Shows::End, out)?,
+        "last" => push_script(alloc, text, Shows::Last, out)?,
         "queued" => push_queued(alloc, number(text)?, out)?,
         _ => return Err(Fault::Step),
     }

@@ -14,8 +14,18 @@ use pm_types::{Cmd, Entry, Step};
 use std::alloc::Global;
 use std::fmt::Write;
 
-// More events than these are counted and not shown.
-const SHOWN: u32 = 70;
+/// What is shown of a script that runs.
+#[derive(Clone, Copy, Debug, PartialEq, Eq)]
+pub(crate) enum Shows {
+    /// The replies, the events, and the numbers at the end.
+    All,
+    /// The replies and the numbers at the end.
+    Replies,
+    /// The numbers at the end.
+    End,
+    /// The last reply.
+    Last,
+}
 
 // Whether the space itself answers the command.
 fn acts(cmd: &Cmd) -> bool
@@ -64,6 +74,7 @@ fn script_of(alloc: Global, text: &str) -> Result<Vec<u8>, Fault> {
 
 // What happened so far: how many events, which of them was the last that did something, and the one that is not yet
 // shown, with how many times it came.
+#[derive(Clone, Copy)]
 struct Events {
     count: u64,
     last: u64,
@@ -104,6 +115,7 @@ fn collect<F: Fn(&[u64]) -> usize + Drop>(
     space: &mut Space<F>,
     alloc: Global,
     count: u32,
+    shows: Shows,
     events: &mut Events,
     out: &mut String,
 ) -> Result<(), Fault>
@@ -112,19 +124,18 @@ fn collect<F: Fn(&[u64]) -> usize + Drop>(
 {
     for _ in 0..count {
         let step = collect_one(space, alloc)?;
-        note(events, step, count <= SHOWN, out)?;
+        note(events, step, shows == Shows::All, out)?;
     }
     show(events, out)
 }
 
-// Gives a command to the space, and adds its reply's line where it is shown.
+// Gives a command to the space, and answers its reply's line.
 fn answer<F: Fn(&[u64]) -> usize + Drop>(
     space: &mut Space<F>,
     alloc: Global,
     client: u32,
     cmd: Cmd,
-    out: &mut String,
-) -> Result<(), Fault>
+) -> Result<String, Fault>
     requires { IsChooser F.Fn space.old.parts.place }
     ensures { IsChooser F.Fn space.new.parts.place }
 {
@@ -133,21 +144,20 @@ fn answer<F: Fn(&[u64]) -> usize + Drop>(
     }
     let reply = act(space, alloc, client, &cmd)?;
     let line = reply_text(alloc, &Entry { client, cmd, reply })?;
-    match str::from_utf8(&line) {
-        Ok(line) => out.push_str(line)?,
-        Err(_) => return Err(Fault::Step),
+    match String::from_utf8(line) {
+        Ok(line) => Ok(line),
+        Err(_) => Err(Fault::Step),
     }
-    Ok(())
 }
 
-// Runs the lines.
+// Runs the lines, and answers what happened and the last reply.
 fn run<F: Fn(&[u64]) -> usize + Drop>(
     space: &mut Space<F>,
     alloc: Global,
     lines: Vec<Line>,
-    quiet: bool,
+    shows: Shows,
     out: &mut String,
-) -> Result<Events, Fault>
+) -> Result<(Events, String), Fault>
     requires { IsChooser F.Fn space.old.parts.place }
     ensures { IsChooser F.Fn space.new.parts.place }
 {
@@ -157,31 +167,40 @@ fn run<F: Fn(&[u64]) -> usize + Drop>(
         step: Step::Nothing,
         times: 0,
     };
-    let mut unshown = String::new(alloc);
+    let mut last = String::new(alloc);
     for line in lines {
         match line {
             Line::Client { client, cmd } => {
-                let replies = if quiet { &mut unshown } else { &mut *out };
-                answer(space, alloc, client, cmd, replies)?;
+                last = answer(space, alloc, client, cmd)?;
+                if matches!(shows, Shows::All | Shows::Replies) {
+                    out.push_str(&last)?;
+                }
             }
-            Line::Gc(count) => collect(space, alloc, count, &mut events, out)?,
+            Line::Gc(count) => collect(space, alloc, count, shows, &mut events, out)?,
             Line::Flush(_) => return Err(Fault::Step),
         }
     }
-    Ok(events)
+    Ok((events, last))
 }
 
-/// `LINES`: the lines of a script, between ` / `, over a new space: the replies, unless there are many lines, and the
-/// events, unless a line asks for many; then how many events there were, which was the last that did something, how many
-/// collections were completed, and how many objects stand.
-pub(crate) fn push_script(alloc: Global, text: &str, out: &mut String) -> Result<(), Fault> {
+/// `LINES`: the lines of a script, between ` / `, over a new space: the replies and the events as they come, and at the
+/// end how many events there were, which was the last that did something, how many collections were completed, and how
+/// many objects stand; or less of it.
+pub(crate) fn push_script(
+    alloc: Global,
+    text: &str,
+    shows: Shows,
+    out: &mut String,
+) -> Result<(), Fault> {
     let Ok(script) = read_script(alloc, &script_of(alloc, text)?) else {
         return Err(Fault::Script);
     };
-    let lines = script.into_vec();
-    let quiet = lines.len() > 100;
     let mut space = Space::new(alloc, Placement::new(|_: &[u64]| 0))?;
-    let events = run(&mut space, alloc, lines, quiet, out)?;
+    let (events, last) = run(&mut space, alloc, script.into_vec(), shows, out)?;
+    if shows == Shows::Last {
+        out.push_str(&last)?;
+        return Ok(());
+    }
     writeln!(
         out,
         "events {}, last {}, completed {}, standing {}",
