@@ -14,7 +14,6 @@ use Rattle.pm_law_rows.proofs.OpenTrain.{among_home}
 use Rattle.pm_view.specs.View.{SpaceView}
 use Rattle.pm_view.specs.Reading.{cars_of}
 use Rattle.pm_view.specs.Candidates.{is_beyond}
-use Rattle.pm_space.specs.declared.links.Links.{Links}
 use Rattle.pm_space.specs.Linked.{Linked, set_of, sets_of}
 use Rattle.pm_space.specs.Shown.{IsLinked}
 use Rattle.pm_evac.specs.Sought.{inside_car}

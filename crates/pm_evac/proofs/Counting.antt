@@ -1,12 +1,21 @@
 -- The law and the worlds of a space after an event.
-use Rattle.std.proofs.Common.{◌≡◌, ℕ, refl, sym, subst, Result, Ok, Err, IfOk, OnErr}
+use Rattle.std.proofs.Common.{◌≡◌, ℕ, List, refl, sym, subst, Result, Ok, Err, IfOk, OnErr}
+use Rattle.std.specs.Borrow.{Bor}
+use Rattle.std.specs.Fn.{Shared}
+use Rattle.pm_types.specs.declared.no_memory.NoMemory.{NoMemory}
 use Rattle.pm_types.specs.declared.event.Step.{Step}
 use Rattle.pm_model.specs.World.{World}
+use Rattle.pm_view.specs.declared.phase.Phase.{Phase}
+use Rattle.pm_view.specs.declared.phase.Phase.TheVariants.{Idle, Draining, Moving, Sweeping, Doomed}
 use Rattle.pm_view.specs.View.{SpaceView}
 use Rattle.pm_view.specs.Law.{HeapLaw}
+use Rattle.pm_view.specs.Counts.{IsStanding, IsPlaced}
 use Rattle.pm_view.specs.Represents.{Represents}
-use Rattle.pm_view.specs.Events.{Row, next_row, after, MayPick, MayPlace}
-use Rattle.pm_evac.specs.Steps.{counted, IsEvent, KeepsWorlds}
+use Rattle.pm_view.specs.Work.{work, work_in}
+use Rattle.pm_view.specs.Events.{Row, nothing, select, apply, doom, start, fix, move_anchor, move_out, move_on, finish, sweep, free, free_doomed, next_row, ended_by}
+use Rattle.pm_space.specs.declared.parts.Parts.{Parts}
+use Rattle.pm_space.specs.Shown.{view, KeepsRest}
+use Rattle.pm_evac.specs.Steps.{counted, IsEvent, IsChosenEvent, IsChosen, KeepsWorlds, MovesOneAtMost, LowersWork, MakesEvent}
 
 -- the law says nothing of the count of completed collections
 pub counted_law : (v : SpaceView) → HeapLaw v → HeapLaw (counted v)
@@ -39,28 +48,87 @@ counted_stands v world stands = record {
   leftover = stands.leftover;
 }
 
--- every row keeps the law, and the worlds
-abbrev pub RowsKeepLaw : Type 0
-RowsKeepLaw = (view : SpaceView) (row : Row) (picked number : ℕ) → HeapLaw view → next_row view ≡ row → MayPick view picked row → MayPlace view number row → HeapLaw (after view picked number row)
+-- nor do places, and the work that is left
+pub counted_placed : (v : SpaceView) (id train : ℕ) → IsPlaced v id train → IsPlaced (counted v) id train
+counted_placed v id train is = (is.0, record { kept = is.1.kept; here = is.1.here }, is.2)
 
-abbrev pub RowsKeepWorlds : Type 0
-RowsKeepWorlds =
-    (view : SpaceView) (world : World) (row : Row) (picked number : ℕ) → HeapLaw view → next_row view ≡ row → MayPick view picked row → MayPlace view number row
-    → Represents view world → Represents (after view picked number row) world
+pub placed_counted : (v : SpaceView) (id train : ℕ) → IsPlaced (counted v) id train → IsPlaced v id train
+placed_counted v id train is = (is.0, record { kept = is.1.kept; here = is.1.here }, is.2)
 
-module _ (v w : SpaceView) (law : HeapLaw v) where
-  pub event_lawful : (step : Step) → RowsKeepLaw → IsEvent v w step → HeapLaw w
-  event_lawful step keep event = subst HeapLaw (sym event.after) (counted_law _ (keep v (next_row v) event.picked event.number law refl event.may_pick event.may_place))
+pub counted_standing : (v : SpaceView) (id : ℕ) → IsStanding v id → IsStanding (counted v) id
+counted_standing v id is = (is.0, record { kept = is.1.kept; here = is.1.here })
 
-  pub event_stands : (step : Step) → RowsKeepWorlds → IsEvent v w step → KeepsWorlds v w
-  event_stands step keep event = λ world stands.
-      subst (λ t. Represents t world) (sym event.after) (counted_stands _ world (keep v world (next_row v) event.picked event.number law refl event.may_pick event.may_place stands))
+pub counted_ended : (v : SpaceView) (row : Row) (car : ℕ) → ended_by (counted v) row car ≡ ended_by v row car
+counted_ended v nothing e = refl
+counted_ended v (select t) e = refl
+counted_ended v (apply car) e = refl
+counted_ended v (doom t) e = refl
+counted_ended v (start car a) e = refl
+counted_ended v (fix car source to) e = refl
+counted_ended v (move_anchor a to) e = refl
+counted_ended v (move_out a) e = refl
+counted_ended v (move_on a t) e = refl
+counted_ended v (finish car) e = refl
+counted_ended v (sweep a) e = refl
+counted_ended v (free car) e = refl
+counted_ended v (free_doomed t car) e = refl
 
-  -- also after want of memory
-  pub lawful : {E : Type 0} (r : Result Step E) → RowsKeepLaw → IfOk r (λ step. IsEvent v w step) → OnErr r (w ≡ v) → HeapLaw w
-  lawful (Ok step) keep event same = event_lawful step keep event
+pub counted_work : (v : SpaceView) → work (counted v) ≡ work v
+counted_work v = by_phase v.phase
+  where
+    by_phase : (p : Phase) → work_in (counted v) p ≡ work_in v p
+    by_phase Idle = refl
+    by_phase (Draining train) = refl
+    by_phase (Moving car) = refl
+    by_phase (Sweeping car) = refl
+    by_phase (Doomed train) = refl
+
+-- ---- what a call makes
+
+-- an event that was made keeps the law, the worlds, places and work
+abbrev pub KeepsLaw : Type 0
+KeepsLaw = (old new : SpaceView) (step : Step) → HeapLaw old → IsEvent old new step → HeapLaw new
+
+abbrev pub KeepAllWorlds : Type 0
+KeepAllWorlds = (old new : SpaceView) (step : Step) → HeapLaw old → IsEvent old new step → KeepsWorlds old new
+
+abbrev pub KeepPlaces : Type 0
+KeepPlaces = (old new : SpaceView) (step : Step) → HeapLaw old → (event : IsEvent old new step) → MovesOneAtMost old new event.picked
+
+abbrev pub LowerWork : Type 0
+LowerWork = (old new : SpaceView) (step : Step) → HeapLaw old → IsEvent old new step → LowersWork old new
+
+module _ {F : Type 0} (calls : Shared F (Bor (List ℕ) × Unit {0}) ℕ) (old new : Parts F) (law : HeapLaw (view old)) where
+  -- the law is kept, also after want of memory
+  pub lawful : (r : Result Step NoMemory) → KeepsLaw → IfOk r (λ step. IsEvent (view old) (view new) step) → OnErr r (view new ≡ view old) → HeapLaw (view new)
+  lawful (Ok step) keep event same = keep (view old) (view new) step law event
   lawful (Err fault) keep event same = subst HeapLaw (sym same) law
 
-  pub stands : {E : Type 0} (r : Result Step E) → RowsKeepWorlds → IfOk r (λ step. IsEvent v w step) → OnErr r (w ≡ v) → KeepsWorlds v w
-  stands (Ok step) keep event same = event_stands step keep event
-  stands (Err fault) keep event same = λ world was. subst (λ t. Represents t world) (sym same) was
+  -- what a call says that makes an event with the chooser's pick
+  pub makes_chosen : (r : Result Step NoMemory) → KeepAllWorlds → KeepPlaces → LowerWork → IfOk r (λ step. IsChosenEvent calls old.place (view old) (view new) step) → OnErr r (view new ≡ view old) → KeepsRest old new
+      → MakesEvent calls old new r
+  makes_chosen (Ok step) worlds places works made same rest = record {
+    ok = record { event = made.event; chosen = made.chosen; places = places (view old) (view new) step law made.event; work = works (view old) (view new) step law made.event };
+    worlds = worlds (view old) (view new) step law made.event;
+    err = tt;
+    rest = rest;
+  }
+  makes_chosen (Err fault) worlds places works made same rest = record {
+    ok = tt;
+    worlds = λ world was. subst (λ t. Represents t world) (sym same) was;
+    err = same;
+    rest = rest;
+  }
+
+  pub events_of : (r : Result Step NoMemory) → IfOk r (λ step. IsChosenEvent calls old.place (view old) (view new) step) → IfOk r (λ step. IsEvent (view old) (view new) step)
+  events_of (Ok step) made = made.event
+  events_of (Err fault) made = tt
+
+  chosen_of : (r : Result Step NoMemory) → IfOk r (λ step. IsEvent (view old) (view new) step) → ((picked : ℕ) → IsChosen calls old.place (view old) picked (next_row (view old))) → IfOk r (λ step. IsChosenEvent calls old.place (view old) (view new) step)
+  chosen_of (Ok step) event none = record { event = event; chosen = none event.picked }
+  chosen_of (Err fault) event none = tt
+
+  -- and one that picks no train
+  pub makes : (r : Result Step NoMemory) → KeepAllWorlds → KeepPlaces → LowerWork → IfOk r (λ step. IsEvent (view old) (view new) step) → ((picked : ℕ) → IsChosen calls old.place (view old) picked (next_row (view old))) → OnErr r (view new ≡ view old)
+      → KeepsRest old new → MakesEvent calls old new r
+  makes r worlds places works event none same rest = makes_chosen r worlds places works (chosen_of r event none) same rest

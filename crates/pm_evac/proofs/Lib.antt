@@ -9,3 +9,9 @@ pub mod Lawful
 pub mod Counting
 pub mod Beyond
 pub mod Skips
+pub mod Choices
+pub mod Carried
+pub mod Places
+pub mod MoveRows
+pub mod Planning
+pub mod Chosen

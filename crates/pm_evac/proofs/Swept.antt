@@ -13,7 +13,7 @@ use Rattle.pm_cars.specs.Cars.{object_of, look_of, without_slot}
 use Rattle.pm_cars.specs.Cars as car
 use Rattle.pm_snap.specs.Snapped.{Snapped}
 use Rattle.pm_view.specs.Reading.{object_at}
-use Rattle.pm_view.specs.Rows.{put_car}
+use Rattle.pm_view.specs.Rows.{put_car, with_slot_at}
 use Rattle.pm_view.specs.Collecting.{without_slot_at}
 use Rattle.pm_space.specs.declared.held.Held.{Held}
 use Rattle.pm_space.specs.Shown.{car_of, cars_of}
@@ -48,3 +48,11 @@ object_dropped table a held w is done =
     mapped-insert nat_cmp car_of nat_cmp_total nat_cmp-IsAntisymmetric table.current a.car w
     ∙ ap (insert (cars_of table) a.car) done
     ∙ sym (ap (λ o. put_car (cars_of table) a.car o (λ c. without_slot c a.slot)) (get_car table a.car (Some held) is))
+
+-- the cars where a slot holds something else
+pub slot_told : (table : Snapped Held) (a : Addr) (held w : Held) (content : Slot) → Some held ≡ get table.current a.car → w.car ≡ car.told held.car a.slot content
+    → mapped car_of (insert table.current a.car w) ≡ with_slot_at (cars_of table) a content
+slot_told table a held w content is done =
+    mapped-insert nat_cmp car_of nat_cmp_total nat_cmp-IsAntisymmetric table.current a.car w
+    ∙ ap (λ (it : car.CarAndSpare). insert (cars_of table) a.car it.car) done
+    ∙ sym (ap (λ o. put_car (cars_of table) a.car o (λ c. car.with_slot c a.slot content)) (get_car table a.car (Some held) is))

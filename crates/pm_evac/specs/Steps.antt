@@ -1,22 +1,37 @@
 -- What an event answers, and the space after it.
-use Rattle.std.specs.Prelude.{◌≡◌, ℕ, ◌==◌, true, not, is_some, List, length, Option, Some, None}
+use Rattle.std.specs.Prelude.{◌≡◌, ◌≢◌, ℕ, ◌+◌, ◌≤◌, ◌==◌, Bool, true, false, not, if◌then◌else◌, is_some, List, length, Option, Some, None, Result, IfOk, OnErr}
+use Rattle.std.specs.Borrow.{Bor}
+use Rattle.std.specs.Fn.{Shared}
 use Rattle.std.specs.Option.{unwrap_or}
 use Rattle.pm_types.specs.declared.address.Addr.{Addr}
+use Rattle.pm_types.specs.declared.no_memory.NoMemory.{NoMemory}
 use Rattle.pm_types.specs.declared.event.Step.{Step}
 use Rattle.pm_types.specs.declared.event.Step.TheVariants.{Nothing, Selected, Applied, Doomed, Started, Fixed, Moved, Finished, Swept, Freed}
-use Rattle.pm_trains.specs.Trains.{Train, first_car}
+use Rattle.pm_place.specs.Choosers.{IsPicked}
+use Rattle.pm_trains.specs.Trains.{Train, first_car, train_of}
 use Rattle.pm_view.specs.declared.phase.Phase.{Phase}
 use Rattle.pm_view.specs.declared.phase.Phase.TheVariants as phases
 use Rattle.pm_model.specs.World.{World}
+use Rattle.pm_model.specs.Reachability.{IsReachable}
 use Rattle.pm_view.specs.View.{SpaceView}
-use Rattle.pm_view.specs.Represents.{Represents}
+use Rattle.pm_view.specs.Represents.{IsHeld, Represents}
 use Rattle.pm_view.specs.Reading.{id_at, cars_of}
-use Rattle.pm_view.specs.Events.{Row, nothing, select, apply, doom, start, fix, move_anchor, move_out, move_on, finish, sweep, free, free_doomed, next_row, after, MayPick, MayPlace}
+use Rattle.pm_view.specs.Collecting.{without_car, completing}
+use Rattle.pm_view.specs.Events.{Row, nothing, select, apply, doom, start, fix, move_anchor, move_out, move_on, finish, sweep, free, free_doomed, next_row, after, ways_out, MayPick, MayPlace, moving_id, goal_of, ended_by, MovesTo}
+use Rattle.pm_view.specs.Counts.{IsStanding, IsStandingAt, IsPlaced}
+use Rattle.pm_view.specs.Work.{work, lowers}
+use Rattle.pm_law_course.specs.Course.{completes}
+use Rattle.pm_space.specs.declared.parts.Parts.{Parts}
 use Rattle.pm_space.specs.Counted.{capped}
+use Rattle.pm_space.specs.Shown.{view, KeepsRest}
 
 -- a space whose count of completed collections stands still at the greatest number of 64 bits
 abbrev pub counted : SpaceView → SpaceView
 counted view = record view { completed = capped view.completed }
+
+-- a car of a train goes, and where it completes the collection that is counted
+abbrev pub freed : SpaceView → ℕ → ℕ → Bool → SpaceView
+freed view train car completes = counted (if completes then completing (without_car view train car) else without_car view train car)
 
 -- the identity of the object at an address
 abbrev pub identity : SpaceView → Addr → ℕ
@@ -57,6 +72,13 @@ abbrev pub IsFix : Row → Type 0
 IsFix (fix car source to) = Unit {0}
 IsFix row = ⊥
 
+-- the event moves an object
+abbrev pub IsMove : Row → Type 0
+IsMove (move_anchor a to) = Unit {0}
+IsMove (move_out a) = Unit {0}
+IsMove (move_on a train) = Unit {0}
+IsMove row = ⊥
+
 -- with the event the sweeping of a car begins
 abbrev pub IsFinish : Row → Type 0
 IsFinish (finish car) = Unit {0}
@@ -84,6 +106,61 @@ swept_in trains (phases.Doomed train) = first_car trains train
 abbrev pub swept_car : SpaceView → Option ℕ
 swept_car view = swept_in view.trains.trains view.phase
 
+-- ---- what an event that was made keeps
+
 -- the space stands for each world for which it stood
 abbrev pub KeepsWorlds : SpaceView → SpaceView → Type 0
 KeepsWorlds old new = (world : World) → Represents old world → Represents new world
+
+-- The place of one object at most is another: that of the object that the event moves. No object begins to stand, and
+-- those that end to stand lie in cars that are set aside then. What a world reaches stands.
+pub record MovesOneAtMost (old new : SpaceView) (picked : ℕ) : Type 0 where
+  pub moved : (id : ℕ) → moving_id old (next_row old) ≡ Some id → IsPlaced new id (goal_of picked (next_row old))
+  pub before : (id train : ℕ) → moving_id old (next_row old) ≢ Some id → IsPlaced new id train → IsPlaced old id train
+  pub after : (id train : ℕ) (a : Addr) → moving_id old (next_row old) ≢ Some id → IsStandingAt old id a → train_of old.trains.trains a.car ≡ Some train → ended_by new (next_row old) a.car ≡ false
+      → IsPlaced new id train
+  pub reached : (world : World) (id : ℕ) → Represents old world → IsReachable world.heap (IsHeld world) id → IsStanding new id
+
+-- where a collection is in progress, and the event does not complete it, less work is left of it
+abbrev pub LowersWork : SpaceView → SpaceView → Type 0
+LowersWork old new = old.phase ≢ phases.Idle → completes old (next_row old) ≡ false → work new + lowers (next_row old) ≤ work old
+
+-- ---- who picks a train
+
+module _ {F : Type 0} (calls : Shared F (Bor (List ℕ) × Unit {0}) ℕ) (choose : F) where
+  -- where no anchor stands the train is the chooser's pick among those to which the object may go
+  abbrev pub IsNoted : SpaceView → Option (Addr × ℕ) → Addr → ℕ → Type 0
+  IsNoted view None a picked = IsPicked calls choose (ways_out view a) picked
+  IsNoted view (Some anchor) a picked = Unit {0}
+
+  -- where an event picks a train it is the chooser's pick among those to which the object may go
+  abbrev pub IsChosen : SpaceView → ℕ → Row → Type 0
+  IsChosen view picked (start car a) = IsNoted view view.anchor a picked
+  IsChosen view picked (move_out a) = IsPicked calls choose (ways_out view a) picked
+  IsChosen view picked row = Unit {0}
+
+  -- the next event was made, with the chooser's pick
+  pub record IsChosenEvent (old new : SpaceView) (step : Step) : Type 0 where
+    pub event : IsEvent old new step
+    pub chosen : IsChosen old event.picked (next_row old)
+
+  -- an object moves next, from this address to this train, which is the chooser's pick where one is picked
+  pub record IsNextMove (view : SpaceView) (a : Addr) (train : ℕ) : Type 0 where
+    pub picked : ℕ
+    pub moves : MovesTo picked (next_row view) a train
+    pub chosen : IsChosen view picked (next_row view)
+
+  -- the next event was made, with the chooser's pick, and what follows from that of places and of work
+  pub record IsMade (old new : SpaceView) (step : Step) : Type 0 where
+    pub event : IsEvent old new step
+    pub chosen : IsChosen old event.picked (next_row old)
+    pub places : MovesOneAtMost old new event.picked
+    pub work : LowersWork old new
+
+-- What a call says that makes the next event: it was made, with the chooser's pick, or after want of memory all that is
+-- seen is as it was; in any case each world for which the space stood stays, the frozen cars, and the chooser.
+pub record MakesEvent {F : Type 0} (calls : Shared F (Bor (List ℕ) × Unit {0}) ℕ) (old new : Parts F) (result : Result Step NoMemory) : Type 0 where
+  pub ok : IfOk result (λ step. IsMade calls old.place (view old) (view new) step)
+  pub worlds : KeepsWorlds (view old) (view new)
+  pub err : OnErr result (view new ≡ view old)
+  pub rest : KeepsRest old new

@@ -1,74 +1,100 @@
-ghost use Rattle.std.specs.Prelude.{◌≡◌, IfOk, OnErr};
+ghost use Rattle.std.specs.Prelude.{Ok};
+ghost use Rattle.pm_types.specs.declared.event.Step.{Step};
+ghost use Rattle.pm_place.specs.Choosers.{IsChooser};
+ghost use Rattle.pm_view.specs.View.{SpaceView};
+ghost use Rattle.pm_view.specs.Law.{HeapLaw};
 ghost use Rattle.pm_view.specs.Events.{next_row};
-ghost use Rattle.pm_space.specs.Shown.{view, KeepsRest};
-ghost use Rattle.pm_evac.specs.Steps.{IsEvent, IsApply, IsFix, IsFinish, IsSweep, IsFree, KeepsWorlds};
+ghost use Rattle.pm_space.specs.Shown.{view};
+ghost use Rattle.pm_evac.specs.Steps.{IsEvent, IsApply, IsFix, IsMove, IsFinish, IsSweep, IsFree, KeepsWorlds, MovesOneAtMost, LowersWork, MakesEvent};
 
 use crate::events;
-use pm_law_collect::an_event_keeps_the_law_and_the_worlds;
+use pm_law_collect::{an_event_keeps_the_law_and_the_worlds, an_event_moves_one_object_at_most};
+use pm_law_course::one_event_completes_a_collection;
+use pm_law_work::an_event_lowers_the_work_left;
 use pm_space::Space;
 use pm_types::{NoMemory, Step};
 use std::alloc::Global;
 
-/// Makes the next event where it applies a change: while a train is drained that of the first of its cars that has a
-/// queued change, and while a car is emptied that car's own. After want of memory all is as it was.
-pub fn apply_one<F: Drop>(space: &mut Space<F>) -> Result<Step, NoMemory>
-    requires { IsApply (next_row (view space.old.parts)) }
-    ensures ok { IfOk result (λ step. IsEvent (view space.old.parts) (view space.new.parts) step) }
-    ensures worlds { KeepsWorlds (view space.old.parts) (view space.new.parts) }
-    ensures err { OnErr result (view space.new.parts ≡ view space.old.parts) }
-    ensures rest { KeepsRest space.old.parts space.new.parts }
+/// A law of events that were made: the heap law is kept, and each world for which the space stood; the place of one
+/// object at most is another; and less work is left of a collection that is not completed. The function does nothing.
+pub fn an_event_that_was_made_keeps_all()
+    ensures law { (old new : SpaceView) (step : Step) → HeapLaw old → IsEvent old new step → HeapLaw new }
+    ensures worlds { (old new : SpaceView) (step : Step) → HeapLaw old → IsEvent old new step → KeepsWorlds old new }
+    ensures places { (old new : SpaceView) (step : Step) → HeapLaw old → (event : IsEvent old new step)
+        → MovesOneAtMost old new event.picked }
+    ensures work { (old new : SpaceView) (step : Step) → HeapLaw old → IsEvent old new step → LowersWork old new }
 {
     an_event_keeps_the_law_and_the_worlds();
+    an_event_moves_one_object_at_most();
+    an_event_lowers_the_work_left();
+    one_event_completes_a_collection();
+}
+
+/// Makes the next event where it applies a change: while a train is drained that of the first of its cars that has a
+/// queued change, and while a car is emptied that car's own. After want of memory all is as it was.
+pub fn apply_one<F: Fn(&[u64]) -> usize + Drop>(space: &mut Space<F>) -> Result<Step, NoMemory>
+    requires { IsApply (next_row (view space.old.parts)) }
+    ensures { MakesEvent F.Fn space.old.parts space.new.parts result }
+{
+    an_event_that_was_made_keeps_all();
     events::apply_one(&mut space.parts)
 }
 
 /// Makes the next event where it fixes a source: the least source that the car which is emptied remembers and that
 /// names a Moved slot stores the address to which the object went. After want of memory all is as it was.
-pub fn fix_one<F: Drop>(space: &mut Space<F>) -> Result<Step, NoMemory>
+pub fn fix_one<F: Fn(&[u64]) -> usize + Drop>(space: &mut Space<F>) -> Result<Step, NoMemory>
     requires { IsFix (next_row (view space.old.parts)) }
-    ensures ok { IfOk result (λ step. IsEvent (view space.old.parts) (view space.new.parts) step) }
-    ensures worlds { KeepsWorlds (view space.old.parts) (view space.new.parts) }
-    ensures err { OnErr result (view space.new.parts ≡ view space.old.parts) }
-    ensures rest { KeepsRest space.old.parts space.new.parts }
+    ensures { MakesEvent F.Fn space.old.parts space.new.parts result }
 {
-    an_event_keeps_the_law_and_the_worlds();
+    an_event_that_was_made_keeps_all();
     events::fix_one(&mut space.parts)
+}
+
+/// Makes the next event where it moves an object out of the car that is emptied: the anchor to its train, or else the
+/// object of the least source outside the train to a train that the chooser picks, or else that of the least source to
+/// the end of its own train. It goes to the train's last car where it fits, and else to a new car at the train's end;
+/// its slot says where it went, and the cars hear of its fields. After want of memory all is as it was.
+pub fn move_one<F: Fn(&[u64]) -> usize + Drop>(
+    space: &mut Space<F>,
+    alloc: Global,
+) -> Result<Step, NoMemory>
+    requires chooser { IsChooser F.Fn space.old.parts.place }
+    requires row { IsMove (next_row (view space.old.parts)) }
+    ensures { MakesEvent F.Fn space.old.parts space.new.parts result }
+{
+    an_event_that_was_made_keeps_all();
+    events::move_one(&mut space.parts, alloc)
 }
 
 /// Makes the next event where it sweeps an object: the lowest Live slot of the car that is swept, or of the first car
 /// of a doomed train, is Gone. After want of memory all is as it was.
-pub fn sweep_one<F: Drop>(space: &mut Space<F>, alloc: Global) -> Result<Step, NoMemory>
+pub fn sweep_one<F: Fn(&[u64]) -> usize + Drop>(
+    space: &mut Space<F>,
+    alloc: Global,
+) -> Result<Step, NoMemory>
     requires { IsSweep (next_row (view space.old.parts)) }
-    ensures ok { IfOk result (λ step. IsEvent (view space.old.parts) (view space.new.parts) step) }
-    ensures worlds { KeepsWorlds (view space.old.parts) (view space.new.parts) }
-    ensures err { OnErr result (view space.new.parts ≡ view space.old.parts) }
-    ensures rest { KeepsRest space.old.parts space.new.parts }
+    ensures { MakesEvent F.Fn space.old.parts space.new.parts result }
 {
-    an_event_keeps_the_law_and_the_worlds();
+    an_event_that_was_made_keeps_all();
     events::sweep_one(&mut space.parts, alloc)
 }
 
 /// Makes the next event where it frees a car that has no object left: the one that was swept, with which the
 /// collection is completed, or the first one of a doomed train, with which it is where no other is left. After want of
 /// memory all is as it was.
-pub fn free_car<F: Drop>(space: &mut Space<F>) -> Result<Step, NoMemory>
+pub fn free_car<F: Fn(&[u64]) -> usize + Drop>(space: &mut Space<F>) -> Result<Step, NoMemory>
     requires { IsFree (next_row (view space.old.parts)) }
-    ensures ok { IfOk result (λ step. IsEvent (view space.old.parts) (view space.new.parts) step) }
-    ensures worlds { KeepsWorlds (view space.old.parts) (view space.new.parts) }
-    ensures err { OnErr result (view space.new.parts ≡ view space.old.parts) }
-    ensures rest { KeepsRest space.old.parts space.new.parts }
+    ensures { MakesEvent F.Fn space.old.parts space.new.parts result }
 {
-    an_event_keeps_the_law_and_the_worlds();
+    an_event_that_was_made_keeps_all();
     events::free_car(&mut space.parts)
 }
 
 /// Makes the next event where the car that is emptied is swept from now on. It takes no memory.
-pub fn finish_car<F: Drop>(space: &mut Space<F>) -> Step
+pub fn finish_car<F: Fn(&[u64]) -> usize + Drop>(space: &mut Space<F>) -> Step
     requires { IsFinish (next_row (view space.old.parts)) }
-    ensures event { IsEvent (view space.old.parts) (view space.new.parts) result }
-    ensures worlds { KeepsWorlds (view space.old.parts) (view space.new.parts) }
-    ensures rest { KeepsRest space.old.parts space.new.parts }
+    ensures { MakesEvent F.Fn space.old.parts space.new.parts (Ok result) }
 {
-    an_event_keeps_the_law_and_the_worlds();
+    an_event_that_was_made_keeps_all();
     events::finish_car(&mut space.parts)
 }

@@ -1,15 +1,21 @@
-ghost use Rattle.std.specs.Prelude.{◌≡◌, IfOk, OnErr};
+ghost use Rattle.std.specs.Prelude.{◌≡◌, if◌then◌else◌, None, IfOk, OnErr};
 ghost use Rattle.pm_view.specs.Law.{HeapLaw};
 ghost use Rattle.pm_view.specs.Events.{next_row};
 ghost use Rattle.pm_space.specs.Shown.{view, KeepsRest};
-ghost use Rattle.pm_evac.specs.Steps.{IsEvent, IsApply, IsFix, IsFinish, IsSweep, IsFree, swept_car};
+ghost use Rattle.pm_place.specs.Choosers.{IsChooser};
+ghost use Rattle.pm_view.specs.declared.phase.Phase.TheVariants.{Moving};
+ghost use Rattle.pm_evac.specs.Steps.{IsEvent, IsChosenEvent, IsNextMove, IsApply, IsFix, IsMove, IsFinish, IsSweep, IsFree, swept_car};
 
 use crate::applying::apply;
-use crate::finding::{changed_car, lowest_live};
+use crate::finding::{anchor_in, changed_car, lowest_live};
 use crate::fixing::fix;
 use crate::freeing::{finish, free};
-use crate::sources::stale;
+use crate::moving::relocate;
+use crate::skipping::outside;
+use crate::sources::{least, stale};
 use crate::sweeping::sweep;
+use crate::ways::{home, pick_way};
+use pm_law_collect::there_is_a_train_to_pick;
 use pm_space::Parts;
 use pm_types::{Addr, NoMemory, Step};
 use pm_view::Phase;
@@ -60,6 +66,70 @@ pub fn fix_one<F>(parts: &mut Parts<F>) -> Result<Step, NoMemory>
     fix(parts, car, source, to)?;
     let _completed = parts.completed;
     Ok(Step::Fixed { car })
+}
+
+// The object that moves next, and the train to which it goes.
+fn next_move<F: Fn(&[u64]) -> usize + Drop>(
+    parts: &Parts<F>,
+    alloc: Global,
+    car: u64,
+) -> Result<(Addr, u64), NoMemory>
+    requires chooser { IsChooser F.Fn parts.now.place }
+    requires law { HeapLaw (view parts.now) }
+    requires phase { (view parts.now).phase ≡ Moving car }
+    requires row { IsMove (next_row (view parts.now)) }
+    ensures { IfOk result (λ move. IsNextMove F.Fn parts.now.place (view parts.now) move.0 move.1) }
+{
+    there_is_a_train_to_pick();
+    if let Some(anchor) = anchor_in(parts, car) {
+        return Ok(anchor);
+    }
+    let train = home(parts, car);
+    if let Some((_, slot)) = outside(parts, train, car) {
+        let at = Addr { car, slot };
+        let picked = pick_way(parts, alloc, at)?;
+        return Ok((at, picked));
+    }
+    let Some((_, slot)) = least(parts, car) else {
+        unreachable!()
+    };
+    Ok((Addr { car, slot }, train))
+}
+
+// No anchor stands any more, where it was the anchor that moved.
+fn clear_if<F>(parts: &mut Parts<F>, is_anchor: bool)
+    ensures view { view parts.new ≡ (if is_anchor then record (view parts.old) { anchor = None } else view parts.old) }
+    ensures rest { KeepsRest parts.old parts.new }
+{
+    if is_anchor {
+        parts.guard.clear();
+    }
+}
+
+/// Makes the next event where it moves an object out of the car that is emptied: the anchor to its train, or else the
+/// object of the least source outside the train to a train that the chooser picks, or else that of the least source to
+/// the end of its own train. After want of memory all is as it was.
+pub fn move_one<F: Fn(&[u64]) -> usize + Drop>(
+    parts: &mut Parts<F>,
+    alloc: Global,
+) -> Result<Step, NoMemory>
+    requires chooser { IsChooser F.Fn parts.old.place }
+    requires law { HeapLaw (view parts.old) }
+    requires row { IsMove (next_row (view parts.old)) }
+    ensures ok { IfOk result (λ step. IsChosenEvent F.Fn parts.old.place (view parts.old) (view parts.new) step) }
+    ensures err { OnErr result (view parts.new ≡ view parts.old) }
+    ensures rest { KeepsRest parts.old parts.new }
+{
+    let _number = parts.cars.vacant();
+    let Phase::Moving(car) = parts.phase else {
+        unreachable!()
+    };
+    let (at, train) = next_move(parts, alloc, car)?;
+    let is_anchor = anchor_in(parts, car).is_some();
+    let id = relocate(parts, alloc, at, train)?;
+    clear_if(parts, is_anchor);
+    let _completed = parts.completed;
+    Ok(Step::Moved { id, train })
 }
 
 /// Makes the next event where the car that is emptied is swept from now on. It takes no memory.

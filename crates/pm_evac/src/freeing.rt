@@ -1,9 +1,9 @@
-ghost use Rattle.std.specs.Prelude.{◌≡◌, IsSome, if◌then◌else◌, OnOk, OnErr};
+ghost use Rattle.std.specs.Prelude.{◌≡◌, IsSome, OnOk, OnErr};
 ghost use Rattle.std.specs.FinMap.{get};
 ghost use Rattle.pm_trains.specs.Trains.{HasCar};
-ghost use Rattle.pm_view.specs.Collecting.{finished, without_car, completing};
+ghost use Rattle.pm_view.specs.Collecting.{finished, without_car};
 ghost use Rattle.pm_space.specs.Shown.{view, KeepsRest};
-ghost use Rattle.pm_evac.specs.Steps.{counted};
+ghost use Rattle.pm_evac.specs.Steps.{freed};
 
 use pm_space::Parts;
 use pm_types::NoMemory;
@@ -36,7 +36,7 @@ fn take_out<F>(parts: &mut Parts<F>, train: u64, car: u64) -> Result<(), NoMemor
 pub fn free<F>(parts: &mut Parts<F>, train: u64, car: u64, completes: bool) -> Result<(), NoMemory>
     requires there { IsSome (get (view parts.old).cars car) }
     requires first { HasCar parts.old.trains.trains train }
-    ensures ok { OnOk result (let gone = without_car (view parts.old) train car in view parts.new ≡ counted (if completes then completing gone else gone)) }
+    ensures ok { OnOk result (view parts.new ≡ freed (view parts.old) train car completes) }
     ensures err { OnErr result (view parts.new ≡ view parts.old) }
     ensures rest { KeepsRest parts.old parts.new }
 {

@@ -7,17 +7,25 @@ pub mod events;
 mod finding;
 mod fixing;
 mod freeing;
+mod moving;
+mod placing;
 mod skipping;
 mod sources;
 mod sweeping;
+mod telling;
 #[cfg(test)]
 mod tests;
+mod ways;
 
 pub use applying::apply;
-pub use calls::{apply_one, finish_car, fix_one, free_car, sweep_one};
+pub use calls::{
+    an_event_that_was_made_keeps_all, apply_one, finish_car, fix_one, free_car, move_one, sweep_one,
+};
 pub use finding::{anchor_in, changed_car, has_change, lowest_live};
 pub use fixing::fix;
 pub use freeing::{finish, free};
+pub use moving::relocate;
 pub use skipping::outside;
 pub use sources::{Entry, least, stale};
 pub use sweeping::sweep;
+pub use ways::{pick_way, ways_out};

@@ -1,14 +1,13 @@
 ghost use Rattle.std.specs.Prelude.{◌≡◌, ℕ, IfSome, IfOk, OnOk, OnErr, IsSome, Some, length, ◌<◌, ◌^◌};
 ghost use Rattle.std.specs.Option.{option_copied};
-ghost use Rattle.pm_types.specs.declared.source.RefSource.TheVariants.{Field};
 ghost use Rattle.pm_view.specs.Reading.{object_at, aside_in};
-ghost use Rattle.pm_view.specs.Barrier.{left};
-ghost use Rattle.pm_view.specs.Collecting.{field_news, without_slot_at, swept};
+ghost use Rattle.pm_view.specs.Collecting.{without_slot_at, swept};
 ghost use Rattle.pm_space.specs.Linked.{sets_of, queues_of, AreHoused, HasRoom, Tells, times};
 ghost use Rattle.pm_space.specs.Shown.{view, cars_of, KeepsRest};
 ghost use Rattle.pm_evac.specs.Steps.{identity};
-ghost use Rattle.pm_evac.specs.Named.{named_by};
+ghost use Rattle.pm_evac.specs.Named.{named_by, withdrawals};
 
+use crate::telling::add_named;
 use pm_cars::Look;
 use pm_snap::Table;
 use pm_space::{Held, LinkTable, Parts, make_room_for_each, tell_all};
@@ -22,11 +21,7 @@ fn named_cars(alloc: Global, fields: &[Option<Addr>]) -> Result<Vec<u64>, NoMemo
     ensures { IfOk result (λ cars. (car : ℕ) → times car cars.items ≡ named_by fields.now car) }
 {
     let mut cars = Vec::new(alloc);
-    for field in fields {
-        if let Some(at) = field {
-            cars.push(at.car)?;
-        }
-    }
+    add_named(&mut cars, fields)?;
     Ok(cars)
 }
 
@@ -50,7 +45,7 @@ fn withdraw(links: &mut LinkTable, trains: &Trains, phase: Phase, at: Addr, fiel
     requires housed { AreHoused (sets_of links.old) trains.now.trains }
     requires room { (car : ℕ) → HasRoom links.old car (named_by fields.now car) }
     ensures sets { sets_of links.new ≡ sets_of links.old }
-    ensures queues { Tells links.old links.new (field_news (λ index field. left (aside_in phase trains.now.trains) (Field at index) field) 0 fields.now) }
+    ensures queues { Tells links.old links.new (withdrawals (aside_in phase trains.now.trains) at fields.now) }
 {
     for index in 0..fields.len() as u32 {
         let source = RefSource::Field { at, index };
@@ -70,8 +65,8 @@ fn take_object(cars: &mut Table<Held>, at: Addr) -> Result<Object, NoMemory>
     Ok(held.car.drop_slot(at.slot))
 }
 
-// The object at an address, lent; `None` where there is none.
-fn object_in(cars: &Table<Held>, at: Addr) -> Option<&Object>
+/// The object at an address, lent; `None` where there is none.
+pub(crate) fn object_in(cars: &Table<Held>, at: Addr) -> Option<&Object>
     ensures object { option_copied result ≡ object_at (cars_of cars.now) at }
     ensures small { IfSome result (λ object. length object.now.fields < 2 ^ 32) }
 {

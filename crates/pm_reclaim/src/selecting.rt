@@ -4,10 +4,10 @@ ghost use Rattle.pm_view.specs.Collecting.{selected};
 ghost use Rattle.pm_view.specs.Events.{next_row};
 ghost use Rattle.pm_view.specs.Law.{HeapLaw};
 ghost use Rattle.pm_space.specs.Shown.{view, KeepsRest};
-ghost use Rattle.pm_evac.specs.Steps.{IsEvent, KeepsWorlds};
+ghost use Rattle.pm_evac.specs.Steps.{IsEvent, MakesEvent};
 ghost use Rattle.pm_reclaim.specs.Rows.{IsSelect};
 
-use pm_law_collect::an_event_keeps_the_law_and_the_worlds;
+use pm_evac::an_event_that_was_made_keeps_all;
 use pm_space::{Parts, Space};
 use pm_types::{NoMemory, Step};
 use pm_view::Phase;
@@ -58,13 +58,13 @@ pub fn select_next<F>(parts: &mut Parts<F>, alloc: Global) -> Result<Step, NoMem
 /// Makes the next event where it selects a train: the oldest train that has a car is drained from now on; where it is
 /// the open one, a new open train is opened first. Want of memory is answered too where the number of that train would
 /// be over `MOST_TRAINS`. After that answer all is as it was.
-pub fn select<F: Drop>(space: &mut Space<F>, alloc: Global) -> Result<Step, NoMemory>
+pub fn select<F: Fn(&[u64]) -> usize + Drop>(
+    space: &mut Space<F>,
+    alloc: Global,
+) -> Result<Step, NoMemory>
     requires { IsSelect (next_row (view space.old.parts)) }
-    ensures ok { IfOk result (λ step. IsEvent (view space.old.parts) (view space.new.parts) step) }
-    ensures worlds { KeepsWorlds (view space.old.parts) (view space.new.parts) }
-    ensures err { OnErr result (view space.new.parts ≡ view space.old.parts) }
-    ensures rest { KeepsRest space.old.parts space.new.parts }
+    ensures { MakesEvent F.Fn space.old.parts space.new.parts result }
 {
-    an_event_keeps_the_law_and_the_worlds();
+    an_event_that_was_made_keeps_all();
     select_next(&mut space.parts, alloc)
 }

@@ -26,7 +26,7 @@ fn bytes(alloc: Global, count: u32, byte: u8) -> Result<Bytes, Fault> {
 }
 
 // One of four names.
-fn name(alloc: Global, number: u32) -> Result<Name, Fault> {
+pub(crate) fn name(alloc: Global, number: u32) -> Result<Name, Fault> {
     let letter = match number {
         0 => b'a',
         1 => b'b',
@@ -90,14 +90,14 @@ fn on_fields(kind: u32, it: Choice) -> Cmd
     }
 }
 
-// A birth of an object of one to four fields.
-fn birth(alloc: Global, it: Choice) -> Result<Cmd, Fault>
+// A birth of an object of one to four fields, and of up to three times so many bytes.
+fn birth(alloc: Global, it: Choice, size: u32) -> Result<Cmd, Fault>
     ensures { IfOk result (λ cmd. is_act cmd ≡ true) }
 {
     Ok(Cmd::New {
         reg: it.reg,
         count: it.count.saturating_add(1),
-        bytes: bytes(alloc, it.index, it.byte)?,
+        bytes: bytes(alloc, it.index.saturating_mul(size), it.byte)?,
     })
 }
 
@@ -127,8 +127,9 @@ fn on_names(alloc: Global, kind: u32, it: Choice) -> Result<Cmd, Fault>
     })
 }
 
-/// The command of a draw, chosen by its four highest bits, and a client beside it, 0 or 1.
-pub(crate) fn command(alloc: Global, draw: u32) -> Result<Cmd, Fault>
+/// The command of a draw, chosen by its four highest bits, and a client beside it, 0 or 1. What is born has up to three
+/// times so many bytes.
+pub(crate) fn command(alloc: Global, draw: u32, size: u32) -> Result<Cmd, Fault>
     ensures { IfOk result (λ cmd. is_act cmd ≡ true) }
 {
     let it = chosen(draw)?;
@@ -137,6 +138,6 @@ pub(crate) fn command(alloc: Global, draw: u32) -> Result<Cmd, Fault>
         7 if it.count == 0 => Ok(Cmd::Forget { reg: it.reg }),
         10..=14 => on_names(alloc, (draw >> 28) - 10, it),
         15 if it.count == 0 && it.index == 0 => Ok(Cmd::Close),
-        _ => birth(alloc, it),
+        _ => birth(alloc, it, size),
     }
 }

@@ -12,6 +12,8 @@ pub(crate) enum Fault {
     Number,
     /// There is no register of this number.
     Register,
+    /// The lines are no script.
+    Script,
     /// The bytes are no name.
     Name,
 }

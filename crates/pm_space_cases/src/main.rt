@@ -2,20 +2,24 @@
 //! `docs/TESTS.md` says how a case is written.
 #![tactic(auto)]
 
+mod collected;
 mod drawn;
 mod fault;
 mod queued;
+mod scripted;
 mod spaced;
 
+use collected::push_collected;
 use fault::Fault;
 use queued::push_queued;
+use scripted::{Shows, push_script};
 use spaced::{push_births, push_drawn, push_names};
 use std::alloc::Global;
 use std::fmt::Write;
 use std::io::{self, BufRead, BufReader};
 
 // A number in decimal.
-fn number(text: &str) -> Result<u64, Fault> {
+pub(crate) fn number(text: &str) -> Result<u64, Fault> {
     match text.parse::<u64>() {
         Ok(number) => Ok(number),
         Err(_) => Err(Fault::Number),
@@ -35,6 +39,11 @@ fn take(alloc: Global, line: &str, out: &mut String) -> Result<(), Fault> {
         "drawn" => push_drawn(alloc, number(text)?, out)?,
         "births" => push_births(alloc, number(text)?, out)?,
         "names" => push_names(alloc, number(text)?, out)?,
+        "collected" => push_collected(alloc, text, out)?,
+        "script" => push_script(alloc, text, Shows::All, out)?,
+        "replies" => push_script(alloc, text, Shows::Replies, out)?,
+        "end" => push_script(alloc, text, Shows::End, out)?,
+        "last" => push_script(alloc, text, Shows::Last, out)?,
         "queued" => push_queued(alloc, number(text)?, out)?,
         _ => return Err(Fault::Step),
     }

@@ -59,7 +59,7 @@ pub(crate) fn push_drawn(alloc: Global, commands: u64, out: &mut String) -> Resu
     let mut draw = 1;
     for _ in 0..commands {
         draw = next_draw(draw);
-        let cmd = command(alloc, draw)?;
+        let cmd = command(alloc, draw, 1)?;
         count(
             &mut space,
             &mut oracle,

@@ -1,12 +1,18 @@
+use Rattle.std.proofs.Common.{Ok}
+use Rattle.pm_view.specs.Events.{next_row}
 use Rattle.pm_space.specs.Shown.{view}
-use Rattle.pm_evac.proofs.Counting.{event_lawful, event_stands}
+use Rattle.pm_evac.proofs.Counting.{lawful, makes}
+use Rattle.pm_evac.proofs.Chosen.{finish_chosen}
 use Rattle.pm_evac.proofs.calls.finish_car.Goals as goal
 
 pub invariant_of-space : goal.invariant_of-space
 invariant_of-space g c = record {
-  kept = event_lawful (view c.args.space.now.parts) (view c.finish_car.new.parts) c.args.space.now.kept c.finish_car.result c.an_event_keeps_the_law_and_the_worlds.ensures.law c.finish_car.ensures.event;
+  kept = lawful g.F.Fn c.args.space.now.parts c.finish_car.new.parts c.args.space.now.kept (Ok c.finish_car.result) c.an_event_that_was_made_keeps_all.ensures.law c.finish_car.ensures.event tt;
 }
 
-pub returns-clause-worlds : goal.returns-clause-worlds
-returns-clause-worlds g c =
-    event_stands (view c.args.space.now.parts) (view c.finish_car.new.parts) c.args.space.now.kept c.finish_car.result c.an_event_keeps_the_law_and_the_worlds.ensures.world c.finish_car.ensures.event
+pub returns : goal.returns
+returns g c =
+    let all = c.an_event_that_was_made_keeps_all.ensures in
+    makes g.F.Fn c.args.space.now.parts c.finish_car.new.parts c.args.space.now.kept (Ok c.finish_car.result) all.worlds all.places all.work c.finish_car.ensures.event
+    (λ picked. finish_chosen g.F.Fn c.args.space.now.parts.place (view c.args.space.now.parts) picked (next_row (view c.args.space.now.parts)) c.requires)
+    tt c.finish_car.ensures.rest

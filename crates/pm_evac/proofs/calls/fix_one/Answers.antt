@@ -1,12 +1,17 @@
+use Rattle.pm_view.specs.Events.{next_row}
 use Rattle.pm_space.specs.Shown.{view}
-use Rattle.pm_evac.proofs.Counting.{lawful, stands}
+use Rattle.pm_evac.proofs.Counting.{lawful, makes}
+use Rattle.pm_evac.proofs.Chosen.{fix_chosen}
 use Rattle.pm_evac.proofs.calls.fix_one.Goals as goal
 
 pub invariant_of-space : goal.invariant_of-space
 invariant_of-space g c = record {
-  kept = lawful (view c.args.space.now.parts) (view c.fix_one.new.parts) c.args.space.now.kept c.fix_one.result c.an_event_keeps_the_law_and_the_worlds.ensures.law c.fix_one.ensures.ok c.fix_one.ensures.err;
+  kept = lawful g.F.Fn c.args.space.now.parts c.fix_one.new.parts c.args.space.now.kept c.fix_one.result c.an_event_that_was_made_keeps_all.ensures.law c.fix_one.ensures.ok c.fix_one.ensures.err;
 }
 
-pub returns-clause-worlds : goal.returns-clause-worlds
-returns-clause-worlds g c =
-    stands (view c.args.space.now.parts) (view c.fix_one.new.parts) c.args.space.now.kept c.fix_one.result c.an_event_keeps_the_law_and_the_worlds.ensures.world c.fix_one.ensures.ok c.fix_one.ensures.err
+pub returns : goal.returns
+returns g c =
+    let all = c.an_event_that_was_made_keeps_all.ensures in
+    makes g.F.Fn c.args.space.now.parts c.fix_one.new.parts c.args.space.now.kept c.fix_one.result all.worlds all.places all.work c.fix_one.ensures.ok
+    (λ picked. fix_chosen g.F.Fn c.args.space.now.parts.place (view c.args.space.now.parts) picked (next_row (view c.args.space.now.parts)) c.requires)
+    c.fix_one.ensures.err c.fix_one.ensures.rest

@@ -1,12 +1,17 @@
+use Rattle.pm_view.specs.Events.{next_row}
 use Rattle.pm_space.specs.Shown.{view}
-use Rattle.pm_evac.proofs.Counting.{lawful, stands}
+use Rattle.pm_evac.proofs.Counting.{lawful, makes}
+use Rattle.pm_evac.proofs.Chosen.{free_chosen}
 use Rattle.pm_evac.proofs.calls.free_car.Goals as goal
 
 pub invariant_of-space : goal.invariant_of-space
 invariant_of-space g c = record {
-  kept = lawful (view c.args.space.now.parts) (view c.free_car.new.parts) c.args.space.now.kept c.free_car.result c.an_event_keeps_the_law_and_the_worlds.ensures.law c.free_car.ensures.ok c.free_car.ensures.err;
+  kept = lawful g.F.Fn c.args.space.now.parts c.free_car.new.parts c.args.space.now.kept c.free_car.result c.an_event_that_was_made_keeps_all.ensures.law c.free_car.ensures.ok c.free_car.ensures.err;
 }
 
-pub returns-clause-worlds : goal.returns-clause-worlds
-returns-clause-worlds g c =
-    stands (view c.args.space.now.parts) (view c.free_car.new.parts) c.args.space.now.kept c.free_car.result c.an_event_keeps_the_law_and_the_worlds.ensures.world c.free_car.ensures.ok c.free_car.ensures.err
+pub returns : goal.returns
+returns g c =
+    let all = c.an_event_that_was_made_keeps_all.ensures in
+    makes g.F.Fn c.args.space.now.parts c.free_car.new.parts c.args.space.now.kept c.free_car.result all.worlds all.places all.work c.free_car.ensures.ok
+    (λ picked. free_chosen g.F.Fn c.args.space.now.parts.place (view c.args.space.now.parts) picked (next_row (view c.args.space.now.parts)) c.requires)
+    c.free_car.ensures.err c.free_car.ensures.rest

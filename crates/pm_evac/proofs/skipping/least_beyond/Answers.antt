@@ -1,4 +1,4 @@
-use Rattle.std.proofs.Common.{◌<◌, ◌≤◌, ◌+◌, arith, sym, ap, subst}
+use Rattle.std.proofs.Common.{arith, sym, ap, subst}
 use Rattle.pm_evac.proofs.Skips.{ArePassed, rank, all_passed, next_beyond, passed_next, inside_is, rank_before}
 use Rattle.pm_evac.proofs.skipping.least_beyond.Goals as goal
 

@@ -1,4 +1,4 @@
-use Rattle.std.proofs.Common.{◌≡◌, true, false, rules, tests, of_calls}
+use Rattle.std.proofs.Common.{◌≡◌, true, false, rules, tests}
 use Rattle.pm_view.specs.Candidates.{is_beyond}
 use Rattle.pm_remset.proofs.First.{first_found, found_once}
 use Rattle.pm_evac.proofs.Beyond.{finds_through}

@@ -1,0 +1,22 @@
+-- Trains to which an object may go, sought source by source.
+use Rattle.std.specs.Prelude.{ℕ, Bool, false, ◌==◌, cond, List, map, Option, Some, None}
+use Rattle.std.specs.Option.{option_and_then}
+use Rattle.std.specs.List.{filter}
+use Rattle.pm_types.specs.declared.source.RefSource.{RefSource}
+use Rattle.pm_types.specs.declared.source.RefSource.TheVariants.{Root, Handle, Field}
+use Rattle.pm_trains.specs.Trains.{Train, train_of}
+
+-- the train of a source that is a field of an object in another train than this one, none for any other source
+abbrev pub naming_train : List Train → ℕ → RefSource → Option ℕ
+naming_train trains train (Root number) = None
+naming_train trains train (Handle client register) = None
+naming_train trains train (Field a index) = option_and_then (λ home. cond (home == train) None (Some home)) (train_of trains a.car)
+
+-- it is this train
+abbrev pub is_train : Option ℕ → ℕ → Bool
+is_train None number = false
+is_train (Some home) number = home == number
+
+-- the numbers of the trains whose numbers pass
+abbrev pub numbered : (ℕ → Bool) → List Train → List ℕ
+numbered passes trains = map (λ (t : Train). t.number) (filter (λ (t : Train). passes t.number) trains)
