@@ -1,0 +1,30 @@
+-- Which address a fault is of.
+use Rattle.std.proofs.Common.{◌≡◌, ℕ, Bool, true, false, List, [], ◌∷◌, ◌++◌, Result, Ok, Err, refl, sym, ap, ◌∙◌, if◌then◌else◌}
+use Rattle.std.specs.List.{AllByRecursion}
+use Rattle.pm_types.specs.declared.fault.OpenFault.{OpenFault}
+use Rattle.pm_types.specs.declared.fault.OpenFault.TheVariants.{Malformed}
+use Rattle.pm_image.specs.declared.settled.KeptPage.{KeptPage}
+use Rattle.pm_image.specs.Graphs.{Site, leads, linked}
+use Rattle.pm_law_graphs.specs.Spelled.{IsOfFirstAstray}
+
+one_more : (cars : List KeptPage) (site : Site) (sites : List Site) (fault : OpenFault) → leads cars site ≡ true → IsOfFirstAstray cars sites fault → IsOfFirstAstray cars (site ∷ sites) fault
+one_more cars site sites fault here others = record {
+  before = site ∷ others.before;
+  astray = others.astray;
+  after = others.after;
+  parts = ap (λ (list : List Site). site ∷ list) others.parts;
+  lead = (here, others.lead);
+  leads_not = others.leads_not;
+  told = others.told;
+}
+
+this_one : (cars : List KeptPage) (site : Site) (sites : List Site) (fault : OpenFault) (rest : Result (Unit {0}) OpenFault) → (rest ≡ Err fault → IsOfFirstAstray cars sites fault)
+    → (b : Bool) → leads cars site ≡ b → (if b then rest else Err (Malformed site.page site.at)) ≡ Err fault → IsOfFirstAstray cars (site ∷ sites) fault
+this_one cars site sites fault rest others true here is = one_more cars site sites fault here (others is)
+this_one cars site sites fault rest others false here is = record { before = []; astray = site; after = sites; parts = refl; lead = tt; leads_not = here; told = cc }
+
+-- the fault is of the first address that leads to no slot that it may
+pub first_astray : (cars : List KeptPage) (sites : List Site) (fault : OpenFault) → linked cars sites ≡ Err fault → IsOfFirstAstray cars sites fault
+unfolding linked
+first_astray cars [] fault is = absurd cc
+first_astray cars (site ∷ sites) fault is = this_one cars site sites fault (linked cars sites) (first_astray cars sites fault) (leads cars site) refl is
