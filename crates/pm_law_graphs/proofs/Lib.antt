@@ -1,4 +1,6 @@
+pub mod Lists
 pub mod Faults
 pub mod Places
 pub mod Ranges
 pub mod Sets
+pub mod Cars

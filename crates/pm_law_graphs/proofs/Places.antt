@@ -19,6 +19,7 @@ use Rattle.pm_image.specs.CatalogPages.{IsCatalogInRange, IsEntryInRange, catalo
 use Rattle.pm_image.specs.Graphs.{Site, field_sites, record_sites, root_sites, slot_sites}
 use Rattle.pm_image.proofs.CarSizes.{record_length}
 use Rattle.pm_image.proofs.CatalogTakes.{car_size, root_size}
+use Rattle.pm_law_graphs.proofs.Lists.{both}
 
 -- the twelve bytes of an address stand at its place in these bytes, which are those of its page
 pub record IsAt (bytes : List ℕ) (page : ℕ) (site : Site) : Type 0 where
@@ -37,10 +38,6 @@ sizes (Root name to ∷ entries) range = (root_size name to, sizes entries range
 
 abbrev pub AreAt : List ℕ → ℕ → List Site → Type 0
 AreAt bytes page sites = AllByRecursion (IsAt bytes page) sites
-
-pub both : {A : Type 0} (P : A → Type 0) (xs ys : List A) → AllByRecursion P xs → AllByRecursion P ys → AllByRecursion P (xs ++ ys)
-both P [] ys one two = two
-both P (x ∷ xs) ys one two = (one.0, both P xs ys one.1 two)
 
 address_length : (to : Addr) → length (address to) ≡ 12
 unfolding address
