@@ -4,3 +4,4 @@ pub mod Places
 pub mod Ranges
 pub mod Sets
 pub mod Cars
+pub mod Order
