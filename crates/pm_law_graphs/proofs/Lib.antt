@@ -5,3 +5,4 @@ pub mod Ranges
 pub mod Sets
 pub mod Cars
 pub mod Order
+pub mod Chain
