@@ -29,7 +29,7 @@ use Rattle.pm_law_graphs.specs.Entries.{ListedCar, listed_cars, listed_pages}
 use Rattle.pm_law_graphs.specs.Spelled.{AreWhole, IsCarSpelled, identities_in, identities_of, listed_as}
 use Rattle.pm_law_graphs.proofs.Lists.{both, front, back}
 use Rattle.pm_law_graphs.proofs.Ranges.{car_range}
-use Rattle.pm_law_graphs.proofs.Sets.{AreNew, new_more, new_first, new_others}
+use Rattle.pm_law_graphs.proofs.Sets.{AreNew, new_more, new_first, new_others, nothing_new}
 
 -- ---- identities
 
@@ -204,15 +204,8 @@ are_below most next pages met [] read = tt
 are_below most next pages met (kept ∷ cars) read =
     both (IsBelow next) (identities_in kept.image.slots) (identities_of cars) (free_below next met kept.image.slots read.0.has.free) (are_below most next pages (with_identities met kept.image.slots) cars read.1)
 
-nothing_more : (met : Numbers) → AreNew met []
-nothing_more met number = by (set.contains met number)
-  where
-    by : (b : Bool) → (if b then 1 else 0) + 0 ≤ 1
-    by true = omega arith
-    by false = omega arith
-
 pub are_new : (most next : ℕ) (pages : Pages) (met : Numbers) (cars : List KeptPage) → AreCarsRead most next pages met cars → AreNew met (identities_of cars)
-are_new most next pages met [] read = nothing_more met
+are_new most next pages met [] read = nothing_new met
 are_new most next pages met (kept ∷ cars) read =
     free_new next met kept.image.slots (identities_of cars) read.0.has.free (are_new most next pages (with_identities met kept.image.slots) cars read.1)
 

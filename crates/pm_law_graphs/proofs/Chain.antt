@@ -29,7 +29,7 @@ use Rattle.pm_law_graphs.proofs.Order.{AreOrdered, IsPageFree, IsPlaced, after_a
 
 -- ---- pages that were read one after the other
 
-abbrev IsZero : ℕ → Type 0
+abbrev pub IsZero : ℕ → Type 0
 IsZero byte = byte ≡ 0
 
 -- the page that is named was read, with this met before
@@ -54,7 +54,7 @@ zeros_all (byte ∷ digest) is = let parts = two (byte == 0) (list_all (λ byte.
     two true b is = (refl, is)
     two false b is = absurd cc
 
-all_zeros : (digest : List ℕ) → AllByRecursion IsZero digest → list_all (λ byte. byte == 0) digest ≡ true
+pub all_zeros : (digest : List ℕ) → AllByRecursion IsZero digest → list_all (λ byte. byte == 0) digest ≡ true
 all_zeros [] all = refl
 all_zeros (byte ∷ digest) all = ap (λ (b : ℕ). (b == 0) && list_all (λ byte. byte == 0) digest) all.0 ∙ all_zeros digest all.1
 
@@ -63,10 +63,10 @@ digest_none : (next : ℕ) (digest : List ℕ) → (next == 0) ≡ true → has_
 digest_none next digest none is = zeros_all digest (sym (ap (λ (b : Bool). not b || list_all (λ byte. byte == 0) digest) none) ∙ is)
 
 -- a page that names one
-next_free : (count : ℕ) (met : Numbers) (next : ℕ) → (next == 0) ≡ false → is_next_page (Some count) met next ≡ true → IsPageFree count met next
+pub next_free : (count : ℕ) (met : Numbers) (next : ℕ) → (next == 0) ≡ false → is_next_page (Some count) met next ≡ true → IsPageFree count met next
 next_free count met next some is = free_parts count met next (sym (ap (λ (b : Bool). b || is_free_page (Some count) met next) some) ∙ is)
 
-zero_test : (next : ℕ) → 0 < next → (next == 0) ≡ false
+pub zero_test : (next : ℕ) → 0 < next → (next == 0) ≡ false
 zero_test next some = grind (arith, nat_tests)
 
 -- what follows the page

@@ -6,3 +6,4 @@ pub mod Sets
 pub mod Cars
 pub mod Order
 pub mod Chain
+pub mod Whole

@@ -15,7 +15,7 @@ use Rattle.pm_image.specs.CatalogPages.{AreNext, IsNextCar, IsNextRoot, Met, has
 use Rattle.pm_image.proofs.Results.{both_true}
 use Rattle.pm_law_graphs.specs.Apart.{Follow, Neighbours}
 use Rattle.pm_law_graphs.specs.Entries.{AreInOrder, CarsComeFirst, ComesBefore, IsNoYounger, ListedCar, listed_addresses, listed_cars, listed_names, listed_numbers, listed_pages, listed_trains}
-use Rattle.pm_law_graphs.proofs.Sets.{AreNew, apart_new, new_apart, new_first, new_more, new_others}
+use Rattle.pm_law_graphs.proofs.Sets.{AreNew, apart_new, new_apart, new_first, new_more, new_others, nothing_new}
 
 -- ---- what was met, but for the pages
 
@@ -100,13 +100,6 @@ record IsOrder (order : Order) (entries : List CatEntry) : Type 0 where
   ascending : NamesFollow order.name (listed_names entries)
   few : order.roots + length (listed_names entries) ≤ ROOTS
   have_cars : AllByRecursion (λ (at : Addr). 0 < at.car) (listed_addresses entries)
-
-nothing_new : (met : Numbers) → AreNew met []
-nothing_new met number = by (set.contains met number)
-  where
-    by : (b : Bool) → (if b then 1 else 0) + 0 ≤ 1
-    by true = omega arith
-    by false = omega arith
 
 no_names : (name : Option (List ℕ)) → NamesFollow name []
 no_names None = tt

@@ -76,3 +76,10 @@ apart_new xs apart number = let none = nothing_held number in let le = apart num
 
 pub new_apart : (xs : List ℕ) → AreNew set.empty xs → AreApart xs
 new_apart xs new number = let none = nothing_held number in let le = new number in omega arith
+
+pub nothing_new : (met : Numbers) → AreNew met []
+nothing_new met number = by (set.contains met number)
+  where
+    by : (b : Bool) → once b + 0 ≤ 1
+    by true = omega arith
+    by false = omega arith
