@@ -7,3 +7,5 @@ pub mod Cars
 pub mod Order
 pub mod Chain
 pub mod Whole
+pub mod Leads
+pub mod Found

@@ -58,6 +58,11 @@ identities_of cars = flat_map (λ (kept : KeptPage). identities_in kept.image.sl
 abbrev pub listed_as : KeptPage → ListedCar
 listed_as kept = record { number = kept.image.number; page = kept.page; digest = kept.digest }
 
+-- the numbers and digests of a graph are such as the types can hold
+pub record IsGraphInRange (graph : Graph) : Type 0 where
+  pub catalog : AllByRecursion (λ (page : ℕ × CatalogPage). IsCatalogInRange page.1) graph.catalog
+  pub cars : AllByRecursion (λ (kept : KeptPage). IsCarInRange kept.image) graph.cars
+
 -- The pages of a store spell a graph behind a header: the catalog's pages are the chain that the header names, and
 -- its entries are in order; the cars are those that the entries list, in their order. Each object has an identity of
 -- its own, from 1 on and below the next one. Each page of the catalog and of a car is a page of the store behind the
@@ -74,11 +79,7 @@ pub record Spells (pages : Pages) (header : Header) (graph : Graph) : Type 0 whe
   pub pages_apart : AreApart (used_pages graph)
   pub cars_lead : AllByRecursion (CarLeads graph.cars) graph.cars
   pub roots_lead : AllByRecursion (RootLeads graph.cars) (entries_of graph.catalog)
-
--- the numbers and digests of a graph are such as the types can hold
-pub record IsGraphInRange (graph : Graph) : Type 0 where
-  pub catalog : AllByRecursion (λ (page : ℕ × CatalogPage). IsCatalogInRange page.1) graph.catalog
-  pub cars : AllByRecursion (λ (kept : KeptPage). IsCarInRange kept.image) graph.cars
+  pub in_range : IsGraphInRange graph
 
 -- An address stands at its place: the page is one on which the graph stands, and twelve bytes of it, from the place
 -- on, spell the address.

@@ -7,6 +7,7 @@ use Rattle.pm_law_graphs.proofs.Cars.{spelled_read}
 use Rattle.pm_law_graphs.proofs.Order.{next_again}
 use Rattle.pm_law_graphs.proofs.Chain.{chain_again}
 use Rattle.pm_law_graphs.proofs.Whole.{page_by_page}
+use Rattle.pm_law_graphs.proofs.Found.{again}
 use Rattle.pm_law_graphs.proofs.laws.a_reported_address_stands_at_its_place.Goals as goal
 
 pub returns : goal.returns
