@@ -5,9 +5,18 @@ use Rattle.pm_types.specs.declared.fault.OpenFault.{OpenFault}
 use Rattle.pm_types.specs.declared.fault.OpenFault.TheVariants.{Malformed}
 use Rattle.pm_image.specs.declared.settled.KeptPage.{KeptPage}
 use Rattle.pm_image.specs.Graphs.{Site, leads, linked}
-use Rattle.pm_law_graphs.specs.Spelled.{IsOfFirstAstray}
 
-one_more : (cars : List KeptPage) (site : Site) (sites : List Site) (fault : OpenFault) → leads cars site ≡ true → IsOfFirstAstray cars sites fault → IsOfFirstAstray cars (site ∷ sites) fault
+-- the fault is of the first of these addresses that leads to no slot of a kind that it may
+pub record IsOfFirst (cars : List KeptPage) (sites : List Site) (fault : OpenFault) : Type 0 where
+  pub before : List Site
+  pub astray : Site
+  pub after : List Site
+  pub parts : sites ≡ before ++ (astray ∷ after)
+  pub lead : AllByRecursion (λ (site : Site). leads cars site ≡ true) before
+  pub leads_not : leads cars astray ≡ false
+  pub told : fault ≡ Malformed astray.page astray.at
+
+one_more : (cars : List KeptPage) (site : Site) (sites : List Site) (fault : OpenFault) → leads cars site ≡ true → IsOfFirst cars sites fault → IsOfFirst cars (site ∷ sites) fault
 one_more cars site sites fault here others = record {
   before = site ∷ others.before;
   astray = others.astray;
@@ -18,13 +27,12 @@ one_more cars site sites fault here others = record {
   told = others.told;
 }
 
-this_one : (cars : List KeptPage) (site : Site) (sites : List Site) (fault : OpenFault) (rest : Result (Unit {0}) OpenFault) → (rest ≡ Err fault → IsOfFirstAstray cars sites fault)
-    → (b : Bool) → leads cars site ≡ b → (if b then rest else Err (Malformed site.page site.at)) ≡ Err fault → IsOfFirstAstray cars (site ∷ sites) fault
+this_one : (cars : List KeptPage) (site : Site) (sites : List Site) (fault : OpenFault) (rest : Result (Unit {0}) OpenFault) → (rest ≡ Err fault → IsOfFirst cars sites fault)
+    → (b : Bool) → leads cars site ≡ b → (if b then rest else Err (Malformed site.page site.at)) ≡ Err fault → IsOfFirst cars (site ∷ sites) fault
 this_one cars site sites fault rest others true here is = one_more cars site sites fault here (others is)
 this_one cars site sites fault rest others false here is = record { before = []; astray = site; after = sites; parts = refl; lead = tt; leads_not = here; told = cc }
 
--- the fault is of the first address that leads to no slot that it may
-pub first_astray : (cars : List KeptPage) (sites : List Site) (fault : OpenFault) → linked cars sites ≡ Err fault → IsOfFirstAstray cars sites fault
+pub first_astray : (cars : List KeptPage) (sites : List Site) (fault : OpenFault) → linked cars sites ≡ Err fault → IsOfFirst cars sites fault
 unfolding linked
 first_astray cars [] fault is = absurd cc
 first_astray cars (site ∷ sites) fault is = this_one cars site sites fault (linked cars sites) (first_astray cars sites fault) (leads cars site) refl is

@@ -59,7 +59,7 @@ car_pages [] = refl
 car_pages (kept ∷ cars) = ap (λ (rest : List ℕ). kept.page ∷ rest) (car_pages cars)
 
 -- the pages of the cars are those that are listed
-same_pages : (entries_listed : List ListedCar) (cars : List KeptPage) → map listed_as cars ≡ entries_listed → map (λ (car : ListedCar). car.page) entries_listed ≡ map (λ (kept : KeptPage). kept.page) cars
+pub same_pages : (entries_listed : List ListedCar) (cars : List KeptPage) → map listed_as cars ≡ entries_listed → map (λ (car : ListedCar). car.page) entries_listed ≡ map (λ (kept : KeptPage). kept.page) cars
 same_pages entries_listed cars listed = sym (ap (map (λ (car : ListedCar). car.page)) listed) ∙ car_pages cars
 
 -- the pages that a graph stands on: the first, and the later ones
@@ -152,6 +152,10 @@ again pages header graph few placed spells =
     bound _ _ catalog _ catalog_read
     (bound _ _ cars _ (cars_again most header.next pages set.empty (entries_of catalog) cars (few_fields header.version) spells.listed cars_read)
     (bound _ _ tt _ (all_linked catalog cars spells.cars_lead spells.roots_lead) refl))
+
+-- pages spell one graph at most
+pub one_graph : (pages : Pages) (header : Header) (first second : Graph) → pages.count ≤ 2 ^ 64 → is_placed pages.count header ≡ true → Spells pages header first → Spells pages header second → first ≡ second
+one_graph pages header first second few placed one two = ok_same first second (sym (again pages header first few placed one) ∙ again pages header second few placed two)
 
 -- ---- the pages of bytes
 

@@ -9,3 +9,4 @@ pub mod Chain
 pub mod Whole
 pub mod Leads
 pub mod Found
+pub mod Sites

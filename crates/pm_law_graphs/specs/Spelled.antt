@@ -80,19 +80,3 @@ pub record Spells (pages : Pages) (header : Header) (graph : Graph) : Type 0 whe
   pub cars_lead : AllByRecursion (CarLeads graph.cars) graph.cars
   pub roots_lead : AllByRecursion (RootLeads graph.cars) (entries_of graph.catalog)
   pub in_range : IsGraphInRange graph
-
--- An address stands at its place: the page is one on which the graph stands, and twelve bytes of it, from the place
--- on, spell the address.
-pub record StandsAtPlace (pages : Pages) (graph : Graph) (site : Site) : Type 0 where
-  pub page : Contains (used_pages graph) site.page
-  pub spelled : slice_range (pages.page site.page) site.at (site.at + 12) ≡ address site.to
-
--- The fault is of the first of these addresses that leads to no slot of a kind that it may: it says its page and place.
-pub record IsOfFirstAstray (cars : List KeptPage) (sites : List Site) (fault : OpenFault) : Type 0 where
-  pub before : List Site
-  pub astray : Site
-  pub after : List Site
-  pub parts : sites ≡ before ++ (astray ∷ after)
-  pub lead : AllByRecursion (λ (site : Site). leads cars site ≡ true) before
-  pub leads_not : leads cars astray ≡ false
-  pub told : fault ≡ Malformed astray.page astray.at
