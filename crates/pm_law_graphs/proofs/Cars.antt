@@ -34,7 +34,7 @@ use Rattle.pm_law_graphs.proofs.Sets.{AreNew, new_more, new_first, new_others, n
 -- ---- identities
 
 abbrev pub IsBelow : ℕ → ℕ → Type 0
-IsBelow next id = (0 < id) × (id < next)
+IsBelow next id = (1 ≤ id) × (id < next)
 
 record IsUntaken (next : ℕ) (met : Numbers) (id : ℕ) : Type 0 where
   below : IsBelow next id
@@ -180,9 +180,9 @@ cars_again most next pages met (Car car train page digest ∷ entries) (kept ∷
     let same = first_same (listed_as kept) here (map listed_as cars) (listed_cars entries) listed in
     let rest = cars_again most next pages (with_identities met kept.image.slots) entries cars small same.1 read.1 in
     let made : cars_from most next pages met (Car kept.image.number train kept.page kept.digest ∷ entries) ≡ Ok (kept ∷ cars) =
-        bound _ _ tt _ (undamaged_again pages kept.page kept.digest read.0.digest)
-        (bound _ _ kept.image _ (one_again most next pages met kept small read.0)
-        (bound _ _ cars _ rest refl)) in
+    bound _ _ tt _ (undamaged_again pages kept.page kept.digest read.0.digest)
+    (bound _ _ kept.image _ (one_again most next pages met kept small read.0)
+    (bound _ _ cars _ rest refl)) in
     subst (λ (l : ListedCar). cars_from most next pages met (Car l.number train l.page l.digest ∷ entries) ≡ Ok (kept ∷ cars)) same.0 made
 
 -- ---- cars that were read, and cars that are spelled

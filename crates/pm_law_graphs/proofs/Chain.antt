@@ -144,9 +144,9 @@ chain_again (suc n) pages met named kept (page ∷ others) some read =
     let rest : Result Catalog OpenFault = (if first.next == 0 then Ok [] else catalog_from n pages (meeting_page met first) first.next first.digest) in
     let whole = with_first page rest others tail in
     let reads : catalog_at (Some pages.count) met (pages.page page.0) ≡ Ok first =
-        ap (catalog_at (Some pages.count) met) here.spelled ∙ catalog_again (Some pages.count) met first here.has here.range in
+    ap (catalog_at (Some pages.count) met) here.spelled ∙ catalog_again (Some pages.count) met first here.has here.range in
     let same : catalog_from (suc n) pages met page.0 kept ≡ (rest >>= λ those. Ok (page ∷ those)) =
-        bound _ _ tt _ (undamaged_again pages page.0 kept here.digest)
-        (bound _ _ first _ (ap (on_page page.0) reads) refl) in
+    bound _ _ tt _ (undamaged_again pages page.0 kept here.digest)
+    (bound _ _ first _ (ap (on_page page.0) reads) refl) in
     subst (λ (k : ℕ). IsReadOrBroken (catalog_from (suc n) pages met k kept) (page ∷ others)) here.same
     (subst (λ (r : Result Catalog OpenFault). IsReadOrBroken r (page ∷ others)) (sym same) whole)

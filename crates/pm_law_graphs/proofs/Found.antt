@@ -85,10 +85,10 @@ found pages header graph all placed is =
     let listed = same_pages (listed_cars (entries_of catalog)) cars read.0 in
     let named = placed_parts pages.count header placed in
     let apart : AreApart (header.first ∷ later_pages catalog) =
-        new_apart (header.first ∷ later_pages catalog) (new_more set.empty header.first (later_pages catalog) (set.contains-empty nat_cmp header.first) there.new) in
+    new_apart (header.first ∷ later_pages catalog) (new_more set.empty header.first (later_pages catalog) (set.contains-empty nat_cmp header.first) there.new) in
     let low = named.0 in
     let used : header.first ∷ later_pages catalog ≡ used_pages made =
-        sym (first_and_later header.first catalog (omega arith) pages (begun header) header.digest there) ∙ ap (λ (rest : List ℕ). numbers_of catalog ++ rest) listed in
+    sym (first_and_later header.first catalog (omega arith) pages (begun header) header.digest there) ∙ ap (λ (rest : List ℕ). numbers_of catalog ++ rest) listed in
     let lead_made = subst (λ (g : Graph). AllByRecursion (CarLeads g.cars) g.cars × AllByRecursion (RootLeads g.cars) (entries_of g.catalog)) (sym same) lead in
     let spells : Spells pages header made = record {
       chain = there.chain;
@@ -96,10 +96,11 @@ found pages header graph all placed is =
       entries = in_order (entries_of catalog) there.ordered;
       listed = read.0;
       cars = are_spelled most header.next pages set.empty cars read.1;
-      identities = are_below most header.next pages set.empty cars read.1;
-      identities_apart = new_apart (identities_of cars) (are_new most header.next pages set.empty cars read.1);
-      pages_placed = both (IsPlaced pages.count) (numbers_of catalog) (map (λ (kept : KeptPage). kept.page) cars) there.placed (subst (AllByRecursion (IsPlaced pages.count)) listed there.cars_placed);
-      pages_apart = subst AreApart used apart;
+      own_identities = record { within = are_below most header.next pages set.empty cars read.1; apart = new_apart (identities_of cars) (are_new most header.next pages set.empty cars read.1) };
+      own_pages = record {
+        within = both (IsPlaced pages.count) (numbers_of catalog) (map (λ (kept : KeptPage). kept.page) cars) there.placed (subst (AllByRecursion (IsPlaced pages.count)) listed there.cars_placed);
+        apart = subst AreApart used apart;
+      };
       cars_lead = lead_made.0;
       roots_lead = lead_made.1;
       in_range = record { catalog = there.range; cars = are_in_range most header.next pages set.empty cars read.1 };
@@ -133,9 +134,9 @@ again pages header graph few placed spells =
     let low = (placed_parts pages.count header placed).0 in
     let car_numbers : List ℕ = map (λ (kept : KeptPage). kept.page) cars in
     let listed = same_pages (listed_cars (entries_of catalog)) cars spells.listed in
-    let numbers_placed = front (IsPlaced pages.count) (numbers_of catalog) car_numbers spells.pages_placed in
-    let cars_placed = subst (AllByRecursion (IsPlaced pages.count)) (sym listed) (back (IsPlaced pages.count) (numbers_of catalog) car_numbers spells.pages_placed) in
-    let apart : AreApart (numbers_of catalog ++ listed_pages (entries_of catalog)) = subst AreApart (ap (λ (rest : List ℕ). numbers_of catalog ++ rest) (sym listed)) spells.pages_apart in
+    let numbers_placed = front (IsPlaced pages.count) (numbers_of catalog) car_numbers spells.own_pages.within in
+    let cars_placed = subst (AllByRecursion (IsPlaced pages.count)) (sym listed) (back (IsPlaced pages.count) (numbers_of catalog) car_numbers spells.own_pages.within) in
+    let apart : AreApart (numbers_of catalog ++ listed_pages (entries_of catalog)) = subst AreApart (ap (λ (rest : List ℕ). numbers_of catalog ++ rest) (sym listed)) spells.own_pages.apart in
     let new = later_new header catalog (omega arith) pages spells.chain apart in
     let there : IsWhole pages (begun header) header.first header.digest catalog = record {
       chain = spells.chain;
@@ -148,7 +149,7 @@ again pages header graph few placed spells =
     } in
     let read = page_by_page pages (begun header) header.first header.digest catalog there in
     let catalog_read = or_broken pages header catalog few placed (chain_again most_pages pages (begun header) header.first header.digest catalog (omega arith) read) in
-    let cars_read = spelled_read most header.next pages set.empty cars spells.cars spells.in_range.cars spells.identities (apart_new (identities_of cars) spells.identities_apart) in
+    let cars_read = spelled_read most header.next pages set.empty cars spells.cars spells.in_range.cars spells.own_identities.within (apart_new (identities_of cars) spells.own_identities.apart) in
     bound _ _ catalog _ catalog_read
     (bound _ _ cars _ (cars_again most header.next pages set.empty (entries_of catalog) cars (few_fields header.version) spells.listed cars_read)
     (bound _ _ tt _ (all_linked catalog cars spells.cars_lead spells.roots_lead) refl))

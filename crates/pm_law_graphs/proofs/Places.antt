@@ -130,6 +130,6 @@ catalog_places bytes page catalog whole range spelled =
     let stands = whole_stands bytes (catalog_spelling catalog) whole spelled in
     let sized : 0 + length head ≡ 46 = omega (arith, range.digest, length-append catalog.digest (big_bytes 2 (length catalog.entries))) in
     let same : catalog_spelling catalog ≡ head ++ entries =
-        ap (λ (t : List ℕ). catalog_magic ++ (big_bytes 8 catalog.next ++ t)) (sym (append_assoc catalog.digest (big_bytes 2 (length catalog.entries)) entries)) in
+    ap (λ (t : List ℕ). catalog_magic ++ (big_bytes 8 catalog.next ++ t)) (sym (append_assoc catalog.digest (big_bytes 2 (length catalog.entries)) entries)) in
     let parts = Stands-split bytes head entries 0 46 (length (catalog_spelling catalog)) (omega arith) sized (subst (λ (t : List ℕ). Stands bytes 0 t (length (catalog_spelling catalog))) same stands) in
     entries_at bytes page 46 (length (catalog_spelling catalog)) catalog.entries parts.first.inside (sizes catalog.entries range.entries) parts.second

@@ -87,7 +87,7 @@ new_later pages met page (second ∷ others) next read new =
     let some : 0 < page.1.next = omega arith in
     let free = next_free pages.count met.pages page.1.next (zero_test page.1.next some) next in
     let rest = new_as (set.insert met.pages page.1.next) (numbers_of others) page.1.entries (entries_of (second ∷ others))
-        (subst (λ (s : Numbers). AreNew s (listed_pages page.1.entries ++ later_pages (second ∷ others))) (one_met met page.1.next some) new) in
+    (subst (λ (s : Numbers). AreNew s (listed_pages page.1.entries ++ later_pages (second ∷ others))) (one_met met page.1.next some) new) in
     subst (λ (k : ℕ). AreNew met.pages (k ∷ (numbers_of others ++ listed_pages (entries_of (page ∷ (second ∷ others)))))) (sym same)
     (new_more met.pages page.1.next (numbers_of others ++ listed_pages (entries_of (page ∷ (second ∷ others)))) free.other rest)
 
@@ -132,10 +132,10 @@ next_met pages met page (second ∷ others) chain placed new =
     let some : 0 < page.1.next = omega arith in
     let goes = zero_test page.1.next some in
     let here : AreNew met.pages (page.1.next ∷ (numbers_of others ++ listed_pages (entries_of (page ∷ (second ∷ others))))) =
-        subst (λ (k : ℕ). AreNew met.pages (k ∷ (numbers_of others ++ listed_pages (entries_of (page ∷ (second ∷ others)))))) same new in
+    subst (λ (k : ℕ). AreNew met.pages (k ∷ (numbers_of others ++ listed_pages (entries_of (page ∷ (second ∷ others)))))) same new in
     let other = new_first met.pages page.1.next (numbers_of others ++ listed_pages (entries_of (page ∷ (second ∷ others)))) here in
     let rest = as_new (set.insert met.pages page.1.next) (numbers_of others) page.1.entries (entries_of (second ∷ others))
-        (new_others met.pages page.1.next (numbers_of others ++ listed_pages (entries_of (page ∷ (second ∷ others)))) here) in
+    (new_others met.pages page.1.next (numbers_of others ++ listed_pages (entries_of (page ∷ (second ∷ others)))) here) in
     let free = is_free pages.count met.pages page.1.next (subst (IsPlaced pages.count) same placed.0) other in
     record {
       next = ap (λ (b : Bool). b || is_free_page (Some pages.count) met.pages page.1.next) goes ∙ free;
@@ -153,7 +153,7 @@ page_by_page pages met named kept (page ∷ others) is =
     let ordered = ordered_front (order_of met) first.entries (entries_of others) is.ordered in
     let listed = subst (AllByRecursion (IsPlaced pages.count)) (listed_append first.entries (entries_of others)) is.cars_placed in
     let still = next_again pages.count inner first.entries (later_pages others) (subst (λ order. AreOrdered order first.entries) (sym (order_next met first.next)) ordered)
-        (front (IsPlaced pages.count) (listed_pages first.entries) (listed_pages (entries_of others)) listed) next.new in (
+    (front (IsPlaced pages.count) (listed_pages first.entries) (listed_pages (entries_of others)) listed) next.new in (
       record {
         same = chain.0;
         placed = is.placed.0;

@@ -19,7 +19,8 @@ pub record ListedCar : Type 0 where
 -- the cars that entries list, in order
 abbrev pub listed_cars : List CatEntry → List ListedCar
 listed_cars [] = []
-listed_cars (Car car train page digest ∷ entries) = record { number = car; page = page; digest = digest } ∷ listed_cars entries
+listed_cars (Car car train page digest ∷ entries) =
+    record { number = car; page = page; digest = digest } ∷ listed_cars entries
 listed_cars (Root name at ∷ entries) = listed_cars entries
 
 -- the numbers of the cars
@@ -54,7 +55,7 @@ CarsComeFirst [] = Unit {0}
 CarsComeFirst (Car car train page digest ∷ entries) = CarsComeFirst entries
 CarsComeFirst (Root name at ∷ entries) = listed_cars entries ≡ []
 
--- one train is not above the other
+-- one train is no younger than the other: its number is not above that one's
 abbrev pub IsNoYounger : ℕ → ℕ → Type 0
 IsNoYounger first second = first ≤ second
 

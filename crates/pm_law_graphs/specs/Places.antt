@@ -13,7 +13,8 @@ use Rattle.pm_image.specs.Graphs.{Graph, Pages, Site, cars_from, catalog_of, ent
 -- addresses lead anywhere is not said.
 pub record AreRead (pages : Pages) (header : Header) (graph : Graph) : Type 0 where
   pub catalog : catalog_of pages header ≡ Ok graph.catalog
-  pub cars : cars_from (most_fields header.version) header.next pages set.empty (entries_of graph.catalog) ≡ Ok graph.cars
+  pub cars :
+      cars_from (most_fields header.version) header.next pages set.empty (entries_of graph.catalog) ≡ Ok graph.cars
 
 -- An address stands at its place: the page is one of those that the graph stands on, and twelve bytes of it, from the
 -- place on, spell the address.

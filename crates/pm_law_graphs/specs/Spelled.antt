@@ -17,7 +17,7 @@ use Rattle.pm_image.specs.CarAnswers.{AreBytes, IsCarInRange}
 use Rattle.pm_image.specs.CatalogPages.{IsCatalogInRange, catalog_spelling, catalog_used}
 use Rattle.pm_image.specs.Graphs.{Catalog, Graph, Pages, Site, entries_of, leads, used_pages}
 use Rattle.pm_image.specs.Leading.{CarLeads, RootLeads}
-use Rattle.pm_law_graphs.specs.Apart.{AreApart}
+use Rattle.pm_law_graphs.specs.Apart.{AreOwn}
 use Rattle.pm_law_graphs.specs.Entries.{AreInOrder, ListedCar, listed_cars}
 
 -- each page of the store is one whole page of bytes
@@ -28,7 +28,8 @@ AreWhole pages = (page : ℕ) → page < pages.count → (length (pages.page pag
 -- names the one after it. The last names none: it names page 0, with a digest of zeros.
 abbrev pub IsChain : Pages → ℕ → List ℕ → Catalog → Type 0
 IsChain pages named digest [] = (named ≡ 0) × AllByRecursion (λ (byte : ℕ). byte ≡ 0) digest
-IsChain pages named digest (page ∷ others) = (page.0 ≡ named) × (sha256 (pages.page page.0) ≡ digest) × IsChain pages page.1.next page.1.digest others
+IsChain pages named digest (page ∷ others) =
+    (page.0 ≡ named) × (sha256 (pages.page page.0) ≡ digest) × IsChain pages page.1.next page.1.digest others
 
 -- a page of the catalog has the bytes of its spelling, and zeros to its end
 pub record IsCatalogSpelled (pages : Pages) (page : ℕ × CatalogPage) : Type 0 where
@@ -73,10 +74,8 @@ pub record Spells (pages : Pages) (header : Header) (graph : Graph) : Type 0 whe
   pub entries : AreInOrder (entries_of graph.catalog)
   pub listed : map listed_as graph.cars ≡ listed_cars (entries_of graph.catalog)
   pub cars : AllByRecursion (IsCarSpelled pages (most_fields header.version)) graph.cars
-  pub identities : AllByRecursion (λ (id : ℕ). (0 < id) × (id < header.next)) (identities_of graph.cars)
-  pub identities_apart : AreApart (identities_of graph.cars)
-  pub pages_placed : AllByRecursion (λ (page : ℕ). (2 ≤ page) × (page < pages.count)) (used_pages graph)
-  pub pages_apart : AreApart (used_pages graph)
+  pub own_identities : AreOwn 1 header.next (identities_of graph.cars)
+  pub own_pages : AreOwn 2 pages.count (used_pages graph)
   pub cars_lead : AllByRecursion (CarLeads graph.cars) graph.cars
   pub roots_lead : AllByRecursion (RootLeads graph.cars) (entries_of graph.catalog)
   pub in_range : IsGraphInRange graph

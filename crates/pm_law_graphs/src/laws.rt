@@ -14,28 +14,31 @@ ghost use Rattle.pm_law_graphs.specs.Spelled.{AreWhole, Spells};
 /// A law of opening: behind a header that names a page of the store a graph is found exactly where the pages spell it.
 pub fn a_graph_is_found_where_its_pages_spell_it()
     // What is found is spelled,
-    ensures found { (pages : Pages) (header : Header) (graph : Graph) → AreWhole pages → is_placed pages.count header ≡ true
-        → graph_of pages header ≡ Ok graph → Spells pages header graph }
+    ensures found { (pages : Pages) (header : Header) (graph : Graph) → AreWhole pages
+        → is_placed pages.count header ≡ true → graph_of pages header ≡ Ok graph → Spells pages header graph }
     // and what is spelled is found, in a store of no more pages than numbers of eight bytes count.
-    ensures again { (pages : Pages) (header : Header) (graph : Graph) → pages.count ≤ 2 ^ 64 → is_placed pages.count header ≡ true
-        → Spells pages header graph → graph_of pages header ≡ Ok graph }
+    ensures again { (pages : Pages) (header : Header) (graph : Graph) → pages.count ≤ 2 ^ 64
+        → is_placed pages.count header ≡ true → Spells pages header graph → graph_of pages header ≡ Ok graph }
     // Pages spell one graph at most.
-    ensures one { (pages : Pages) (header : Header) (first second : Graph) → pages.count ≤ 2 ^ 64 → is_placed pages.count header ≡ true
-        → Spells pages header first → Spells pages header second → first ≡ second }
+    ensures one { (pages : Pages) (header : Header) (first second : Graph) → pages.count ≤ 2 ^ 64
+        → is_placed pages.count header ≡ true → Spells pages header first → Spells pages header second
+        → first ≡ second }
     // What opening finds in bytes is spelled by their pages, behind the current header,
-    ensures opened { (bytes : List ℕ) (found : Opened) → AreBytes bytes
-        → opened bytes ≡ Ok found → Spells (pages_of bytes) found.current.header found.graph }
+    ensures opened { (bytes : List ℕ) (found : Opened) → AreBytes bytes → opened bytes ≡ Ok found
+        → Spells (pages_of bytes) found.current.header found.graph }
     // and what these spell is found.
-    ensures opens { (bytes : List ℕ) (now : Current) (graph : Graph) → page_count bytes ≤ 2 ^ 64 → current bytes ≡ Ok now
-        → Spells (pages_of bytes) now.header graph → opened bytes ≡ Ok (record { current = now; graph = graph }) }
+    ensures opens { (bytes : List ℕ) (now : Current) (graph : Graph) → page_count bytes ≤ 2 ^ 64
+        → current bytes ≡ Ok now → Spells (pages_of bytes) now.header graph
+        → opened bytes ≡ Ok (record { current = now; graph = graph }) }
 {}
 
-/// A law of the fault of an address, in a store whose catalog and cars were read: it says where the first address stands
-/// that leads nowhere.
+/// A law of the fault of an address, in a store whose catalog and cars were read: it says where the first address
+/// stands that leads nowhere.
 pub fn a_reported_address_stands_at_its_place()
     // Each address that was read stands at its place.
-    ensures sites { (pages : Pages) (header : Header) (graph : Graph) → AreWhole pages → is_placed pages.count header ≡ true
-        → AreRead pages header graph → AllByRecursion (StandsAtPlace pages graph) (sites_of graph.catalog graph.cars) }
+    ensures sites { (pages : Pages) (header : Header) (graph : Graph) → AreWhole pages
+        → is_placed pages.count header ≡ true → AreRead pages header graph
+        → AllByRecursion (StandsAtPlace pages graph) (sites_of graph.catalog graph.cars) }
     // A fault of the addresses is of the first that leads nowhere,
     ensures fault { (pages : Pages) (header : Header) (graph : Graph) (fault : OpenFault) → AreWhole pages
         → is_placed pages.count header ≡ true → AreRead pages header graph

@@ -3,6 +3,4 @@
 
 mod laws;
 
-pub use laws::{
-    a_graph_is_found_where_its_pages_spell_it, a_reported_address_stands_at_its_place,
-};
+pub use laws::{a_graph_is_found_where_its_pages_spell_it, a_reported_address_stands_at_its_place};
