@@ -1,19 +1,16 @@
 -- The cars that a catalog lists are read exactly where their pages spell them.
-use Rattle.std.proofs.Common.{◌≡◌, ℕ, zero, suc, ◌+◌, ◌<◌, ◌≤◌, Bool, true, false, not, ◌==◌, ◌||◌, eqb, ltb, leb, nat_le, List, [], ◌∷◌, ◌++◌, length, map, Option, Some, None, Result, Ok, Err, refl, sym, ap, subst, ◌∙◌, arith, if◌then◌else◌}
-use Rattle.std.specs.List.{AllByRecursion, flat_map}
+use Rattle.std.proofs.Common.{◌≡◌, ℕ, ◌<◌, ◌≤◌, Bool, true, false, ◌==◌, ◌||◌, eqb, leb, List, [], ◌∷◌, ◌++◌, map, Some, Result, Ok, Err, refl, sym, ap, subst, ◌∙◌, arith, if◌then◌else◌}
+use Rattle.std.specs.List.{AllByRecursion}
 use Rattle.std.specs.Str.{bytes_eq}
 use Rattle.std.specs.FinSet as set
-use Rattle.std.proofs.lemmas.Bool.{eqb-true, leb-false, ltb-true}
+use Rattle.std.proofs.lemmas.Bool.{eqb-true, leb-false}
 use Rattle.std.proofs.lemmas.Bool.Decides.{nat_tests}
 use Rattle.std.proofs.lemmas.Slice.Eq.{bytes_eq-Decides}
 use Rattle.sha2.specs.Sha256.{sha256}
-use Rattle.pm_types.specs.declared.limits.TheConstants.{PAGE_BYTES}
-use Rattle.pm_types.specs.declared.fault.OpenFault.{OpenFault}
 use Rattle.pm_types.specs.declared.fault.OpenFault.TheVariants.{Damaged}
 use Rattle.pm_types.specs.declared.object.Slot.{Slot}
 use Rattle.pm_types.specs.declared.object.Slot.TheVariants.{Live, Moved}
 use Rattle.pm_layout.proofs.Steps.{neither, not_zero}
-use Rattle.pm_base.specs.Results.{◌>>=◌}
 use Rattle.pm_base.proofs.Results.{bind_ok, bound, ok_same, wanted_ok}
 use Rattle.pm_image.specs.declared.car.CarImage.{CarImage}
 use Rattle.pm_image.specs.declared.catalog.CatEntry.{CatEntry}
@@ -24,7 +21,6 @@ use Rattle.pm_image.specs.CarAnswers.{IsCarInRange, a_car}
 use Rattle.pm_image.specs.Graphs.{Pages, cars_from, on_page, undamaged, with_identities}
 use Rattle.pm_image.proofs.CarTakes.{car_takes}
 use Rattle.pm_image.proofs.CarAgain.{car_again}
-use Rattle.pm_law_graphs.specs.Apart.{AreApart}
 use Rattle.pm_law_graphs.specs.Entries.{ListedCar, listed_cars, listed_pages}
 use Rattle.pm_law_graphs.specs.Spelled.{AreWhole, IsCarSpelled, identities_in, identities_of, listed_as}
 use Rattle.pm_law_graphs.proofs.Lists.{both, front, back}

@@ -1,31 +1,23 @@
 -- The catalog is read exactly where its pages are a chain that spells it.
-use Rattle.std.proofs.Common.{◌≡◌, ◌⊎◌, inl, inr, ℕ, zero, suc, ◌+◌, ◌<◌, ◌≤◌, Bool, true, false, not, ◌==◌, ◌||◌, ◌&&◌, cond, List, [], ◌∷◌, ◌++◌, length, map, Option, Some, None, Result, Ok, Err, refl, sym, ap, subst, ◌∙◌, arith, if◌then◌else◌}
-use Rattle.std.specs.List.{AllByRecursion, flat_map, list_all}
-use Rattle.std.specs.FinSet as set
+use Rattle.std.proofs.Common.{◌≡◌, ◌⊎◌, inl, inr, ℕ, zero, suc, ◌<◌, Bool, true, false, not, ◌==◌, ◌||◌, ◌&&◌, List, [], ◌∷◌, Some, Result, Ok, Err, refl, sym, ap, subst, ◌∙◌, arith, if◌then◌else◌}
+use Rattle.std.specs.List.{AllByRecursion, list_all}
 use Rattle.std.proofs.lemmas.Bool.{eqb-true}
 use Rattle.std.proofs.lemmas.Bool.Decides.{nat_tests}
 use Rattle.sha2.specs.Sha256.{sha256}
-use Rattle.pm_types.specs.declared.limits.TheConstants.{PAGE_BYTES}
 use Rattle.pm_types.specs.declared.fault.OpenFault.{OpenFault}
 use Rattle.pm_types.specs.declared.fault.OpenFault.TheVariants.{Broken}
 use Rattle.pm_base.specs.Results.{◌>>=◌}
 use Rattle.pm_base.proofs.Results.{bind_ok, bound, ok_same}
-use Rattle.pm_image.specs.declared.catalog.CatEntry.{CatEntry}
-use Rattle.pm_image.specs.declared.catalog.CatEntry.TheVariants.{Car, Root}
 use Rattle.pm_image.specs.declared.catalog.CatalogPage.{CatalogPage}
 use Rattle.pm_image.specs.CarPages.{Numbers, padded}
-use Rattle.pm_image.specs.CatalogPages.{HasCatalogPage, IsCatalogInRange, Met, catalog_at, catalog_spelling, has_next_digest, is_free_page, is_next_page, meeting_all, meeting_next, meeting_page}
-use Rattle.pm_image.specs.Graphs.{Catalog, Pages, catalog_from, entries_of, on_page, undamaged}
+use Rattle.pm_image.specs.CatalogPages.{HasCatalogPage, IsCatalogInRange, Met, catalog_at, catalog_spelling, has_next_digest, is_free_page, is_next_page, meeting_page}
+use Rattle.pm_image.specs.Graphs.{Catalog, Pages, catalog_from, on_page, undamaged}
 use Rattle.pm_image.proofs.CatalogTakes.{catalog_takes}
 use Rattle.pm_image.proofs.CatalogAgain.{catalog_again}
-use Rattle.pm_law_graphs.specs.Apart.{times}
-use Rattle.pm_law_graphs.specs.Entries.{ListedCar, listed_cars, listed_pages}
-use Rattle.pm_law_graphs.specs.Spelled.{AreWhole, IsCatalogSpelled, IsChain}
-use Rattle.pm_law_graphs.proofs.Lists.{both, front, back}
+use Rattle.pm_law_graphs.specs.Spelled.{AreWhole}
 use Rattle.pm_law_graphs.proofs.Ranges.{catalog_range}
-use Rattle.pm_law_graphs.proofs.Sets.{AreNew, held, new_first, new_more, new_others, times_append}
 use Rattle.pm_law_graphs.proofs.Cars.{digest_kept, page_read, undamaged_again}
-use Rattle.pm_law_graphs.proofs.Order.{AreOrdered, IsPageFree, IsPlaced, after_all, free_parts, is_free, next_again, next_new, next_ordered, next_placed, order_met, order_next, order_of, ordered_back, ordered_both, ordered_front}
+use Rattle.pm_law_graphs.proofs.Order.{IsPageFree, IsPlaced, free_parts}
 
 -- ---- pages that were read one after the other
 

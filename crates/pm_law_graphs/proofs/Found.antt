@@ -1,38 +1,34 @@
 -- A graph is found exactly where its pages spell it.
-use Rattle.std.proofs.Common.{◌≡◌, inl, inr, ℕ, zero, suc, ◌+◌, ◌-◌, ◌*◌, ◌/◌, ◌<◌, ◌≤◌, ◌^◌, Bool, true, false, ◌==◌, ◌&&◌, nat_lt, nat_le, List, [], ◌∷◌, ◌++◌, length, map, take, drop, Option, Some, None, Result, Ok, Err, refl, sym, ap, subst, ◌∙◌, arith, length-take, length-drop, if◌then◌else◌}
+use Rattle.std.proofs.Common.{◌≡◌, inl, inr, ℕ, ◌*◌, ◌<◌, ◌≤◌, ◌^◌, Bool, true, false, ◌==◌, nat_lt, nat_le, List, [], ◌∷◌, ◌++◌, map, drop, Ok, refl, sym, ap, subst, ◌∙◌, arith, length-take, length-drop, if◌then◌else◌}
 use Rattle.std.specs.List.{AllByRecursion}
 use Rattle.std.specs.Ordering.{nat_cmp}
 use Rattle.std.specs.FinSet as set
 use Rattle.std.proofs.lemmas.Bool.{ltb-true, leb-true}
-use Rattle.std.proofs.lemmas.Bool.Decides.{nat_tests}
 use Rattle.pm_types.specs.declared.limits.TheConstants.{FIELDS, OLD_FIELDS, OLD_VERSION, PAGE_BYTES}
-use Rattle.pm_types.specs.declared.fault.OpenFault.{OpenFault}
 use Rattle.pm_types.specs.declared.fault.OpenFault.TheVariants.{Broken}
 use Rattle.pm_layout.specs.declared.header.Header.{Header}
 use Rattle.pm_layout.specs.Headers.{most_fields}
 use Rattle.pm_layout.proofs.Numbers.{IsBytes-drop, IsBytes-take}
-use Rattle.pm_base.specs.Results.{◌>>=◌}
 use Rattle.pm_base.proofs.Results.{bind_ok, bound, ok_same}
 use Rattle.pm_image.specs.declared.settled.KeptPage.{KeptPage}
-use Rattle.pm_image.specs.Opening.{Current, current, is_placed, page_count, page_of}
-use Rattle.pm_image.specs.CarPages.{Numbers}
+use Rattle.pm_image.specs.Opening.{Current, current, is_placed, page_count}
 use Rattle.pm_image.specs.CarAnswers.{AreBytes}
 use Rattle.pm_image.specs.CatalogPages.{Met, nothing_met}
-use Rattle.pm_image.specs.Graphs.{Catalog, Graph, Pages, cars_from, catalog_from, catalog_of, entries_of, graph_of, linked, most_pages, sites_of, used_pages}
+use Rattle.pm_image.specs.Graphs.{Catalog, Graph, Pages, cars_from, catalog_of, entries_of, graph_of, linked, most_pages, sites_of, used_pages}
 use Rattle.pm_image.specs.Leading.{CarLeads, RootLeads}
 use Rattle.pm_image.specs.Stands.{Opened, opened, pages_of}
 use Rattle.pm_image.proofs.Results.{both_true}
 use Rattle.pm_image.proofs.FrameLaws.{found_of, opened_as}
 use Rattle.pm_image.proofs.LeadLaws.{graph_leads}
 use Rattle.pm_image.proofs.RuleLaws.{catalog_fault, current_placed}
-use Rattle.pm_law_graphs.specs.Apart.{AreApart, times}
+use Rattle.pm_law_graphs.specs.Apart.{AreApart}
 use Rattle.pm_law_graphs.specs.Entries.{ListedCar, listed_cars, listed_pages}
 use Rattle.pm_law_graphs.specs.Spelled.{AreWhole, IsChain, Spells, identities_of, listed_as}
 use Rattle.pm_law_graphs.proofs.Lists.{back, both, each, front}
-use Rattle.pm_law_graphs.proofs.Sets.{AreNew, apart_new, new_apart, new_first, new_more, new_others}
-use Rattle.pm_law_graphs.proofs.Cars.{AreCarsRead, are_below, are_in_range, are_new, are_spelled, cars_again, cars_found, spelled_read}
+use Rattle.pm_law_graphs.proofs.Sets.{AreNew, apart_new, new_apart, new_more, new_others}
+use Rattle.pm_law_graphs.proofs.Cars.{are_below, are_in_range, are_new, are_spelled, cars_again, cars_found, spelled_read}
 use Rattle.pm_law_graphs.proofs.Order.{IsPlaced, in_order, ordered_again}
-use Rattle.pm_law_graphs.proofs.Chain.{IsChainRead, IsReadOrBroken, chain_again, chain_read}
+use Rattle.pm_law_graphs.proofs.Chain.{IsReadOrBroken, chain_again, chain_read}
 use Rattle.pm_law_graphs.proofs.Whole.{IsWhole, numbers_of, later_pages, page_by_page, whole}
 use Rattle.pm_law_graphs.proofs.Leads.{all_linked}
 

@@ -1,8 +1,7 @@
 -- Where each address of a graph leads to an object, none is at fault.
-use Rattle.std.proofs.Common.{◌≡◌, ℕ, ◌+◌, Bool, true, false, List, [], ◌∷◌, ◌++◌, length, Option, Some, None, is_some, Result, Ok, Err, refl, sym, ap, subst, ◌∙◌, if◌then◌else◌}
+use Rattle.std.proofs.Common.{◌≡◌, ℕ, ◌+◌, Bool, true, List, [], ◌∷◌, length, Option, Some, None, is_some, Ok, Err, refl, ap, ◌∙◌, if◌then◌else◌}
 use Rattle.std.specs.List.{flat_map, AllByRecursion}
 use Rattle.pm_types.specs.declared.address.Addr.{Addr}
-use Rattle.pm_types.specs.declared.fault.OpenFault.{OpenFault}
 use Rattle.pm_types.specs.declared.fault.OpenFault.TheVariants.{Malformed}
 use Rattle.pm_types.specs.declared.object.Slot.{Slot}
 use Rattle.pm_types.specs.declared.object.Slot.TheVariants.{Live, Moved}
@@ -12,7 +11,7 @@ use Rattle.pm_image.specs.declared.catalog.CatEntry.TheVariants.{Car, Root}
 use Rattle.pm_image.specs.declared.catalog.CatalogPage.{CatalogPage}
 use Rattle.pm_image.specs.declared.settled.KeptPage.{KeptPage}
 use Rattle.pm_image.specs.Leading.{CarLeads, FieldLeads, RootLeads, SlotLeads}
-use Rattle.pm_image.specs.Graphs.{Catalog, Site, entries_of, field_sites, identity_in, identity_through, is_live, leads, linked, record_sites, resolved, root_sites, sites_of, slot_named, slot_sites}
+use Rattle.pm_image.specs.Graphs.{Catalog, Site, entries_of, field_sites, identity_in, identity_through, is_live, leads, linked, record_sites, root_sites, sites_of, slot_named, slot_sites}
 use Rattle.pm_law_graphs.proofs.Lists.{back, both, front}
 
 abbrev Leads : List KeptPage → Site → Type 0

@@ -1,5 +1,5 @@
 -- The entries of a catalog come one after the other exactly where they are in order and their pages apart.
-use Rattle.std.proofs.Common.{◌≡◌, ℕ, zero, suc, ◌+◌, ◌<◌, ◌≤◌, Bool, true, false, not, ◌==◌, ◌&&◌, nat_lt, nat_le, List, [], ◌∷◌, ◌++◌, length, map, Option, Some, None, refl, sym, ap, subst, ◌∙◌, arith, if◌then◌else◌}
+use Rattle.std.proofs.Common.{◌≡◌, ℕ, zero, suc, ◌+◌, ◌<◌, ◌≤◌, Bool, true, false, not, ◌&&◌, nat_lt, nat_le, List, [], ◌∷◌, ◌++◌, length, Option, Some, None, refl, arith}
 use Rattle.std.specs.List.{AllByRecursion}
 use Rattle.std.specs.Option.{is_none}
 use Rattle.std.specs.FinSet as set
@@ -11,10 +11,10 @@ use Rattle.pm_types.specs.Names.{IsName}
 use Rattle.pm_image.specs.declared.catalog.CatEntry.{CatEntry}
 use Rattle.pm_image.specs.declared.catalog.CatEntry.TheVariants.{Car, Root}
 use Rattle.pm_image.specs.CarPages.{Numbers}
-use Rattle.pm_image.specs.CatalogPages.{AreNext, IsNextCar, IsNextRoot, Met, has_root_left, is_free_page, is_next_name, meeting, meeting_all, meeting_next}
+use Rattle.pm_image.specs.CatalogPages.{AreNext, Met, is_free_page, is_next_name, meeting, meeting_all, meeting_next}
 use Rattle.pm_image.proofs.Results.{both_true}
 use Rattle.pm_law_graphs.specs.Apart.{Follow, Neighbours}
-use Rattle.pm_law_graphs.specs.Entries.{AreInOrder, CarsComeFirst, ComesBefore, IsNoYounger, ListedCar, listed_addresses, listed_cars, listed_names, listed_numbers, listed_pages, listed_trains}
+use Rattle.pm_law_graphs.specs.Entries.{AreInOrder, CarsComeFirst, ComesBefore, IsNoYounger, listed_addresses, listed_cars, listed_names, listed_numbers, listed_pages, listed_trains}
 use Rattle.pm_law_graphs.proofs.Sets.{AreNew, apart_new, new_apart, new_first, new_more, new_others, nothing_new}
 
 -- ---- what was met, but for the pages

@@ -9,7 +9,7 @@ use Rattle.pm_types.specs.declared.object.Slot.{Slot}
 use Rattle.pm_types.specs.declared.object.Slot.TheVariants.{Live, Moved}
 use Rattle.pm_layout.specs.Spelling.{address, field, spelling, slot_size, Stands}
 use Rattle.pm_layout.proofs.Sizes.{field_length, fields_length}
-use Rattle.pm_layout.proofs.Texts.{Split, Stands-split}
+use Rattle.pm_layout.proofs.Texts.{Stands-split}
 use Rattle.pm_image.specs.declared.car.CarImage.{CarImage}
 use Rattle.pm_image.specs.declared.catalog.CatEntry.{CatEntry}
 use Rattle.pm_image.specs.declared.catalog.CatEntry.TheVariants.{Car, Root}

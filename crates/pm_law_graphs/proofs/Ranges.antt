@@ -1,14 +1,13 @@
 -- What is read has numbers and digests such as the types can hold.
-use Rattle.std.proofs.Common.{◌≡◌, ℕ, zero, suc, ◌+◌, ◌-◌, ◌<◌, ◌≤◌, ◌^◌, Bool, not, ◌==◌, ◌||◌, ◌&&◌, cond, eqb, ltb, leb, List, [], ◌∷◌, length, get_or, take, drop, Option, Some, None, Result, Ok, Err, refl, sym, ap, subst, ◌∙◌, inl, inr, arith, length-take, length-drop, nat_lt, nat_le, if◌then◌else◌}
+use Rattle.std.proofs.Common.{◌≡◌, ℕ, zero, suc, ◌+◌, ◌-◌, ◌<◌, ◌≤◌, ◌^◌, not, ◌||◌, ◌&&◌, cond, eqb, ltb, leb, List, [], ◌∷◌, length, get_or, drop, Option, Some, None, Result, Ok, Err, refl, subst, inl, inr, arith, length-take, length-drop}
 use Rattle.std.specs.Option.{is_none}
 use Rattle.std.specs.FinSet as set
 use Rattle.std.specs.List.{slice_range, AllByRecursion}
 use Rattle.std.specs.Prelude.{IfSome}
-use Rattle.std.proofs.lemmas.Bool.{ltb-false, leb-false}
+use Rattle.std.proofs.lemmas.Bool.{ltb-false}
 use Rattle.byteorder.specs.Numbers.{big_from-lt}
 use Rattle.pm_types.specs.declared.address.Addr.{Addr}
-use Rattle.pm_types.specs.declared.limits.TheConstants.{LAST_ID, NAME_BYTES, PAGE_BYTES}
-use Rattle.pm_types.specs.declared.object.Object.{Object}
+use Rattle.pm_types.specs.declared.limits.TheConstants.{NAME_BYTES, PAGE_BYTES}
 use Rattle.pm_types.specs.declared.object.Slot.{Slot}
 use Rattle.pm_types.specs.declared.object.Slot.TheVariants.{Live, Moved}
 use Rattle.pm_layout.specs.declared.fault.LayoutFault.{LayoutFault}

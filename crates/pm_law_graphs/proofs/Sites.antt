@@ -1,27 +1,24 @@
 -- Each address of a graph stands at its place, and that of a fault too.
-use Rattle.std.proofs.Common.{◌≡◌, inl, inr, ℕ, zero, suc, ◌+◌, ◌<◌, ◌≤◌, Bool, true, false, List, [], ◌∷◌, ◌++◌, length, map, Result, Ok, Err, refl, sym, ap, subst, ◌∙◌, arith, slice_range}
+use Rattle.std.proofs.Common.{◌≡◌, inl, inr, ℕ, ◌+◌, true, List, [], ◌∷◌, map, Result, Ok, Err, refl, sym, ap, subst, ◌∙◌, arith, slice_range}
 use Rattle.std.specs.Prelude.{Contains}
 use Rattle.std.specs.List.{AllByRecursion, flat_map}
 use Rattle.std.specs.FinSet as set
 use Rattle.std.proofs.lemmas.List.Elements.{Contains-append_left, Contains-append_right}
 use Rattle.pm_types.specs.declared.fault.OpenFault.{OpenFault}
-use Rattle.pm_types.specs.declared.limits.TheConstants.{PAGE_BYTES}
 use Rattle.pm_layout.specs.declared.header.Header.{Header}
 use Rattle.pm_layout.specs.Headers.{most_fields}
-use Rattle.pm_layout.specs.Spelling.{address}
 use Rattle.pm_base.specs.Results.{◌>>=◌}
-use Rattle.pm_base.proofs.Results.{ok_same}
 use Rattle.pm_image.specs.declared.catalog.CatalogPage.{CatalogPage}
 use Rattle.pm_image.specs.declared.settled.KeptPage.{KeptPage}
 use Rattle.pm_image.specs.CatalogPages.{IsCatalogInRange}
 use Rattle.pm_image.specs.Opening.{is_placed}
-use Rattle.pm_image.specs.Graphs.{Catalog, Graph, Pages, Site, cars_from, catalog_of, entries_of, graph_of, linked, record_sites, root_sites, sites_of, used_pages}
+use Rattle.pm_image.specs.Graphs.{Catalog, Graph, Pages, Site, cars_from, entries_of, graph_of, linked, record_sites, root_sites, sites_of, used_pages}
 use Rattle.pm_image.proofs.RuleLaws.{either_fails}
 use Rattle.pm_law_graphs.specs.Places.{AreRead, IsOfFirstAstray, StandsAtPlace}
 use Rattle.pm_law_graphs.specs.Spelled.{AreWhole, IsCarSpelled, IsCatalogSpelled}
 use Rattle.pm_law_graphs.proofs.Lists.{back, both, each}
 use Rattle.pm_law_graphs.proofs.Places.{IsAt, car_places, catalog_places}
-use Rattle.pm_law_graphs.proofs.Faults.{IsOfFirst, first_astray}
+use Rattle.pm_law_graphs.proofs.Faults.{first_astray}
 use Rattle.pm_law_graphs.proofs.Cars.{are_spelled, cars_found}
 use Rattle.pm_law_graphs.proofs.Order.{IsPlaced}
 use Rattle.pm_law_graphs.proofs.Whole.{numbers_of}

@@ -1,21 +1,19 @@
 -- A chain that was read page by page, and what holds of the catalog as a whole.
-use Rattle.std.proofs.Common.{◌≡◌, ℕ, zero, suc, ◌+◌, ◌<◌, ◌≤◌, Bool, true, false, not, ◌==◌, ◌||◌, List, [], ◌∷◌, ◌++◌, length, map, Option, Some, None, refl, sym, ap, subst, ◌∙◌, arith}
-use Rattle.std.specs.List.{AllByRecursion, flat_map, list_all}
+use Rattle.std.proofs.Common.{◌≡◌, ℕ, zero, suc, ◌<◌, Bool, true, not, ◌==◌, ◌||◌, List, [], ◌∷◌, ◌++◌, map, Some, refl, sym, ap, subst, ◌∙◌, arith}
+use Rattle.std.specs.List.{AllByRecursion, list_all}
 use Rattle.std.specs.FinSet as set
-use Rattle.std.proofs.lemmas.Bool.Decides.{nat_tests}
-use Rattle.pm_types.specs.declared.limits.TheConstants.{PAGE_BYTES}
 use Rattle.pm_image.specs.declared.catalog.CatEntry.{CatEntry}
 use Rattle.pm_image.specs.declared.catalog.CatEntry.TheVariants.{Car, Root}
 use Rattle.pm_image.specs.declared.catalog.CatalogPage.{CatalogPage}
 use Rattle.pm_image.specs.CarPages.{Numbers}
-use Rattle.pm_image.specs.CatalogPages.{IsCatalogInRange, Met, has_next_digest, is_free_page, is_next_page, meeting_all, meeting_next, meeting_page}
+use Rattle.pm_image.specs.CatalogPages.{IsCatalogInRange, Met, has_next_digest, is_free_page, is_next_page, meeting_next, meeting_page}
 use Rattle.pm_image.specs.Graphs.{Catalog, Pages, entries_of}
 use Rattle.pm_law_graphs.specs.Apart.{times}
-use Rattle.pm_law_graphs.specs.Entries.{ListedCar, listed_cars, listed_pages}
+use Rattle.pm_law_graphs.specs.Entries.{listed_pages}
 use Rattle.pm_law_graphs.specs.Spelled.{IsCatalogSpelled, IsChain}
 use Rattle.pm_law_graphs.proofs.Lists.{both, front, back}
-use Rattle.pm_law_graphs.proofs.Sets.{AreNew, held, new_first, new_more, new_others, times_append, nothing_new}
-use Rattle.pm_law_graphs.proofs.Chain.{IsChainRead, IsPageRead, IsZero, all_zeros, next_free, zero_test}
+use Rattle.pm_law_graphs.proofs.Sets.{AreNew, new_first, new_more, new_others, times_append, nothing_new}
+use Rattle.pm_law_graphs.proofs.Chain.{IsChainRead, all_zeros, next_free, zero_test}
 use Rattle.pm_law_graphs.proofs.Order.{AreOrdered, IsPlaced, after_all, is_free, next_again, next_new, next_ordered, next_placed, order_met, order_next, order_of, ordered_back, ordered_both, ordered_front}
 
 -- the numbers of the pages

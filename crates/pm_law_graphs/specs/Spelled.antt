@@ -1,21 +1,19 @@
 -- What it is that the pages of a store spell a graph, said of the whole catalog and of all cars at once.
-use Rattle.std.specs.Prelude.{◌≡◌, ◌⊎◌, ℕ, ◌+◌, ◌<◌, ◌≤◌, List, [], ◌∷◌, ◌++◌, length, map, slice_range, Contains, Bool, true, false}
+use Rattle.std.specs.Prelude.{◌≡◌, ℕ, ◌<◌, ◌≤◌, List, [], ◌∷◌, length, map}
 use Rattle.std.specs.List.{flat_map, AllByRecursion}
 use Rattle.sha2.specs.Sha256.{sha256}
 use Rattle.pm_types.specs.declared.limits.TheConstants.{PAGE_BYTES}
-use Rattle.pm_types.specs.declared.fault.OpenFault.{OpenFault}
-use Rattle.pm_types.specs.declared.fault.OpenFault.TheVariants.{Malformed}
 use Rattle.pm_types.specs.declared.object.Slot.{Slot}
 use Rattle.pm_types.specs.declared.object.Slot.TheVariants.{Live, Moved}
 use Rattle.pm_layout.specs.declared.header.Header.{Header}
 use Rattle.pm_layout.specs.Headers.{most_fields}
-use Rattle.pm_layout.specs.Spelling.{HasSpelling, address}
+use Rattle.pm_layout.specs.Spelling.{HasSpelling}
 use Rattle.pm_image.specs.declared.catalog.CatalogPage.{CatalogPage}
 use Rattle.pm_image.specs.declared.settled.KeptPage.{KeptPage}
 use Rattle.pm_image.specs.CarPages.{Ascend, car_spelling, car_used, padded}
 use Rattle.pm_image.specs.CarAnswers.{AreBytes, IsCarInRange}
 use Rattle.pm_image.specs.CatalogPages.{IsCatalogInRange, catalog_spelling, catalog_used}
-use Rattle.pm_image.specs.Graphs.{Catalog, Graph, Pages, Site, entries_of, leads, used_pages}
+use Rattle.pm_image.specs.Graphs.{Catalog, Graph, Pages, entries_of, used_pages}
 use Rattle.pm_image.specs.Leading.{CarLeads, RootLeads}
 use Rattle.pm_law_graphs.specs.Apart.{AreOwn}
 use Rattle.pm_law_graphs.specs.Entries.{AreInOrder, ListedCar, listed_cars}
