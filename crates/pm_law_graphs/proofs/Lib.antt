@@ -1,0 +1,12 @@
+pub mod Lists
+pub mod Faults
+pub mod Places
+pub mod Ranges
+pub mod Sets
+pub mod Cars
+pub mod Order
+pub mod Chain
+pub mod Whole
+pub mod Leads
+pub mod Found
+pub mod Sites

@@ -1,0 +1,4 @@
+pub mod Apart
+pub mod Entries
+pub mod Spelled
+pub mod Places
