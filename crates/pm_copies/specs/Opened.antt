@@ -1,5 +1,5 @@
 -- What opening makes of listed cars and roots.
-use Rattle.std.specs.Prelude.{◌≡◌, ℕ, suc, ◌==◌, Bool, true, false, cond, is_some, if◌then◌else◌, List, [], ◌∷◌, map, Some, None, option_map}
+use Rattle.std.specs.Prelude.{◌≡◌, ℕ, suc, ◌+◌, ◌==◌, Bool, true, false, cond, is_some, if◌then◌else◌, List, [], ◌∷◌, map, Some, None, option_map}
 use Rattle.std.specs.List.{flat_map}
 use Rattle.std.specs.FinMap.{get, entries, from_entries, empty}
 use Rattle.pm_types.specs.declared.address.Addr.{Addr}
@@ -39,7 +39,7 @@ opened_slot images (slot, Moved to) = []
 -- one more than the greatest slot that is listed
 abbrev pub next_after : ℕ → List (ℕ × Slot) → ℕ
 next_after next [] = next
-next_after next (entry ∷ slots) = next_after (suc entry.0) slots
+next_after next (entry ∷ slots) = next_after (entry.0 + 1) slots
 
 -- a car, with its number, its objects in their slots, and its next slot
 abbrev pub opened_car : List CarImage → CarImage → cars.Car

@@ -42,7 +42,7 @@ less_holds Less P Q S less holds = holds
 less_holds Equal P Q S less holds = absurd less
 less_holds Greater P Q S less holds = absurd less
 
-below : (m n : ℕ) → T (is_lt (nat_cmp m n)) → m < n
+pub below : (m n : ℕ) → T (is_lt (nat_cmp m n)) → m < n
 below m n less = less_holds (nat_cmp m n) (m < n) (m ≡ n) (n < m) less (ranks m n)
 
 -- a slot from a least one on, and none over the last
@@ -63,7 +63,7 @@ room_spelled : (slot : Slot) → 4 + slot_size slot ≡ slot_room slot
 room_spelled (Live object) = omega arith
 room_spelled (Moved to) = refl
 
-room_used : (es : List (ℕ × Slot)) → car_used es ≡ 14 + sum_by slot_room (map (λ (e : ℕ × Slot). e.1) es)
+pub room_used : (es : List (ℕ × Slot)) → car_used es ≡ 14 + sum_by slot_room (map (λ (e : ℕ × Slot). e.1) es)
 room_used [] = refl
 room_used (e ∷ es) =
     let first = room_spelled e.1 in

@@ -6,3 +6,7 @@ pub mod Accepting
 pub mod Objects
 pub mod Alike
 pub mod CopyOf
+pub mod OpenedCars
+pub mod OpenedTrains
+pub mod OpenedLaw
+pub mod OpenedStands
