@@ -1,0 +1,3 @@
+pub mod Listed
+pub mod Accepted
+pub mod Opened

@@ -1,0 +1,12 @@
+pub mod Lists
+pub mod Naming
+pub mod Listing
+pub mod Resolving
+pub mod Accepting
+pub mod Objects
+pub mod Alike
+pub mod CopyOf
+pub mod OpenedCars
+pub mod OpenedTrains
+pub mod OpenedLaw
+pub mod OpenedStands

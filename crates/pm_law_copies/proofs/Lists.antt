@@ -1,0 +1,103 @@
+-- Lists, and finite maps as lists of entries.
+use Rattle.std.proofs.Common.{◌≡◌, ℕ, zero, suc, ◌+◌, ◌≤◌, ◌==◌, ◌&&◌, Bool, true, false, cond, T, refl, ap, sym, subst, ◌∙◌, List, [], ◌∷◌, ◌++◌, Option, Some, None, arith}
+use Rattle.std.specs.List.{AllByRecursion, count_by, slice_get}
+use Rattle.std.specs.declared.cmp.Ordering.{Ordering}
+use Rattle.std.specs.declared.cmp.Ordering.TheVariants.{Less, Equal, Greater}
+use Rattle.std.specs.Ordering.{is_eq, is_lt, eq_by_cmp, nat_cmp}
+use Rattle.std.specs.Cmp.{IsTotalOrder}
+use Rattle.std.specs.FinMap.Entries.{find, below_all, is_sorted}
+use Rattle.std.proofs.lemmas.List.Sums.{sum_by-append, sum_by-cons}
+use Rattle.pm_roots.proofs.Sorted.{find_first}
+use Rattle.std.proofs.lemmas.Bool.{eqb-true, eq-eqb, true≢false}
+use Rattle.std.proofs.lemmas.Option.{same_Some}
+use Rattle.pm_model.proofs.Unused.{tied_nat}
+
+-- ---- what holds of each element
+
+pub all_append : {X : Type 0} (P : X → Type 0) (xs ys : List X) → AllByRecursion P xs → AllByRecursion P ys → AllByRecursion P (xs ++ ys)
+all_append P [] ys one two = two
+all_append P (x ∷ xs) ys one two = (one.0, all_append P xs ys one.1 two)
+
+pub all_fields : {X : Type 0} (P : X → Type 0) (xs : List X) → ((i : ℕ) (x : X) → slice_get xs i ≡ Some x → P x) → AllByRecursion P xs
+all_fields P [] each = tt
+all_fields P (x ∷ xs) each = (each 0 x refl, all_fields P xs (λ i. each (suc i)))
+
+pub all_at : {X : Type 0} (P : X → Type 0) (xs : List X) (i : ℕ) (x : X) → AllByRecursion P xs → slice_get xs i ≡ Some x → P x
+all_at P [] i x all is = cc
+all_at P (y ∷ ys) zero x all is = subst P (same_Some y x is) all.0
+all_at P (y ∷ ys) (suc i) x all is = all_at P ys i x all.1 is
+
+-- ---- counting
+
+pub count_append : {X : Type 0} (p : X → Bool) (xs ys : List X) → count_by p (xs ++ ys) ≡ count_by p xs + count_by p ys
+count_append p xs ys = sum_by-append (λ x. cond (p x) 1 0) xs ys
+
+-- none is counted, so none is there
+pub none_counted : {X : Type 0} (p : X → Bool) (xs : List X) → count_by p xs ≤ 0 → AllByRecursion (λ x. p x ≡ false) xs
+none_counted p [] few = tt
+none_counted p (x ∷ xs) few = elim (p x) as (λ b. p x ≡ b → cond b 1 0 + count_by p xs ≤ 0 → AllByRecursion (λ x. p x ≡ false) (x ∷ xs)) [
+  | true ↦ λ is few. absurd (omega (arith, few))
+  | false ↦ λ is few. (is, none_counted p xs (omega (arith, few)))
+] refl (subst (λ n. n ≤ 0) (sum_by-cons (λ x. cond (p x) 1 0) x xs) few)
+
+-- ---- options
+
+-- the first of two that is there
+abbrev pub or_else : {X : Type 0} → Option X → Option X → Option X
+or_else None other = other
+or_else (Some x) other = Some x
+
+-- ---- entries
+
+pub first_of_two : (a b : Bool) → T (a && b) → T a
+first_of_two true b h = tt
+first_of_two false b h = h
+
+pub second_of_two : (a b : Bool) → T (a && b) → T b
+second_of_two true b h = h
+second_of_two false b h = absurd h
+
+pub not_equal : (r : Ordering) → T (is_lt r) → is_eq r ≡ false
+not_equal Less h = refl
+not_equal Equal h = absurd h
+not_equal Greater h = absurd h
+
+pub is_tie : (r : Ordering) → is_eq r ≡ true → r ≡ Equal
+is_tie Less is = cc
+is_tie Equal is = refl
+is_tie Greater is = cc
+
+some_is_none : {X : Type 0} (x : X) → None ≡ Some x → ⊥
+some_is_none x is = cc
+
+module _ {K X : Type 0} {R : K → K → Ordering} (o : IsTotalOrder R) where
+  -- a key that ties with one below all keys of a list is not there
+  tied_below : (q k : K) (es : List (K × X)) → R q k ≡ Equal → T (below_all R k es) → find R q es ≡ None
+  tied_below q k [] tied below = refl
+  tied_below q k (e ∷ es) tied below =
+      ap (λ r. cond (is_eq r) (Some e.1) (find R q es)) (o.congr q k e.0 tied)
+      ∙ ap (λ b. cond b (Some e.1) (find R q es)) (not_equal (R k e.0) (first_of_two _ _ below))
+      ∙ tied_below q k es tied (second_of_two _ _ below)
+
+  -- what is found among the later entries is found
+  pub found_later : (e : K × X) (es : List (K × X)) (q : K) (x : X) → T (is_sorted R (e ∷ es)) → find R q es ≡ Some x → find R q (e ∷ es) ≡ Some x
+  found_later e es q x sorted is =
+      elim (eq_by_cmp R q e.0) as (λ b. eq_by_cmp R q e.0 ≡ b → cond b (Some e.1) (find R q es) ≡ Some x) [
+        | true ↦ λ tied. absurd (some_is_none x (sym (tied_below q e.0 es (is_tie (R q e.0) tied) (first_of_two _ _ sorted)) ∙ is))
+        | false ↦ λ apart. is
+      ] refl
+
+  -- what holds of each entry that is found holds of each entry
+  pub all_entries : (P : K × X → Type 0) (es : List (K × X)) → T (is_sorted R es) → ((k : K) (x : X) → find R k es ≡ Some x → P (k, x)) → AllByRecursion P es
+  all_entries P [] sorted each = tt
+  all_entries P (e ∷ es) sorted each = (each e.0 e.1 (find_first o e es), all_entries P es (second_of_two _ _ sorted) (λ k x is. each k x (found_later e es k x sorted is)))
+
+-- a search by number is one by the order
+pub nat_turned : (m n : ℕ) → (m == n) ≡ is_eq (nat_cmp n m)
+nat_turned m n = elim (m == n) as (λ b. (m == n) ≡ b → b ≡ is_eq (nat_cmp n m)) [
+  | true ↦ λ is. sym (tied_nat n m ∙ eq-eqb n m (sym (eqb-true m n is)))
+  | false ↦ λ is. elim (n == m) as (λ b. (n == m) ≡ b → false ≡ is_eq (nat_cmp n m)) [
+    | true ↦ λ back. absurd (true≢false (sym (eq-eqb m n (sym (eqb-true n m back))) ∙ is))
+    | false ↦ λ back. sym (tied_nat n m ∙ back)
+  ] refl
+] refl

@@ -1,0 +1,37 @@
+//! Which copy a space is, that what it lists is accepted again, and what opening makes of it. Each function's
+//! contract is the law, and the function does nothing.
+
+ghost use Rattle.std.specs.Prelude.{◌≡◌, ℕ, cond, List, None};
+ghost use Rattle.pm_types.specs.declared.address.Addr.{Addr};
+ghost use Rattle.pm_model.specs.World.{World, begin};
+ghost use Rattle.pm_model.specs.Copying.{copy};
+ghost use Rattle.pm_image.specs.declared.catalog.CatEntry.{CatEntry};
+ghost use Rattle.pm_image.specs.Graphs.{slot_named};
+ghost use Rattle.pm_view.specs.View.{SpaceView};
+ghost use Rattle.pm_view.specs.Reading.{slot_at, is_aside};
+ghost use Rattle.pm_view.specs.Law.{HeapLaw};
+ghost use Rattle.pm_view.specs.Represents.{Represents};
+ghost use Rattle.pm_copies.specs.Listed.{Listed, listed, listed_cars, root_entries, copy_listed, copy_in};
+ghost use Rattle.pm_copies.specs.Accepted.{IsAccepted};
+ghost use Rattle.pm_copies.specs.Opened.{IsOpened};
+
+/// A law of copies: the copy of every world that a space stands for is the one that its listed cars and its
+/// roots are.
+pub fn a_space_holds_its_worlds_copy()
+    ensures { (view : SpaceView) (world : World) → HeapLaw view → Represents view world → copy world ≡ copy_in view }
+{}
+
+/// A law of lists: what is listed of a space is each slot as it stands, Live or Moved, but for those of cars that
+/// are set aside, which are not listed; and no rule refuses it.
+pub fn a_copys_cars_are_accepted()
+    ensures slots { (view : SpaceView) (a : Addr) → HeapLaw view → slot_named (listed_cars view) a ≡ cond (is_aside view a.car) None (slot_at view.cars a) }
+    ensures accepted { (view : SpaceView) → HeapLaw view → IsAccepted (listed view) (root_entries view) view.next }
+{}
+
+/// A law of opening: the space that opening makes of cars and roots that no rule refuses keeps the heap law, and
+/// stands for the world in which their copy was just opened, under whatever number.
+pub fn an_opened_space_keeps_the_law()
+    ensures law { (listed : List Listed) (catalog : List CatEntry) (next : ℕ) (view : SpaceView) → IsAccepted listed catalog next → IsOpened listed catalog next view → HeapLaw view }
+    ensures world { (listed : List Listed) (catalog : List CatEntry) (next : ℕ) (view : SpaceView) (number : ℕ) → IsAccepted listed catalog next → IsOpened listed catalog next view
+        → Represents view (begin number (copy_listed listed catalog next)) }
+{}

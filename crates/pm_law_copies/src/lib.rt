@@ -1,0 +1,8 @@
+//! Laws of copies: which copy a space is, that what a copy lists is accepted again, and what opening makes of a store.
+#![tactic(auto)]
+
+mod laws;
+
+pub use laws::{
+    a_copys_cars_are_accepted, a_space_holds_its_worlds_copy, an_opened_space_keeps_the_law,
+};
