@@ -179,6 +179,26 @@ PYTHON
     fi
 fi
 
+# A store that is made long: a file of 1 GiB, of which the pages behind the header are few. It is opened, and a page that
+# is damaged is told, in little time and with little memory: no more is read than the pages that are named.
+if ! truncate -s 1G "$work/grown" 2>/dev/null; then
+    row "a store of 1 GiB" "0 1, ok,cafe" "skipped: no file of 1 GiB"
+else
+    cp "$work/settled" "$work/long.store" && truncate -s 1G "$work/long.store"
+    seconds=$SECONDS
+    (ulimit -d 65536 && exec "$pmos" run "$work/long.store" serial) <"$work/find.script" >"$work/out" 2>/dev/null
+    came="$? $(cut -d' ' -f2- <"$work/out" | paste -sd,)"
+    # The object's car stands on page 3: a byte of the car's head that is another.
+    printf 'X' | dd of="$work/long.store" bs=1 seek=$((3 * 16384)) conv=notrunc 2>/dev/null
+    (ulimit -d 65536 && exec "$pmos" run "$work/long.store" serial) <"$work/find.script" 2>&1 >"$work/out" |
+        cut -d' ' -f1-4 >"$work/err"
+    came+=", ${PIPESTATUS[0]} $(cat "$work/err")"
+    [ $((SECONDS - seconds)) -le 10 ] || came+=", slowly"
+    row "a store of 1 GiB" "0 ok 1,cafe, 6 pmos: damaged page 3" "$came"
+    rm -f "$work/long.store"
+fi
+rm -f "$work/grown"
+
 # More replies than a pipe holds.
 {
     cat "$work/settle.script"

@@ -88,10 +88,10 @@ badly_named page at len place ahead inside short bad =
 
 -- ---- roots
 
-regroup : {A B C E : Type 0} (r : Result A E) (s : Result B E) (x : C) (D : Type 0) (f : C → Result D E) → (r >>= λ a. s >>= λ b. f x) ≡ ((r >>= λ a. s >>= λ b. Ok x) >>= f)
-regroup (Ok a) (Ok b) x D f = refl
-regroup (Ok a) (Err e) x D f = refl
-regroup (Err e) s x D f = refl
+passed_on : {A B C E : Type 0} (r : Result A E) (s : Result B E) (x : C) (D : Type 0) (f : C → Result D E) → (r >>= λ a. s >>= λ b. f x) ≡ ((r >>= λ a. s >>= λ b. Ok x) >>= f)
+passed_on (Ok a) (Ok b) x D f = refl
+passed_on (Ok a) (Err e) x D f = refl
+passed_on (Err e) s x D f = refl
 
 -- a root's entry is its name, and then the rest
 pub root_by_name : (count : Option ℕ) (met : Met) (page : List ℕ) (place : ℕ)
@@ -104,4 +104,4 @@ root_by_name count met page place =
     let rest : ℕ → List ℕ → Result (CatEntry × ℕ) ℕ = λ end word. tested (is_next_name met.name word && has_root_left count met.roots) (place + 1) >>= λ u. tested (ltb 0 at.car) (place + 2 + len) >>= λ v. Ok (Root word at, end) in
     let same : place + 14 + len ≡ place + 2 + len + 12 = omega arith in
     ap (λ (end : ℕ). tested (ltb 0 len && leb len NAME_BYTES) (place + 1) >>= λ u. name_bytes (place + 2) (bad_name_byte name) >>= λ v. rest end name) same
-    ∙ regroup (tested (ltb 0 len && leb len NAME_BYTES) (place + 1)) (name_bytes (place + 2) (bad_name_byte name)) name (CatEntry × ℕ) (rest (place + 2 + len + 12))
+    ∙ passed_on (tested (ltb 0 len && leb len NAME_BYTES) (place + 1)) (name_bytes (place + 2) (bad_name_byte name)) name (CatEntry × ℕ) (rest (place + 2 + len + 12))

@@ -14,7 +14,7 @@ use Rattle.pm_image.specs.declared.settled.KeptPage.{KeptPage}
 use Rattle.pm_image.specs.Steps.{tested, magic_at, rest_at}
 use Rattle.pm_image.specs.CarPages.{Numbers, CarScope, car_at}
 use Rattle.pm_image.specs.CatalogPages.{Met, is_free_page, is_next_page, has_next_digest, meeting, meeting_next, meeting_page, car_entry_at, root_entry_at, entry_at, entries_at, catalog_at, catalog_magic}
-use Rattle.pm_image.specs.Graphs.{Pages, Catalog, Graph, undamaged, on_page, catalog_from, catalog_of, entries_of, cars_from, with_identities, linked, sites_of, graph_of, used_pages, most_pages}
+use Rattle.pm_image.specs.Graphs.{images_of, Pages, Catalog, Graph, undamaged, on_page, catalog_from, catalog_of, entries_of, cars_from, with_identities, linked, sites_of, graph_of, used_pages, most_pages}
 use Rattle.pm_image.specs.Opening.{Current, current}
 use Rattle.pm_layout.specs.Headers.{most_fields}
 use Rattle.pm_image.specs.Stands.{SamePages, Opened, opened, pages_of, copy_in, Stands}
@@ -260,7 +260,7 @@ module _ (a b : Pages) where
       let catalog = one.0 in
       let two = bind_ok (cars_from (most_fields header.version) header.next a set.empty (entries_of catalog)) _ graph one.2 in
       let cars = two.0 in
-      let three = bind_ok (linked cars (sites_of catalog cars)) _ graph two.2 in
+      let three = bind_ok (linked (images_of cars) (sites_of catalog cars)) _ graph two.2 in
       let made : Graph = record { catalog = catalog; cars = cars } in
       let whole : made ≡ graph = ok_same made graph three.2 in
       let pages = alike (used_pages made) a b (subst (λ (g : Graph). SamePages (used_pages g) a b) (sym whole) same) in

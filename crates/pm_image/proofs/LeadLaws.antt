@@ -13,27 +13,28 @@ use Rattle.pm_layout.specs.Headers.{most_fields}
 use Rattle.pm_layout.specs.Spelling.{slot_size}
 use Rattle.pm_base.specs.Results.{◌>>=◌}
 use Rattle.pm_base.proofs.Results.{bind_ok, ok_same, wanted_ok}
+use Rattle.pm_image.specs.declared.car.CarImage.{CarImage}
 use Rattle.pm_image.specs.declared.catalog.CatEntry.{CatEntry}
 use Rattle.pm_image.specs.declared.catalog.CatEntry.TheVariants.{Car, Root}
 use Rattle.pm_image.specs.declared.catalog.CatalogPage.{CatalogPage}
 use Rattle.pm_image.specs.declared.settled.KeptPage.{KeptPage}
 use Rattle.pm_image.specs.Leading.{FieldLeads, SlotLeads, CarLeads, RootLeads}
-use Rattle.pm_image.specs.Graphs.{Pages, Catalog, Graph, Site, entries_of, catalog_of, cars_from, slot_in, slot_named, is_live, leads, linked, field_sites, slot_sites, record_sites, root_sites, sites_of, graph_of, identity_in, identity_through, resolved}
+use Rattle.pm_image.specs.Graphs.{images_of, Pages, Catalog, Graph, Site, entries_of, catalog_of, cars_from, slot_in, slot_named, is_live, leads, linked, field_sites, slot_sites, record_sites, root_sites, sites_of, graph_of, identity_in, identity_through, resolved}
 
 -- ---- each address of a list
 
-abbrev Lead : List KeptPage → List Site → Type 0
+abbrev Lead : List CarImage → List Site → Type 0
 Lead cars sites = AllByRecursion (λ (site : Site). leads cars site ≡ true) sites
 
-lead_front : (cars : List KeptPage) (xs ys : List Site) → Lead cars (xs ++ ys) → Lead cars xs
+lead_front : (cars : List CarImage) (xs ys : List Site) → Lead cars (xs ++ ys) → Lead cars xs
 lead_front cars [] ys all = tt
 lead_front cars (x ∷ xs) ys all = (all.0, lead_front cars xs ys all.1)
 
-lead_back : (cars : List KeptPage) (xs ys : List Site) → Lead cars (xs ++ ys) → Lead cars ys
+lead_back : (cars : List CarImage) (xs ys : List Site) → Lead cars (xs ++ ys) → Lead cars ys
 lead_back cars [] ys all = all
 lead_back cars (x ∷ xs) ys all = lead_back cars xs ys all.1
 
-linked_lead : (cars : List KeptPage) (sites : List Site) (u : Unit {0}) → linked cars sites ≡ Ok u → Lead cars sites
+linked_lead : (cars : List CarImage) (sites : List Site) (u : Unit {0}) → linked cars sites ≡ Ok u → Lead cars sites
 unfolding linked
 linked_lead cars [] u is = tt
 linked_lead cars (site ∷ sites) u is =
@@ -48,19 +49,19 @@ live_known (Some (Live object)) is = refl
 live_known (Some (Moved to)) is = cc
 
 -- what moved leads to a slot with an object
-abbrev IsSettled : List KeptPage → Option Slot → Type 0
+abbrev IsSettled : List CarImage → Option Slot → Type 0
 IsSettled cars None = Unit {0}
 IsSettled cars (Some (Live object)) = Unit {0}
 IsSettled cars (Some (Moved to)) = is_live (slot_named cars to) ≡ true
 
-abbrev AreSettled : List KeptPage → List (ℕ × Slot) → Type 0
+abbrev AreSettled : List CarImage → List (ℕ × Slot) → Type 0
 AreSettled cars slots = AllByRecursion (λ (entry : ℕ × Slot). IsSettled cars (Some entry.1)) slots
 
-slot_settled : (cars : List KeptPage) (page place : ℕ) (slot : Slot) → Lead cars (slot_sites page place slot) → IsSettled cars (Some slot)
+slot_settled : (cars : List CarImage) (page place : ℕ) (slot : Slot) → Lead cars (slot_sites page place slot) → IsSettled cars (Some slot)
 slot_settled cars page place (Live object) all = tt
 slot_settled cars page place (Moved to) all = all.0
 
-slots_settled : (cars : List KeptPage) (page place : ℕ) (slots : List (ℕ × Slot)) → Lead cars (record_sites page place slots) → AreSettled cars slots
+slots_settled : (cars : List CarImage) (page place : ℕ) (slots : List (ℕ × Slot)) → Lead cars (record_sites page place slots) → AreSettled cars slots
 slots_settled cars page place [] all = tt
 slots_settled cars page place (first ∷ slots) all = (
   slot_settled cars page place first.1 (lead_front cars (slot_sites page place first.1) (record_sites page (place + 4 + slot_size first.1) slots) all),
@@ -70,34 +71,34 @@ slots_settled cars page place (first ∷ slots) all = (
 abbrev car_sites : KeptPage → List Site
 car_sites kept = record_sites kept.page 14 kept.image.slots
 
-cars_settled : (cars these : List KeptPage) → Lead cars (flat_map car_sites these) → AllByRecursion (λ (kept : KeptPage). AreSettled cars kept.image.slots) these
+cars_settled : (cars : List CarImage) (these : List KeptPage) → Lead cars (flat_map car_sites these) → AllByRecursion (λ (car : CarImage). AreSettled cars car.slots) (images_of these)
 cars_settled cars [] all = tt
 cars_settled cars (kept ∷ these) all = (
   slots_settled cars kept.page 14 kept.image.slots (lead_front cars (car_sites kept) (flat_map car_sites these) all),
   cars_settled cars these (lead_back cars (car_sites kept) (flat_map car_sites these) all),
 )
 
-slot_in_settled : (cars : List KeptPage) (slots : List (ℕ × Slot)) (number : ℕ) → AreSettled cars slots → IsSettled cars (slot_in slots number)
+slot_in_settled : (cars : List CarImage) (slots : List (ℕ × Slot)) (number : ℕ) → AreSettled cars slots → IsSettled cars (slot_in slots number)
 slot_in_settled cars [] number all = tt
 slot_in_settled cars (first ∷ slots) number all =
     elim (first.0 == number) as (λ b. IsSettled cars (if b then Some first.1 else slot_in slots number)) [ true ↦ all.0 | false ↦ slot_in_settled cars slots number all.1 ]
 
-named_settled : (cars these : List KeptPage) (at : Addr) → AllByRecursion (λ (kept : KeptPage). AreSettled cars kept.image.slots) these → IsSettled cars (slot_named these at)
+named_settled : (cars these : List CarImage) (at : Addr) → AllByRecursion (λ (car : CarImage). AreSettled cars car.slots) these → IsSettled cars (slot_named these at)
 named_settled cars [] at all = tt
-named_settled cars (kept ∷ these) at all =
-    elim (kept.image.number == at.car) as (λ b. IsSettled cars (if b then slot_in kept.image.slots at.slot else slot_named these at)) [
-      | true ↦ slot_in_settled cars kept.image.slots at.slot all.0
+named_settled cars (car ∷ these) at all =
+    elim (car.number == at.car) as (λ b. IsSettled cars (if b then slot_in car.slots at.slot else slot_named these at)) [
+      | true ↦ slot_in_settled cars car.slots at.slot all.0
       | false ↦ named_settled cars these at all.1
     ]
 
-through_known : (cars : List KeptPage) (found : Option Slot) → is_some found ≡ true → IsSettled cars found → is_some (identity_through cars found) ≡ true
+through_known : (cars : List CarImage) (found : Option Slot) → is_some found ≡ true → IsSettled cars found → is_some (identity_through cars found) ≡ true
 through_known cars None some settled = cc
 through_known cars (Some (Live object)) some settled = refl
 through_known cars (Some (Moved to)) some settled = live_known (slot_named cars to) settled
 
 -- ---- each address leads to an object
 
-module _ (cars : List KeptPage) (settled : AllByRecursion (λ (kept : KeptPage). AreSettled cars kept.image.slots) cars) where
+module _ (cars : List CarImage) (settled : AllByRecursion (λ (car : CarImage). AreSettled cars car.slots) cars) where
   known : (at : Addr) → is_some (slot_named cars at) ≡ true → is_some (resolved cars at) ≡ true
   known at some = through_known cars (slot_named cars at) some (named_settled cars cars at settled)
 
@@ -117,7 +118,7 @@ module _ (cars : List KeptPage) (settled : AllByRecursion (λ (kept : KeptPage).
     slots_lead page (place + 4 + slot_size first.1) slots (lead_back cars (slot_sites page place first.1) (record_sites page (place + 4 + slot_size first.1) slots) all),
   )
 
-  cars_lead : (these : List KeptPage) → Lead cars (flat_map car_sites these) → AllByRecursion (CarLeads cars) these
+  cars_lead : (these : List KeptPage) → Lead cars (flat_map car_sites these) → AllByRecursion (CarLeads cars) (images_of these)
   cars_lead [] all = tt
   cars_lead (kept ∷ these) all = (
     slots_lead kept.page 14 kept.image.slots (lead_front cars (car_sites kept) (flat_map car_sites these) all),
@@ -140,16 +141,18 @@ module _ (cars : List KeptPage) (settled : AllByRecursion (λ (kept : KeptPage).
       both_lead page.1.entries (entries_of catalog) (roots_lead page.0 46 page.1.entries (lead_front cars (root_sites page.0 46 page.1.entries) rest all)) (catalog_leads catalog (lead_back cars (root_sites page.0 46 page.1.entries) rest all))
 
 -- in a graph that was found each address leads to an object
-pub graph_leads : (pages : Pages) (header : Header) (graph : Graph) → graph_of pages header ≡ Ok graph → AllByRecursion (CarLeads graph.cars) graph.cars × AllByRecursion (RootLeads graph.cars) (entries_of graph.catalog)
+pub graph_leads : (pages : Pages) (header : Header) (graph : Graph) → graph_of pages header ≡ Ok graph
+    → AllByRecursion (CarLeads (images_of graph.cars)) (images_of graph.cars) × AllByRecursion (RootLeads (images_of graph.cars)) (entries_of graph.catalog)
 unfolding graph_of
 graph_leads pages header graph is =
     let one = bind_ok (catalog_of pages header) _ graph is in
     let two = bind_ok (cars_from (most_fields header.version) header.next pages set.empty (entries_of one.0)) _ graph one.2 in
-    let three = bind_ok (linked two.0 (sites_of one.0 two.0)) _ graph two.2 in
+    let cars = images_of two.0 in
+    let three = bind_ok (linked cars (sites_of one.0 two.0)) _ graph two.2 in
     let made : Graph = record { catalog = one.0; cars = two.0 } in
     let roots : List Site = flat_map (λ (page : ℕ × CatalogPage). root_sites page.0 46 page.1.entries) one.0 in
-    let all = linked_lead two.0 (sites_of one.0 two.0) three.0 three.1 in
-    let of_cars = lead_front two.0 (flat_map car_sites two.0) roots all in
-    let settled = cars_settled two.0 two.0 of_cars in
-    subst (λ (g : Graph). AllByRecursion (CarLeads g.cars) g.cars × AllByRecursion (RootLeads g.cars) (entries_of g.catalog)) (ok_same made graph three.2)
-    (cars_lead two.0 settled two.0 of_cars, catalog_leads two.0 settled one.0 (lead_back two.0 (flat_map car_sites two.0) roots all))
+    let all = linked_lead cars (sites_of one.0 two.0) three.0 three.1 in
+    let of_cars = lead_front cars (flat_map car_sites two.0) roots all in
+    let settled = cars_settled cars two.0 of_cars in
+    subst (λ (g : Graph). AllByRecursion (CarLeads (images_of g.cars)) (images_of g.cars) × AllByRecursion (RootLeads (images_of g.cars)) (entries_of g.catalog)) (ok_same made graph three.2)
+    (cars_lead cars settled two.0 of_cars, catalog_leads cars settled one.0 (lead_back cars (flat_map car_sites two.0) roots all))

@@ -27,7 +27,7 @@ use Rattle.pm_image.specs.Rules.{IsOfPages, IsOfRules}
 use Rattle.pm_image.specs.CarPages.{Numbers, car_at}
 use Rattle.pm_image.specs.CatalogPages.{Met, meeting, meeting_next, meeting_all, meeting_page, catalog_magic, is_free_page, is_next_page, has_next_digest, is_next_name, has_root_left, bad_name_byte, name_bytes, car_entry_at, root_entry_at, entry_at, entries_at, catalog_at}
 use Rattle.pm_image.specs.Opening.{Current, current, page_count, is_placed, header_refusal, sound_header, header_in, header_body_of, open_slot}
-use Rattle.pm_image.specs.Graphs.{Pages, Catalog, Graph, Site, undamaged, on_page, catalog_from, catalog_of, entries_of, cars_from, with_identities, linked, leads, sites_of, graph_of, most_pages}
+use Rattle.pm_image.specs.Graphs.{images_of, Pages, Catalog, Graph, Site, undamaged, on_page, catalog_from, catalog_of, entries_of, cars_from, with_identities, linked, leads, sites_of, graph_of, most_pages}
 use Rattle.pm_image.specs.Stands.{Opened, opened, pages_of}
 use Rattle.pm_image.proofs.Results.{both_true, not_false}
 use Rattle.pm_image.proofs.PageEnds.{tested_ok}
@@ -238,10 +238,10 @@ by_test : (b : Bool) (rest : Result (Unit {0}) OpenFault) (e fault : OpenFault) 
 by_test true rest e fault here there is = there is
 by_test false rest e fault here there is = subst IsOfPages (err_same {A = Unit {0}} e fault is) here
 
-link_fault : (cars : List KeptPage) (sites : List Site) (fault : OpenFault) → linked cars sites ≡ Err fault → IsOfPages fault
+link_fault : (cars : List KeptPage) (sites : List Site) (fault : OpenFault) → linked (images_of cars) sites ≡ Err fault → IsOfPages fault
 unfolding linked
 link_fault cars [] fault is = cc
-link_fault cars (site ∷ sites) fault is = by_test (leads cars site) (linked cars sites) (Malformed site.page site.at) fault tt (λ rest. link_fault cars sites fault rest) is
+link_fault cars (site ∷ sites) fault is = by_test (leads (images_of cars) site) (linked (images_of cars) sites) (Malformed site.page site.at) fault tt (λ rest. link_fault cars sites fault rest) is
 
 -- behind a header that was found, the answer is of a page
 pub graph_fault : (pages : Pages) (header : Header) (fault : OpenFault) → pages.count ≤ 2 ^ 64 → is_placed pages.count header ≡ true → graph_of pages header ≡ Err fault → IsOfPages fault
@@ -251,7 +251,7 @@ graph_fault pages header fault few placed is =
       | inl catalog ↦ catalog_fault pages header fault few placed catalog
       | inr one ↦ elim (either_fails (cars_from (most_fields header.version) header.next pages set.empty (entries_of one.0)) _ fault one.2) [
         | inl cars ↦ cars_fault (most_fields header.version) header.next pages set.empty (entries_of one.0) fault cars
-        | inr two ↦ elim (either_fails (linked two.0 (sites_of one.0 two.0)) _ fault two.2) [
+        | inr two ↦ elim (either_fails (linked (images_of two.0) (sites_of one.0 two.0)) _ fault two.2) [
           | inl links ↦ link_fault two.0 (sites_of one.0 two.0) fault links
           | inr three ↦ cc (three.2)
         ]

@@ -16,6 +16,7 @@ use Rattle.pm_layout.specs.Spelling.{slot_size}
 use Rattle.pm_model.specs.Heap.{Object, Heap}
 use Rattle.pm_model.specs.World.{Roots, Copy}
 use Rattle.pm_model.specs.Copying.{copied}
+use Rattle.pm_image.specs.declared.car.CarImage.{CarImage}
 use Rattle.pm_image.specs.declared.catalog.CatEntry.{CatEntry}
 use Rattle.pm_image.specs.declared.catalog.CatEntry.TheVariants.{Car, Root}
 use Rattle.pm_image.specs.declared.catalog.CatalogPage.{CatalogPage}
@@ -82,15 +83,19 @@ cars_from most next pages met (Car car train page digest ∷ entries) = do
   others ← cars_from most next pages (with_identities met image.slots) entries
   Ok (record { image = image; page = page; digest = digest } ∷ others)
 
+-- what cars hold, whatever pages they stand on
+abbrev pub images_of : List KeptPage → List CarImage
+images_of cars = map (λ (kept : KeptPage). kept.image) cars
+
 -- the slot of this number in a list of slots
 abbrev pub slot_in : List (ℕ × Slot) → ℕ → Option Slot
 slot_in [] number = None
 slot_in (first ∷ slots) number = if first.0 == number then Some first.1 else slot_in slots number
 
 -- the slot that an address names; one that is not listed is Gone
-abbrev pub slot_named : List KeptPage → Addr → Option Slot
+abbrev pub slot_named : List CarImage → Addr → Option Slot
 slot_named [] at = None
-slot_named (kept ∷ cars) at = if kept.image.number == at.car then slot_in kept.image.slots at.slot else slot_named cars at
+slot_named (car ∷ cars) at = if car.number == at.car then slot_in car.slots at.slot else slot_named cars at
 
 -- An address that a store keeps: the page and the place in it where it stands, where it leads, and whether the
 -- slot that it names must be Live, as that of a Moved slot, or may be Moved too.
@@ -133,11 +138,11 @@ is_live (Some (Live object)) = true
 is_live (Some (Moved to)) = false
 
 -- the address names a slot of a kind that it may
-abbrev pub leads : List KeptPage → Site → Bool
+abbrev pub leads : List CarImage → Site → Bool
 leads cars site = if site.to_live then is_live (slot_named cars site.to) else is_some (slot_named cars site.to)
 
 -- each address names a slot, or the first that does not is at fault
-unfoldable pub linked : List KeptPage → List Site → Result (Unit {0}) OpenFault
+unfoldable pub linked : List CarImage → List Site → Result (Unit {0}) OpenFault
 linked cars [] = Ok tt
 linked cars (site ∷ sites) = if leads cars site then linked cars sites else Err (Malformed site.page site.at)
 
@@ -152,7 +157,7 @@ unfoldable pub graph_of : Pages → Header → Result Graph OpenFault
 graph_of pages header = do
   catalog ← catalog_of pages header
   cars ← cars_from (most_fields header.version) header.next pages set.empty (entries_of catalog)
-  is_linked ← linked cars (sites_of catalog cars)
+  is_linked ← linked (images_of cars) (sites_of catalog cars)
   Ok (record { catalog = catalog; cars = cars })
 
 -- the pages that a graph stands on
@@ -166,29 +171,29 @@ identity_in (Some (Live object)) = Some object.id
 identity_in (Some (Moved to)) = None
 
 -- the identity that a slot leads to, through at most one Moved slot
-abbrev pub identity_through : List KeptPage → Option Slot → Option ℕ
+abbrev pub identity_through : List CarImage → Option Slot → Option ℕ
 identity_through cars None = None
 identity_through cars (Some (Live object)) = Some object.id
 identity_through cars (Some (Moved to)) = identity_in (slot_named cars to)
 
 -- the identity of the object that an address leads to
-abbrev pub resolved : List KeptPage → Addr → Option ℕ
+abbrev pub resolved : List CarImage → Addr → Option ℕ
 resolved cars at = identity_through cars (slot_named cars at)
 
 -- what a field holds
-abbrev pub resolved_field : List KeptPage → Option Addr → Option ℕ
+abbrev pub resolved_field : List CarImage → Option Addr → Option ℕ
 resolved_field cars None = None
 resolved_field cars (Some at) = resolved cars at
 
 -- the objects of a list of slots, each with its identity
-abbrev pub objects_in : List KeptPage → List (ℕ × Slot) → List (ℕ × Object)
+abbrev pub objects_in : List CarImage → List (ℕ × Slot) → List (ℕ × Object)
 objects_in cars [] = []
 objects_in cars ((number, Live object) ∷ slots) = (object.id, record { fields = map (resolved_field cars) object.fields; bytes = object.bytes }) ∷ objects_in cars slots
 objects_in cars ((number, Moved to) ∷ slots) = objects_in cars slots
 
 -- the objects of the cars
-abbrev pub heap_of : List KeptPage → Heap
-heap_of cars = from_entries (flat_map (λ (kept : KeptPage). objects_in cars kept.image.slots) cars)
+abbrev pub heap_of : List CarImage → Heap
+heap_of cars = from_entries (flat_map (λ (car : CarImage). objects_in cars car.slots) cars)
 
 -- a name with the identity that it stands for
 abbrev pub named_root : List ℕ → Option ℕ → List (List ℕ × ℕ)
@@ -196,14 +201,14 @@ named_root name None = []
 named_root name (Some id) = (name, id) ∷ []
 
 -- the root that an entry lists, if it lists one
-abbrev pub listed_root : List KeptPage → CatEntry → List (List ℕ × ℕ)
+abbrev pub listed_root : List CarImage → CatEntry → List (List ℕ × ℕ)
 listed_root cars (Car car train page digest) = []
 listed_root cars (Root name at) = named_root name (resolved cars at)
 
 -- the roots that a catalog lists
-abbrev pub roots_of : List KeptPage → List CatEntry → Roots
+abbrev pub roots_of : List CarImage → List CatEntry → Roots
 roots_of cars entries = from_entries (flat_map (listed_root cars) entries)
 
 -- the copy that a graph is, under this next identity: the roots that are listed, and the objects that they reach
 abbrev pub copy_of : ℕ → Graph → Copy
-copy_of next graph = copied (heap_of graph.cars) (roots_of graph.cars (entries_of graph.catalog)) next
+copy_of next graph = let cars = images_of graph.cars in copied (heap_of cars) (roots_of cars (entries_of graph.catalog)) next

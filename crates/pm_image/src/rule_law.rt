@@ -3,7 +3,7 @@ ghost use Rattle.std.specs.List.{AllByRecursion};
 ghost use Rattle.pm_types.specs.declared.fault.OpenFault.{OpenFault};
 ghost use Rattle.pm_layout.specs.declared.header.Header.{Header};
 ghost use Rattle.pm_image.specs.Opening.{is_placed, page_count};
-ghost use Rattle.pm_image.specs.Graphs.{Pages, Graph, graph_of, entries_of};
+ghost use Rattle.pm_image.specs.Graphs.{images_of, Pages, Graph, graph_of, entries_of};
 ghost use Rattle.pm_image.specs.Leading.{CarLeads, RootLeads};
 ghost use Rattle.pm_image.specs.Stands.{opened};
 ghost use Rattle.pm_image.specs.Rules.{IsOfPages, IsOfRules};
@@ -19,6 +19,6 @@ pub fn opening_answers_its_rules()
 /// In a graph that is found each address leads to an object, through at most one slot that is Moved.
 pub fn addresses_lead_to_objects()
     // Each field of an object does, and an object that moved stands in the slot to which its old one leads.
-    ensures cars { (pages : Pages) (header : Header) (graph : Graph) → graph_of pages header ≡ Ok graph → AllByRecursion (CarLeads graph.cars) graph.cars }
-    ensures roots { (pages : Pages) (header : Header) (graph : Graph) → graph_of pages header ≡ Ok graph → AllByRecursion (RootLeads graph.cars) (entries_of graph.catalog) }
+    ensures cars { (pages : Pages) (header : Header) (graph : Graph) → graph_of pages header ≡ Ok graph → AllByRecursion (CarLeads (images_of graph.cars)) (images_of graph.cars) }
+    ensures roots { (pages : Pages) (header : Header) (graph : Graph) → graph_of pages header ≡ Ok graph → AllByRecursion (RootLeads (images_of graph.cars)) (entries_of graph.catalog) }
 {}

@@ -13,10 +13,11 @@ use Rattle.pm_model.specs.Copying.{copied}
 use Rattle.pm_model.specs.Plain.{IsPlainObject, IsPlainCopy}
 use Rattle.pm_types.proofs.Orders.{names_total, names_antisymmetric}
 use Rattle.pm_model.proofs.Members.{at_first, in_rest, at_key}
+use Rattle.pm_image.specs.declared.car.CarImage.{CarImage}
 use Rattle.pm_image.specs.declared.catalog.CatEntry.{CatEntry}
 use Rattle.pm_image.specs.declared.catalog.CatEntry.TheVariants.{Car, Root}
 use Rattle.pm_image.specs.declared.settled.KeptPage.{KeptPage}
-use Rattle.pm_image.specs.Graphs.{slot_in, slot_named, identity_through, resolved, resolved_field, objects_in, heap_of, named_root, listed_root, roots_of, entries_of, copy_of}
+use Rattle.pm_image.specs.Graphs.{images_of, slot_in, slot_named, identity_through, resolved, resolved_field, objects_in, heap_of, named_root, listed_root, roots_of, entries_of, copy_of}
 use Rattle.pm_plain.specs.Laying.{Item, plain_slot, slots_from, Placed, kept_from, car_entry, id_in, id_at, IsAt, IsRootEntry, AreRootEntries, Listed, chain_of}
 use Rattle.pm_plain.specs.Laid.{Plan, graph_of_plan, IsPlanOf}
 use Rattle.pm_plain.specs.Plain.{is_plain_slot, is_plain_car, is_plain}
@@ -69,27 +70,27 @@ plain_entries : (copy : Copy) → IsPlainCopy copy → ArePlain (entries copy.he
 plain_entries copy plain = plain_values (entries copy.heap) (λ object there. let at = at_key nat_cmp_total copy.heap object there in plain.plain.plain at.0 object at.1)
 
 -- null fields that are written as so many nulls are the fields again
-null_fields : (cars : List KeptPage) (fields : List (Option ℕ)) → AllByRecursion (λ (field : Option ℕ). field ≡ None) fields → map (resolved_field cars) (replicate (length fields) None) ≡ fields
+null_fields : (cars : List KeptPage) (fields : List (Option ℕ)) → AllByRecursion (λ (field : Option ℕ). field ≡ None) fields → map (resolved_field (images_of cars)) (replicate (length fields) None) ≡ fields
 null_fields cars [] null = refl
 null_fields cars (field ∷ fields) null = λ i. sym null.0 i ∷ null_fields cars fields null.1 i
 
 item_again : (cars : List KeptPage) (item : Item) → IsPlainObject item.1
-    → ◌≡◌ {A = Item} (item.0, record { fields = map (resolved_field cars) (replicate (length item.1.fields) None); bytes = item.1.bytes }) item
+    → ◌≡◌ {A = Item} (item.0, record { fields = map (resolved_field (images_of cars)) (replicate (length item.1.fields) None); bytes = item.1.bytes }) item
 item_again cars item plain = λ i. (item.0, record { fields = null_fields cars item.1.fields plain.null i; bytes = item.1.bytes })
 
-slots_again : (cars : List KeptPage) (number : ℕ) (items : List Item) → ArePlain items → objects_in cars (slots_from number items) ≡ items
+slots_again : (cars : List KeptPage) (number : ℕ) (items : List Item) → ArePlain items → objects_in (images_of cars) (slots_from number items) ≡ items
 slots_again cars number [] plain = refl
 slots_again cars number (item ∷ items) plain = λ i. item_again cars item plain.0 i ∷ slots_again cars (number + 1) items plain.1 i
 
 -- the objects of these cars, where all the cars are the first list
 cars_again : (cars : List KeptPage) (number : ℕ) (placed : List Placed) → ArePlain (flat_map (λ (placed : Placed). placed.items) placed)
-    → flat_map (λ (kept : KeptPage). objects_in cars kept.image.slots) (kept_from number placed) ≡ flat_map (λ (placed : Placed). placed.items) placed
+    → flat_map (λ (car : CarImage). objects_in (images_of cars) car.slots) (images_of (kept_from number placed)) ≡ flat_map (λ (placed : Placed). placed.items) placed
 cars_again cars number [] plain = refl
 cars_again cars number (first ∷ others) plain = λ i.
     slots_again cars 0 first.items (plain_front first.items (flat_map (λ (placed : Placed). placed.items) others) plain) i
     ++ cars_again cars (number + 1) others (plain_back first.items (flat_map (λ (placed : Placed). placed.items) others) plain) i
 
-heap_again : (copy : Copy) (plan : Plan) → IsPlainCopy copy → IsPlanOf copy plan → heap_of (kept_from 1 plan.placed) ≡ copy.heap
+heap_again : (copy : Copy) (plan : Plan) → IsPlainCopy copy → IsPlanOf copy plan → heap_of (images_of (kept_from 1 plan.placed)) ≡ copy.heap
 heap_again copy plan plain is =
     let all : ArePlain (flat_map (λ (placed : Placed). placed.items) plan.placed) = subst ArePlain (sym is.objects) (plain_entries copy plain) in
     ap from_entries (cars_again (kept_from 1 plan.placed) 1 plan.placed all ∙ is.objects) ∙ again nat_cmp_total nat_cmp-IsAntisymmetric copy.heap
@@ -103,42 +104,42 @@ apart_test : (a b : ℕ) → a < b → (a == b) ≡ false
 apart_test a b lt = grind (arith, nat_tests)
 
 -- the slot that is so many after the first has the object that is so many after the first
-slot_again : (cars : List KeptPage) (number before : ℕ) (items : List Item) (slot : ℕ) → slot ≡ number + before → identity_through cars (slot_in (slots_from number items) slot) ≡ id_in items before
+slot_again : (cars : List KeptPage) (number before : ℕ) (items : List Item) (slot : ℕ) → slot ≡ number + before → identity_through (images_of cars) (slot_in (slots_from number items) slot) ≡ id_in items before
 slot_again cars number before [] slot is = refl
 slot_again cars number zero (item ∷ items) slot is =
-    ap (λ (b : Bool). identity_through cars (if b then Some (plain_slot item) else slot_in (slots_from (number + 1) items) slot)) (equal_test number slot (omega (arith, is)))
+    ap (λ (b : Bool). identity_through (images_of cars) (if b then Some (plain_slot item) else slot_in (slots_from (number + 1) items) slot)) (equal_test number slot (omega (arith, is)))
 slot_again cars number (suc before) (item ∷ items) slot is =
-    ap (λ (b : Bool). identity_through cars (if b then Some (plain_slot item) else slot_in (slots_from (number + 1) items) slot)) (apart_test number slot (omega (arith, is)))
+    ap (λ (b : Bool). identity_through (images_of cars) (if b then Some (plain_slot item) else slot_in (slots_from (number + 1) items) slot)) (apart_test number slot (omega (arith, is)))
     ∙ slot_again cars (number + 1) before items slot (omega (arith, is))
 
 -- the same of cars
 car_again : (cars : List KeptPage) (number before : ℕ) (placed : List Placed) (at : Addr) → at.car ≡ number + before
-    → identity_through cars (slot_named (kept_from number placed) at) ≡ id_at (map (λ (placed : Placed). placed.items) placed) before at.slot
+    → identity_through (images_of cars) (slot_named (images_of (kept_from number placed)) at) ≡ id_at (map (λ (placed : Placed). placed.items) placed) before at.slot
 car_again cars number before [] at is = refl
 car_again cars number zero (first ∷ others) at is =
-    ap (λ (b : Bool). identity_through cars (if b then slot_in (slots_from 0 first.items) at.slot else slot_named (kept_from (number + 1) others) at)) (equal_test number at.car (omega (arith, is)))
+    ap (λ (b : Bool). identity_through (images_of cars) (if b then slot_in (slots_from 0 first.items) at.slot else slot_named (images_of (kept_from (number + 1) others)) at)) (equal_test number at.car (omega (arith, is)))
     ∙ slot_again cars 0 at.slot first.items at.slot (omega arith)
 car_again cars number (suc before) (first ∷ others) at is =
-    ap (λ (b : Bool). identity_through cars (if b then slot_in (slots_from 0 first.items) at.slot else slot_named (kept_from (number + 1) others) at)) (apart_test number at.car (omega (arith, is)))
+    ap (λ (b : Bool). identity_through (images_of cars) (if b then slot_in (slots_from 0 first.items) at.slot else slot_named (images_of (kept_from (number + 1) others)) at)) (apart_test number at.car (omega (arith, is)))
     ∙ car_again cars (number + 1) before others at (omega (arith, is))
 
 -- an address leads to the object that is there
-leads_there : (placed : List Placed) (id : ℕ) (at : Addr) → IsAt (map (λ (placed : Placed). placed.items) placed) id at → resolved (kept_from 1 placed) at ≡ Some id
+leads_there : (placed : List Placed) (id : ℕ) (at : Addr) → IsAt (map (λ (placed : Placed). placed.items) placed) id at → resolved (images_of (kept_from 1 placed)) at ≡ Some id
 leads_there placed id at is = car_again (kept_from 1 placed) 1 (at.car - 1) placed at (omega (arith, is.numbered)) ∙ is.there
 
-root_again : (placed : List Placed) (root : List ℕ × ℕ) (entry : CatEntry) → IsRootEntry (map (λ (placed : Placed). placed.items) placed) root entry → listed_root (kept_from 1 placed) entry ≡ root ∷ []
+root_again : (placed : List Placed) (root : List ℕ × ℕ) (entry : CatEntry) → IsRootEntry (map (λ (placed : Placed). placed.items) placed) root entry → listed_root (images_of (kept_from 1 placed)) entry ≡ root ∷ []
 root_again placed root (Car car train page digest) is = absurd is
 root_again placed root (Root name at) is = ap (named_root name) (leads_there placed root.1 at is.2) ∙ ap (λ (name : List ℕ). (name, root.1) ∷ []) is.0
 
 all_roots_again : (placed : List Placed) (roots : List (List ℕ × ℕ)) (listed : List CatEntry) → AreRootEntries (map (λ (placed : Placed). placed.items) placed) roots listed
-    → flat_map (listed_root (kept_from 1 placed)) listed ≡ roots
+    → flat_map (listed_root (images_of (kept_from 1 placed))) listed ≡ roots
 all_roots_again placed [] [] are = refl
 all_roots_again placed [] (entry ∷ listed) are = absurd are
 all_roots_again placed (root ∷ roots) [] are = absurd are
 all_roots_again placed (root ∷ roots) (entry ∷ listed) are = λ i. root_again placed root entry are.0 i ++ all_roots_again placed roots listed are.1 i
 
 -- the entries of cars list no root
-past_cars : (cars kept : List KeptPage) (listed : List CatEntry) → flat_map (listed_root cars) (map car_entry kept ++ listed) ≡ flat_map (listed_root cars) listed
+past_cars : (cars kept : List KeptPage) (listed : List CatEntry) → flat_map (listed_root (images_of cars)) (map car_entry kept ++ listed) ≡ flat_map (listed_root (images_of cars)) listed
 past_cars cars [] listed = refl
 past_cars cars (first ∷ kept) listed = past_cars cars kept listed
 
@@ -146,10 +147,10 @@ chain_entries : (listed : List Listed) → entries_of (chain_of listed) ≡ flat
 chain_entries [] = refl
 chain_entries (first ∷ others) = ap (λ (rest : List CatEntry). first.entries ++ rest) (chain_entries others)
 
-roots_again : (copy : Copy) (plan : Plan) → IsPlanOf copy plan → roots_of (kept_from 1 plan.placed) (entries_of (chain_of plan.listed)) ≡ copy.roots
+roots_again : (copy : Copy) (plan : Plan) → IsPlanOf copy plan → roots_of (images_of (kept_from 1 plan.placed)) (entries_of (chain_of plan.listed)) ≡ copy.roots
 roots_again copy plan is =
     let cars = kept_from 1 plan.placed in
-    ap (λ (listed : List CatEntry). roots_of cars listed) (chain_entries plan.listed ∙ is.catalog)
+    ap (λ (listed : List CatEntry). roots_of (images_of cars) listed) (chain_entries plan.listed ∙ is.catalog)
     ∙ ap from_entries (past_cars cars cars plan.roots ∙ all_roots_again plan.placed (entries copy.roots) plan.roots is.roots)
     ∙ again names_total names_antisymmetric copy.roots
 

@@ -19,7 +19,7 @@ use Rattle.pm_image.specs.declared.catalog.CatalogPage.{CatalogPage}
 use Rattle.pm_image.specs.declared.settled.KeptPage.{KeptPage}
 use Rattle.pm_image.specs.CarPages.{Numbers}
 use Rattle.pm_image.specs.CatalogPages.{Met, is_free_page, AreNext, IsEntryInRange}
-use Rattle.pm_image.specs.Graphs.{Pages, entries_of, catalog_from, catalog_of, cars_from, linked, Site, sites_of, root_sites, most_pages, used_pages, graph_of}
+use Rattle.pm_image.specs.Graphs.{images_of, Pages, entries_of, catalog_from, catalog_of, cars_from, linked, Site, sites_of, root_sites, most_pages, used_pages, graph_of}
 use Rattle.pm_base.proofs.Results.{bound}
 use Rattle.pm_plain.specs.Laying.{Item, Placed, Listed, kept_from, car_entry, chain_of}
 use Rattle.pm_plain.specs.Laid.{Plan, graph_of_plan, IsPlanOf, StandsOn, IsHeaderOf}
@@ -118,12 +118,12 @@ cars_read pages copy plan plain is stands =
     is.cars_fit stands.cars (λ id above. contains-empty nat_cmp id)
 
 -- its addresses lead to slots
-plan_linked : (copy : Copy) (plan : Plan) → IsPlanOf copy plan → linked (kept_from 1 plan.placed) (sites_of (chain_of plan.listed) (kept_from 1 plan.placed)) ≡ Ok tt
+plan_linked : (copy : Copy) (plan : Plan) → IsPlanOf copy plan → linked (images_of (kept_from 1 plan.placed)) (sites_of (chain_of plan.listed) (kept_from 1 plan.placed)) ≡ Ok tt
 plan_linked copy plan is =
     let cars = kept_from 1 plan.placed in
     let sites = flat_map (λ (page : ℕ × CatalogPage). root_sites page.0 46 page.1.entries) (chain_of plan.listed) in
     let named = cars_named cars cars plan.roots (roots_named plan.placed (entries copy.roots) plan.roots is.roots) in
-    ap (λ (front : List Site). linked cars (front ++ sites)) (plain_cars plan.placed 1)
+    ap (λ (front : List Site). linked (images_of cars) (front ++ sites)) (plain_cars plan.placed 1)
     ∙ all_linked cars sites (pages_lead cars plan.listed (subst (AllByRecursion (IsNamed cars)) (sym is.catalog) named))
 
 -- the plan of these parts
@@ -165,7 +165,7 @@ graph_laid pages copy header placed roots (first ∷ listed) plain is stands hea
     (bound (cars_from (most_fields header.version) header.next pages set.empty (entries_of chain)) _ (kept_from 1 placed) _
     (ap (λ (version : ℕ). cars_from (most_fields version) header.next pages set.empty (entries_of chain)) heads.version
     ∙ ap (λ (next : ℕ). cars_from FIELDS next pages set.empty (entries_of chain)) heads.next ∙ cars_read pages copy plan plain is stands)
-    (bound (linked (kept_from 1 placed) (sites_of chain (kept_from 1 placed))) _ tt _ (plan_linked copy plan is) refl))
+    (bound (linked (images_of (kept_from 1 placed)) (sites_of chain (kept_from 1 placed))) _ tt _ (plan_linked copy plan is) refl))
 
 -- behind the header of a plan its graph is found
 pub laid_graph : (pages : Pages) (copy : Copy) (plan : Plan) (header : Header) → IsPlainCopy copy → IsPlanOf copy plan → StandsOn pages plan → IsHeaderOf copy plan header → graph_of pages header ≡ Ok (graph_of_plan plan)

@@ -15,7 +15,7 @@ use Rattle.pm_image.specs.declared.catalog.CatalogPage.{CatalogPage}
 use Rattle.pm_image.specs.declared.settled.KeptPage.{KeptPage}
 use Rattle.pm_image.specs.CarPages.{car_used}
 use Rattle.pm_image.specs.CatalogPages.{IsEntryInRange}
-use Rattle.pm_image.specs.Graphs.{Site, slot_in, slot_named, field_sites, record_sites, root_sites, leads, linked}
+use Rattle.pm_image.specs.Graphs.{images_of, Site, slot_in, slot_named, field_sites, record_sites, root_sites, leads, linked}
 use Rattle.pm_plain.specs.Laying.{Item, Placed, Listed, plain_slot, slots_from, car_of, car_page, kept_from, car_entry, id_in, id_at, IsAt, IsRootEntry, AreRootEntries, chain_of}
 use Rattle.pm_plain.proofs.CarsLaid.{few_items}
 use Rattle.pm_plain.proofs.ChainLaid.{entries_in, all_first, all_second}
@@ -74,23 +74,23 @@ slot_there (item ∷ items) number (suc k) at id is there =
     ap (λ (b : Bool). is_some (if b then Some (plain_slot item) else slot_in (slots_from (number + 1) items) at)) (other number at (omega arith))
     ∙ slot_there items (number + 1) k at id (omega arith) there
 
-car_there : (placed : List Placed) (number k id : ℕ) (at : Addr) → number + k ≡ at.car → id_at (map (λ (placed : Placed). placed.items) placed) k at.slot ≡ Some id → is_some (slot_named (kept_from number placed) at) ≡ true
+car_there : (placed : List Placed) (number k id : ℕ) (at : Addr) → number + k ≡ at.car → id_at (map (λ (placed : Placed). placed.items) placed) k at.slot ≡ Some id → is_some (slot_named (images_of (kept_from number placed)) at) ≡ true
 car_there [] number k id at is there = absurd (none-some id there)
 car_there (first ∷ placed) number zero id at is there =
-    ap (λ (b : Bool). is_some (if b then slot_in (slots_from 0 first.items) at.slot else slot_named (kept_from (number + 1) placed) at)) (same number at.car (omega arith))
+    ap (λ (b : Bool). is_some (if b then slot_in (slots_from 0 first.items) at.slot else slot_named (images_of (kept_from (number + 1) placed)) at)) (same number at.car (omega arith))
     ∙ slot_there first.items 0 at.slot at.slot id (omega arith) there
 car_there (first ∷ placed) number (suc k) id at is there =
-    ap (λ (b : Bool). is_some (if b then slot_in (slots_from 0 first.items) at.slot else slot_named (kept_from (number + 1) placed) at)) (other number at.car (omega arith))
+    ap (λ (b : Bool). is_some (if b then slot_in (slots_from 0 first.items) at.slot else slot_named (images_of (kept_from (number + 1) placed)) at)) (other number at.car (omega arith))
     ∙ car_there placed (number + 1) k id at (omega arith) there
 
 -- an address where an object is names a slot
-pub names_slot : (placed : List Placed) (id : ℕ) (at : Addr) → IsAt (map (λ (placed : Placed). placed.items) placed) id at → is_some (slot_named (kept_from 1 placed) at) ≡ true
+pub names_slot : (placed : List Placed) (id : ℕ) (at : Addr) → IsAt (map (λ (placed : Placed). placed.items) placed) id at → is_some (slot_named (images_of (kept_from 1 placed)) at) ≡ true
 names_slot placed id at is = let positive = is.numbered in car_there placed 1 (at.car - 1) id at (omega (arith, positive)) is.there
 
 -- the address of a root names a slot
 abbrev pub IsNamed : List KeptPage → CatEntry → Type 0
 IsNamed cars (Car car train page digest) = Unit {0}
-IsNamed cars (Root name at) = is_some (slot_named cars at) ≡ true
+IsNamed cars (Root name at) = is_some (slot_named (images_of cars) at) ≡ true
 
 root_named : (placed : List Placed) (root : List ℕ × ℕ) (entry : CatEntry) → IsRootEntry (map (λ (placed : Placed). placed.items) placed) root entry → IsNamed (kept_from 1 placed) entry
 root_named placed root (Car car train page digest) is = absurd is
@@ -105,7 +105,7 @@ cars_named cars (first ∷ kept) es named = (tt, cars_named cars kept es named)
 
 -- each address leads to a slot
 abbrev pub AllLead : List KeptPage → List Site → Type 0
-AllLead cars sites = AllByRecursion (λ (site : Site). leads cars site ≡ true) sites
+AllLead cars sites = AllByRecursion (λ (site : Site). leads (images_of cars) site ≡ true) sites
 
 entries_lead : (cars : List KeptPage) (page place : ℕ) (es : List CatEntry) → AllByRecursion (IsNamed cars) es → AllLead cars (root_sites page place es)
 entries_lead cars page place [] named = tt
@@ -123,10 +123,10 @@ pages_lead cars (first ∷ listed) named =
     (entries_lead cars first.page 46 first.entries (all_first (IsNamed cars) first.entries (entries_in listed) named))
     (pages_lead cars listed (all_second (IsNamed cars) first.entries (entries_in listed) named))
 
-pub all_linked : (cars : List KeptPage) (sites : List Site) → AllLead cars sites → linked cars sites ≡ Ok tt
+pub all_linked : (cars : List KeptPage) (sites : List Site) → AllLead cars sites → linked (images_of cars) sites ≡ Ok tt
 unfolding linked
 all_linked cars [] lead = refl
-all_linked cars (site ∷ sites) lead = ap (λ (b : Bool). if b then linked cars sites else Err (Malformed site.page site.at)) lead.0 ∙ all_linked cars sites lead.1
+all_linked cars (site ∷ sites) lead = ap (λ (b : Bool). if b then linked (images_of cars) sites else Err (Malformed site.page site.at)) lead.0 ∙ all_linked cars sites lead.1
 
 -- ---- entries in range
 

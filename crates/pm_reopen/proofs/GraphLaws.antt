@@ -16,7 +16,7 @@ use Rattle.pm_image.specs.declared.catalog.CatEntry.TheVariants.{Car, Root}
 use Rattle.pm_image.specs.declared.catalog.CatalogPage.{CatalogPage}
 use Rattle.pm_image.specs.declared.settled.KeptPage.{KeptPage}
 use Rattle.pm_base.specs.Results.{◌>>=◌}
-use Rattle.pm_image.specs.Graphs.{Pages as Store, Catalog, Graph, Site, slot_named, field_sites, record_sites, root_sites, sites_of, leads, linked, catalog_of, cars_from, entries_of, graph_of}
+use Rattle.pm_image.specs.Graphs.{images_of, Pages as Store, Catalog, Graph, Site, slot_named, field_sites, record_sites, root_sites, sites_of, leads, linked, catalog_of, cars_from, entries_of, graph_of}
 use Rattle.pm_image.proofs.Results.{both_true}
 use Rattle.pm_base.proofs.Results.{bound}
 use Rattle.pm_plain.specs.Plain.{is_plain_car}
@@ -58,21 +58,21 @@ no_sites (kept ∷ cars) plain =
 
 -- ---- the addresses of roots
 
-root_leads : (cars : List KeptPage) (page place : ℕ) (entries : List CatEntry) → list_all (leads cars) (root_sites page place entries) ≡ list_all (has_slot cars) entries
+root_leads : (cars : List KeptPage) (page place : ℕ) (entries : List CatEntry) → list_all (leads (images_of cars)) (root_sites page place entries) ≡ list_all (has_slot cars) entries
 root_leads cars page place [] = refl
 root_leads cars page place (Car car train at digest ∷ entries) = root_leads cars page (place + 57) entries
-root_leads cars page place (Root name to ∷ entries) = ap (λ (b : Bool). is_some (slot_named cars to) && b) (root_leads cars page (place + 14 + length name) entries)
+root_leads cars page place (Root name to ∷ entries) = ap (λ (b : Bool). is_some (slot_named (images_of cars) to) && b) (root_leads cars page (place + 14 + length name) entries)
 
-catalog_leads : (cars : List KeptPage) (catalog : Catalog) → list_all (leads cars) (flat_map (λ (page : ℕ × CatalogPage). root_sites page.0 46 page.1.entries) catalog) ≡ list_all (has_slot cars) (entries_of catalog)
+catalog_leads : (cars : List KeptPage) (catalog : Catalog) → list_all (leads (images_of cars)) (flat_map (λ (page : ℕ × CatalogPage). root_sites page.0 46 page.1.entries) catalog) ≡ list_all (has_slot cars) (entries_of catalog)
 catalog_leads cars [] = refl
 catalog_leads cars (page ∷ catalog) =
-    all_append (leads cars) (root_sites page.0 46 page.1.entries) (flat_map (λ (page : ℕ × CatalogPage). root_sites page.0 46 page.1.entries) catalog)
+    all_append (leads (images_of cars)) (root_sites page.0 46 page.1.entries) (flat_map (λ (page : ℕ × CatalogPage). root_sites page.0 46 page.1.entries) catalog)
     ∙ (λ i. root_leads cars page.0 46 page.1.entries i && catalog_leads cars catalog i)
     ∙ sym (all_append (has_slot cars) page.1.entries (entries_of catalog))
 
-all_lead : (cars : List KeptPage) (catalog : Catalog) → list_all is_plain_car cars ≡ true → list_all (leads cars) (sites_of catalog cars) ≡ list_all (has_slot cars) (entries_of catalog)
+all_lead : (cars : List KeptPage) (catalog : Catalog) → list_all is_plain_car cars ≡ true → list_all (leads (images_of cars)) (sites_of catalog cars) ≡ list_all (has_slot cars) (entries_of catalog)
 all_lead cars catalog plain =
-    ap (λ (sites : List Site). list_all (leads cars) (sites ++ flat_map (λ (page : ℕ × CatalogPage). root_sites page.0 46 page.1.entries) catalog)) (no_sites cars plain) ∙ catalog_leads cars catalog
+    ap (λ (sites : List Site). list_all (leads (images_of cars)) (sites ++ flat_map (λ (page : ℕ × CatalogPage). root_sites page.0 46 page.1.entries) catalog)) (no_sites cars plain) ∙ catalog_leads cars catalog
 
 -- ---- whether all lead somewhere
 
@@ -80,10 +80,10 @@ one_led : (b all : Bool) (rest : Result (Unit {0}) OpenFault) (fault : OpenFault
 one_led true all rest fault is next = next is
 one_led false all rest fault is next = cc
 
-all_led : (cars : List KeptPage) (sites : List Site) → linked cars sites ≡ Ok tt → list_all (leads cars) sites ≡ true
+all_led : (cars : List KeptPage) (sites : List Site) → linked (images_of cars) sites ≡ Ok tt → list_all (leads (images_of cars)) sites ≡ true
 unfolding linked
 all_led cars [] is = refl
-all_led cars (site ∷ sites) is = one_led (leads cars site) (list_all (leads cars) sites) (linked cars sites) (Malformed site.page site.at) is (all_led cars sites)
+all_led cars (site ∷ sites) is = one_led (leads (images_of cars) site) (list_all (leads (images_of cars)) sites) (linked (images_of cars) sites) (Malformed site.page site.at) is (all_led cars sites)
 
 -- ---- the graph
 
@@ -104,20 +104,20 @@ module _ (store : Store) (header : Header) where
       (first_fails fault (cars_from (most_fields header.version) header.next store set.empty (entries_of catalog)) _ is)
 
   pub links_fail : (catalog : Catalog) (cars : List KeptPage) (fault : ReadFault) → catalog_of store header ≡ Ok catalog → cars_from (most_fields header.version) header.next store set.empty (entries_of catalog) ≡ Ok cars
-      → Fails {X = Unit {0}} fault (linked cars (sites_of catalog cars)) → Fails {X = Graph} fault (graph_of store header)
+      → Fails {X = Unit {0}} fault (linked (images_of cars) (sites_of catalog cars)) → Fails {X = Graph} fault (graph_of store header)
   unfolding graph_of
   links_fail catalog cars fault found read is =
       then_fails fault (catalog_of store header) catalog _ found
       (then_fails fault (cars_from (most_fields header.version) header.next store set.empty (entries_of catalog)) cars _ read
-      (first_fails fault (linked cars (sites_of catalog cars)) _ is))
+      (first_fails fault (linked (images_of cars) (sites_of catalog cars)) _ is))
 
   pub graph_found : (catalog : Catalog) (cars : List KeptPage) → catalog_of store header ≡ Ok catalog → cars_from (most_fields header.version) header.next store set.empty (entries_of catalog) ≡ Ok cars
-      → linked cars (sites_of catalog cars) ≡ Ok tt → graph_of store header ≡ Ok (record { catalog = catalog; cars = cars })
+      → linked (images_of cars) (sites_of catalog cars) ≡ Ok tt → graph_of store header ≡ Ok (record { catalog = catalog; cars = cars })
   unfolding graph_of
   graph_found catalog cars found read links =
       bound (catalog_of store header) _ catalog _ found
       (bound (cars_from (most_fields header.version) header.next store set.empty (entries_of catalog)) _ cars _ read
-      (bound (linked cars (sites_of catalog cars)) _ tt _ links refl))
+      (bound (linked (images_of cars) (sites_of catalog cars)) _ tt _ links refl))
 
 -- ---- what is not held
 
@@ -126,7 +126,7 @@ either_not true b is holds = cc
 either_not false b is holds = refl
 
 -- a graph whose addresses lead somewhere is only not readable where it is not plain
-pub not_plain : (catalog : Catalog) (cars : List KeptPage) → linked cars (sites_of catalog cars) ≡ Ok tt → is_readable cars (entries_of catalog) ≡ false → list_all is_plain_car cars ≡ false
+pub not_plain : (catalog : Catalog) (cars : List KeptPage) → linked (images_of cars) (sites_of catalog cars) ≡ Ok tt → is_readable cars (entries_of catalog) ≡ false → list_all is_plain_car cars ≡ false
 not_plain catalog cars links is = by (list_all is_plain_car cars) refl
   where
     by : (b : Bool) → list_all is_plain_car cars ≡ b → list_all is_plain_car cars ≡ false

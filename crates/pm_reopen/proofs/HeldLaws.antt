@@ -9,7 +9,7 @@ use Rattle.pm_types.specs.declared.fault.OpenFault.TheVariants.{Malformed}
 use Rattle.pm_types.specs.declared.object.Slot.{Slot}
 use Rattle.pm_types.specs.declared.object.Slot.TheVariants.{Live, Moved}
 use Rattle.pm_image.specs.declared.settled.KeptPage.{KeptPage}
-use Rattle.pm_image.specs.Graphs.{Site, slot_in, slot_named, is_live, leads, linked}
+use Rattle.pm_image.specs.Graphs.{images_of, Site, slot_in, slot_named, is_live, leads, linked}
 use Rattle.pm_reopen.proofs.Lists.{drop_here}
 use Rattle.pm_reopen.proofs.BuiltLaws.{tied_test}
 use Rattle.pm_reopen.specs.Linking.{identity_of, Held, held_slots, held_cars, held_of, held_at, is_object, may_name, linked_by}
@@ -21,12 +21,12 @@ slot_found (first ∷ slots) number =
     ∙ ap (λ (b : Bool). cond b (Some (identity_of first.1)) (get (held_slots slots) number)) (tied_test first.0 number)
     ∙ elim (first.0 == number) as (λ b. cond b (Some (identity_of first.1)) (get (held_slots slots) number) ≡ option_map identity_of (if b then Some first.1 else slot_in slots number)) [ true ↦ refl | false ↦ slot_found slots number ]
 
-pub found_at : (cars : List KeptPage) (at : Addr) → held_at (held_cars cars) at ≡ option_map identity_of (slot_named cars at)
+pub found_at : (cars : List KeptPage) (at : Addr) → held_at (held_cars cars) at ≡ option_map identity_of (slot_named (images_of cars) at)
 found_at [] at = ap (λ (held : Option Held). held_of held at.slot) (get-empty nat_cmp at.car)
 found_at (kept ∷ cars) at =
     ap (λ (held : Option Held). held_of held at.slot) (get-insert nat_cmp_total (held_cars cars) kept.image.number (held_slots kept.image.slots) at.car)
     ∙ ap (λ (b : Bool). held_of (cond b (Some (held_slots kept.image.slots)) (get (held_cars cars) at.car)) at.slot) (tied_test kept.image.number at.car)
-    ∙ elim (kept.image.number == at.car) as (λ b. held_of (cond b (Some (held_slots kept.image.slots)) (get (held_cars cars) at.car)) at.slot ≡ option_map identity_of (if b then slot_in kept.image.slots at.slot else slot_named cars at)) [
+    ∙ elim (kept.image.number == at.car) as (λ b. held_of (cond b (Some (held_slots kept.image.slots)) (get (held_cars cars) at.car)) at.slot ≡ option_map identity_of (if b then slot_in kept.image.slots at.slot else slot_named (images_of cars) at)) [
       | true ↦ slot_found kept.image.slots at.slot
       | false ↦ found_at cars at
     ]
@@ -48,16 +48,16 @@ some_same : (found : Option Slot) → is_some (option_map identity_of found) ≡
 some_same None = refl
 some_same (Some slot) = refl
 
-leads_same : (cars : List KeptPage) (site : Site) → may_name (held_cars cars) site.to site.to_live ≡ leads cars site
+leads_same : (cars : List KeptPage) (site : Site) → may_name (held_cars cars) site.to site.to_live ≡ leads (images_of cars) site
 leads_same cars site =
     let found = found_at cars site.to in
-    elim site.to_live as (λ b. may_name (held_cars cars) site.to b ≡ (if b then is_live (slot_named cars site.to) else is_some (slot_named cars site.to))) [
-      | true ↦ ap is_object found ∙ object_live (slot_named cars site.to)
-      | false ↦ ap is_some found ∙ some_same (slot_named cars site.to)
+    elim site.to_live as (λ b. may_name (held_cars cars) site.to b ≡ (if b then is_live (slot_named (images_of cars) site.to) else is_some (slot_named (images_of cars) site.to))) [
+      | true ↦ ap is_object found ∙ object_live (slot_named (images_of cars) site.to)
+      | false ↦ ap is_some found ∙ some_same (slot_named (images_of cars) site.to)
     ]
 
 -- addresses are followed alike
-pub linked_same : (cars : List KeptPage) (sites : List Site) → linked_by (held_cars cars) sites ≡ linked cars sites
+pub linked_same : (cars : List KeptPage) (sites : List Site) → linked_by (held_cars cars) sites ≡ linked (images_of cars) sites
 unfolding linked_by linked
 linked_same cars [] = refl
 linked_same cars (site ∷ sites) = λ i. if leads_same cars site i then linked_same cars sites i else Err (Malformed site.page site.at)

@@ -24,7 +24,7 @@ use Rattle.pm_image.specs.declared.catalog.CatEntry.{CatEntry}
 use Rattle.pm_image.specs.declared.catalog.CatEntry.TheVariants.{Car, Root}
 use Rattle.pm_image.specs.declared.settled.KeptPage.{KeptPage}
 use Rattle.pm_image.specs.CarPages.{Numbers, is_taken, AreFree}
-use Rattle.pm_image.specs.Graphs.{slot_in, slot_named, identity_in, resolved, heap_of, named_root, listed_root, roots_of}
+use Rattle.pm_image.specs.Graphs.{images_of, slot_in, slot_named, identity_in, resolved, heap_of, named_root, listed_root, roots_of}
 use Rattle.pm_image.proofs.Results.{both_true}
 use Rattle.pm_plain.specs.Plain.{is_plain_car}
 use Rattle.pm_reopen.specs.Building.{held_in, held_in_all, held_in_cars, has_slot, IsBuilt}
@@ -87,9 +87,9 @@ found_known next q x (e ∷ es) known is = by (e.0 == q) refl (ap (λ (b : Bool)
         subst (IsKnown next) (λ i. (key i, value i)) first
     by false here found first rest = rest found
 
-pub heap_known : (count next : ℕ) (cars : List KeptPage) → list_all is_plain_car cars ≡ true → AllByRecursion (IsCar count next) cars → (id : ℕ) (object : Object) → get (heap_of cars) id ≡ Some object → IsKnown next (id, object)
+pub heap_known : (count next : ℕ) (cars : List KeptPage) → list_all is_plain_car cars ≡ true → AllByRecursion (IsCar count next) cars → (id : ℕ) (object : Object) → get (heap_of (images_of cars)) id ≡ Some object → IsKnown next (id, object)
 heap_known count next cars plain are id object is =
-    let same : heap_of cars ≡ from_entries (held_in_cars cars) = sym (heap_built cars plain) ∙ from_over (held_in_cars cars) in
+    let same : heap_of (images_of cars) ≡ from_entries (held_in_cars cars) = sym (heap_built cars plain) ∙ from_over (held_in_cars cars) in
     found_known next id object (held_in_cars cars) (cars_known count next cars are) (sym (get-from_entries nat_cmp_total (held_in_cars cars) id) ∙ ap (λ (h : Heap). get h id) (sym same) ∙ is)
 
 -- ---- each root
@@ -125,18 +125,18 @@ slot_held ((n, Live object) ∷ slots) number id is =
       | false ↦ λ there. found_right id (held_in (Live object)) (held_in_all slots) (slot_held slots number id there)
     ] is
 
-named_held : (cars : List KeptPage) (at : Addr) (id : ℕ) → identity_in (slot_named cars at) ≡ Some id → is_some (find nat_cmp id (held_in_cars cars)) ≡ true
+named_held : (cars : List KeptPage) (at : Addr) (id : ℕ) → identity_in (slot_named (images_of cars) at) ≡ Some id → is_some (find nat_cmp id (held_in_cars cars)) ≡ true
 named_held [] at id is = cc
 named_held (kept ∷ cars) at id is =
-    elim (kept.image.number == at.car) as (λ b. identity_in (if b then slot_in kept.image.slots at.slot else slot_named cars at) ≡ Some id → is_some (find nat_cmp id (held_in_cars (kept ∷ cars))) ≡ true) [
+    elim (kept.image.number == at.car) as (λ b. identity_in (if b then slot_in kept.image.slots at.slot else slot_named (images_of cars) at) ≡ Some id → is_some (find nat_cmp id (held_in_cars (kept ∷ cars))) ≡ true) [
       | true ↦ λ here. found_left id (held_in_all kept.image.slots) (held_in_cars cars) (slot_held kept.image.slots at.slot id here)
       | false ↦ λ there. found_right id (held_in_all kept.image.slots) (held_in_cars cars) (named_held cars at id there)
     ] is
 
 -- an address leads to an object that is there
-resolved_there : (cars : List KeptPage) (at : Addr) (id : ℕ) → list_all is_plain_car cars ≡ true → resolved cars at ≡ Some id → IsSome (get (heap_of cars) id)
+resolved_there : (cars : List KeptPage) (at : Addr) (id : ℕ) → list_all is_plain_car cars ≡ true → resolved (images_of cars) at ≡ Some id → IsSome (get (heap_of (images_of cars)) id)
 resolved_there cars at id plain is =
-    let same : heap_of cars ≡ from_entries (held_in_cars cars) = sym (heap_built cars plain) ∙ from_over (held_in_cars cars) in
+    let same : heap_of (images_of cars) ≡ from_entries (held_in_cars cars) = sym (heap_built cars plain) ∙ from_over (held_in_cars cars) in
     ap is_some (ap (λ (h : Heap). get h id) same ∙ get-from_entries nat_cmp_total (held_in_cars cars) id) ∙ named_held cars at id (sym (resolved_named cars at plain) ∙ is)
 
 -- what is found is one of the values
@@ -152,16 +152,16 @@ one_there : (Q : ℕ → Type 0) (name : List ℕ) (found : Option ℕ) → ((id
 one_there Q name None each = tt
 one_there Q name (Some id) each = (each id refl, tt)
 
-roots_there : (cars : List KeptPage) (entries : List CatEntry) → list_all is_plain_car cars ≡ true → AllByRecursion (λ (e : List ℕ × ℕ). IsSome (get (heap_of cars) e.1)) (flat_map (listed_root cars) entries)
+roots_there : (cars : List KeptPage) (entries : List CatEntry) → list_all is_plain_car cars ≡ true → AllByRecursion (λ (e : List ℕ × ℕ). IsSome (get (heap_of (images_of cars)) e.1)) (flat_map (listed_root (images_of cars)) entries)
 roots_there cars [] plain = tt
 roots_there cars (Car car train page digest ∷ entries) plain = roots_there cars entries plain
 roots_there cars (Root name at ∷ entries) plain =
-    all_both (λ (e : List ℕ × ℕ). IsSome (get (heap_of cars) e.1)) (named_root name (resolved cars at)) (flat_map (listed_root cars) entries)
-    (one_there (λ (id : ℕ). IsSome (get (heap_of cars) id)) name (resolved cars at) (λ id is. resolved_there cars at id plain is)) (roots_there cars entries plain)
+    all_both (λ (e : List ℕ × ℕ). IsSome (get (heap_of (images_of cars)) e.1)) (named_root name (resolved (images_of cars) at)) (flat_map (listed_root (images_of cars)) entries)
+    (one_there (λ (id : ℕ). IsSome (get (heap_of (images_of cars)) id)) name (resolved (images_of cars) at) (λ id is. resolved_there cars at id plain is)) (roots_there cars entries plain)
 
-root_there : (cars : List KeptPage) (entries : List CatEntry) (name : List ℕ) (id : ℕ) → list_all is_plain_car cars ≡ true → get (roots_of cars entries) name ≡ Some id → IsSome (get (heap_of cars) id)
+root_there : (cars : List KeptPage) (entries : List CatEntry) (name : List ℕ) (id : ℕ) → list_all is_plain_car cars ≡ true → get (roots_of (images_of cars) entries) name ≡ Some id → IsSome (get (heap_of (images_of cars)) id)
 root_there cars entries name id plain is =
-    found_value (λ (id : ℕ). IsSome (get (heap_of cars) id)) (flat_map (listed_root cars) entries) name id (roots_there cars entries plain) (sym (get-from_entries names_total (flat_map (listed_root cars) entries) name) ∙ is)
+    found_value (λ (id : ℕ). IsSome (get (heap_of (images_of cars)) id)) (flat_map (listed_root (images_of cars)) entries) name id (roots_there cars entries plain) (sym (get-from_entries names_total (flat_map (listed_root (images_of cars)) entries) name) ∙ is)
 
 -- ---- how many roots there are
 
@@ -180,10 +180,10 @@ one_root : (name : List ℕ) (found : Option ℕ) (rest : List (List ℕ × ℕ)
 one_root name None rest n le = omega arith
 one_root name (Some id) rest n le = omega arith
 
-few_listed : (cars : List KeptPage) (entries : List CatEntry) → length (flat_map (listed_root cars) entries) ≤ root_count entries
+few_listed : (cars : List KeptPage) (entries : List CatEntry) → length (flat_map (listed_root (images_of cars)) entries) ≤ root_count entries
 few_listed cars [] = omega arith
 few_listed cars (Car car train page digest ∷ entries) = few_listed cars entries
-few_listed cars (Root name at ∷ entries) = one_root name (resolved cars at) (flat_map (listed_root cars) entries) (root_count entries) (few_listed cars entries)
+few_listed cars (Root name at ∷ entries) = one_root name (resolved (images_of cars) at) (flat_map (listed_root (images_of cars)) entries) (root_count entries) (few_listed cars entries)
 
 -- ---- the copy
 
@@ -213,5 +213,5 @@ pub built_plain : (count next : ℕ) (cars : List KeptPage) (entries : List CatE
 built_plain count next cars entries copy some last are few built =
     let plain = (both_true (list_all is_plain_car cars) (list_all (has_slot cars) entries) built.readable).0 in
     subst IsPlainCopy (sym built.is_copy)
-    (copied_plain (heap_of cars) (roots_of cars entries) next some last (heap_known count next cars plain are) (λ name id is. root_there cars entries name id plain is)
-    (omega (arith, few_entries (flat_map (listed_root cars) entries), few_listed cars entries, few)))
+    (copied_plain (heap_of (images_of cars)) (roots_of (images_of cars) entries) next some last (heap_known count next cars plain are) (λ name id is. root_there cars entries name id plain is)
+    (omega (arith, few_entries (flat_map (listed_root (images_of cars)) entries), few_listed cars entries, few)))

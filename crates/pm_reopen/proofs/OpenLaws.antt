@@ -30,7 +30,7 @@ use Rattle.pm_layout.specs.declared.header.Header.{Header}
 use Rattle.pm_model.specs.World.{Copy}
 use Rattle.pm_image.specs.declared.catalog.CatEntry.{CatEntry}
 use Rattle.pm_image.specs.declared.settled.KeptPage.{KeptPage}
-use Rattle.pm_image.specs.Graphs.{Pages as Store, Graph, Catalog, undamaged, on_page, catalog_from, catalog_of, most_pages, entries_of, cars_from, linked, sites_of, graph_of, used_pages, heap_of, roots_of, copy_of}
+use Rattle.pm_image.specs.Graphs.{images_of, Pages as Store, Graph, Catalog, undamaged, on_page, catalog_from, catalog_of, most_pages, entries_of, cars_from, linked, sites_of, graph_of, used_pages, heap_of, roots_of, copy_of}
 use Rattle.pm_model.specs.Copying.{copied}
 use Rattle.pm_image.proofs.Results.{both_true}
 use Rattle.pm_base.proofs.Results.{ok_same, bind_ok, bound, if_ok}
@@ -171,7 +171,7 @@ unfolding graph_of
 graph_first store header graph is =
     let one = bind_ok (catalog_of store header) _ graph is in
     let two = bind_ok (cars_from (most_fields header.version) header.next store set.empty (entries_of one.0)) _ graph one.2 in
-    let three = bind_ok (linked two.0 (sites_of one.0 two.0)) _ graph two.2 in
+    let three = bind_ok (linked (images_of two.0) (sites_of one.0 two.0)) _ graph two.2 in
     let made : Graph = record { catalog = one.0; cars = two.0 } in
     subst (λ (g : Graph). Contains (used_pages g) header.first) (ok_same made graph three.2)
     (Contains-append_left (page_numbers one.0) (map (λ (kept : KeptPage). kept.page) two.0) header.first (begins most_pages store _ header.first header.digest one.0 one.1))

@@ -12,7 +12,7 @@ use Rattle.pm_model.specs.Copying.{copied}
 use Rattle.pm_image.specs.declared.catalog.CatEntry.{CatEntry}
 use Rattle.pm_image.specs.declared.catalog.CatEntry.TheVariants.{Car, Root}
 use Rattle.pm_image.specs.declared.settled.KeptPage.{KeptPage}
-use Rattle.pm_image.specs.Graphs.{slot_named, named_root, heap_of, roots_of}
+use Rattle.pm_image.specs.Graphs.{images_of, slot_named, named_root, heap_of, roots_of}
 use Rattle.pm_plain.specs.Plain.{is_plain_car}
 
 -- the object in a slot, whose fields are read as null, after its identity
@@ -81,7 +81,7 @@ has_place places (Root name at) = is_some (id_at places at)
 -- the address of a root names a slot
 abbrev pub has_slot : List KeptPage → CatEntry → Bool
 has_slot cars (Car car train page digest) = true
-has_slot cars (Root name at) = is_some (slot_named cars at)
+has_slot cars (Root name at) = is_some (slot_named (images_of cars) at)
 
 -- the fields are null, and each root stands for an object
 abbrev pub is_readable : List KeptPage → List CatEntry → Bool
@@ -90,4 +90,4 @@ is_readable cars entries = list_all is_plain_car cars && list_all (has_slot cars
 -- these cars and roots are readable, and are this copy
 pub record IsBuilt (cars : List KeptPage) (entries : List CatEntry) (next : ℕ) (copy : Copy) : Type 0 where
   pub readable : is_readable cars entries ≡ true
-  pub is_copy : copy ≡ copied (heap_of cars) (roots_of cars entries) next
+  pub is_copy : copy ≡ copied (heap_of (images_of cars)) (roots_of (images_of cars) entries) next

@@ -24,7 +24,7 @@ use Rattle.pm_image.specs.CarPages.{Numbers, HasCarPage, car_at, car_used}
 use Rattle.pm_image.specs.CarAnswers.{a_car}
 use Rattle.pm_image.specs.CatalogPages.{Met, catalog_at, catalog_used}
 use Rattle.pm_image.specs.Opening.{page_of}
-use Rattle.pm_image.specs.Graphs.{Pages as Store, Graph, Catalog, undamaged, on_page, catalog_of, entries_of, cars_from, with_identities, linked, sites_of, graph_of, used_pages, copy_of}
+use Rattle.pm_image.specs.Graphs.{images_of, Pages as Store, Graph, Catalog, undamaged, on_page, catalog_of, entries_of, cars_from, with_identities, linked, sites_of, graph_of, used_pages, copy_of}
 use Rattle.pm_plain.specs.Plain.{is_plain}
 use Rattle.pm_shadow.specs.declared.pages.Pages.{Pages}
 use Rattle.pm_shadow.specs.Pages.{state, disk_of}
@@ -175,7 +175,7 @@ as_graph (Err fault) = Err fault
 pub record IsWhole (count next : ℕ) (catalog : Catalog) (cars : List KeptPage) : Type 0 where
   pub sound : IsSound count catalog
   pub cars_are : AllByRecursion (IsCar count next) cars
-  pub links : linked cars (sites_of catalog cars) ≡ Ok tt
+  pub links : linked (images_of cars) (sites_of catalog cars) ≡ Ok tt
 
 -- a car whose slots fit a page, each within the limits
 pub record IsMeasured (kept : KeptPage) : Type 0 where

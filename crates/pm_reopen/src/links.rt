@@ -9,7 +9,7 @@ ghost use Rattle.pm_image.specs.declared.catalog.CatalogPage.{CatalogPage};
 ghost use Rattle.pm_image.specs.declared.settled.KeptPage.{KeptPage};
 ghost use Rattle.pm_image.specs.CarPages.{car_used};
 ghost use Rattle.pm_image.specs.CatalogPages.{catalog_used, entry_size};
-ghost use Rattle.pm_image.specs.Graphs.{field_sites, slot_sites, record_sites, root_sites, sites_of, linked};
+ghost use Rattle.pm_image.specs.Graphs.{images_of, field_sites, slot_sites, record_sites, root_sites, sites_of, linked};
 ghost use Rattle.pm_reopen.specs.Linking.{held_cars, led, linked_by};
 ghost use Rattle.pm_reopen.specs.Reading.{IsMeasured};
 
@@ -160,7 +160,7 @@ pub(crate) fn check_links(
     requires held { held.now ≡ held_cars cars.now }
     requires catalog { AllByRecursion (λ (page : ℕ × CatalogPage). catalog_used page.1.entries ≤ PAGE_BYTES) catalog.now }
     requires cars { AllByRecursion IsMeasured cars.now }
-    ensures { led result ≡ linked cars.now (sites_of catalog.now cars.now) }
+    ensures { led result ≡ linked (images_of cars.now) (sites_of catalog.now cars.now) }
 {
     check_cars(held, cars)?;
     check_catalog(held, catalog)

@@ -7,7 +7,7 @@ ghost use Rattle.pm_layout.specs.Headers.{HasHeaderSpelling};
 ghost use Rattle.pm_model.specs.World.{Copy};
 ghost use Rattle.pm_model.specs.Plain.{IsPlainCopy};
 ghost use Rattle.pm_image.specs.declared.settled.KeptPage.{KeptPage};
-ghost use Rattle.pm_image.specs.Graphs.{Graph as Found, entries_of, graph_of, linked, sites_of, used_pages};
+ghost use Rattle.pm_image.specs.Graphs.{images_of, Graph as Found, entries_of, graph_of, linked, sites_of, used_pages};
 ghost use Rattle.pm_plain.specs.Plain.{is_plain, readable, reopened};
 ghost use Rattle.pm_plain.specs.Kept.{HasCopy};
 ghost use Rattle.pm_shadow.specs.declared.page_use.PageUse.TheVariants.{Claimed};
@@ -91,7 +91,7 @@ fn hold(
     cars: Settled,
     next: u64,
 ) -> Result<(Vec<u64>, Graph), ReadFault>
-    requires { linked cars (sites_of chain cars) ≡ Ok tt }
+    requires { linked (images_of cars) (sites_of chain cars) ≡ Ok tt }
     ensures pages { IfOk result (λ held. held.0.items ≡ used_pages (record { catalog = chain; cars = cars })) }
     ensures built { IfOk result (λ held. IsBuilt cars (entries_of chain) next held.1) }
     ensures unheld { IfErr result (λ e. e ≡ Unheld → is_plain (record { catalog = chain; cars = cars }) ≡ false) }

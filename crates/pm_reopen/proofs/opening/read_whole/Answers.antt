@@ -9,7 +9,7 @@ use Rattle.pm_layout.specs.Headers.{most_fields}
 use Rattle.pm_image.specs.declared.catalog.CatalogPage.{CatalogPage}
 use Rattle.pm_image.specs.CatalogPages.{catalog_used}
 use Rattle.pm_image.specs.declared.settled.KeptPage.{KeptPage}
-use Rattle.pm_image.specs.Graphs.{Catalog, cars_from, entries_of, linked, sites_of}
+use Rattle.pm_image.specs.Graphs.{images_of, Catalog, cars_from, entries_of, linked, sites_of}
 use Rattle.pm_shadow.specs.State.{State}
 use Rattle.pm_reopen.specs.declared.fault.ReadFault.TheVariants.{Malformed}
 use Rattle.pm_reopen.specs.Reading.{Fails, store_of, IsEntryThere, IsCar, IsMeasured}
@@ -60,7 +60,7 @@ returns-in_err-check_links-clause-gives g c bytes told =
     let place = c.in_err-check_links.field-0.0 in
     let same = asked c.args.pages.now.count bytes header c.most_fields-most.result c.header-header.result.now.next c.read_chain.new.pages.count c.as_slice-listed.result.now c.in_ok-chain.chain
     (c.most_fields-most.ensures ∙ ap (λ (h : Header). most_fields h.version) c.header-header.ensures) (ap (λ (h : Header). h.next) c.header-header.ensures) (ap (λ (s : State). s.count) c.in_ok-chain.ensures.looked.same) c.as_slice-listed.ensures in
-    let links = (λ i. linked (sym c.as_slice-kept.ensures i) (sites_of (sym c.as_slice-listed.ensures i) (sym c.as_slice-kept.ensures i))) ∙ sym c.in_err-check_links.ensures in
+    let links = (λ i. linked (images_of (sym c.as_slice-kept.ensures i)) (sites_of (sym c.as_slice-listed.ensures i) (sym c.as_slice-kept.ensures i))) ∙ sym c.in_err-check_links.ensures in
     rw (p.1, p.2) (links_fail (store_of c.args.pages.now.count bytes) header c.in_ok-chain.chain c.in_ok-cars.cars (Malformed place.page place.at) (c.in_ok-chain.ensures.gives bytes told)
     (sym same ∙ c.in_ok-cars.ensures.gives bytes (c.in_ok-chain.ensures.looked.looks.told ∙ told)) links)
 
@@ -69,7 +69,7 @@ returns-clause-gives g c bytes told =
     let header = c.args.pages.now.header in
     let same = asked c.args.pages.now.count bytes header c.most_fields-most.result c.header-header.result.now.next c.read_chain.new.pages.count c.as_slice-listed.result.now c.in_ok-chain.chain
     (c.most_fields-most.ensures ∙ ap (λ (h : Header). most_fields h.version) c.header-header.ensures) (ap (λ (h : Header). h.next) c.header-header.ensures) (ap (λ (s : State). s.count) c.in_ok-chain.ensures.looked.same) c.as_slice-listed.ensures in
-    let links = (λ i. linked (sym c.as_slice-kept.ensures i) (sites_of (sym c.as_slice-listed.ensures i) (sym c.as_slice-kept.ensures i))) ∙ sym c.in_ok-check_links.ensures in
+    let links = (λ i. linked (images_of (sym c.as_slice-kept.ensures i)) (sites_of (sym c.as_slice-listed.ensures i) (sym c.as_slice-kept.ensures i))) ∙ sym c.in_ok-check_links.ensures in
     graph_found (store_of c.args.pages.now.count bytes) header c.in_ok-chain.chain c.in_ok-cars.cars (c.in_ok-chain.ensures.gives bytes told) (sym same ∙ c.in_ok-cars.ensures.gives bytes (c.in_ok-chain.ensures.looked.looks.told ∙ told)) links
 
 pub returns-in_err-cars-clause-looked : goal.returns-in_err-cars-clause-looked
@@ -88,5 +88,5 @@ returns-clause-whole g c =
       sound = c.in_ok-chain.ensures.sound;
       cars_are = subst (λ (h : Header). AllByRecursion (IsCar c.args.pages.now.count h.next) c.in_ok-cars.cars) c.header-header.ensures
           (subst (λ (n : ℕ). AllByRecursion (IsCar n c.header-header.result.now.next) c.in_ok-cars.cars) count c.in_ok-cars.ensures.cars);
-      links = (λ i. linked (sym c.as_slice-kept.ensures i) (sites_of (sym c.as_slice-listed.ensures i) (sym c.as_slice-kept.ensures i))) ∙ sym c.in_ok-check_links.ensures;
+      links = (λ i. linked (images_of (sym c.as_slice-kept.ensures i)) (sites_of (sym c.as_slice-listed.ensures i) (sym c.as_slice-kept.ensures i))) ∙ sym c.in_ok-check_links.ensures;
     }
