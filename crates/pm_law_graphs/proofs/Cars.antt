@@ -23,7 +23,7 @@ use Rattle.pm_image.proofs.CarTakes.{car_takes}
 use Rattle.pm_image.proofs.CarAgain.{car_again}
 use Rattle.pm_law_graphs.specs.Entries.{ListedCar, listed_cars, listed_pages}
 use Rattle.pm_law_graphs.specs.Spelled.{AreWhole, IsCarSpelled, identities_in, identities_of, listed_as}
-use Rattle.pm_law_graphs.proofs.Lists.{both, front, back}
+use Rattle.pm_law_graphs.proofs.Lists.{all_both, all_front, all_back}
 use Rattle.pm_law_graphs.proofs.Ranges.{car_range}
 use Rattle.pm_law_graphs.proofs.Sets.{AreNew, new_more, new_first, new_others, nothing_new}
 
@@ -84,8 +84,8 @@ AreCarsRead most next pages met [] = Unit {0}
 AreCarsRead most next pages met (kept ∷ cars) = IsCarRead most next pages met kept × AreCarsRead most next pages (with_identities met kept.image.slots) cars
 
 -- the page has the digest that is kept
-pub digest_kept : (pages : Pages) (page : ℕ) (kept : List ℕ) (u : Unit {0}) → undamaged pages page kept ≡ Ok u → sha256 (pages.page page) ≡ kept
-digest_kept pages page kept u is =
+pub kept_digest : (pages : Pages) (page : ℕ) (kept : List ℕ) (u : Unit {0}) → undamaged pages page kept ≡ Ok u → sha256 (pages.page page) ≡ kept
+kept_digest pages page kept u is =
     let found = sha256 (pages.page page) in
     sym ((bytes_eq-Decides kept found).0 (wanted_ok (bytes_eq kept found) (Damaged page kept found) (Ok tt) u is).0)
 
@@ -140,7 +140,7 @@ cars_listed most next pages met (Car car train page digest ∷ entries) cars who
     let made : AreListed most next pages met (Car car train page digest ∷ entries) (first ∷ three.0) = record {
       listed = ap (λ (number : ℕ). record { number = number; page = page; digest = digest } ∷ map listed_as three.0) (one_named most next pages met car page image whole there.0 read)
           ∙ ap (λ (others : List ListedCar). record { number = car; page = page; digest = digest } ∷ others) rest.listed;
-      read = (one_read most next pages met car page digest image whole there.0 (digest_kept pages page digest one.0 one.1) read, rest.read);
+      read = (one_read most next pages met car page digest image whole there.0 (kept_digest pages page digest one.0 one.1) read, rest.read);
     } in
     subst (AreListed most next pages met (Car car train page digest ∷ entries)) (ok_same {A = List KeptPage} (first ∷ three.0) cars three.2) made
 
@@ -198,7 +198,7 @@ are_in_range most next pages met (kept ∷ cars) read = (read.0.range, are_in_ra
 pub are_below : (most next : ℕ) (pages : Pages) (met : Numbers) (cars : List KeptPage) → AreCarsRead most next pages met cars → AllByRecursion (IsBelow next) (identities_of cars)
 are_below most next pages met [] read = tt
 are_below most next pages met (kept ∷ cars) read =
-    both (IsBelow next) (identities_in kept.image.slots) (identities_of cars) (free_below next met kept.image.slots read.0.has.free) (are_below most next pages (with_identities met kept.image.slots) cars read.1)
+    all_both (IsBelow next) (identities_in kept.image.slots) (identities_of cars) (free_below next met kept.image.slots read.0.has.free) (are_below most next pages (with_identities met kept.image.slots) cars read.1)
 
 pub are_new : (most next : ℕ) (pages : Pages) (met : Numbers) (cars : List KeptPage) → AreCarsRead most next pages met cars → AreNew met (identities_of cars)
 are_new most next pages met [] read = nothing_new met
@@ -211,7 +211,7 @@ pub spelled_read : (most next : ℕ) (pages : Pages) (met : Numbers) (cars : Lis
 spelled_read most next pages met [] spelled range below new = tt
 spelled_read most next pages met (kept ∷ cars) spelled range below new =
     let here = spelled.0 in
-    let still = free_again next met kept.image.slots (identities_of cars) (front (IsBelow next) (identities_in kept.image.slots) (identities_of cars) below) new in (
+    let still = free_again next met kept.image.slots (identities_of cars) (all_front (IsBelow next) (identities_in kept.image.slots) (identities_of cars) below) new in (
       record { digest = here.digest; spelled = here.spelled; has = record { fits = here.fits; ascend = here.ascend; free = still.free; slots = here.slots }; range = range.0 },
-      spelled_read most next pages (with_identities met kept.image.slots) cars spelled.1 range.1 (back (IsBelow next) (identities_in kept.image.slots) (identities_of cars) below) still.new,
+      spelled_read most next pages (with_identities met kept.image.slots) cars spelled.1 range.1 (all_back (IsBelow next) (identities_in kept.image.slots) (identities_of cars) below) still.new,
     )

@@ -16,8 +16,8 @@ use Rattle.pm_image.proofs.CatalogTakes.{catalog_takes}
 use Rattle.pm_image.proofs.CatalogAgain.{catalog_again}
 use Rattle.pm_law_graphs.specs.Spelled.{AreWhole}
 use Rattle.pm_law_graphs.proofs.Ranges.{catalog_range}
-use Rattle.pm_law_graphs.proofs.Cars.{digest_kept, page_read, undamaged_again}
-use Rattle.pm_law_graphs.proofs.Order.{IsPageFree, IsPlaced, free_parts}
+use Rattle.pm_law_graphs.proofs.Cars.{kept_digest, page_read, undamaged_again}
+use Rattle.pm_law_graphs.proofs.Order.{IsPageFree, IsPlaced, page_free}
 
 -- ---- pages that were read one after the other
 
@@ -56,7 +56,7 @@ digest_none next digest none is = zeros_all digest (sym (ap (λ (b : Bool). not 
 
 -- a page that names one
 pub next_free : (count : ℕ) (met : Numbers) (next : ℕ) → (next == 0) ≡ false → is_next_page (Some count) met next ≡ true → IsPageFree count met next
-next_free count met next some is = free_parts count met next (sym (ap (λ (b : Bool). b || is_free_page (Some count) met next) some) ∙ is)
+next_free count met next some is = page_free count met next (sym (ap (λ (b : Bool). b || is_free_page (Some count) met next) some) ∙ is)
 
 pub zero_test : (next : ℕ) → 0 < next → (next == 0) ≡ false
 zero_test next some = grind (arith, nat_tests)
@@ -88,7 +88,7 @@ chain_read (suc n) pages met named kept catalog whole placed is =
       record {
         same = refl;
         placed = placed;
-        digest = digest_kept pages named kept one.0 one.1;
+        digest = kept_digest pages named kept one.0 one.1;
         spelled = taken.1;
         has = taken.0;
         range = catalog_range (Some pages.count) met (pages.page named) first bytes.0 bytes.1 read;

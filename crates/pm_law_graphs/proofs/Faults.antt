@@ -16,8 +16,8 @@ pub record IsOfFirst (cars : List KeptPage) (sites : List Site) (fault : OpenFau
   pub leads_not : leads cars astray ≡ false
   pub told : fault ≡ Malformed astray.page astray.at
 
-one_more : (cars : List KeptPage) (site : Site) (sites : List Site) (fault : OpenFault) → leads cars site ≡ true → IsOfFirst cars sites fault → IsOfFirst cars (site ∷ sites) fault
-one_more cars site sites fault here others = record {
+astray_later : (cars : List KeptPage) (site : Site) (sites : List Site) (fault : OpenFault) → leads cars site ≡ true → IsOfFirst cars sites fault → IsOfFirst cars (site ∷ sites) fault
+astray_later cars site sites fault here others = record {
   before = site ∷ others.before;
   astray = others.astray;
   after = others.after;
@@ -27,12 +27,12 @@ one_more cars site sites fault here others = record {
   told = others.told;
 }
 
-this_one : (cars : List KeptPage) (site : Site) (sites : List Site) (fault : OpenFault) (rest : Result (Unit {0}) OpenFault) → (rest ≡ Err fault → IsOfFirst cars sites fault)
+astray_here : (cars : List KeptPage) (site : Site) (sites : List Site) (fault : OpenFault) (rest : Result (Unit {0}) OpenFault) → (rest ≡ Err fault → IsOfFirst cars sites fault)
     → (b : Bool) → leads cars site ≡ b → (if b then rest else Err (Malformed site.page site.at)) ≡ Err fault → IsOfFirst cars (site ∷ sites) fault
-this_one cars site sites fault rest others true here is = one_more cars site sites fault here (others is)
-this_one cars site sites fault rest others false here is = record { before = []; astray = site; after = sites; parts = refl; lead = tt; leads_not = here; told = cc }
+astray_here cars site sites fault rest others true here is = astray_later cars site sites fault here (others is)
+astray_here cars site sites fault rest others false here is = record { before = []; astray = site; after = sites; parts = refl; lead = tt; leads_not = here; told = cc }
 
 pub first_astray : (cars : List KeptPage) (sites : List Site) (fault : OpenFault) → linked cars sites ≡ Err fault → IsOfFirst cars sites fault
 unfolding linked
 first_astray cars [] fault is = absurd cc
-first_astray cars (site ∷ sites) fault is = this_one cars site sites fault (linked cars sites) (first_astray cars sites fault) (leads cars site) refl is
+first_astray cars (site ∷ sites) fault is = astray_here cars site sites fault (linked cars sites) (first_astray cars sites fault) (leads cars site) refl is

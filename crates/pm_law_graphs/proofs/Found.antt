@@ -24,12 +24,12 @@ use Rattle.pm_image.proofs.RuleLaws.{catalog_fault, current_placed}
 use Rattle.pm_law_graphs.specs.Apart.{AreApart}
 use Rattle.pm_law_graphs.specs.Entries.{ListedCar, listed_cars, listed_pages}
 use Rattle.pm_law_graphs.specs.Spelled.{AreWhole, IsChain, Spells, identities_of, listed_as}
-use Rattle.pm_law_graphs.proofs.Lists.{back, both, each, front}
+use Rattle.pm_law_graphs.proofs.Lists.{all_back, all_both, all_follow, all_front}
 use Rattle.pm_law_graphs.proofs.Sets.{AreNew, apart_new, new_apart, new_more, new_others}
 use Rattle.pm_law_graphs.proofs.Cars.{are_below, are_in_range, are_new, are_spelled, cars_again, cars_found, spelled_read}
-use Rattle.pm_law_graphs.proofs.Order.{IsPlaced, in_order, ordered_again}
+use Rattle.pm_law_graphs.proofs.Order.{IsPlaced, entries_in_order, ordered_again}
 use Rattle.pm_law_graphs.proofs.Chain.{IsReadOrBroken, chain_again, chain_read}
-use Rattle.pm_law_graphs.proofs.Whole.{IsWhole, numbers_of, later_pages, page_by_page, whole}
+use Rattle.pm_law_graphs.proofs.Whole.{IsWhole, numbers_of, later_pages, page_by_page, chain_whole}
 use Rattle.pm_law_graphs.proofs.Leads.{all_linked}
 
 -- what is met before the first page of a catalog: itself
@@ -45,18 +45,18 @@ placed_parts count header placed =
 pub catalog_whole : (pages : Pages) (header : Header) (catalog : Catalog) → AreWhole pages → is_placed pages.count header ≡ true → catalog_of pages header ≡ Ok catalog
     → IsWhole pages (begun header) header.first header.digest catalog
 catalog_whole pages header catalog all placed is =
-    whole pages (begun header) header.first header.digest catalog (chain_read most_pages pages (begun header) header.first header.digest catalog all (placed_parts pages.count header placed) is)
+    chain_whole pages (begun header) header.first header.digest catalog (chain_read most_pages pages (begun header) header.first header.digest catalog all (placed_parts pages.count header placed) is)
 
-pub below : (count : ℕ) (pages : List ℕ) → AllByRecursion (IsPlaced count) pages → AllByRecursion (λ (page : ℕ). page < count) pages
-below count pages placed = each (IsPlaced count) (λ (page : ℕ). page < count) pages (λ page is. is.1) placed
+pub pages_below : (count : ℕ) (pages : List ℕ) → AllByRecursion (IsPlaced count) pages → AllByRecursion (λ (page : ℕ). page < count) pages
+pages_below count pages placed = all_follow (IsPlaced count) (λ (page : ℕ). page < count) pages (λ page is. is.1) placed
 
-car_pages : (cars : List KeptPage) → map (λ (car : ListedCar). car.page) (map listed_as cars) ≡ map (λ (kept : KeptPage). kept.page) cars
-car_pages [] = refl
-car_pages (kept ∷ cars) = ap (λ (rest : List ℕ). kept.page ∷ rest) (car_pages cars)
+pages_of_cars : (cars : List KeptPage) → map (λ (car : ListedCar). car.page) (map listed_as cars) ≡ map (λ (kept : KeptPage). kept.page) cars
+pages_of_cars [] = refl
+pages_of_cars (kept ∷ cars) = ap (λ (rest : List ℕ). kept.page ∷ rest) (pages_of_cars cars)
 
 -- the pages of the cars are those that are listed
 pub same_pages : (entries_listed : List ListedCar) (cars : List KeptPage) → map listed_as cars ≡ entries_listed → map (λ (car : ListedCar). car.page) entries_listed ≡ map (λ (kept : KeptPage). kept.page) cars
-same_pages entries_listed cars listed = sym (ap (map (λ (car : ListedCar). car.page)) listed) ∙ car_pages cars
+same_pages entries_listed cars listed = sym (ap (map (λ (car : ListedCar). car.page)) listed) ∙ pages_of_cars cars
 
 -- the pages that a graph stands on: the first, and the later ones
 first_and_later : (named : ℕ) (catalog : Catalog) → 0 < named → (pages : Pages) (met : Met) (kept : List ℕ) → IsWhole pages met named kept catalog → numbers_of catalog ++ listed_pages (entries_of catalog) ≡ named ∷ later_pages catalog
@@ -64,9 +64,9 @@ first_and_later named [] some pages met kept is = let none = is.chain.0 in absur
 first_and_later named (page ∷ others) some pages met kept is = ap (λ (first : ℕ). first ∷ later_pages (page ∷ others)) is.chain.0
 
 -- a graph that was found is spelled
-pub found : (pages : Pages) (header : Header) (graph : Graph) → AreWhole pages → is_placed pages.count header ≡ true → graph_of pages header ≡ Ok graph → Spells pages header graph
+pub graph_spelled : (pages : Pages) (header : Header) (graph : Graph) → AreWhole pages → is_placed pages.count header ≡ true → graph_of pages header ≡ Ok graph → Spells pages header graph
 unfolding graph_of
-found pages header graph all placed is =
+graph_spelled pages header graph all placed is =
     let most = most_fields header.version in
     let lead = graph_leads pages header graph is in
     let one = bind_ok (catalog_of pages header) _ graph is in
@@ -77,7 +77,7 @@ found pages header graph all placed is =
     let made : Graph = record { catalog = catalog; cars = cars } in
     let same : made ≡ graph = ok_same made graph three.2 in
     let there = catalog_whole pages header catalog all placed one.1 in
-    let read = cars_found most header.next pages set.empty (entries_of catalog) cars all (below pages.count (listed_pages (entries_of catalog)) there.cars_placed) two.1 in
+    let read = cars_found most header.next pages set.empty (entries_of catalog) cars all (pages_below pages.count (listed_pages (entries_of catalog)) there.cars_placed) two.1 in
     let listed = same_pages (listed_cars (entries_of catalog)) cars read.0 in
     let named = placed_parts pages.count header placed in
     let apart : AreApart (header.first ∷ later_pages catalog) =
@@ -89,12 +89,12 @@ found pages header graph all placed is =
     let spells : Spells pages header made = record {
       chain = there.chain;
       catalog = there.spelled;
-      entries = in_order (entries_of catalog) there.ordered;
+      entries = entries_in_order (entries_of catalog) there.ordered;
       listed = read.0;
       cars = are_spelled most header.next pages set.empty cars read.1;
       own_identities = record { within = are_below most header.next pages set.empty cars read.1; apart = new_apart (identities_of cars) (are_new most header.next pages set.empty cars read.1) };
       own_pages = record {
-        within = both (IsPlaced pages.count) (numbers_of catalog) (map (λ (kept : KeptPage). kept.page) cars) there.placed (subst (AllByRecursion (IsPlaced pages.count)) listed there.cars_placed);
+        within = all_both (IsPlaced pages.count) (numbers_of catalog) (map (λ (kept : KeptPage). kept.page) cars) there.placed (subst (AllByRecursion (IsPlaced pages.count)) listed there.cars_placed);
         apart = subst AreApart used apart;
       };
       cars_lead = lead_made.0;
@@ -121,17 +121,17 @@ later_new header (page ∷ others) some pages chain apart =
     new_others set.empty header.first (later_pages (page ∷ others)) (apart_new (header.first ∷ later_pages (page ∷ others)) (subst (λ (first : ℕ). AreApart (first ∷ later_pages (page ∷ others))) chain.0 apart))
 
 -- a graph that is spelled is found
-pub again : (pages : Pages) (header : Header) (graph : Graph) → pages.count ≤ 2 ^ 64 → is_placed pages.count header ≡ true → Spells pages header graph → graph_of pages header ≡ Ok graph
+pub graph_found : (pages : Pages) (header : Header) (graph : Graph) → pages.count ≤ 2 ^ 64 → is_placed pages.count header ≡ true → Spells pages header graph → graph_of pages header ≡ Ok graph
 unfolding graph_of
-again pages header graph few placed spells =
+graph_found pages header graph few placed spells =
     let most = most_fields header.version in
     let catalog = graph.catalog in
     let cars = graph.cars in
     let low = (placed_parts pages.count header placed).0 in
     let car_numbers : List ℕ = map (λ (kept : KeptPage). kept.page) cars in
     let listed = same_pages (listed_cars (entries_of catalog)) cars spells.listed in
-    let numbers_placed = front (IsPlaced pages.count) (numbers_of catalog) car_numbers spells.own_pages.within in
-    let cars_placed = subst (AllByRecursion (IsPlaced pages.count)) (sym listed) (back (IsPlaced pages.count) (numbers_of catalog) car_numbers spells.own_pages.within) in
+    let numbers_placed = all_front (IsPlaced pages.count) (numbers_of catalog) car_numbers spells.own_pages.within in
+    let cars_placed = subst (AllByRecursion (IsPlaced pages.count)) (sym listed) (all_back (IsPlaced pages.count) (numbers_of catalog) car_numbers spells.own_pages.within) in
     let apart : AreApart (numbers_of catalog ++ listed_pages (entries_of catalog)) = subst AreApart (ap (λ (rest : List ℕ). numbers_of catalog ++ rest) (sym listed)) spells.own_pages.apart in
     let new = later_new header catalog (omega arith) pages spells.chain apart in
     let there : IsWhole pages (begun header) header.first header.digest catalog = record {
@@ -152,7 +152,7 @@ again pages header graph few placed spells =
 
 -- pages spell one graph at most
 pub one_graph : (pages : Pages) (header : Header) (first second : Graph) → pages.count ≤ 2 ^ 64 → is_placed pages.count header ≡ true → Spells pages header first → Spells pages header second → first ≡ second
-one_graph pages header first second few placed one two = ok_same first second (sym (again pages header first few placed one) ∙ again pages header second few placed two)
+one_graph pages header first second few placed one two = ok_same first second (sym (graph_found pages header first few placed one) ∙ graph_found pages header second few placed two)
 
 -- ---- the pages of bytes
 
@@ -164,11 +164,11 @@ bytes_whole bytes fits page there = (
 )
 
 -- what opening finds is spelled by the pages of the bytes
-pub opened_spelled : (bytes : List ℕ) (found_ : Opened) → AreBytes bytes → opened bytes ≡ Ok found_ → Spells (pages_of bytes) found_.current.header found_.graph
-opened_spelled bytes found_ fits is =
-    let parts = found_of bytes found_ is in
-    found (pages_of bytes) found_.current.header found_.graph (bytes_whole bytes fits) (current_placed bytes found_.current parts.0) parts.1
+pub opened_spelled : (bytes : List ℕ) (opening : Opened) → AreBytes bytes → opened bytes ≡ Ok opening → Spells (pages_of bytes) opening.current.header opening.graph
+opened_spelled bytes opening fits is =
+    let parts = found_of bytes opening is in
+    graph_spelled (pages_of bytes) opening.current.header opening.graph (bytes_whole bytes fits) (current_placed bytes opening.current parts.0) parts.1
 
 -- what the pages of the bytes spell behind the current header is what opening finds
 pub spelled_opened : (bytes : List ℕ) (now : Current) (graph : Graph) → page_count bytes ≤ 2 ^ 64 → current bytes ≡ Ok now → Spells (pages_of bytes) now.header graph → opened bytes ≡ Ok (record { current = now; graph = graph })
-spelled_opened bytes now graph few is spells = opened_as bytes now graph is (again (pages_of bytes) now.header graph few (current_placed bytes now is) spells)
+spelled_opened bytes now graph few is spells = opened_as bytes now graph is (graph_found (pages_of bytes) now.header graph few (current_placed bytes now is) spells)

@@ -12,7 +12,7 @@ use Rattle.pm_image.specs.declared.catalog.CatalogPage.{CatalogPage}
 use Rattle.pm_image.specs.declared.settled.KeptPage.{KeptPage}
 use Rattle.pm_image.specs.Leading.{CarLeads, FieldLeads, RootLeads, SlotLeads}
 use Rattle.pm_image.specs.Graphs.{Catalog, Site, entries_of, field_sites, identity_in, identity_through, is_live, leads, linked, record_sites, root_sites, sites_of, slot_named, slot_sites}
-use Rattle.pm_law_graphs.proofs.Lists.{back, both, front}
+use Rattle.pm_law_graphs.proofs.Lists.{all_back, all_both, all_front}
 
 abbrev Leads : List KeptPage → Site → Type 0
 Leads cars site = leads cars site ≡ true
@@ -33,38 +33,38 @@ live_some (Some (Live object)) is = refl
 live_some (Some (Moved to)) is = is
 
 module _ (cars : List KeptPage) where
-  fields_lead : (page place : ℕ) (fields : List (Option Addr)) → AllByRecursion (FieldLeads cars) fields → AllByRecursion (Leads cars) (field_sites page place fields)
-  fields_lead page place [] all = tt
-  fields_lead page place (None ∷ fields) all = fields_lead page (place + 12) fields all.1
-  fields_lead page place (Some at ∷ fields) all = (through_some cars (slot_named cars at) all.0, fields_lead page (place + 12) fields all.1)
+  field_sites_lead : (page place : ℕ) (fields : List (Option Addr)) → AllByRecursion (FieldLeads cars) fields → AllByRecursion (Leads cars) (field_sites page place fields)
+  field_sites_lead page place [] all = tt
+  field_sites_lead page place (None ∷ fields) all = field_sites_lead page (place + 12) fields all.1
+  field_sites_lead page place (Some at ∷ fields) all = (through_some cars (slot_named cars at) all.0, field_sites_lead page (place + 12) fields all.1)
 
-  slot_leads : (page place : ℕ) (slot : Slot) → SlotLeads cars slot → AllByRecursion (Leads cars) (slot_sites page place slot)
-  slot_leads page place (Live object) all = fields_lead page (place + 17) object.fields all
-  slot_leads page place (Moved to) all = (live_some (slot_named cars to) all, tt)
+  slot_sites_lead : (page place : ℕ) (slot : Slot) → SlotLeads cars slot → AllByRecursion (Leads cars) (slot_sites page place slot)
+  slot_sites_lead page place (Live object) all = field_sites_lead page (place + 17) object.fields all
+  slot_sites_lead page place (Moved to) all = (live_some (slot_named cars to) all, tt)
 
-  slots_lead : (page place : ℕ) (slots : List (ℕ × Slot)) → AllByRecursion (λ (entry : ℕ × Slot). SlotLeads cars entry.1) slots → AllByRecursion (Leads cars) (record_sites page place slots)
-  slots_lead page place [] all = tt
-  slots_lead page place (first ∷ slots) all =
-      both (Leads cars) (slot_sites page place first.1) (record_sites page (place + 4 + slot_size first.1) slots) (slot_leads page place first.1 all.0) (slots_lead page (place + 4 + slot_size first.1) slots all.1)
+  record_sites_lead : (page place : ℕ) (slots : List (ℕ × Slot)) → AllByRecursion (λ (entry : ℕ × Slot). SlotLeads cars entry.1) slots → AllByRecursion (Leads cars) (record_sites page place slots)
+  record_sites_lead page place [] all = tt
+  record_sites_lead page place (first ∷ slots) all =
+      all_both (Leads cars) (slot_sites page place first.1) (record_sites page (place + 4 + slot_size first.1) slots) (slot_sites_lead page place first.1 all.0) (record_sites_lead page (place + 4 + slot_size first.1) slots all.1)
 
-  cars_lead : (these : List KeptPage) → AllByRecursion (CarLeads cars) these → AllByRecursion (Leads cars) (flat_map (λ (kept : KeptPage). record_sites kept.page 14 kept.image.slots) these)
-  cars_lead [] all = tt
-  cars_lead (kept ∷ these) all =
-      both (Leads cars) (record_sites kept.page 14 kept.image.slots) (flat_map (λ (kept : KeptPage). record_sites kept.page 14 kept.image.slots) these) (slots_lead kept.page 14 kept.image.slots all.0) (cars_lead these all.1)
+  car_sites_lead : (these : List KeptPage) → AllByRecursion (CarLeads cars) these → AllByRecursion (Leads cars) (flat_map (λ (kept : KeptPage). record_sites kept.page 14 kept.image.slots) these)
+  car_sites_lead [] all = tt
+  car_sites_lead (kept ∷ these) all =
+      all_both (Leads cars) (record_sites kept.page 14 kept.image.slots) (flat_map (λ (kept : KeptPage). record_sites kept.page 14 kept.image.slots) these) (record_sites_lead kept.page 14 kept.image.slots all.0) (car_sites_lead these all.1)
 
-  roots_lead : (page place : ℕ) (entries : List CatEntry) → AllByRecursion (RootLeads cars) entries → AllByRecursion (Leads cars) (root_sites page place entries)
-  roots_lead page place [] all = tt
-  roots_lead page place (Car car train at digest ∷ entries) all = roots_lead page (place + 57) entries all.1
-  roots_lead page place (Root name to ∷ entries) all = (through_some cars (slot_named cars to) all.0, roots_lead page (place + 14 + length name) entries all.1)
+  root_sites_lead : (page place : ℕ) (entries : List CatEntry) → AllByRecursion (RootLeads cars) entries → AllByRecursion (Leads cars) (root_sites page place entries)
+  root_sites_lead page place [] all = tt
+  root_sites_lead page place (Car car train at digest ∷ entries) all = root_sites_lead page (place + 57) entries all.1
+  root_sites_lead page place (Root name to ∷ entries) all = (through_some cars (slot_named cars to) all.0, root_sites_lead page (place + 14 + length name) entries all.1)
 
-  catalog_leads : (catalog : Catalog) → AllByRecursion (RootLeads cars) (entries_of catalog) → AllByRecursion (Leads cars) (flat_map (λ (page : ℕ × CatalogPage). root_sites page.0 46 page.1.entries) catalog)
-  catalog_leads [] all = tt
-  catalog_leads (page ∷ catalog) all =
-      both (Leads cars) (root_sites page.0 46 page.1.entries) (flat_map (λ (page : ℕ × CatalogPage). root_sites page.0 46 page.1.entries) catalog)
-      (roots_lead page.0 46 page.1.entries (front (RootLeads cars) page.1.entries (entries_of catalog) all)) (catalog_leads catalog (back (RootLeads cars) page.1.entries (entries_of catalog) all))
+  catalog_sites_lead : (catalog : Catalog) → AllByRecursion (RootLeads cars) (entries_of catalog) → AllByRecursion (Leads cars) (flat_map (λ (page : ℕ × CatalogPage). root_sites page.0 46 page.1.entries) catalog)
+  catalog_sites_lead [] all = tt
+  catalog_sites_lead (page ∷ catalog) all =
+      all_both (Leads cars) (root_sites page.0 46 page.1.entries) (flat_map (λ (page : ℕ × CatalogPage). root_sites page.0 46 page.1.entries) catalog)
+      (root_sites_lead page.0 46 page.1.entries (all_front (RootLeads cars) page.1.entries (entries_of catalog) all)) (catalog_sites_lead catalog (all_back (RootLeads cars) page.1.entries (entries_of catalog) all))
 
 -- where each address leads to an object, none is at fault
 pub all_linked : (catalog : Catalog) (cars : List KeptPage) → AllByRecursion (CarLeads cars) cars → AllByRecursion (RootLeads cars) (entries_of catalog) → linked cars (sites_of catalog cars) ≡ Ok tt
 all_linked catalog cars of_cars of_roots =
-    linked_again cars (sites_of catalog cars) (both (Leads cars) (flat_map (λ (kept : KeptPage). record_sites kept.page 14 kept.image.slots) cars) (flat_map (λ (page : ℕ × CatalogPage). root_sites page.0 46 page.1.entries) catalog)
-    (cars_lead cars cars of_cars) (catalog_leads cars catalog of_roots))
+    linked_again cars (sites_of catalog cars) (all_both (Leads cars) (flat_map (λ (kept : KeptPage). record_sites kept.page 14 kept.image.slots) cars) (flat_map (λ (page : ℕ × CatalogPage). root_sites page.0 46 page.1.entries) catalog)
+    (car_sites_lead cars cars of_cars) (catalog_sites_lead cars catalog of_roots))

@@ -220,8 +220,8 @@ trains_again [] follow = tt
 trains_again (train ∷ trains) follow = (omega arith, follow)
 
 -- the entries of a whole catalog
-pub in_order : (entries : List CatEntry) → AreOrdered beginning entries → AreInOrder entries
-in_order entries ordered =
+pub entries_in_order : (entries : List CatEntry) → AreOrdered beginning entries → AreInOrder entries
+entries_in_order entries ordered =
     let is = order_found beginning entries (omega arith) ordered in
     let few = is.few in
     record {
@@ -258,8 +258,8 @@ pub record IsPageFree (count : ℕ) (met : Numbers) (page : ℕ) : Type 0 where
   pub placed : IsPlaced count page
   pub other : set.contains met page ≡ false
 
-pub free_parts : (count : ℕ) (met : Numbers) (page : ℕ) → is_free_page (Some count) met page ≡ true → IsPageFree count met page
-free_parts count met page is =
+pub page_free : (count : ℕ) (met : Numbers) (page : ℕ) → is_free_page (Some count) met page ≡ true → IsPageFree count met page
+page_free count met page is =
     let one = both_true (nat_le 2 page) (nat_lt page count && not (set.contains met page)) is in
     let two = both_true (nat_lt page count) (not (set.contains met page)) one.1 in
     record { placed = (leb-true 2 page one.0, ltb-true page count two.0); other = untrue (set.contains met page) two.1 }
@@ -284,13 +284,13 @@ next_ordered count met (Root name at ∷ entries) next =
 pub next_placed : (count : ℕ) (met : Met) (entries : List CatEntry) → AreNext (Some count) met entries → AllByRecursion (IsPlaced count) (listed_pages entries)
 next_placed count met [] next = tt
 next_placed count met (Car car train page digest ∷ entries) next =
-    ((free_parts count met.pages page next.0.free).placed, next_placed count (meeting met (Car car train page digest)) entries next.1)
+    ((page_free count met.pages page next.0.free).placed, next_placed count (meeting met (Car car train page digest)) entries next.1)
 next_placed count met (Root name at ∷ entries) next = next_placed count (meeting met (Root name at)) entries next.1
 
 pub next_new : (count : ℕ) (met : Met) (entries : List CatEntry) (rest : List ℕ) → AreNext (Some count) met entries → AreNew (meeting_all met entries).pages rest → AreNew met.pages (listed_pages entries ++ rest)
 next_new count met [] rest next new = new
 next_new count met (Car car train page digest ∷ entries) rest next new =
-    new_more met.pages page (listed_pages entries ++ rest) (free_parts count met.pages page next.0.free).other (next_new count (meeting met (Car car train page digest)) entries rest next.1 new)
+    new_more met.pages page (listed_pages entries ++ rest) (page_free count met.pages page next.0.free).other (next_new count (meeting met (Car car train page digest)) entries rest next.1 new)
 next_new count met (Root name at ∷ entries) rest next new = next_new count (meeting met (Root name at)) entries rest next.1 new
 
 -- and back
@@ -301,19 +301,19 @@ pub record AreNextStill (count : ℕ) (met : Met) (entries : List CatEntry) (res
 root_left : (roots : ℕ) → roots < ROOTS → nat_lt roots ROOTS ≡ true
 root_left roots lt = grind (arith, nat_tests)
 
-pub next_again : (count : ℕ) (met : Met) (entries : List CatEntry) (rest : List ℕ) → AreOrdered (order_of met) entries → AllByRecursion (IsPlaced count) (listed_pages entries) → AreNew met.pages (listed_pages entries ++ rest) → AreNextStill count met entries rest
-next_again count met [] rest ordered placed new = record { next = tt; new = new }
-next_again count met (Car car train page digest ∷ entries) rest ordered placed new =
+pub entries_next : (count : ℕ) (met : Met) (entries : List CatEntry) (rest : List ℕ) → AreOrdered (order_of met) entries → AllByRecursion (IsPlaced count) (listed_pages entries) → AreNew met.pages (listed_pages entries ++ rest) → AreNextStill count met entries rest
+entries_next count met [] rest ordered placed new = record { next = tt; new = new }
+entries_next count met (Car car train page digest ∷ entries) rest ordered placed new =
     let here = ordered.0 in
-    let others = next_again count (meeting met (Car car train page digest)) entries rest ordered.1 placed.1 (new_others met.pages page (listed_pages entries ++ rest) new) in
+    let others = entries_next count (meeting met (Car car train page digest)) entries rest ordered.1 placed.1 (new_others met.pages page (listed_pages entries ++ rest) new) in
     let free = is_free count met.pages page placed.0 (new_first met.pages page (listed_pages entries ++ rest) new) in
     record {
       next = (record { before_roots = here.before_roots; numbered = here.numbered; other = here.other; in_order = here.in_order; free = free }, others.next);
       new = others.new;
     }
-next_again count met (Root name at ∷ entries) rest ordered placed new =
+entries_next count met (Root name at ∷ entries) rest ordered placed new =
     let here = ordered.0 in
-    let others = next_again count (meeting met (Root name at)) entries rest ordered.1 placed new in
+    let others = entries_next count (meeting met (Root name at)) entries rest ordered.1 placed new in
     record {
       next = (record { named = here.named; in_order = here.in_order; left = root_left met.roots here.left; has_car = here.has_car }, others.next);
       new = others.new;

@@ -19,7 +19,7 @@ use Rattle.pm_image.specs.CatalogPages.{IsCatalogInRange, IsEntryInRange, catalo
 use Rattle.pm_image.specs.Graphs.{Site, field_sites, record_sites, root_sites, slot_sites}
 use Rattle.pm_image.proofs.CarSizes.{record_length}
 use Rattle.pm_image.proofs.CatalogTakes.{car_size, root_size}
-use Rattle.pm_law_graphs.proofs.Lists.{both}
+use Rattle.pm_law_graphs.proofs.Lists.{all_both}
 
 -- the twelve bytes of an address stand at its place in these bytes, which are those of its page
 pub record IsAt (bytes : List ℕ) (page : ℕ) (site : Site) : Type 0 where
@@ -50,56 +50,56 @@ stood bytes place end to stands =
     ap (λ (n : ℕ). take n (drop place bytes)) twelve ∙ ap (λ (t : List ℕ). take 12 t) stands.parts ∙ take_at (address to) (drop end bytes) 12 (address_length to)
 
 module _ (bytes : List ℕ) (page : ℕ) where
-  fields_at : (place end : ℕ) (fields : List (Option Addr)) → place ≤ length bytes → Stands bytes place (flat_map field fields) end → AreAt bytes page (field_sites page place fields)
+  fields_stand : (place end : ℕ) (fields : List (Option Addr)) → place ≤ length bytes → Stands bytes place (flat_map field fields) end → AreAt bytes page (field_sites page place fields)
   unfolding field
-  fields_at place end [] start stands = tt
-  fields_at place end (None ∷ fields) start stands =
+  fields_stand place end [] start stands = tt
+  fields_stand place end (None ∷ fields) start stands =
       let parts = Stands-split bytes (field None) (flat_map field fields) place (place + 12) end start (ap (λ (n : ℕ). place + n) (field_length None)) stands in
-      fields_at (place + 12) end fields parts.first.inside parts.second
-  fields_at place end (Some to ∷ fields) start stands =
+      fields_stand (place + 12) end fields parts.first.inside parts.second
+  fields_stand place end (Some to ∷ fields) start stands =
       let parts = Stands-split bytes (field (Some to)) (flat_map field fields) place (place + 12) end start (ap (λ (n : ℕ). place + n) (field_length (Some to))) stands in
-      (record { of_page = refl; spelled = stood bytes place (place + 12) to parts.first }, fields_at (place + 12) end fields parts.first.inside parts.second)
+      (record { of_page = refl; spelled = stood bytes place (place + 12) to parts.first }, fields_stand (place + 12) end fields parts.first.inside parts.second)
 
-  slot_at : (place end : ℕ) (number : ℕ) (slot : Slot) → place ≤ length bytes → Stands bytes place (record_spelling (number, slot)) end → AreAt bytes page (slot_sites page place slot)
+  slot_stands : (place end : ℕ) (number : ℕ) (slot : Slot) → place ≤ length bytes → Stands bytes place (record_spelling (number, slot)) end → AreAt bytes page (slot_sites page place slot)
   unfolding spelling
-  slot_at place end number (Live object) start stands =
+  slot_stands place end number (Live object) start stands =
       let rest : List ℕ = flat_map field object.fields ++ object.bytes in
       let head : List ℕ = big_bytes 4 number ++ 1 ∷ (big_bytes 8 object.id ++ (big_bytes 2 (length object.fields) ++ big_bytes 2 (length object.bytes))) in
       let one = Stands-split bytes head rest place (place + 17) end start refl stands in
       let two = Stands-split bytes (flat_map field object.fields) object.bytes (place + 17) (place + 17 + 12 * length object.fields) end one.first.inside (ap (λ (n : ℕ). place + 17 + n) (fields_length object.fields)) one.second in
-      fields_at (place + 17) (place + 17 + 12 * length object.fields) object.fields one.first.inside two.first
-  slot_at place end number (Moved to) start stands =
+      fields_stand (place + 17) (place + 17 + 12 * length object.fields) object.fields one.first.inside two.first
+  slot_stands place end number (Moved to) start stands =
       let parts = Stands-split bytes (big_bytes 4 number ++ 2 ∷ []) (address to) place (place + 5) end start refl stands in
       (record { of_page = refl; spelled = stood bytes (place + 5) end to parts.second }, tt)
 
   -- the addresses of records stand at their places
-  pub records_at : (place end : ℕ) (records : List (ℕ × Slot)) → place ≤ length bytes → Stands bytes place (flat_map record_spelling records) end → AreAt bytes page (record_sites page place records)
-  records_at place end [] start stands = tt
-  records_at place end (first ∷ records) start stands =
+  pub records_stand : (place end : ℕ) (records : List (ℕ × Slot)) → place ≤ length bytes → Stands bytes place (flat_map record_spelling records) end → AreAt bytes page (record_sites page place records)
+  records_stand place end [] start stands = tt
+  records_stand place end (first ∷ records) start stands =
       let next : ℕ = place + 4 + slot_size first.1 in
       let sized : place + length (record_spelling first) ≡ next = omega (arith, record_length first) in
       let parts = Stands-split bytes (record_spelling first) (flat_map record_spelling records) place next end start sized stands in
-      both (IsAt bytes page) (slot_sites page place first.1) (record_sites page next records) (slot_at place next first.0 first.1 start parts.first) (records_at next end records parts.first.inside parts.second)
+      all_both (IsAt bytes page) (slot_sites page place first.1) (record_sites page next records) (slot_stands place next first.0 first.1 start parts.first) (records_stand next end records parts.first.inside parts.second)
 
-  entry_at : (place end : ℕ) (name : List ℕ) (to : Addr) → place ≤ length bytes → Stands bytes place (entry_spelling (Root name to)) end → AreAt bytes page (record { page = page; at = place + 2 + length name; to = to; to_live = false } ∷ [])
+  entry_stands : (place end : ℕ) (name : List ℕ) (to : Addr) → place ≤ length bytes → Stands bytes place (entry_spelling (Root name to)) end → AreAt bytes page (record { page = page; at = place + 2 + length name; to = to; to_live = false } ∷ [])
   unfolding entry_spelling
-  entry_at place end name to start stands =
+  entry_stands place end name to start stands =
       let mid : ℕ = place + 2 + length name in
       let sized : place + length (2 ∷ (length name ∷ name)) ≡ mid = omega arith in
       let parts = Stands-split bytes (2 ∷ (length name ∷ name)) (address to) place mid end start sized stands in
       (record { of_page = refl; spelled = stood bytes mid end to parts.second }, tt)
 
   -- the addresses of roots stand at their places
-  pub entries_at : (place end : ℕ) (entries : List CatEntry) → place ≤ length bytes → AllByRecursion HasSize entries → Stands bytes place (flat_map entry_spelling entries) end → AreAt bytes page (root_sites page place entries)
-  entries_at place end [] start sizes stands = tt
-  entries_at place end (Car car train at digest ∷ entries) start sizes stands =
+  pub entries_stand : (place end : ℕ) (entries : List CatEntry) → place ≤ length bytes → AllByRecursion HasSize entries → Stands bytes place (flat_map entry_spelling entries) end → AreAt bytes page (root_sites page place entries)
+  entries_stand place end [] start sizes stands = tt
+  entries_stand place end (Car car train at digest ∷ entries) start sizes stands =
       let parts = Stands-split bytes (entry_spelling (Car car train at digest)) (flat_map entry_spelling entries) place (place + 57) end start (ap (λ (n : ℕ). place + n) sizes.0) stands in
-      entries_at (place + 57) end entries parts.first.inside sizes.1 parts.second
-  entries_at place end (Root name to ∷ entries) start sizes stands =
+      entries_stand (place + 57) end entries parts.first.inside sizes.1 parts.second
+  entries_stand place end (Root name to ∷ entries) start sizes stands =
       let next : ℕ = place + 14 + length name in
       let sized : place + length (entry_spelling (Root name to)) ≡ next = omega (arith, root_size name to) in
       let parts = Stands-split bytes (entry_spelling (Root name to)) (flat_map entry_spelling entries) place next end start sized stands in
-      both (IsAt bytes page) (record { page = page; at = place + 2 + length name; to = to; to_live = false } ∷ []) (root_sites page next entries) (entry_at place next name to start parts.first) (entries_at next end entries parts.first.inside sizes.1 parts.second)
+      all_both (IsAt bytes page) (record { page = page; at = place + 2 + length name; to = to; to_live = false } ∷ []) (root_sites page next entries) (entry_stands place next name to start parts.first) (entries_stand next end entries parts.first.inside sizes.1 parts.second)
 
 -- a text and zeros: where the text stands
 whole_stands : (bytes text : List ℕ) → length bytes ≡ PAGE_BYTES → bytes ≡ padded text → Stands bytes 0 text (length text)
@@ -119,7 +119,7 @@ car_places bytes page car whole spelled =
     let head : List ℕ = car_magic ++ (big_bytes 8 car.number ++ big_bytes 2 (length car.slots)) in
     let stands = whole_stands bytes (car_spelling car) whole spelled in
     let parts = Stands-split bytes head records 0 14 (length (car_spelling car)) (omega arith) refl stands in
-    records_at bytes page 14 (length (car_spelling car)) car.slots parts.first.inside parts.second
+    records_stand bytes page 14 (length (car_spelling car)) car.slots parts.first.inside parts.second
 
 -- the addresses of a page of the catalog
 pub catalog_places : (bytes : List ℕ) (page : ℕ) (catalog : CatalogPage) → length bytes ≡ PAGE_BYTES → IsCatalogInRange catalog → bytes ≡ padded (catalog_spelling catalog) → AreAt bytes page (root_sites page 46 catalog.entries)
@@ -132,4 +132,4 @@ catalog_places bytes page catalog whole range spelled =
     let same : catalog_spelling catalog ≡ head ++ entries =
     ap (λ (t : List ℕ). catalog_magic ++ (big_bytes 8 catalog.next ++ t)) (sym (append_assoc catalog.digest (big_bytes 2 (length catalog.entries)) entries)) in
     let parts = Stands-split bytes head entries 0 46 (length (catalog_spelling catalog)) (omega arith) sized (subst (λ (t : List ℕ). Stands bytes 0 t (length (catalog_spelling catalog))) same stands) in
-    entries_at bytes page 46 (length (catalog_spelling catalog)) catalog.entries parts.first.inside (sizes catalog.entries range.entries) parts.second
+    entries_stand bytes page 46 (length (catalog_spelling catalog)) catalog.entries parts.first.inside (sizes catalog.entries range.entries) parts.second

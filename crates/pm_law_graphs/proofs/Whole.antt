@@ -11,10 +11,10 @@ use Rattle.pm_image.specs.Graphs.{Catalog, Pages, entries_of}
 use Rattle.pm_law_graphs.specs.Apart.{times}
 use Rattle.pm_law_graphs.specs.Entries.{listed_pages}
 use Rattle.pm_law_graphs.specs.Spelled.{IsCatalogSpelled, IsChain}
-use Rattle.pm_law_graphs.proofs.Lists.{both, front, back}
+use Rattle.pm_law_graphs.proofs.Lists.{all_both, all_front, all_back}
 use Rattle.pm_law_graphs.proofs.Sets.{AreNew, new_first, new_more, new_others, times_append, nothing_new}
 use Rattle.pm_law_graphs.proofs.Chain.{IsChainRead, all_zeros, next_free, zero_test}
-use Rattle.pm_law_graphs.proofs.Order.{AreOrdered, IsPlaced, after_all, is_free, next_again, next_new, next_ordered, next_placed, order_met, order_next, order_of, ordered_back, ordered_both, ordered_front}
+use Rattle.pm_law_graphs.proofs.Order.{AreOrdered, IsPlaced, after_all, is_free, entries_next, next_new, next_ordered, next_placed, order_met, order_next, order_of, ordered_back, ordered_both, ordered_front}
 
 -- the numbers of the pages
 abbrev pub numbers_of : Catalog → List ℕ
@@ -47,8 +47,8 @@ pub record IsWhole (pages : Pages) (met : Met) (named : ℕ) (kept : List ℕ) (
 -- ---- orders of the same pages
 
 -- pages of the catalog, and of cars
-same_pages : (number : ℕ) (numbers : List ℕ) (xs ys : List CatEntry) → times number (numbers ++ listed_pages (xs ++ ys)) ≡ times number (listed_pages xs ++ (numbers ++ listed_pages ys))
-same_pages number numbers xs ys =
+same_times : (number : ℕ) (numbers : List ℕ) (xs ys : List CatEntry) → times number (numbers ++ listed_pages (xs ++ ys)) ≡ times number (listed_pages xs ++ (numbers ++ listed_pages ys))
+same_times number numbers xs ys =
     let a = times_append number numbers (listed_pages (xs ++ ys)) in
     let b = ap (times number) (listed_append xs ys) ∙ times_append number (listed_pages xs) (listed_pages ys) in
     let c = times_append number (listed_pages xs) (numbers ++ listed_pages ys) in
@@ -56,10 +56,10 @@ same_pages number numbers xs ys =
     omega (arith, a, b, c, d)
 
 new_as : (met : Numbers) (numbers : List ℕ) (xs ys : List CatEntry) → AreNew met (listed_pages xs ++ (numbers ++ listed_pages ys)) → AreNew met (numbers ++ listed_pages (xs ++ ys))
-new_as met numbers xs ys new number = let here = new number in let same = same_pages number numbers xs ys in omega arith
+new_as met numbers xs ys new number = let here = new number in let same = same_times number numbers xs ys in omega arith
 
 as_new : (met : Numbers) (numbers : List ℕ) (xs ys : List CatEntry) → AreNew met (numbers ++ listed_pages (xs ++ ys)) → AreNew met (listed_pages xs ++ (numbers ++ listed_pages ys))
-as_new met numbers xs ys new number = let here = new number in let same = same_pages number numbers xs ys in omega arith
+as_new met numbers xs ys new number = let here = new number in let same = same_times number numbers xs ys in omega arith
 
 -- ---- the next page is met
 
@@ -89,12 +89,12 @@ new_later pages met page (second ∷ others) next read new =
     subst (λ (k : ℕ). AreNew met.pages (k ∷ (numbers_of others ++ listed_pages (entries_of (page ∷ (second ∷ others)))))) (sym same)
     (new_more met.pages page.1.next (numbers_of others ++ listed_pages (entries_of (page ∷ (second ∷ others)))) free.other rest)
 
-pub whole : (pages : Pages) (met : Met) (named : ℕ) (kept : List ℕ) (catalog : Catalog) → IsChainRead pages met named kept catalog → IsWhole pages met named kept catalog
-whole pages met named kept [] read = record { chain = read; spelled = tt; range = tt; placed = tt; cars_placed = tt; ordered = tt; new = nothing_new met.pages }
-whole pages met named kept (page ∷ others) read =
+pub chain_whole : (pages : Pages) (met : Met) (named : ℕ) (kept : List ℕ) (catalog : Catalog) → IsChainRead pages met named kept catalog → IsWhole pages met named kept catalog
+chain_whole pages met named kept [] read = record { chain = read; spelled = tt; range = tt; placed = tt; cars_placed = tt; ordered = tt; new = nothing_new met.pages }
+chain_whole pages met named kept (page ∷ others) read =
     let here = read.0 in
     let first = page.1 in
-    let rest = whole pages (meeting_page met first) first.next first.digest others read.1 in
+    let rest = chain_whole pages (meeting_page met first) first.next first.digest others read.1 in
     let has = here.has in
     let inner = meeting_next met first.next in
     record {
@@ -103,7 +103,7 @@ whole pages met named kept (page ∷ others) read =
       range = (here.range, rest.range);
       placed = (here.placed, rest.placed);
       cars_placed = subst (AllByRecursion (IsPlaced pages.count)) (sym (listed_append first.entries (entries_of others)))
-          (both (IsPlaced pages.count) (listed_pages first.entries) (listed_pages (entries_of others)) (next_placed pages.count inner first.entries has.entries) rest.cars_placed);
+          (all_both (IsPlaced pages.count) (listed_pages first.entries) (listed_pages (entries_of others)) (next_placed pages.count inner first.entries has.entries) rest.cars_placed);
       ordered = ordered_both (order_of met) first.entries (entries_of others)
           (subst (λ order. AreOrdered order first.entries) (order_next met first.next) (next_ordered pages.count inner first.entries has.entries))
           (subst (λ order. AreOrdered order (entries_of others)) (order_page met first) rest.ordered);
@@ -150,8 +150,8 @@ page_by_page pages met named kept (page ∷ others) is =
     let next = next_met pages met page others chain.2 is.placed.1 is.new in
     let ordered = ordered_front (order_of met) first.entries (entries_of others) is.ordered in
     let listed = subst (AllByRecursion (IsPlaced pages.count)) (listed_append first.entries (entries_of others)) is.cars_placed in
-    let still = next_again pages.count inner first.entries (later_pages others) (subst (λ order. AreOrdered order first.entries) (sym (order_next met first.next)) ordered)
-    (front (IsPlaced pages.count) (listed_pages first.entries) (listed_pages (entries_of others)) listed) next.new in (
+    let still = entries_next pages.count inner first.entries (later_pages others) (subst (λ order. AreOrdered order first.entries) (sym (order_next met first.next)) ordered)
+    (all_front (IsPlaced pages.count) (listed_pages first.entries) (listed_pages (entries_of others)) listed) next.new in (
       record {
         same = chain.0;
         placed = is.placed.0;
@@ -165,7 +165,7 @@ page_by_page pages met named kept (page ∷ others) is =
         spelled = is.spelled.1;
         range = is.range.1;
         placed = is.placed.1;
-        cars_placed = back (IsPlaced pages.count) (listed_pages first.entries) (listed_pages (entries_of others)) listed;
+        cars_placed = all_back (IsPlaced pages.count) (listed_pages first.entries) (listed_pages (entries_of others)) listed;
         ordered = subst (λ order. AreOrdered order (entries_of others)) (sym (order_page met first)) (ordered_back (order_of met) first.entries (entries_of others) is.ordered);
         new = still.new;
       }),

@@ -1,11 +1,11 @@
-use Rattle.pm_law_graphs.proofs.Found.{again, found, one_graph, opened_spelled, spelled_opened}
+use Rattle.pm_law_graphs.proofs.Found.{graph_found, graph_spelled, one_graph, opened_spelled, spelled_opened}
 use Rattle.pm_law_graphs.proofs.laws.a_graph_is_found_where_its_pages_spell_it.Goals as goal
 
 pub returns-clause-found : goal.returns-clause-found
-returns-clause-found c = found
+returns-clause-found c = graph_spelled
 
 pub returns-clause-again : goal.returns-clause-again
-returns-clause-again c = again
+returns-clause-again c = graph_found
 
 pub returns-clause-one : goal.returns-clause-one
 returns-clause-one c = one_graph
