@@ -14,7 +14,7 @@ use Rattle.pm_image.specs.declared.settled.KeptPage.{KeptPage}
 use Rattle.pm_image.specs.Opening.{Current, current, is_placed, page_count}
 use Rattle.pm_image.specs.CarAnswers.{AreBytes}
 use Rattle.pm_image.specs.CatalogPages.{Met, nothing_met}
-use Rattle.pm_image.specs.Graphs.{Catalog, Graph, Pages, cars_from, catalog_of, entries_of, graph_of, linked, most_pages, sites_of, used_pages}
+use Rattle.pm_image.specs.Graphs.{Catalog, Graph, Pages, cars_from, catalog_of, entries_of, graph_of, images_of, linked, most_pages, sites_of, used_pages}
 use Rattle.pm_image.specs.Leading.{CarLeads, RootLeads}
 use Rattle.pm_image.specs.Stands.{Opened, opened, pages_of}
 use Rattle.pm_image.proofs.Results.{both_true}
@@ -73,7 +73,7 @@ graph_spelled pages header graph all placed is =
     let catalog = one.0 in
     let two = bind_ok (cars_from most header.next pages set.empty (entries_of catalog)) _ graph one.2 in
     let cars = two.0 in
-    let three = bind_ok (linked cars (sites_of catalog cars)) _ graph two.2 in
+    let three = bind_ok (linked (images_of cars) (sites_of catalog cars)) _ graph two.2 in
     let made : Graph = record { catalog = catalog; cars = cars } in
     let same : made ≡ graph = ok_same made graph three.2 in
     let there = catalog_whole pages header catalog all placed one.1 in
@@ -85,7 +85,7 @@ graph_spelled pages header graph all placed is =
     let low = named.0 in
     let used : header.first ∷ later_pages catalog ≡ used_pages made =
     sym (first_and_later header.first catalog (omega arith) pages (begun header) header.digest there) ∙ ap (λ (rest : List ℕ). numbers_of catalog ++ rest) listed in
-    let lead_made = subst (λ (g : Graph). AllByRecursion (CarLeads g.cars) g.cars × AllByRecursion (RootLeads g.cars) (entries_of g.catalog)) (sym same) lead in
+    let lead_made = subst (λ (g : Graph). AllByRecursion (CarLeads (images_of g.cars)) (images_of g.cars) × AllByRecursion (RootLeads (images_of g.cars)) (entries_of g.catalog)) (sym same) lead in
     let spells : Spells pages header made = record {
       chain = there.chain;
       catalog = there.spelled;

@@ -12,7 +12,7 @@ use Rattle.pm_image.specs.declared.catalog.CatalogPage.{CatalogPage}
 use Rattle.pm_image.specs.declared.settled.KeptPage.{KeptPage}
 use Rattle.pm_image.specs.CatalogPages.{IsCatalogInRange}
 use Rattle.pm_image.specs.Opening.{is_placed}
-use Rattle.pm_image.specs.Graphs.{Catalog, Graph, Pages, Site, cars_from, entries_of, graph_of, linked, record_sites, root_sites, sites_of, used_pages}
+use Rattle.pm_image.specs.Graphs.{Catalog, Graph, Pages, Site, cars_from, entries_of, graph_of, images_of, linked, record_sites, root_sites, sites_of, used_pages}
 use Rattle.pm_image.proofs.RuleLaws.{either_fails}
 use Rattle.pm_law_graphs.specs.Places.{AreRead, IsOfFirstAstray, StandsAtPlace}
 use Rattle.pm_law_graphs.specs.Spelled.{AreWhole, IsCarSpelled, IsCatalogSpelled}
@@ -70,9 +70,9 @@ all_stand pages header graph all placed read =
 
 -- so does that of a fault
 pub astray_stands : (pages : Pages) (header : Header) (graph : Graph) (fault : OpenFault) → AreWhole pages → is_placed pages.count header ≡ true → AreRead pages header graph
-    → linked graph.cars (sites_of graph.catalog graph.cars) ≡ Err fault → IsOfFirstAstray pages graph fault
+    → linked (images_of graph.cars) (sites_of graph.catalog graph.cars) ≡ Err fault → IsOfFirstAstray pages graph fault
 astray_stands pages header graph fault all placed read is =
-    let first = first_astray graph.cars (sites_of graph.catalog graph.cars) fault is in
+    let first = first_astray (images_of graph.cars) (sites_of graph.catalog graph.cars) fault is in
     let those = subst (AllByRecursion (StandsAtPlace pages graph)) first.parts (all_stand pages header graph all placed read) in
     record {
       before = first.before;
@@ -91,9 +91,9 @@ pub graph_astray : (pages : Pages) (header : Header) (graph : Graph) (fault : Op
 unfolding graph_of
 graph_astray pages header graph fault all placed read is =
     let most = most_fields header.version in
-    let one = sym (ap (λ (r : Result Catalog OpenFault). r >>= λ catalog. cars_from most header.next pages set.empty (entries_of catalog) >>= λ cars. linked cars (sites_of catalog cars) >>= λ is_linked. Ok (record { catalog = catalog; cars = cars })) read.catalog) ∙ is in
-    let two = sym (ap (λ (r : Result (List KeptPage) OpenFault). r >>= λ cars. linked cars (sites_of graph.catalog cars) >>= λ is_linked. Ok (record { catalog = graph.catalog; cars = cars })) read.cars) ∙ one in
-    elim (either_fails (linked graph.cars (sites_of graph.catalog graph.cars)) (λ is_linked. Ok (record { catalog = graph.catalog; cars = graph.cars })) fault two) [
+    let one = sym (ap (λ (r : Result Catalog OpenFault). r >>= λ catalog. cars_from most header.next pages set.empty (entries_of catalog) >>= λ cars. linked (images_of cars) (sites_of catalog cars) >>= λ is_linked. Ok (record { catalog = catalog; cars = cars })) read.catalog) ∙ is in
+    let two = sym (ap (λ (r : Result (List KeptPage) OpenFault). r >>= λ cars. linked (images_of cars) (sites_of graph.catalog cars) >>= λ is_linked. Ok (record { catalog = graph.catalog; cars = cars })) read.cars) ∙ one in
+    elim (either_fails (linked (images_of graph.cars) (sites_of graph.catalog graph.cars)) (λ is_linked. Ok (record { catalog = graph.catalog; cars = graph.cars })) fault two) [
       | inl links ↦ astray_stands pages header graph fault all placed read links
       | inr three ↦ absurd (never fault three.2)
     ]

@@ -7,7 +7,7 @@ use Rattle.pm_types.specs.declared.fault.OpenFault.TheVariants.{Malformed}
 use Rattle.pm_layout.specs.declared.header.Header.{Header}
 use Rattle.pm_layout.specs.Headers.{most_fields}
 use Rattle.pm_layout.specs.Spelling.{address}
-use Rattle.pm_image.specs.Graphs.{Graph, Pages, Site, cars_from, catalog_of, entries_of, leads, sites_of, used_pages}
+use Rattle.pm_image.specs.Graphs.{Graph, Pages, Site, cars_from, catalog_of, entries_of, images_of, leads, sites_of, used_pages}
 
 -- The pages behind a header were read, and none is at fault: they are this catalog and these cars. Whether their
 -- addresses lead anywhere is not said.
@@ -29,7 +29,7 @@ pub record IsOfFirstAstray (pages : Pages) (graph : Graph) (fault : OpenFault) :
   pub astray : Site
   pub after : List Site
   pub parts : sites_of graph.catalog graph.cars ≡ before ++ (astray ∷ after)
-  pub lead : AllByRecursion (λ (site : Site). leads graph.cars site ≡ true) before
-  pub leads_not : leads graph.cars astray ≡ false
+  pub lead : AllByRecursion (λ (site : Site). leads (images_of graph.cars) site ≡ true) before
+  pub leads_not : leads (images_of graph.cars) astray ≡ false
   pub told : fault ≡ Malformed astray.page astray.at
   pub stands : StandsAtPlace pages graph astray

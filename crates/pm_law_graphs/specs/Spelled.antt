@@ -13,7 +13,7 @@ use Rattle.pm_image.specs.declared.settled.KeptPage.{KeptPage}
 use Rattle.pm_image.specs.CarPages.{Ascend, car_spelling, car_used, padded}
 use Rattle.pm_image.specs.CarAnswers.{AreBytes, IsCarInRange}
 use Rattle.pm_image.specs.CatalogPages.{IsCatalogInRange, catalog_spelling, catalog_used}
-use Rattle.pm_image.specs.Graphs.{Catalog, Graph, Pages, entries_of, used_pages}
+use Rattle.pm_image.specs.Graphs.{Catalog, Graph, Pages, entries_of, images_of, used_pages}
 use Rattle.pm_image.specs.Leading.{CarLeads, RootLeads}
 use Rattle.pm_law_graphs.specs.Apart.{AreOwn}
 use Rattle.pm_law_graphs.specs.Entries.{AreInOrder, ListedCar, listed_cars}
@@ -74,6 +74,6 @@ pub record Spells (pages : Pages) (header : Header) (graph : Graph) : Type 0 whe
   pub cars : AllByRecursion (IsCarSpelled pages (most_fields header.version)) graph.cars
   pub own_identities : AreOwn 1 header.next (identities_of graph.cars)
   pub own_pages : AreOwn 2 pages.count (used_pages graph)
-  pub cars_lead : AllByRecursion (CarLeads graph.cars) graph.cars
-  pub roots_lead : AllByRecursion (RootLeads graph.cars) (entries_of graph.catalog)
+  pub cars_lead : AllByRecursion (CarLeads (images_of graph.cars)) (images_of graph.cars)
+  pub roots_lead : AllByRecursion (RootLeads (images_of graph.cars)) (entries_of graph.catalog)
   pub in_range : IsGraphInRange graph

@@ -6,7 +6,7 @@ ghost use Rattle.pm_types.specs.declared.fault.OpenFault.{OpenFault};
 ghost use Rattle.pm_layout.specs.declared.header.Header.{Header};
 ghost use Rattle.pm_image.specs.CarAnswers.{AreBytes};
 ghost use Rattle.pm_image.specs.Opening.{Current, current, is_placed, page_count};
-ghost use Rattle.pm_image.specs.Graphs.{Graph, Pages, graph_of, linked, sites_of};
+ghost use Rattle.pm_image.specs.Graphs.{Graph, Pages, graph_of, images_of, linked, sites_of};
 ghost use Rattle.pm_image.specs.Stands.{Opened, opened, pages_of};
 ghost use Rattle.pm_law_graphs.specs.Places.{AreRead, IsOfFirstAstray, StandsAtPlace};
 ghost use Rattle.pm_law_graphs.specs.Spelled.{AreWhole, Spells};
@@ -42,7 +42,8 @@ pub fn a_reported_address_stands_at_its_place()
     // A fault of the addresses is of the first that leads nowhere,
     ensures fault { (pages : Pages) (header : Header) (graph : Graph) (fault : OpenFault) → AreWhole pages
         → is_placed pages.count header ≡ true → AreRead pages header graph
-        → linked graph.cars (sites_of graph.catalog graph.cars) ≡ Err fault → IsOfFirstAstray pages graph fault }
+        → linked (images_of graph.cars) (sites_of graph.catalog graph.cars) ≡ Err fault
+        → IsOfFirstAstray pages graph fault }
     // and where the pages were read and no graph is found behind the header, the fault is of an address.
     ensures graph { (pages : Pages) (header : Header) (graph : Graph) (fault : OpenFault) → AreWhole pages
         → is_placed pages.count header ≡ true → AreRead pages header graph
