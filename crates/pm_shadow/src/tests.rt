@@ -114,8 +114,12 @@ fn a_claimed_page_is_written_and_read(rt: HostRuntime) -> Result<(), Fail> {
     assert!(rt; pages.page_count() == 3);
     if pages.page_count() == 3 {
         pages.commit_list(alloc, &[2])?;
+        assert_eq!(rt; pages.claim()?, 3);
+        assert_eq!(rt; pages.claim()?, 4);
+        pages.abandon();
         let page = pages.claim()?;
         assert_eq!(rt; page, 3);
+        pages.keep(2)?;
         let bytes = vec![in alloc; 7; 16_384]?;
         assert!(rt; pages.write_page(page, &bytes).is_ok());
         let mut read = vec![in alloc; 0; 16_384]?;

@@ -14,17 +14,8 @@ only_one P p (suc k) d lt = absurd (omega (arith, lt))
 itself : (n : ℕ) → (n == n) ≡ true
 itself n = grind (arith, nat_tests)
 
-pub commit_list-requires : goal.commit_list-requires
-commit_list-requires g c =
-    only_one (IsListable _)
-    (subst (λ (x : State). IsListable x 2) (sym c.in-Ok.ensures.state)
-    (record { from_2 = omega arith; there = subst (λ n. 2 < n) c.page_count-2.ensures (omega arith); kept = refl }))
-
 claimed_there : (page : ℕ) (uses : ℕ → PageUse) → with_use page Claimed uses page ≡ Claimed
 claimed_there page uses = ap (λ b. if b then Claimed else uses page) (itself page)
 
 claimed_in : (s t : State) (page : ℕ) → s ≡ with_claimed t page → s.uses page ≡ Claimed
 claimed_in s t page is = ap (λ (x : State). x.uses page) is ∙ claimed_there page t.uses
-
-pub write_page-requires-clause-claimed : goal.write_page-requires-clause-claimed
-write_page-requires-clause-claimed g c = claimed_in _ _ c.in_ok-page.page c.in_ok-page.ensures.state
