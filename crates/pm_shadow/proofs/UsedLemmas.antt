@@ -1,9 +1,10 @@
 -- The pages that a graph stands on.
-use Rattle.std.proofs.Common.{◌≡◌, ◌⊎◌, inl, inr, ⊎_elim, ℕ, zero, suc, Bool, true, false, List, [], ◌∷◌, map, Some, Ok, refl, sym, subst, ap, ◌∙◌}
+use Rattle.std.proofs.Common.{◌≡◌, ◌⊎◌, inl, inr, ⊎_elim, ℕ, zero, suc, Bool, true, false, List, [], ◌∷◌, map, Option, Some, Ok, refl, sym, subst, ap, ◌∙◌}
 use Rattle.std.specs.Prelude.{Contains, ◌==◌, if◌then◌else◌}
 use Rattle.std.specs.FinSet as set
 use Rattle.std.proofs.lemmas.List.Elements.{Contains-append_left}
 use Rattle.std.proofs.lemmas.Bool.{eqb-true, eq-eqb}
+use Rattle.pm_disk.specs.Disk.{IfTold}
 use Rattle.pm_layout.specs.declared.header.Header.{Header}
 use Rattle.pm_layout.specs.Headers.{most_fields}
 use Rattle.pm_base.proofs.Results.{ok_same, bind_ok}
@@ -16,6 +17,7 @@ use Rattle.pm_image.specs.Stands.{Opened, opened, pages_of}
 use Rattle.pm_image.specs.Blank.{blank_header, blank_catalog, blank_store}
 use Rattle.pm_image.proofs.BlankLaws.{blank_found, blank_current}
 use Rattle.pm_shadow.specs.State.{State}
+use Rattle.pm_shadow.specs.Attaching.{HasFound}
 use Rattle.pm_shadow.specs.Copies.{AreUsed}
 use Rattle.pm_image.specs.Graphs.{Pages, Graph, Catalog, undamaged, on_page, catalog_from, catalog_of, most_pages, entries_of, cars_from, linked, sites_of, graph_of, used_pages}
 
@@ -73,3 +75,10 @@ blank_used s bytes is now =
       all = λ page used. used;
       only = λ page listed. listed;
     }
+
+-- and so it is seen by those who attached to it
+pub attached_used : (s : State) (before now : Option (List ℕ)) (bytes : List ℕ) → before ≡ Some blank_store → now ≡ before → now ≡ Some bytes → IfTold before (HasFound s) → AreUsed s bytes (2 ∷ [])
+attached_used s before now bytes blank same told found =
+    let both : Some bytes ≡ Some blank_store = sym told ∙ same ∙ blank in
+    let is : bytes ≡ blank_store = cc both in
+    blank_used s bytes is (ap current is ∙ (found blank_store blank).now)
