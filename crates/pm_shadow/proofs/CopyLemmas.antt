@@ -197,8 +197,8 @@ listed_current pages uses page listed low kept =
       | inr apart ↦ let free : keeps_by true (uses page) ≡ false = ap (keeps_by true) (listed.others page low apart) in absurd (cc (kept, free))
     ]
 
-pub listed_keeps : (s : State) (uses : ℕ → PageUse) (bytes pages : List ℕ) → AreUsed s bytes pages → All (IsListable s) pages → IsListed pages uses → (graph : Graph) × KeepsGraph (known_by s uses) bytes graph
-listed_keeps s uses bytes pages used there listed = (used.graph, record {
+pub listed_graph : (s : State) (uses : ℕ → PageUse) (bytes pages : List ℕ) (used : AreUsed s bytes pages) → All (IsListable s) pages → IsListed pages uses → KeepsGraph (known_by s uses) bytes used.graph
+listed_graph s uses bytes pages used there listed = record {
   found = used.found;
   first = graph_first (pages_of bytes) s.header used.graph used.found;
   kept = λ page is.
@@ -206,4 +206,7 @@ listed_keeps s uses bytes pages used there listed = (used.graph, record {
       let one : IsListable s page = subst (IsListable s) within.2 (there within.0 page within.1) in
       record { from_2 = one.from_2; settled = one.there; kept = ap (keeps_by true) (listed.listed page within) };
   only = λ known page low kept. used.only page (listed_current pages uses page listed low kept);
-})
+}
+
+pub listed_keeps : (s : State) (uses : ℕ → PageUse) (bytes pages : List ℕ) → AreUsed s bytes pages → All (IsListable s) pages → IsListed pages uses → (graph : Graph) × KeepsGraph (known_by s uses) bytes graph
+listed_keeps s uses bytes pages used there listed = (used.graph, listed_graph s uses bytes pages used there listed)
