@@ -5,7 +5,7 @@ use Rattle.pm_model.specs.World.{Copy}
 use Rattle.pm_image.specs.Graphs.{copy_of}
 use Rattle.pm_shadow.specs.State.{State, published}
 use Rattle.pm_shadow.specs.Images.{Holds, Renews}
-use Rattle.pm_shadow.specs.Copies.{KeepsNoFewer, current_graph, next_graph}
+use Rattle.pm_shadow.specs.Copies.{KeepsSamePages, current_graph, next_graph}
 use Rattle.pm_shadow.proofs.CopyLemmas.{held_opened, held_keeps, renewed_opened, renewed_keeps, keeps_still}
 use Rattle.pm_plain.specs.Plain.{Opens}
 use Rattle.pm_plain.specs.Kept.{HasCopy, HasNextCopy}
@@ -18,8 +18,8 @@ held_opens s bytes image copy has held =
 pub held_has : (s : State) (bytes image : List ℕ) (copy : Copy) → HasCopy s bytes copy → Holds s bytes image → HasCopy s image copy
 held_has s bytes image copy has held = record { graph = has.graph; keeps = held_keeps s bytes image has.graph has.keeps held; plain = has.plain; is_copy = has.is_copy }
 
-pub fewer_has : (s t : State) (bytes : List ℕ) (copy : Copy) → KeepsNoFewer s t → HasCopy s bytes copy → HasCopy t bytes copy
-fewer_has s t bytes copy same has = record {
+pub same_has : (s t : State) (bytes : List ℕ) (copy : Copy) → KeepsSamePages s t → HasCopy s bytes copy → HasCopy t bytes copy
+same_has s t bytes copy same has = record {
   graph = has.graph;
   keeps = keeps_still s t bytes has.graph same has.keeps;
   plain = has.plain;

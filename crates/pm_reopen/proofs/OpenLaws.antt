@@ -21,9 +21,10 @@ use Rattle.pm_plain.specs.Plain.{is_plain, readable, reopened}
 use Rattle.pm_plain.specs.Kept.{HasCopy}
 use Rattle.pm_plain.proofs.PlainLaws.{found_opens}
 use Rattle.pm_shadow.specs.declared.page_use.PageUse.{PageUse}
-use Rattle.pm_shadow.specs.declared.page_use.PageUse.TheVariants.{Free, Current as Used, Claimed}
-use Rattle.pm_shadow.specs.Uses.{use_of, forgotten, IsListed}
-use Rattle.pm_shadow.specs.State.{State, keeps, keeps_by, IsListable, attached, known_by}
+use Rattle.pm_shadow.specs.Uses.{IsListed}
+use Rattle.pm_shadow.specs.State.{State, IsListable, attached, known_by}
+use Rattle.pm_shadow.specs.Copies.{AreUsed}
+use Rattle.pm_shadow.proofs.CopyLemmas.{listed_graph}
 use Rattle.pm_reopen.specs.Reopening.{IsCurrent, IsReopenFault, IsReopenFaultOf, IsGraph, IsGraphFault, open_fault}
 use Rattle.std.specs.List.{AllByRecursion}
 use Rattle.pm_layout.specs.declared.header.Header.{Header}
@@ -156,37 +157,7 @@ pub current_there : (bytes : List ℕ) (found : Current) → current bytes ≡ O
 unfolding current
 current_there bytes found is = header_there bytes (open_slot bytes) found (if_ok (nat_lt (length bytes) (2 * PAGE_BYTES)) NotAStore _ found is).1
 
--- the first page of a graph is the one that the header names
-begins : (n : ℕ) (store : Store) (met : Met) (page : ℕ) (kept : List ℕ) (catalog : Catalog) → catalog_from n store met page kept ≡ Ok catalog → Contains (page_numbers catalog) page
-unfolding catalog_from
-begins zero store met page kept catalog is = cc
-begins (suc n) store met page kept catalog is =
-    let one = bind_ok (undamaged store page kept) _ catalog is in
-    let two = bind_ok (on_page page (catalog_at (Some store.count) met (store.page page))) _ catalog one.2 in
-    let three = bind_ok (if two.0.next == 0 then Ok [] else catalog_from n store (meeting_page met two.0) two.0.next two.0.digest) _ catalog two.2 in
-    subst (λ (c : Catalog). Contains (page_numbers c) page) (ok_same {A = Catalog} ((page, two.0) ∷ three.0) catalog three.2) (at_first page (page_numbers three.0))
-
-graph_first : (store : Store) (header : Header) (graph : Graph) → graph_of store header ≡ Ok graph → Contains (used_pages graph) header.first
-unfolding graph_of
-graph_first store header graph is =
-    let one = bind_ok (catalog_of store header) _ graph is in
-    let two = bind_ok (cars_from (most_fields header.version) header.next store set.empty (entries_of one.0)) _ graph one.2 in
-    let three = bind_ok (linked (images_of two.0) (sites_of one.0 two.0)) _ graph two.2 in
-    let made : Graph = record { catalog = one.0; cars = two.0 } in
-    subst (λ (g : Graph). Contains (used_pages g) header.first) (ok_same made graph three.2)
-    (Contains-append_left (page_numbers one.0) (map (λ (kept : KeptPage). kept.page) two.0) header.first (begins most_pages store _ header.first header.digest one.0 one.1))
-
 -- ---- opening
-
--- a number is in a list or not
-in_or_not : (xs : List ℕ) (x : ℕ) → Contains xs x ⊎ (Contains xs x → ⊥)
-in_or_not [] x = inr (in_none x)
-in_or_not (y ∷ xs) x = by (y == x) refl (in_or_not xs x)
-  where
-    by : (b : Bool) → (y == x) ≡ b → (Contains xs x ⊎ (Contains xs x → ⊥)) → Contains (y ∷ xs) x ⊎ (Contains (y ∷ xs) x → ⊥)
-    by true here rest = inl (subst (λ (z : ℕ). Contains (y ∷ xs) z) (eqb-true y x here) (at_first y xs))
-    by false other (inl there) = inl (in_rest y x xs there)
-    by false other (inr not_there) = inr (λ found. ⊎_elim (λ (same : y ≡ x). let same_test : (y == x) ≡ true = grind (arith, nat_tests) in absurd (cc (other, same_test))) not_there (first_or_rest y x xs found))
 
 all_in : {A : Type 0} (P : A → Type 0) (xs : List A) (x : A) → AllByRecursion P xs → Contains xs x → P x
 all_in P xs x all within = all_at P xs within.0 x within.1 (sym within.2) all
@@ -194,44 +165,39 @@ all_in P xs x all within = all_at P xs within.0 x within.1 (sym within.2) all
 store_same : (s : State) (bytes : List ℕ) → IsCurrent s bytes → store_of s.count bytes ≡ pages_of bytes
 store_same s bytes now = λ i. record { count = now.counted i; page = page_of bytes }
 
+all_listable : (P Q : ℕ → Type 0) (used : List ℕ) → ((page : ℕ) → P page → Q page) → AllByRecursion P used → All Q used
+all_listable P Q [] too there = All-nil Q
+all_listable P Q (page ∷ used) too there = All-cons Q page used (too page there.0) (all_listable P Q used too there.1)
+
 module _ (s : State) (begun : s ≡ attached s.slot s.header s.count s.closed) where
-  -- any page may be one of the current copy
-  kept_any : (page : ℕ) → keeps s page ≡ true
-  kept_any page = ap (λ (t : State). keeps t page) begun ∙ elim (nat_lt page 2) as (λ b. keeps_by false (if b then Used else slice_index_or [] (page - 2) Free) ≡ true) [ true ↦ refl | false ↦ refl ]
+  pub not_known : s.known ≡ false
+  not_known = ap (λ (t : State). t.known) begun
 
+  -- each page that was read may be listed
   pub listable : (used : List ℕ) → AllByRecursion (IsThere s.count) used → All (IsListable s) used
-  listable [] there = All-nil (IsListable s)
-  listable (page ∷ used) there = All-cons (IsListable s) page used (record { from_2 = there.0.from_2; there = there.0.there; kept = kept_any page }) (listable used there.1)
+  listable used there =
+      let settled : s.settled ≡ s.count = ap (λ (t : State). t.settled) begun in
+      all_listable (IsThere s.count) (IsListable s) used (λ page is. record { from_2 = is.from_2; there = (let below = is.there in omega (arith, below, settled)) }) there
 
-  pub none_claimed : (used : List ℕ) (uses : ℕ → PageUse) → IsListed used s.uses uses → (page : ℕ) → 2 ≤ page → uses page ≡ Claimed → ⊥
-  none_claimed used uses listed page low claimed =
-      elim (in_or_not used page) [
-        | inl within ↦ let is = listed.listed page within in cc (is, claimed)
-        | inr not_there ↦
-            let was = ap (λ (t : State). forgotten (t.uses page)) begun in
-            let free : forgotten (use_of [] page) ≡ Free = elim (nat_lt page 2) as (λ b. forgotten (if b then Used else slice_index_or [] (page - 2) Free) ≡ Free) [ true ↦ refl | false ↦ refl ] in
-            cc (listed.others page low not_there, was, free, claimed)
-      ]
+  -- and they are all pages of the current copy
+  pub read_used : (contents : Option (List ℕ)) (bytes used : List ℕ) (copy : Copy) → IsRead s.count s.header contents used copy → IsCurrent s bytes → contents ≡ Some bytes → AreUsed s bytes used
+  read_used contents bytes used copy read now told = record {
+    graph = read.graph;
+    found = ap (λ (store : Store). graph_of store s.header) (sym (store_same s bytes now)) ∙ read.found bytes told;
+    all = λ page within. subst (λ (ps : List ℕ). Contains ps page) (sym read.used_are) within;
+    only = λ page within. subst (λ (ps : List ℕ). Contains ps page) read.used_are within;
+  }
 
-  -- the copy that was read stands behind the current header, and its pages are kept
-  pub read_has : (uses : ℕ → PageUse) (contents : Option (List ℕ)) (bytes used : List ℕ) (copy : Copy) → IsRead s.count s.header contents used copy → IsListed used s.uses uses → IsCurrent s bytes → contents ≡ Some bytes
+  -- the copy that was read stands behind the current header, on the pages that are known as its own
+  pub read_has : (uses : ℕ → PageUse) (contents : Option (List ℕ)) (bytes used : List ℕ) (copy : Copy) → IsRead s.count s.header contents used copy → IsListed used uses → IsCurrent s bytes → contents ≡ Some bytes
       → HasCopy (known_by s uses) bytes copy
-  read_has uses contents bytes used copy read listed now told =
-      let found = ap (λ (store : Store). graph_of store s.header) (sym (store_same s bytes now)) ∙ read.found bytes told in
-      record {
-        graph = read.graph;
-        keeps = record {
-          found = found;
-          first = graph_first (pages_of bytes) s.header read.graph found;
-          kept = λ page within.
-              let member = subst (λ (ps : List ℕ). Contains ps page) (sym read.used_are) within in
-              let there = all_in (IsThere s.count) used page read.there member in
-              let settled : s.settled ≡ s.count = ap (λ (t : State). t.settled) begun in
-              record { from_2 = there.from_2; settled = omega (arith, there.there, settled); kept = ap (keeps_by true) (listed.listed page member) };
-        };
-        plain = read.plain;
-        is_copy = read.is_copy;
-      }
+  unfolding read_used
+  read_has uses contents bytes used copy read listed now told = record {
+    graph = read.graph;
+    keeps = listed_graph s uses bytes used (read_used contents bytes used copy read now told) (listable used read.there) listed;
+    plain = read.plain;
+    is_copy = read.is_copy;
+  }
 
 -- what was read is what opening gives
 pub read_opens : (s : State) (contents : Option (List ℕ)) (bytes used : List ℕ) (copy : Copy) → IsRead s.count s.header contents used copy → IsCurrent s bytes → contents ≡ Some bytes → reopened bytes ≡ Ok (s.header.epoch, copy)

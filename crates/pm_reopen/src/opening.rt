@@ -9,9 +9,7 @@ ghost use Rattle.pm_image.specs.declared.settled.KeptPage.{KeptPage};
 ghost use Rattle.pm_image.specs.Graphs.{images_of, Graph as Found, entries_of, graph_of, linked, sites_of, used_pages};
 ghost use Rattle.pm_plain.specs.Plain.{is_plain, readable, reopened, IsStorable};
 ghost use Rattle.pm_plain.specs.Kept.{HasCopy};
-ghost use Rattle.pm_shadow.specs.declared.page_use.PageUse.TheVariants.{Claimed};
-ghost use Rattle.pm_shadow.specs.Uses.{IsListed};
-ghost use Rattle.pm_shadow.specs.State.{attached, known_by};
+ghost use Rattle.pm_shadow.specs.State.{attached, known_by, IsIdle};
 ghost use Rattle.pm_shadow.specs.Runs.{OnlyLooks};
 ghost use Rattle.pm_shadow.specs.Pages.{state, disk_of};
 ghost use Rattle.pm_reopen.specs.declared.fault.ReadFault.TheVariants.{Unheld};
@@ -137,7 +135,7 @@ fn open<D: Disk>(alloc: Global, pages: &mut Pages<D>) -> Result<Graph, ReadFault
     ensures next { IfOk result (λ copy. copy.next ≡ (state pages.old).header.next) }
     ensures state { OnOk result (state pages.new ≡ known_by (state pages.old) (state pages.new).uses) }
     ensures state_err { OnErr result (state pages.new ≡ state pages.old) }
-    ensures unclaimed { OnOk result ((page : ℕ) → (state pages.new).uses page ≡ Claimed → ⊥) }
+    ensures idle { OnOk result (IsIdle (state pages.new)) }
     ensures fault { IfErr result (λ e. IfTold (D.contents (disk_of pages.old)) (λ bytes. Fails {X = ℕ × Copy} e (reopened bytes))) }
     ensures counts { CountsOrUnheld (D.count (disk_of pages.old)) (D.count (disk_of pages.new)) result }
     ensures looks { OnlyLooks D.contents D.image D.moment D.since (disk_of pages.old) (disk_of pages.new) }
@@ -215,10 +213,10 @@ pub fn open_copy<D: Disk>(alloc: Global, pages: &mut Pages<D>) -> Result<Graph, 
     ensures fits { IfOk result IsStorable }
     ensures found { IfOk result (λ copy. IfTold (D.contents (disk_of pages.old)) (λ bytes. reopened bytes ≡ Ok ((state pages.old).header.epoch, copy))) }
     ensures next { IfOk result (λ copy. copy.next ≡ (state pages.old).header.next) }
-    // Its pages are kept from then on, and none is claimed.
+    // Its pages are known and kept from then on, and nothing is claimed or kept for a next one.
     ensures has { IfOk result (λ copy. IfTold (D.contents (disk_of pages.new)) (λ bytes. HasCopy (state pages.new) bytes copy)) }
     ensures state { OnOk result (state pages.new ≡ known_by (state pages.old) (state pages.new).uses) }
-    ensures unclaimed { OnOk result ((page : ℕ) → (state pages.new).uses page ≡ Claimed → ⊥) }
+    ensures idle { OnOk result (IsIdle (state pages.new)) }
     ensures state_err { OnErr result (state pages.new ≡ state pages.old) }
     // Why none was opened.
     ensures fault { IfErr result (λ fault. IfTold (D.contents (disk_of pages.old)) (λ bytes. IsReopenFaultOf bytes fault)) }

@@ -13,7 +13,7 @@ use Rattle.pm_plain.specs.Plain.{Opens}
 use Rattle.pm_plain.specs.Kept.{HasCopy}
 use Rattle.pm_save.specs.declared.fault.SaveFault.{SaveFault}
 use Rattle.pm_save.specs.declared.fault.SaveFault.TheVariants.{Disk, Memory}
-use Rattle.pm_save.specs.Running.{IsFaultOf, IfMemory}
+use Rattle.pm_save.specs.Running.{IsAtRest, IsFaultOf, IfMemory}
 use Rattle.pm_run.specs.declared.stop.Stop.{Stop}
 use Rattle.pm_run.specs.declared.stop.Stop.TheVariants.{Memory as NoRoom, Writing, Device}
 use Rattle.pm_run.specs.Causes.{stop_of, CountsDisk}
@@ -36,7 +36,7 @@ module _ {D : Type 0} (contents : D → Option (List ℕ)) (image : D → List �
   pub quiet_event : (s : State) (disk : D) (world next : World) → ((left : List ℕ) → since disk (moment disk) left → image disk left) → IsReady s world.settled → settled_in next ≡ settled_in world
       → MakesEvent contents image moment since count made s s disk disk world next None
   quiet_event s disk world next now ready same = record {
-    ready = record { known = ready.known; sound = ready.sound; numbered = ready.numbered ∙ sym (ap (λ (kept : ℕ × Copy). kept.0) same) };
+    ready = record { known = ready.known; sound = ready.sound; idle = ready.idle; numbered = ready.numbered ∙ sym (ap (λ (kept : ℕ × Copy). kept.0) same) };
     stores = λ stores. same_stores contents image moment since s disk world next same stores;
     leaves = λ stores. still_leaves contents image moment since s disk world (IsOfEvent None world next) now stores (λ left is. inl is);
     cause = refl;
@@ -58,15 +58,15 @@ module _ {D : Type 0} (contents : D → Option (List ℕ)) (image : D → List �
 
   -- one in which the copy in progress was settled
   pub settled_event : (s t : State) (old new : D) (world : World) (number : ℕ) (copy : Copy) → world.saving ≡ Some (number, copy)
-      → t.known ≡ true → t.failed ≡ false → t.header.epoch ≡ number
+      → IsAtRest t → t.header.epoch ≡ number
       → ((bytes : List ℕ) → contents new ≡ Some bytes → HasCopy t bytes copy)
       → ((was : List ℕ) → contents old ≡ Some was → (bytes : List ℕ) × (contents new ≡ Some bytes))
       → ((was : List ℕ) → contents old ≡ Some was → (left : List ℕ) → image new left → Opens left number copy)
       → ((was : Copy) (bytes : List ℕ) → contents old ≡ Some bytes → HasCopy s bytes was → LeavesOnly moment since old new (λ left. Opens left s.header.epoch was ⊎ Opens left number copy))
       → count new ≡ count old → (made new).past ≡ (made old).past
       → MakesEvent contents image moment since count made s t old new world (answer_settle world world.saving).1 None
-  settled_event s t old new world number copy is known sound numbered has told now leaves counted unread = record {
-    ready = record { known = known; sound = sound; numbered = numbered ∙ sym (ap (λ (w : World). w.settled) (settled_world world number copy is)) };
+  settled_event s t old new world number copy is rest numbered has told now leaves counted unread = record {
+    ready = record { known = rest.ready.known; sound = rest.ready.fine; idle = rest.idle; numbered = numbered ∙ sym (ap (λ (w : World). w.settled) (settled_world world number copy is)) };
     stores = λ stores. settled_stores contents image moment since s t old new world number copy is stores has numbered told now;
     leaves = λ stores. settling_leaves contents image moment since s old new world number copy is stores leaves;
     cause = counted;

@@ -3,14 +3,16 @@ use Rattle.std.specs.Prelude.{◌≡◌, ◌⊎◌, ℕ, List, Option, Some, tru
 use Rattle.pm_types.specs.declared.entry.Entry.{Entry}
 use Rattle.pm_disk.specs.Disk.{LeavesOnly}
 use Rattle.pm_model.specs.World.{World}
-use Rattle.pm_shadow.specs.State.{State}
+use Rattle.pm_shadow.specs.State.{State, IsIdle}
 use Rattle.pm_plain.specs.Kept.{HasCopy}
 use Rattle.pm_run.specs.Images.{IsSettled, IsOfRun}
 
--- the current copy's pages are known, no publish has failed, and the header has the number of the copy that has settled
+-- the current copy's pages are known, nothing is claimed or kept for a next one, no publish has failed, and the header
+-- has the number of the copy that has settled
 pub record IsReady (s : State) (settled : ℕ) : Type 0 where
   pub known : s.known ≡ true
   pub sound : s.failed ≡ false
+  pub idle : IsIdle s
   pub numbered : s.header.epoch ≡ settled
 
 -- The disk, which tells its contents, has the copy that has settled in this world, and a crash leaves that one.

@@ -18,7 +18,7 @@ use Rattle.pm_image.specs.declared.catalog.CatEntry.{CatEntry}
 use Rattle.pm_image.specs.declared.catalog.CatEntry.TheVariants.{Car}
 use Rattle.pm_image.specs.declared.settled.KeptPage.{KeptPage}
 use Rattle.pm_image.specs.CarPages.{car_used}
-use Rattle.pm_shadow.specs.State.{State}
+use Rattle.pm_shadow.specs.State.{State, IsIdle}
 use Rattle.pm_plain.specs.Laying.{Item, Placed, plain_slot, slots_from, car_of, car_page, kept_car, kept_from, car_entry, IsAt}
 use Rattle.pm_plain.proofs.CarsLaid.{AreGiven, last_of, given_others}
 use Rattle.pm_save.specs.declared.filling.Filling.{Filling}
@@ -131,8 +131,8 @@ filling_fits next s contents seen filling small given is =
 none_at : (cars : List (List Item)) (id : ℕ) (at : Addr) → get (empty {R = nat_cmp}) id ≡ Some at → IsAt cars id at
 none_at cars id at is = let none : None ≡ Some at = sym (get-empty nat_cmp id) ∙ is in absurd (cc (none))
 
-none_begun : (s : State) (contents : Option (List ℕ)) (new : Filling) → new.slots.items ≡ [] → new.used ≡ 14 → new.entries.items ≡ [] → new.places ≡ empty → IsFilling s contents [] new
-none_begun s contents new slots used entries places = record {
+none_begun : (s : State) (contents : Option (List ℕ)) (new : Filling) → IsIdle s → new.slots.items ≡ [] → new.used ≡ 14 → new.entries.items ≡ [] → new.places ≡ empty → IsFilling s contents [] new
+none_begun s contents new idle slots used entries places = record {
   placed = [];
   current = [];
   objects = refl;
@@ -143,7 +143,7 @@ none_begun s contents new slots used entries places = record {
   listed = entries;
   at = λ id at is. none_at ([] ∷ []) id at (ap (λ (m : Spots). get m id) (sym places) ∙ is);
   each = tt;
-  put = λ bytes told. record { each = tt; apart = tt };
+  put = λ bytes told. record { each = tt; apart = tt; only = λ page next. (let not_next = idle page in absurd (cc (next, not_next))) };
 }
 
 -- ---- each car that was written is full for the next one
@@ -158,9 +158,9 @@ object_full s contents seen item slot size old new had is counted room slots use
   some = had.some;
 }
 
-pub none_going : (s : State) (contents : Option (List ℕ)) (new : Filling) → new.slots.items ≡ [] → new.used ≡ 14 → new.entries.items ≡ [] → new.places ≡ empty → IsGoing s contents [] new
+pub none_going : (s : State) (contents : Option (List ℕ)) (new : Filling) → IsIdle s → new.slots.items ≡ [] → new.used ≡ 14 → new.entries.items ≡ [] → new.places ≡ empty → IsGoing s contents [] new
 unfolding none_begun
-none_going s contents new slots used entries places = record { is = none_begun s contents new slots used entries places; full = (tt, tt); some = tt }
+none_going s contents new idle slots used entries places = record { is = none_begun s contents new idle slots used entries places; full = (tt, tt); some = tt }
 
 -- the car has room for the object
 pub still_roomy : (s : State) (contents : Option (List ℕ)) (seen : List Item) (item : Item) (filling : Filling) → IsGoing s contents seen filling → IsRoomy s contents seen item filling

@@ -43,7 +43,8 @@ next_stays s at m was now header copy torn low has =
         next = λ page used.
             let is = next.next page used in
             let there = is.there in
-            record { from_2 = is.from_2; there = omega arith; counted = is.counted; claimed = is.claimed };
+            record { from_2 = is.from_2; there = omega arith; counted = is.counted; next = is.next };
+        only = next.only;
       };
       plain = has.plain;
       is_copy = has.is_copy;

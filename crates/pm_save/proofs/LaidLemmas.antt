@@ -27,7 +27,7 @@ use Rattle.pm_shadow.specs.State.{State}
 use Rattle.pm_shadow.specs.Copies.{IsNext}
 use Rattle.pm_plain.specs.Laying.{Item, Placed, Listed, slots_from, car_page, kept_from, car_entry, IsAt, AreRootEntries, catalog_page, first_of, chain_of}
 use Rattle.pm_plain.specs.Laid.{Plan, graph_of_plan, StandsOn, AreApart}
-use Rattle.pm_plain.specs.Kept.{HasNextCopy, AreClaimed}
+use Rattle.pm_plain.specs.Kept.{HasNextCopy, AreNext}
 use Rattle.pm_plain.proofs.ChainLaid.{all_first, all_second}
 use Rattle.pm_plain.proofs.CopyLaws.{laid_copy, laid_plain}
 use Rattle.pm_plain.proofs.LaidLaws.{laid_graph}
@@ -115,9 +115,10 @@ laid_next s bytes copy first header plain laid version next page digest =
     record {
       graph = graph;
       next = record {
-        found = graph_too (pages_below s.count bytes) (pages_of bytes) header graph found (λ page used. ((laid.claimed page used).there, refl));
+        found = graph_too (pages_below s.count bytes) (pages_of bytes) header graph found (λ page used. ((laid.next.next page used).there, refl));
         first = subst (Contains (used_pages graph)) (sym begins) (first_used plan.listed (map (λ (kept : KeptPage). kept.page) graph.cars) laid.is_plan.has_page);
-        next = laid.claimed;
+        next = laid.next.next;
+        only = laid.next.only;
       };
       plain = laid_plain plan;
       is_copy = sym (ap (λ (n : ℕ). copy_of n graph) next ∙ laid_copy copy plan plain laid.is_plan);
@@ -158,20 +159,20 @@ module _ (s : State) (bytes : List ℕ) where
   cars_stand (kept ∷ cars) each = (each.0.page, cars_stand cars each.1)
 
   plan_stands : (plan : Plan) → ArePut s bytes (catalog_puts plan.listed ++ car_puts plan.placed) → s.count ≤ 2 ^ 64 → length plan.placed < 2 ^ 64 → length plan.listed < 2 ^ 64
-      → StandsOn (pages_below s.count bytes) plan × AreClaimed s bytes plan
+      → StandsOn (pages_below s.count bytes) plan × AreNext s bytes plan
   plan_stands plan put few few_cars few_pages =
       let same = put_pages plan.listed plan.placed in
-      let claimed : AreClaimed s bytes plan = λ page used. next_of (catalog_puts plan.listed ++ car_puts plan.placed) put.each page (subst (λ (pages : List ℕ). Contains pages page) (sym same) used) in (
+      let next = λ (page : ℕ) (used : Contains (used_pages (graph_of_plan plan)) page). next_of (catalog_puts plan.listed ++ car_puts plan.placed) put.each page (subst (λ (pages : List ℕ). Contains pages page) (sym same) used) in (
         record {
           cars = cars_stand (kept_from 1 plan.placed) (behind_chain (catalog_puts plan.listed) (car_puts plan.placed) put.each);
           catalog = chain_stands (chain_of plan.listed) (car_puts plan.placed) put.each;
-          there = there_of (used_pages (graph_of_plan plan)) claimed;
+          there = there_of (used_pages (graph_of_plan plan)) next;
           apart = subst AreApart same put.apart;
           few = few;
           few_cars = few_cars;
           few_pages = few_pages;
         },
-        claimed,
+        record { next = next; only = λ page is. subst (λ (pages : List ℕ). Contains pages page) same (put.only page is) },
       )
 
 -- the entries and the sizes of parts that were listed
@@ -204,7 +205,7 @@ copy_laid s t was now bytes copy filling parts pushed first finished whole are f
         has_page = omega (arith, many);
       };
       stands = stands.0;
-      claimed = stands.1;
+      next = stands.1;
       page = chain.page;
       digest = chain.digest;
       filled = record { cars = finished.full; some = finished.some; catalog = subst (AreFull IsPageFull) (sym chain.entries) full };

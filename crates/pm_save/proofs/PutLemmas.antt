@@ -1,16 +1,17 @@
 -- The pages that were written stay as they were while others are written.
-use Rattle.std.proofs.Common.{◌≡◌, ◌⊎◌, inr, ⊎_elim, ℕ, ◌+◌, ◌-◌, ◌*◌, ◌≤◌, Bool, true, false, List, [], ◌∷◌, ◌++◌, map, Option, Some, sym, ◌∙◌, ap, subst, arith}
+use Rattle.std.proofs.Common.{◌≡◌, ◌⊎◌, inl, inr, ⊎_elim, ℕ, ◌+◌, ◌-◌, ◌*◌, ◌≤◌, Bool, true, false, List, [], ◌∷◌, ◌++◌, map, Option, Some, sym, ◌∙◌, ap, subst, arith}
 use Rattle.std.specs.Prelude.{option_map, ◌==◌, if◌then◌else◌}
 use Rattle.std.specs.List.{AllByRecursion, Contains}
 use Rattle.std.proofs.lemmas.Bool.Decides.{nat_tests}
 use Rattle.std.proofs.lemmas.List.{map-append}
-use Rattle.std.proofs.lemmas.List.Elements.{Contains-push_cases}
+use Rattle.std.proofs.lemmas.Bool.{cases_eq}
+use Rattle.std.proofs.lemmas.List.Elements.{Contains-push_cases, Contains-append_left, Contains-append_right}
 use Rattle.pm_types.specs.declared.limits.TheConstants.{PAGE_BYTES}
 use Rattle.pm_disk.specs.Writes.{written, Torn}
-use Rattle.pm_model.proofs.Members.{in_none, in_rest, first_or_rest}
+use Rattle.pm_model.proofs.Members.{at_first, in_none, in_rest, first_or_rest}
 use Rattle.pm_shadow.specs.declared.page_use.PageUse.{PageUse}
 use Rattle.pm_shadow.specs.declared.page_use.PageUse.TheVariants.{Free, Claimed}
-use Rattle.pm_shadow.specs.Uses.{with_use}
+use Rattle.pm_shadow.specs.Uses.{with_use, is_next}
 use Rattle.pm_shadow.specs.State.{State, with_claimed, with_page}
 use Rattle.pm_shadow.specs.Images.{place_of}
 use Rattle.pm_shadow.proofs.RunLemmas.{told_before}
@@ -30,16 +31,18 @@ module _ (at m : ℕ) (was image : List ℕ) (torn : Torn at m was image) where
       let there = is.next.there in
       let counted = is.next.counted in
       record {
-        next = record { from_2 = low; there = (let le = count_le was image no_shorter in omega arith); counted = omega arith; claimed = same ∙ is.next.claimed };
+        next = record { from_2 = low; there = (let le = count_le was image no_shorter in omega arith); counted = omega arith; next = ap is_next same ∙ is.next.next };
         page = page_stays at m was image torn put.0 there apart ∙ is.page;
       }
 
 -- ---- one page more
 
--- a page that is free is none of those that were claimed
+-- a page that is free is none of the next copy's
 free_apart : (s : State) (bytes : List ℕ) (page : ℕ) (put : Put) → s.uses page ≡ Free → IsPut s bytes put → put.0 ≡ page → ⊥
 free_apart s bytes page put free is same =
-    let claimed : s.uses page ≡ Claimed = ap s.uses (sym same) ∙ is.next.claimed in absurd (cc (claimed, free))
+    let next : is_next (s.uses page) ≡ true = ap (λ (n : ℕ). is_next (s.uses n)) (sym same) ∙ is.next.next in
+    let unused : is_next (s.uses page) ≡ false = ap is_next free in
+    absurd (cc (next, unused))
 
 other_use : (uses : ℕ → PageUse) (page other : ℕ) → (other ≡ page → ⊥) → with_use page Claimed uses other ≡ uses other
 other_use uses page other apart =
@@ -74,9 +77,14 @@ module _ (s t : State) (old new : Option (List ℕ)) (page : ℕ) (bytes : List 
         subst (λ (t : State). IsPut t now (page, bytes)) (sym is.state)
         (subst (λ (b : List ℕ). IsPut (with_page (with_claimed s page) page) b (page, bytes)) (sym now_is)
         (record {
-          next = record { from_2 = is.from_2; there = page_there page bytes was is.whole; counted = omega arith; claimed = own_use s.uses page };
+          next = record { from_2 = is.from_2; there = page_there page bytes was is.whole; counted = omega arith; next = ap is_next (own_use s.uses page) };
           page = page_reads page bytes was is.whole;
         }))
+
+  -- the pages of the next copy are this one, and those that were its pages
+  next_now : (q : ℕ) → is_next (t.uses q) ≡ true → (q ≡ page) ⊎ (is_next (s.uses q) ≡ true)
+  next_now q next =
+      ⊎_elim (λ (here : q ≡ page). inl here) (λ (apart : q ≡ page → ⊥). inr (ap is_next (sym (other_use s.uses page q apart)) ∙ ap (λ (x : State). is_next (x.uses q)) (sym is.state) ∙ next)) (cases_eq q page)
 
   -- a page more before those that were put
   pub put_before : (puts : List Put) → ArePutIfTold s old puts → ArePutIfTold t new ((page, bytes) ∷ puts)
@@ -86,6 +94,8 @@ module _ (s t : State) (old new : Option (List ℕ)) (page : ℕ) (bytes : List 
       record {
         each = (new_is_put before.0 now before.1 now_told, all_stay before.0 now before.1 now_told puts then_put.each);
         apart = (not_among before.0 now before.1 now_told puts then_put.each, then_put.apart);
+        only = λ q next. ⊎_elim (λ (here : q ≡ page). subst (Contains (page ∷ map (λ (put : Put). put.0) puts)) (sym here) (at_first page (map (λ (put : Put). put.0) puts)))
+            (λ (had_next : is_next (s.uses q) ≡ true). in_rest page q (map (λ (put : Put). put.0) puts) (then_put.only q had_next)) (next_now q next);
       }
 
   -- and one more behind them
@@ -96,6 +106,9 @@ module _ (s t : State) (old new : Option (List ℕ)) (page : ℕ) (bytes : List 
       record {
         each = all_behind puts (all_stay before.0 now before.1 now_told puts then_put.each) (new_is_put before.0 now before.1 now_told);
         apart = subst AreApart (sym (map-append (λ (put : Put). put.0) puts ((page, bytes) ∷ []))) (apart_behind (map (λ (put : Put). put.0) puts) page then_put.apart (not_among before.0 now before.1 now_told puts then_put.each));
+        only = λ q next. subst (λ (pages : List ℕ). Contains pages q) (sym (map-append (λ (put : Put). put.0) puts ((page, bytes) ∷ [])))
+            (⊎_elim (λ (here : q ≡ page). Contains-append_right (map (λ (put : Put). put.0) puts) (page ∷ []) q (subst (Contains (page ∷ [])) (sym here) (at_first page [])))
+            (λ (had_next : is_next (s.uses q) ≡ true). Contains-append_left (map (λ (put : Put). put.0) puts) (page ∷ []) q (then_put.only q had_next)) (next_now q next));
       }
     where
       all_behind : (puts : List Put) → AllByRecursion (IsPut t now) puts → IsPut t now (page, bytes) → AllByRecursion (IsPut t now) (puts ++ (page, bytes) ∷ [])
@@ -116,7 +129,7 @@ module _ (s t : State) (old new : Option (List ℕ)) (page : ℕ) (bytes : List 
 
 -- a write below page 2 changes no page that was put
 pub puts_stay : (s t : State) (at m : ℕ) (was now : List ℕ) (puts : List Put) → Torn at m was now → at + m ≤ 2 * PAGE_BYTES → s.count ≤ t.count → ((page : ℕ) → t.uses page ≡ s.uses page) → ArePut s was puts → ArePut t now puts
-puts_stay s t at m was now puts torn low more same had = record { each = each_stays puts had.each; apart = had.apart }
+puts_stay s t at m was now puts torn low more same had = record { each = each_stays puts had.each; apart = had.apart; only = λ page next. had.only page (ap is_next (sym (same page)) ∙ next) }
   where
     each_stays : (puts : List Put) → AllByRecursion (IsPut s was) puts → AllByRecursion (IsPut t now) puts
     each_stays [] each = tt

@@ -1,31 +1,19 @@
 -- What a crash leaves while a copy is settled.
-use Rattle.std.proofs.Common.{◌≡◌, ◌⊎◌, inl, ℕ, Bool, true, false, List, Option, Some, sym, ◌∙◌, ap, subst}
-use Rattle.std.specs.Prelude.{nat_lt, if◌then◌else◌}
+use Rattle.std.proofs.Common.{◌≡◌, ◌⊎◌, inl, ℕ, List, Option, Some, refl, sym, ◌∙◌, ap, subst}
 use Rattle.pm_layout.specs.declared.header.Header.{Header}
 use Rattle.pm_disk.specs.Made.{Made}
 use Rattle.pm_disk.specs.Disk.{LeavesOnly}
 use Rattle.pm_disk.proofs.RunLemmas.{weaker, joined}
 use Rattle.pm_model.specs.World.{Copy}
-use Rattle.pm_shadow.specs.declared.page_use.PageUse.{PageUse}
-use Rattle.pm_shadow.specs.declared.page_use.PageUse.TheVariants.{Free, Current, Claimed}
-use Rattle.pm_shadow.specs.Uses.{renewed}
 use Rattle.pm_shadow.specs.State.{State, published}
+use Rattle.pm_shadow.proofs.CopyLemmas.{published_idle}
 use Rattle.pm_plain.specs.Plain.{Opens}
 use Rattle.pm_plain.specs.Kept.{HasCopy}
-use Rattle.pm_save.specs.Running.{Spares, GoesOn}
+use Rattle.pm_save.specs.Running.{IsAtRest, Spares, GoesOn}
 
--- no page is claimed once the claimed ones are those of the current copy
-none_renewed : (use_ : PageUse) → renewed use_ ≡ Claimed → ⊥
-none_renewed Free is = cc
-none_renewed Current is = cc
-none_renewed Claimed is = cc
-
-none_now : (low : Bool) (use_ : PageUse) → ◌≡◌ {A = PageUse} (if low then Current else renewed use_) Claimed → ⊥
-none_now true use_ is = cc
-none_now false use_ is = none_renewed use_ is
-
-pub none_claimed : (s t : State) (header : Header) → t ≡ published s header → (page : ℕ) → t.uses page ≡ Claimed → ⊥
-none_claimed s t header is page claimed = none_now (nat_lt page 2) (s.uses page) (sym (ap (λ (s : State). s.uses page) is) ∙ claimed)
+-- once a header was published its copy's pages are known, and nothing is claimed or kept
+pub published_rests : (s t : State) (header : Header) → t ≡ published s header → IsAtRest t
+published_rests s t header is = subst IsAtRest (sym is) (record { ready = record { known = refl; fine = refl }; idle = published_idle s header })
 
 module _ {D : Type 0} (contents : D → Option (List ℕ)) (count : D → ℕ) (moment : D → ℕ) (since : D → ℕ → List ℕ → Type 0) (s t : State) (old mid new : D) where
   -- the copy is written, and then published

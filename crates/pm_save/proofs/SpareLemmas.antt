@@ -7,11 +7,11 @@ use Rattle.pm_disk.specs.Disk.{LeavesOnly}
 use Rattle.pm_disk.proofs.RunLemmas.{started, weaker, joined}
 use Rattle.pm_shadow.specs.State.{State}
 use Rattle.pm_shadow.specs.Images.{Holds, IsSound}
-use Rattle.pm_shadow.specs.Copies.{KeepsNoFewer}
+use Rattle.pm_shadow.specs.Copies.{KeepsSamePages}
 use Rattle.pm_shadow.proofs.RunLemmas.{told_before}
 use Rattle.pm_plain.specs.Plain.{Opens}
 use Rattle.pm_plain.specs.Kept.{HasCopy}
-use Rattle.pm_plain.proofs.KeptLaws.{held_opens, held_has, fewer_has}
+use Rattle.pm_plain.proofs.KeptLaws.{held_opens, held_has, same_has}
 use Rattle.pm_save.specs.Running.{IsReady, Spares, GoesOn}
 
 -- contents that are told are told once
@@ -27,11 +27,11 @@ module _ {D : Type 0} (contents : D → Option (List ℕ)) (moment : D → ℕ) 
   }
 
   -- a run in which the current header and its pages stand spares their copy
-  pub spares_held : (s t : State) (old new : D) → KeepsNoFewer s t → ((bytes : List ℕ) → contents old ≡ Some bytes → LeavesOnly moment since old new (Holds t bytes)) → (made new).past ≡ (made old).past → Spares contents moment since made s old new
+  pub spares_held : (s t : State) (old new : D) → KeepsSamePages s t → ((bytes : List ℕ) → contents old ≡ Some bytes → LeavesOnly moment since old new (Holds t bytes)) → (made new).past ≡ (made old).past → Spares contents moment since made s old new
   spares_held s t old new same holds unread = record {
     leaves = λ copy bytes told has.
         weaker moment since old new (Holds t bytes) (λ left. Opens left s.header.epoch copy) (holds bytes told)
-        (λ left held. subst (λ (header : Header). Opens left header.epoch copy) same.header (held_opens t bytes left copy (fewer_has s t bytes copy same has) held));
+        (λ left held. subst (λ (header : Header). Opens left header.epoch copy) same.header (held_opens t bytes left copy (same_has s t bytes copy same has) held));
     unread = unread;
   }
 
@@ -69,18 +69,18 @@ module _ {D : Type 0} (contents : D → Option (List ℕ)) (count : D → ℕ) w
   }
 
   -- the pages change what they are used for, and the disk does not change
-  pub goes_by : (s t : State) (d : D) → IsReady t → KeepsNoFewer s t → GoesOn contents count s t d d
+  pub goes_by : (s t : State) (d : D) → IsReady t → KeepsSamePages s t → GoesOn contents count s t d d
   goes_by s t d ready same = record {
     ready = ready;
     header = same.header;
     still = refl;
     told = λ told. told;
     was_told = λ told. told;
-    has = λ copy was bytes then_told now_told has. fewer_has s t bytes copy same (subst (λ (b : List ℕ). HasCopy s b copy) (told_once (contents d) was bytes then_told now_told) has);
+    has = λ copy was bytes then_told now_told has. same_has s t bytes copy same (subst (λ (b : List ℕ). HasCopy s b copy) (told_once (contents d) was bytes then_told now_told) has);
   }
 
   -- a write of which each moment leaves the current header and its pages
-  pub goes_held : (moment : D → ℕ) (since : D → ℕ → List ℕ → Type 0) (image : D → List ℕ → Type 0) (s t u : State) (old new : D) (f : List ℕ → List ℕ) → KeepsNoFewer s t → KeepsNoFewer t u → IsReady u
+  pub goes_held : (moment : D → ℕ) (since : D → ℕ → List ℕ → Type 0) (image : D → List ℕ → Type 0) (s t u : State) (old new : D) (f : List ℕ → List ℕ) → KeepsSamePages s t → KeepsSamePages t u → IsReady u
       → count new ≡ count old → contents new ≡ option_map f (contents old) → ((bytes : List ℕ) → contents old ≡ Some bytes → LeavesOnly moment since old new (Holds t bytes))
       → ((bytes : List ℕ) → contents new ≡ Some bytes → image new bytes) → ((t : ℕ) (bytes : List ℕ) → t ≤ moment new → image new bytes → since new t bytes) → GoesOn contents count s u old new
   goes_held moment since image s t u old new f one two ready still is holds stay counts = record {
@@ -92,5 +92,5 @@ module _ {D : Type 0} (contents : D → Option (List ℕ)) (count : D → ℕ) w
     has = λ copy was bytes then_told now_told has.
         let run = holds was then_told in
         let held = run.each bytes (counts (moment old) bytes run.later (stay bytes now_told)) in
-        fewer_has t u bytes copy two (held_has t was bytes copy (fewer_has s t was copy one has) held);
+        same_has t u bytes copy two (held_has t was bytes copy (same_has s t was copy one has) held);
   }

@@ -16,6 +16,10 @@ use Rattle.pm_model.specs.Copying.{copied}
 use Rattle.pm_model.specs.Plain.{IsPlainObject, IsPlain, IsPlainCopy}
 use Rattle.pm_types.proofs.Orders.{names_total}
 use Rattle.pm_model.proofs.Unused.{tied_nat}
+use Rattle.pm_shadow.specs.Uses.{IsListed}
+use Rattle.pm_shadow.specs.State.{State, attached, known_by}
+use Rattle.pm_shadow.proofs.CopyLemmas.{listed_idle}
+use Rattle.pm_save.specs.Running.{IsAtRest}
 use Rattle.pm_model.proofs.Reached.{copied_kept, copied_reached, copied_again}
 
 some_is : {X : Type 0} (o : Option X) (x : X) → o ≡ Some x → IsSome o
@@ -95,3 +99,10 @@ one_is_plain bytes name short =
 pub one_plain : (heap : Heap) (roots : Roots) (copy : Copy) (bytes name : List ℕ) → heap ≡ insert empty 1 (fresh 2 bytes) → roots ≡ insert empty name 1 → length bytes ≤ OBJECT_BYTES → copy ≡ copied heap roots 2 → IsPlainCopy copy
 unfolding no_heap no_roots
 one_plain heap roots copy bytes name one named short is = subst IsPlainCopy (sym (is ∙ (λ i. copied (one i) (named i) 2))) (plain_copied _ _ 2 (one_is_plain bytes name short))
+
+-- a store of which the pages were listed
+pub listed_rests : (s t : State) (pages : List ℕ) → s ≡ attached s.slot s.header s.count s.closed → t ≡ known_by s t.uses → IsListed pages t.uses → IsAtRest t
+listed_rests s t pages begun is listed = record {
+  ready = record { known = ap (λ (x : State). x.known) is; fine = ap (λ (x : State). x.failed) is ∙ ap (λ (x : State). x.failed) begun };
+  idle = listed_idle pages t.uses listed;
+}

@@ -1,5 +1,5 @@
 -- The pages that were claimed and written for the next copy.
-use Rattle.std.specs.Prelude.{◌≡◌, ℕ, ◌≤◌, List, length, map, Option, option_map}
+use Rattle.std.specs.Prelude.{◌≡◌, ℕ, ◌≤◌, true, List, Contains, length, map, Option, option_map}
 use Rattle.std.specs.List.{AllByRecursion}
 use Rattle.pm_types.specs.declared.limits.TheConstants.{PAGE_BYTES}
 use Rattle.pm_disk.specs.Disk.{IfTold}
@@ -8,6 +8,7 @@ use Rattle.pm_image.specs.declared.catalog.CatalogPage.{CatalogPage}
 use Rattle.pm_image.specs.declared.settled.KeptPage.{KeptPage}
 use Rattle.pm_image.specs.Opening.{page_of}
 use Rattle.pm_shadow.specs.declared.page_use.PageUse.TheVariants.{Free}
+use Rattle.pm_shadow.specs.Uses.{is_next}
 use Rattle.pm_shadow.specs.State.{State, with_claimed, with_page}
 use Rattle.pm_shadow.specs.Images.{place_of}
 use Rattle.pm_shadow.specs.Copies.{IsNext}
@@ -18,15 +19,16 @@ use Rattle.pm_plain.specs.Laid.{AreApart}
 abbrev pub Put : Type 0
 Put = ℕ × List ℕ
 
--- the page was claimed, is there, and has these bytes
+-- the page is one of the next copy, is there, and has these bytes
 pub record IsPut (s : State) (bytes : List ℕ) (put : Put) : Type 0 where
   pub next : IsNext s bytes put.0
   pub page : page_of bytes put.0 ≡ put.1
 
--- each of these pages was claimed and has its bytes, and none stands twice
+-- these are the pages of the next copy: each has its bytes, none stands twice, and there are no others
 pub record ArePut (s : State) (bytes : List ℕ) (puts : List Put) : Type 0 where
   pub each : AllByRecursion (IsPut s bytes) puts
   pub apart : AreApart (map (λ (put : Put). put.0) puts)
+  pub only : (page : ℕ) → is_next (s.uses page) ≡ true → Contains (map (λ (put : Put). put.0) puts) page
 
 -- the same where the disk tells its contents
 abbrev pub ArePutIfTold : State → Option (List ℕ) → List Put → Type 0

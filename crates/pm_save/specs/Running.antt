@@ -4,7 +4,7 @@ use Rattle.pm_base.specs.Counts.{Rose}
 use Rattle.pm_disk.specs.Made.{Made}
 use Rattle.pm_disk.specs.Disk.{LeavesOnly}
 use Rattle.pm_model.specs.World.{Copy}
-use Rattle.pm_shadow.specs.State.{State}
+use Rattle.pm_shadow.specs.State.{State, IsIdle}
 use Rattle.pm_plain.specs.Plain.{Opens}
 use Rattle.pm_plain.specs.Kept.{HasCopy}
 use Rattle.pm_save.specs.declared.fault.SaveFault.{SaveFault}
@@ -14,6 +14,11 @@ use Rattle.pm_save.specs.declared.fault.SaveFault.TheVariants.{Disk, Memory}
 pub record IsReady (s : State) : Type 0 where
   pub known : s.known ≡ true
   pub fine : s.failed ≡ false
+
+-- the same, and nothing is claimed or kept for a next copy
+pub record IsAtRest (s : State) : Type 0 where
+  pub ready : IsReady s
+  pub idle : IsIdle s
 
 -- the disk tells its contents
 abbrev pub IsTold : Option (List ℕ) → Type 0

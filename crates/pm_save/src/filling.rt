@@ -3,6 +3,7 @@ ghost use Rattle.std.specs.Prelude.{◌≡◌, ℕ, ◌+◌, ◌^◌, ◌<◌, �
 ghost use Rattle.std.specs.FinMap as map;
 ghost use Rattle.pm_model.specs.Plain.{IsPlainObject};
 ghost use Rattle.pm_image.specs.CarPages.{car_used};
+ghost use Rattle.pm_shadow.specs.State.{IsIdle};
 ghost use Rattle.pm_shadow.specs.Pages.{state, disk_of};
 ghost use Rattle.pm_plain.specs.Laying.{Item, plain_slot};
 ghost use Rattle.pm_plain.proofs.CarsLaid.{AreGiven};
@@ -185,6 +186,7 @@ fn fill<D: Disk>(
     objects: &Objects,
 ) -> Result<Filling, SaveFault>
     requires ready { IsReady (state pages.old) }
+    requires idle { IsIdle (state pages.old) }
     requires given { (next : ℕ) × (next ≤ 4294967296) × AreGiven next 0 (map.entries objects.now) }
     ensures filling { IfOk result (λ filling. IsGoing (state pages.new) (D.contents (disk_of pages.new)) (map.entries objects.now) filling) }
     ensures goes { OnOk result (GoesOn D.contents D.count (state pages.old) (state pages.new) (disk_of pages.old) (disk_of pages.new)) }
@@ -224,6 +226,7 @@ pub(crate) fn lay_cars<D: Disk>(
     objects: &Objects,
 ) -> Result<Filling, SaveFault>
     requires ready { IsReady (state pages.old) }
+    requires idle { IsIdle (state pages.old) }
     requires given { (next : ℕ) × (next ≤ 4294967296) × AreGiven next 0 (map.entries objects.now) }
     ensures filling { IfOk result (λ filling. IsEnded (state pages.new) (D.contents (disk_of pages.new)) (map.entries objects.now) filling) }
     ensures goes { OnOk result (GoesOn D.contents D.count (state pages.old) (state pages.new) (disk_of pages.old) (disk_of pages.new)) }

@@ -12,7 +12,7 @@ ghost use Rattle.pm_shadow.specs.State.{with_closed, published};
 ghost use Rattle.pm_shadow.specs.Pages.{state, disk_of};
 ghost use Rattle.pm_plain.specs.Plain.{Opens};
 ghost use Rattle.pm_plain.specs.Kept.{HasCopy, HasNextCopy};
-ghost use Rattle.pm_save.specs.Running.{IsReady, IsTold, Spares, GoesOn, HasCause, OnMemory};
+ghost use Rattle.pm_save.specs.Running.{IsReady, IsAtRest, IsTold, Spares, GoesOn, HasCause, OnMemory};
 ghost use Rattle.pm_save.specs.Filling.{ArePlacedRoots};
 ghost use Rattle.pm_save.specs.Cutting.{joined, AllFit};
 ghost use Rattle.pm_save.specs.Saved.{IsLaid, IsLaidOut, AreStill};
@@ -28,7 +28,7 @@ use pm_disk::Disk;
 use pm_image::EntryList;
 use pm_layout::Header;
 use pm_model::{Graph, Roots};
-use pm_shadow::{PageUse, Pages};
+use pm_shadow::Pages;
 use pm_types::{NoMemory, VERSION};
 use std::alloc::Global;
 
@@ -56,7 +56,7 @@ fn write_copy<D: Disk>(
     pages: &mut Pages<D>,
     copy: &Graph,
 ) -> Result<NewPage, SaveFault>
-    requires ready { IsReady (state pages.old) }
+    requires rest { IsAtRest (state pages.old) }
     requires plain { IsPlainCopy copy.now }
     ensures laid { IfOk result (λ first. IfTold (D.contents (disk_of pages.new)) (λ bytes. IsLaid (state pages.new) bytes copy.now first)) }
     ensures goes { OnOk result (GoesOn D.contents D.count (state pages.old) (state pages.new) (disk_of pages.old) (disk_of pages.new)) }
@@ -85,7 +85,7 @@ fn close_gate<D: Disk>(pages: &mut Pages<D>) -> Result<(), SaveFault>
     Ok(())
 }
 
-/// Makes this header the current one, whose copy stands on pages that were claimed.
+/// Makes this header the current one, whose copy stands on the pages that were claimed or kept.
 fn publish<D: Disk>(pages: &mut Pages<D>, header: &Header) -> Result<(), SaveFault>
     requires ready { IsReady (state pages.old) }
     requires spelled { HasHeaderSpelling header.now }
@@ -124,8 +124,7 @@ pub fn settle<D: Disk>(
     number: u32,
     copy: &Graph,
 ) -> Result<(), SaveFault>
-    requires known { (state pages.old).known ≡ true }
-    requires fine { (state pages.old).failed ≡ false }
+    requires rest { IsAtRest (state pages.old) }
     requires later { (state pages.old).header.epoch < number }
     requires plain { IsPlainCopy copy.now }
     // The pages hold this copy now.
@@ -133,9 +132,8 @@ pub fn settle<D: Disk>(
     // It is laid out on pages of its own, each filled before the next.
     ensures laid { OnOk result (IfTold (D.contents (disk_of pages.new)) (λ bytes. IsLaidOut (state pages.new).count bytes copy.now)) }
     ensures header { OnOk result ((state pages.new).header.epoch ≡ number) }
-    ensures known { OnOk result ((state pages.new).known ≡ true) }
-    ensures fine { OnOk result ((state pages.new).failed ≡ false) }
-    ensures unclaimed { OnOk result ((page : ℕ) → (state pages.new).uses page ≡ PageUse.Claimed → ⊥) }
+    // Its pages are known, and nothing is claimed or kept.
+    ensures rest { OnOk result (IsAtRest (state pages.new)) }
     ensures told { OnOk result (IsTold (D.contents (disk_of pages.old)) → IsTold (D.contents (disk_of pages.new))) }
     // A crash after the call leaves this copy.
     ensures now { OnOk result ((was : List ℕ) → D.contents (disk_of pages.old) ≡ Some was → (image : List ℕ) → D.image (disk_of pages.new) image → Opens image number copy.now) }

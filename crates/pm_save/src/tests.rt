@@ -9,7 +9,10 @@ use std::test::Fail;
 fn a_copy_without_an_object_has_a_catalog_page(rt: HostRuntime) -> Result<(), Fail> {
     let alloc = rt.alloc();
     let mut disk = MemDisk::new(Vec::new(alloc), Vec::new(alloc));
-    assert_eq!(rt; init(alloc, &mut disk), Ok(()));
+    let Ok(()) = init(alloc, &mut disk) else {
+        assert!(rt; false, "init");
+        return Ok(());
+    };
     let Ok(mut pages) = Pages::attach(alloc, disk) else {
         assert!(rt; false, "attach");
         return Ok(());
@@ -49,7 +52,10 @@ static ROOT: [u8; 15] = [2, 1, 0x61, 0, 0, 0, 0, 0, 0, 0, 1, 0, 0, 0, 0];
 fn an_object_and_its_name_are_laid_out(rt: HostRuntime) -> Result<(), Fail> {
     let alloc = rt.alloc();
     let mut disk = MemDisk::new(Vec::new(alloc), Vec::new(alloc));
-    assert_eq!(rt; init(alloc, &mut disk), Ok(()));
+    let Ok(()) = init(alloc, &mut disk) else {
+        assert!(rt; false, "init");
+        return Ok(());
+    };
     let Ok(mut pages) = Pages::attach(alloc, disk) else {
         assert!(rt; false, "attach");
         return Ok(());

@@ -6,4 +6,5 @@ pub mod HoldLemmas
 pub mod SoundLemmas
 pub mod AttachLemmas
 pub mod BlankLemmas
+pub mod UsedLemmas
 pub mod CopyLemmas

@@ -1,8 +1,9 @@
 -- What is known of a disk stays known.
-use Rattle.std.proofs.Common.{◌≡◌, ◌⊎◌, inl, inr, ℕ, ◌+◌, ◌/◌, ◌<◌, ◌≤◌, max, Bool, true, false, List, length, Option, Some, refl, sym, ◌∙◌, ap, subst, arith}
-use Rattle.std.specs.Prelude.{Result, Ok, Err, IfOk, OnErr, option_map, All, Contains, ◌==◌, if◌then◌else◌}
-use Rattle.pm_shadow.specs.Uses.{with_use, forgotten, IsListed}
-use Rattle.pm_shadow.specs.declared.page_use.PageUse.TheVariants.{Free, Current, Claimed}
+use Rattle.std.proofs.Common.{◌≡◌, ◌⊎◌, inl, inr, ℕ, ◌+◌, ◌-◌, ◌/◌, ◌<◌, ◌≤◌, max, Bool, true, false, List, length, Option, Some, refl, sym, ◌∙◌, ap, subst, arith}
+use Rattle.std.specs.Prelude.{Result, Ok, Err, IfOk, OnErr, option_map, All, Contains, nat_lt, slice_index_or, [], ◌==◌, if◌then◌else◌}
+use Rattle.pm_shadow.specs.Uses.{use_of, with_use, is_current, abandoned, abandoned_uses, IsListed}
+use Rattle.pm_shadow.specs.declared.page_use.PageUse.TheVariants.{Free, Current, Claimed, Kept}
+use Rattle.std.proofs.lemmas.Bool.{eqb-true}
 use Rattle.pm_types.specs.declared.limits.TheConstants.{PAGE_BYTES}
 use Rattle.pm_disk.specs.Writes.{written, Torn, TornIfTold}
 use Rattle.pm_disk.specs.Disk.{OnlyTorn, Elapses, LeavesOnly}
@@ -11,7 +12,7 @@ use Rattle.pm_disk.proofs.WriteLemmas.{torn_written, length-written}
 use Rattle.pm_image.specs.Opening.{page_count, is_open, greater_slot, epoch_in}
 use Rattle.pm_layout.specs.declared.header.Header.{Header}
 use Rattle.pm_shadow.specs.declared.page_use.PageUse.{PageUse}
-use Rattle.pm_shadow.specs.State.{State, IsListable, keeps, keeps_by, known_by, with_uses, with_claimed, with_count, other, with_closed, published_with}
+use Rattle.pm_shadow.specs.State.{State, IsKeepable, keeps, keeps_by, known_by, with_uses, with_claimed, with_kept, abandoned_in, with_count, other, with_closed, published_with}
 use Rattle.pm_shadow.specs.Images.{Heads, Holds, Renews, IsSound, place_of}
 use Rattle.pm_shadow.proofs.RunLemmas.{torn_before}
 use Rattle.pm_shadow.proofs.SlotLemmas.{count_le}
@@ -119,23 +120,51 @@ sound_claimed s page bytes images = keeps_fewer s (with_claimed s page) bytes im
           | inr differs ↦ sym (ap (λ (b : Bool). keeps_by s.known (if b then Claimed else s.uses q)) differs) ∙ kept
         ]
 
--- the pages of the current copy are known
-pub sound_listed : (s : State) (pages : List ℕ) (new : ℕ → PageUse) (bytes : List ℕ) (images : List ℕ → Type 0) → All (IsListable s) pages → IsListed pages s.uses new → IsSound s bytes images → IsSound (known_by s new) bytes images
-sound_listed s pages new bytes images listable is = keeps_fewer s (known_by s new) bytes images refl refl refl refl refl fewer
-  where
-    lost : (u : PageUse) → keeps_by true (forgotten u) ≡ false
-    lost Free = refl
-    lost Current = refl
-    lost Claimed = refl
+-- where no page is used, the current copy may stand on any
+kept_any : (known : Bool) (uses : ℕ → PageUse) (page : ℕ) → known ≡ false → uses ≡ use_of [] → keeps_by known (uses page) ≡ true
+kept_any known uses page unknown unused =
+    (λ i. keeps_by (unknown i) (unused i page)) ∙ elim (nat_lt page 2) as (λ b. keeps_by false (if b then Current else slice_index_or [] (page - 2) Free) ≡ true) [ true ↦ refl | false ↦ refl ]
 
-    fewer : (q : ℕ) → 2 ≤ q → keeps_by true (new q) ≡ true → keeps s q ≡ true
+-- the pages of the current copy are known
+pub sound_listed : (s : State) (new : ℕ → PageUse) (bytes : List ℕ) (images : List ℕ → Type 0) → s.known ≡ false → s.uses ≡ use_of [] → IsSound s bytes images → IsSound (known_by s new) bytes images
+sound_listed s new bytes images unknown unused = keeps_fewer s (known_by s new) bytes images refl refl refl refl refl (λ page low kept. kept_any s.known s.uses page unknown unused)
+
+-- a page of the current copy is kept for the next one
+pub sound_kept : (s : State) (page : ℕ) (bytes : List ℕ) (images : List ℕ → Type 0) → keeps s page ≡ true → IsSound s bytes images → IsSound (with_kept s page) bytes images
+sound_kept s page bytes images had = keeps_fewer s (with_kept s page) bytes images refl refl refl refl refl fewer
+  where
+    fewer : (q : ℕ) → 2 ≤ q → keeps_by s.known (with_use page Kept s.uses q) ≡ true → keeps_by s.known (s.uses q) ≡ true
     fewer q low kept =
-        elim (either (keeps s q)) [
-          | inl had ↦ had
-          | inr not_kept ↦
-              let not_there : Contains pages q → ⊥ = λ there. let had : keeps s q ≡ true = subst (λ (p : ℕ). keeps s p ≡ true) there.2 ((listable there.0 q there.1).kept) in absurd (cc (had, not_kept)) in
-              let gone : keeps_by true (new q) ≡ false = ap (keeps_by true) (is.others q low not_there) ∙ lost (s.uses q) in
-              absurd (cc (kept, gone))
+        elim (either (q == page)) [
+          | inl same ↦ let here : q ≡ page = eqb-true q page same in ap (keeps s) here ∙ had
+          | inr differs ↦ sym (ap (λ (b : Bool). keeps_by s.known (if b then Kept else s.uses q)) differs) ∙ kept
+        ]
+
+kept_current : (u : PageUse) → keeps_by true u ≡ true → is_current u ≡ true
+kept_current Free is = absurd (cc)
+kept_current Current is = refl
+kept_current Claimed is = absurd (cc)
+kept_current Kept is = refl
+
+-- it is one that is known to be such
+pub known_current : (s : State) (page : ℕ) → IsKeepable s page → is_current (s.uses page) ≡ true
+known_current s page is = kept_current (s.uses page) (ap (λ (b : Bool). keeps_by b (s.uses page)) (sym is.known) ∙ is.kept)
+
+pub still_kept : (u : PageUse) → keeps_by true (abandoned u) ≡ keeps_by true u
+still_kept Free = refl
+still_kept Current = refl
+still_kept Claimed = refl
+still_kept Kept = refl
+
+-- the next copy is given up
+pub sound_abandoned : (s : State) (bytes : List ℕ) (images : List ℕ → Type 0) → (s.known ≡ false → s.uses ≡ use_of []) → IsSound s bytes images → IsSound (abandoned_in s) bytes images
+sound_abandoned s bytes images unused = keeps_fewer s (abandoned_in s) bytes images refl refl refl refl refl fewer
+  where
+    fewer : (q : ℕ) → 2 ≤ q → keeps_by s.known (abandoned (s.uses q)) ≡ true → keeps_by s.known (s.uses q) ≡ true
+    fewer q low kept =
+        elim (either s.known) [
+          | inl known ↦ ap (λ (b : Bool). keeps_by b (s.uses q)) known ∙ sym (still_kept (s.uses q)) ∙ ap (λ (b : Bool). keeps_by b (abandoned (s.uses q))) (sym known) ∙ kept
+          | inr unknown ↦ kept_any s.known s.uses q unknown (unused unknown)
         ]
 
 -- whether a page was claimed or not

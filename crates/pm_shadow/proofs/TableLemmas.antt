@@ -3,12 +3,12 @@ use Rattle.std.proofs.Common.{◌≡◌, ◌≢◌, ℕ, zero, suc, Bool, true, 
 use Rattle.std.proofs.Math.ListN.{set}
 use Rattle.std.proofs.Math.Seq.{set-append_seam}
 use Rattle.std.specs.Prelude.{All, reverse, if◌then◌else◌}
-use Rattle.pm_shadow.specs.Uses.{IsListed, marked, use_of, free_from, forgotten, IsLowestFree, with_use}
+use Rattle.pm_shadow.specs.Uses.{IsListed, marked, use_of, free_from, is_free, is_current, abandoned, abandoned_uses, IsLowestFree, with_use}
 use Rattle.pm_shadow.specs.declared.page_use.PageUse.{PageUse}
-use Rattle.pm_shadow.specs.declared.page_use.PageUse.TheVariants.{Free, Current, Claimed}
+use Rattle.pm_shadow.specs.declared.page_use.PageUse.TheVariants.{Free, Current, Claimed, Kept}
 use Rattle.std.proofs.lemmas.List.{map-append, take_more, length-map, length-take-le, append_assoc, get_or-append_right, get_or_past, get_or_append_left, reverse-append, reverse-reverse, get_or-set_other, get_or-map, get_or-replicate, length-replicate, get_or_default}
 use Rattle.std.proofs.lemmas.Grind.{get_or-set_at}
-use Rattle.std.proofs.lemmas.Bool.{cases_lt, lt-ltb, le-ltb, eqb-true, eq-eqb}
+use Rattle.std.proofs.lemmas.Bool.{cases_lt, cases_eq, lt-ltb, le-ltb, eqb-true, eq-eqb}
 
 module _ {A : Type 0} (f : A → A) where
   -- the next element of a list is changed
@@ -75,6 +75,13 @@ first_free n (Claimed ∷ uses) page rest is =
     later : (t : IsFirst (n + 1) uses page rest) (j : ℕ) → j < suc t.i → get_or (Claimed ∷ uses) j Free ≢ Free
     later t zero lt = λ e. absurd (cc)
     later t (suc j) lt = t.lowest j (omega arith)
+first_free n (Kept ∷ uses) page rest is =
+    let t = first_free (n + 1) uses page rest is in
+    record { i = suc t.i; is_page = omega (arith, t.is_page); inside = omega (arith, t.inside); free = t.free; lowest = later t; left = t.left }
+  where
+    later : (t : IsFirst (n + 1) uses page rest) (j : ℕ) → j < suc t.i → get_or (Kept ∷ uses) j Free ≢ Free
+    later t zero lt = λ e. absurd (cc)
+    later t (suc j) lt = t.lowest j (omega arith)
 
 -- no page of the list is free
 pub none_free : (n : ℕ) (uses : List PageUse) → free_from n uses ≡ [] → (j : ℕ) → j < length uses → get_or uses j Free ≢ Free
@@ -84,6 +91,8 @@ none_free n (Current ∷ uses) is zero lt = λ e. absurd (cc)
 none_free n (Current ∷ uses) is (suc j) lt = none_free (n + 1) uses is j (omega arith)
 none_free n (Claimed ∷ uses) is zero lt = λ e. absurd (cc)
 none_free n (Claimed ∷ uses) is (suc j) lt = none_free (n + 1) uses is j (omega arith)
+none_free n (Kept ∷ uses) is zero lt = λ e. absurd (cc)
+none_free n (Kept ∷ uses) is (suc j) lt = none_free (n + 1) uses is j (omega arith)
 
 -- a claimed page behind the list is not free
 pub free_push : (n : ℕ) (uses : List PageUse) → free_from n (uses ++ Claimed ∷ []) ≡ free_from n uses
@@ -91,6 +100,19 @@ free_push n [] = refl
 free_push n (Free ∷ uses) = ap (λ (t : List ℕ). n ∷ t) (free_push (n + 1) uses)
 free_push n (Current ∷ uses) = free_push (n + 1) uses
 free_push n (Claimed ∷ uses) = free_push (n + 1) uses
+free_push n (Kept ∷ uses) = free_push (n + 1) uses
+
+-- nor is one in it that is kept, where it was not free
+pub free_kept : (n : ℕ) (uses : List PageUse) (i : ℕ) → is_current (get_or uses i Free) ≡ true → free_from n (set uses i Kept) ≡ free_from n uses
+free_kept n [] i is = refl
+free_kept n (Free ∷ uses) zero is = absurd (cc)
+free_kept n (Current ∷ uses) zero is = refl
+free_kept n (Claimed ∷ uses) zero is = absurd (cc)
+free_kept n (Kept ∷ uses) zero is = refl
+free_kept n (Free ∷ uses) (suc i) is = ap (λ (t : List ℕ). n ∷ t) (free_kept (n + 1) uses i is)
+free_kept n (Current ∷ uses) (suc i) is = free_kept (n + 1) uses i is
+free_kept n (Claimed ∷ uses) (suc i) is = free_kept (n + 1) uses i is
+free_kept n (Kept ∷ uses) (suc i) is = free_kept (n + 1) uses i is
 
 -- ---- the use of a page
 
@@ -195,29 +217,73 @@ length-marked [] uses = refl
 length-marked (page ∷ pages) uses = length-marked pages (set uses (page - 2) Current) ∙ length-set uses (page - 2) Current
 
 -- the list made anew, before the pages are marked
-forgotten_at : (uses : List PageUse) (more i : ℕ) → get_or (map forgotten uses ++ replicate more Free) i Free ≡ forgotten (get_or uses i Free)
-forgotten_at uses more i =
-    elim (cases_lt i (length uses)) [
-      | inl inside ↦ get_or_append_left (map forgotten uses) (replicate more Free) Free i (omega (arith, length-map uses forgotten)) ∙ get_or-map forgotten uses i Free Free inside
-      | inr past ↦
-          get_or-append_right (map forgotten uses) (replicate more Free) (length uses) i Free (length-map uses forgotten) past ∙ all_free more (i - length uses) ∙ ap forgotten (sym (get_or_past uses i Free past))
-    ]
-  where
-    all_free : (n i : ℕ) → get_or (replicate n Free) i Free ≡ Free
-    all_free n i = elim (cases_lt i n) [ inl lt ↦ get_or-replicate n i Free Free lt | inr past ↦ get_or_past (replicate n Free) i Free (omega (arith, length-replicate {A = PageUse} n Free)) ]
+all_free : (n i : ℕ) → get_or (replicate n Free) i Free ≡ Free
+all_free n i = elim (cases_lt i n) [ inl lt ↦ get_or-replicate n i Free Free lt | inr past ↦ get_or_past (replicate n Free) i Free (omega (arith, length-replicate {A = PageUse} n Free)) ]
 
-pub is_listed : (pages : List ℕ) (uses new : List PageUse) (more : ℕ) → new ≡ marked pages (map forgotten uses ++ replicate more Free) → All (λ page. 2 ≤ page) pages → All (λ page. page < length uses + more + 2) pages → IsListed pages (use_of uses) (use_of new)
-is_listed pages uses new more is low within = record {
+pub is_listed : (pages : List ℕ) (new : List PageUse) (len : ℕ) → new ≡ marked pages (replicate len Free) → All (λ page. 2 ≤ page) pages → All (λ page. page < len + 2) pages → IsListed pages (use_of new)
+is_listed pages new len is low within = record {
+  headers = λ page under. use_low new page under;
   listed = λ page there.
       let from_2 : 2 ≤ page = subst (λ (p : ℕ). 2 ≤ p) there.2 (low there.0 page there.1) in
-      let below : page < length uses + more + 2 = subst (λ (p : ℕ). p < length uses + more + 2) there.2 (within there.0 page there.1) in
+      let below : page < len + 2 = subst (λ (p : ℕ). p < len + 2) there.2 (within there.0 page there.1) in
       use_high new page from_2 ∙ ap (λ (t : List PageUse). get_or t (page - 2) Free) is
-      ∙ marked_here pages (map forgotten uses ++ replicate more Free) page there.0 there.1 there.2 (omega (arith, length-append (map forgotten uses) (replicate more Free), length-map uses forgotten, length-replicate {A = PageUse} more Free));
+      ∙ marked_here pages (replicate len Free) page there.0 there.1 there.2 (omega (arith, length-replicate {A = PageUse} len Free));
   others = λ page from_2 not_there.
       use_high new page from_2 ∙ ap (λ (t : List PageUse). get_or t (page - 2) Free) is
-      ∙ marked_others pages (map forgotten uses ++ replicate more Free) (page - 2) (λ k lt e. not_there (k, lt, same_page page from_2 k lt e))
-      ∙ forgotten_at uses more (page - 2) ∙ ap forgotten (sym (use_high uses page from_2));
+      ∙ marked_others pages (replicate len Free) (page - 2) (λ k lt e. not_there (k, lt, same_page page from_2 k lt e)) ∙ all_free len (page - 2);
 }
   where
     same_page : (page : ℕ) → 2 ≤ page → (k : ℕ) → k < length pages → page - 2 ≡ get_or pages k 0 - 2 → get_or pages k page ≡ page
     same_page page from_2 k lt e = get_or_default pages k page 0 lt ∙ (let at_least = low k 0 lt in omega arith)
+
+-- ---- a page of the current copy is kept
+
+-- it stands in the list
+pub current_in_list : (uses : List PageUse) (page : ℕ) → 2 ≤ page → is_current (use_of uses page) ≡ true → page - 2 < length uses
+current_in_list uses page low is =
+    elim (cases_lt (page - 2) (length uses)) [
+      | inl inside ↦ inside
+      | inr past ↦ let free : is_current (use_of uses page) ≡ false = ap is_current (use_high uses page low ∙ get_or_past uses (page - 2) Free past) in absurd (cc (is, free))
+    ]
+
+use_kept : (uses : List PageUse) (page q : ℕ) → 2 ≤ page → page - 2 < length uses → use_of (set uses (page - 2) Kept) q ≡ with_use page Kept (use_of uses) q
+use_kept uses page q low inside =
+    elim (cases_lt q 2) [
+      | inl under ↦ use_low (set uses (page - 2) Kept) q under ∙ sym (other_use (omega arith) ∙ use_low uses q under)
+      | inr high ↦ elim (cases_eq q page) [
+        | inl here ↦ use_high (set uses (page - 2) Kept) q high ∙ get_or-set_at uses (page - 2) (q - 2) Kept Free (omega (arith, here)) inside ∙ sym (this_use here)
+        | inr apart ↦ use_high (set uses (page - 2) Kept) q high ∙ get_or-set_other uses (page - 2) (q - 2) Kept Free (λ e. apart (omega (arith, e))) ∙ sym (other_use apart ∙ use_high uses q high)
+      ]
+    ]
+  where
+    other_use : (q ≡ page → ⊥) → with_use page Kept (use_of uses) q ≡ use_of uses q
+    other_use ne = ap (λ (b : Bool). if b then Kept else use_of uses q) (differs q page ne)
+
+    this_use : q ≡ page → with_use page Kept (use_of uses) q ≡ Kept
+    this_use e = ap (λ (b : Bool). if b then Kept else use_of uses q) (eq-eqb q page e)
+
+pub uses_kept : (uses : List PageUse) (page : ℕ) → 2 ≤ page → page - 2 < length uses → use_of (set uses (page - 2) Kept) ≡ with_use page Kept (use_of uses)
+uses_kept uses page low inside = λ i q. use_kept uses page q low inside i
+
+-- ---- the next copy is given up
+
+use_abandoned : (uses : List PageUse) (page : ℕ) → use_of (map abandoned uses) page ≡ abandoned (use_of uses page)
+use_abandoned uses page =
+    elim (cases_lt page 2) [
+      | inl low ↦ use_low (map abandoned uses) page low ∙ ap abandoned (sym (use_low uses page low))
+      | inr high ↦ use_high (map abandoned uses) page high ∙ there (page - 2) ∙ ap abandoned (sym (use_high uses page high))
+    ]
+  where
+    there : (i : ℕ) → get_or (map abandoned uses) i Free ≡ abandoned (get_or uses i Free)
+    there i =
+        elim (cases_lt i (length uses)) [
+          | inl inside ↦ get_or-map abandoned uses i Free Free inside
+          | inr past ↦ get_or_past (map abandoned uses) i Free (omega (arith, length-map uses abandoned)) ∙ ap abandoned (sym (get_or_past uses i Free past))
+        ]
+
+pub uses_abandoned : (uses : List PageUse) → use_of (map abandoned uses) ≡ abandoned_uses (use_of uses)
+uses_abandoned uses = λ i page. use_abandoned uses page i
+
+-- where no page is used, none is then
+pub none_abandoned : (uses : ℕ → PageUse) → uses ≡ use_of [] → abandoned_uses uses ≡ use_of []
+none_abandoned uses unused = ap abandoned_uses unused ∙ sym (uses_abandoned [])

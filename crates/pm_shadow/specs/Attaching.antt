@@ -8,7 +8,7 @@ use Rattle.pm_layout.specs.Headers.{header_at}
 use Rattle.pm_layout.specs.Reading.{number_from}
 use Rattle.pm_image.specs.Opening.{Current, current, greater_slot, sound_header, open_gate, is_open, gate_place, header_body_of, page_count}
 use Rattle.std.specs.Prelude.{slice_index}
-use Rattle.pm_shadow.specs.State.{other}
+use Rattle.pm_shadow.specs.State.{State, other}
 use Rattle.pm_shadow.specs.declared.attaching.Found.{Found}
 use Rattle.pm_shadow.specs.declared.attaching.SlotRead.{SlotRead}
 use Rattle.pm_shadow.specs.declared.attaching.Seen.{Seen}
@@ -50,6 +50,12 @@ pub record IsFoundIn (bytes : List ℕ) (images : List ℕ → Type 0) (found : 
   pub count : found.count ≡ page_count bytes
   pub now : current bytes ≡ Ok (record { slot = found.slot; header = found.header })
   pub closed : found.closed ≡ not (is_open bytes (other found.slot))
+
+-- the header that was found is the current one of these bytes, and what is known beside it is so
+pub record HasFound (s : State) (bytes : List ℕ) : Type 0 where
+  pub now : current bytes ≡ Ok (record { slot = s.slot; header = s.header })
+  pub count : s.count ≡ page_count bytes
+  pub closed : s.closed ≡ not (is_open bytes (other s.slot))
 
 -- a slot as it was read
 pub record IsSlotOf (bytes : List ℕ) (slot : ℕ) (read : SlotRead) : Type 0 where

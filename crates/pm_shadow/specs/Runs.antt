@@ -1,7 +1,11 @@
 -- What runs of calls of a disk leave.
 use Rattle.std.specs.Prelude.{◌≡◌, ℕ, List, Option}
 use Rattle.pm_disk.specs.Writes.{Torn}
-use Rattle.pm_disk.specs.Disk.{SameImages, LeavesOnly}
+use Rattle.pm_disk.specs.Disk.{IfTold, SameImages, LeavesOnly}
+
+-- a crash leaves what the disk holds, and nothing else
+abbrev pub IsSynced : Option (List ℕ) → (List ℕ → Type 0) → Type 0
+IsSynced contents image = IfTold contents (λ bytes. (left : List ℕ) → image left → left ≡ bytes)
 
 -- an image from before, with the write of n bytes cut short in it
 abbrev pub IsCut : ℕ → ℕ → (List ℕ → Type 0) → List ℕ → Type 0

@@ -1,9 +1,11 @@
 -- What contracts see of the pages of a store, beside the disk.
-use Rattle.std.specs.Prelude.{◌≡◌, ℕ, ◌-◌, ◌+◌, ◌<◌, ◌≤◌, Bool, true, false, not, [], max}
+use Rattle.std.specs.Prelude.{◌≡◌, ℕ, ◌-◌, ◌+◌, ◌<◌, ◌≤◌, Bool, true, false, not, List, [], length, max}
 use Rattle.pm_layout.specs.declared.header.Header.{Header}
 use Rattle.pm_shadow.specs.declared.page_use.PageUse.{PageUse}
-use Rattle.pm_shadow.specs.declared.page_use.PageUse.TheVariants.{Free, Current, Claimed}
-use Rattle.pm_shadow.specs.Uses.{use_of, with_use, renewed_uses}
+use Rattle.pm_shadow.specs.declared.page_use.PageUse.TheVariants.{Free, Current, Claimed, Kept}
+use Rattle.pm_layout.specs.Headers.{HasHeaderSpelling}
+use Rattle.pm_types.specs.declared.limits.TheConstants.{PAGE_BYTES}
+use Rattle.pm_shadow.specs.Uses.{use_of, with_use, is_next, renewed_uses, abandoned_uses}
 
 -- The current header and the slot where it stands; how many pages the store had when that header was found or
 -- published, and how many it has now; whether the pages of the current copy are known, and what each page is used
@@ -28,16 +30,39 @@ abbrev pub keeps_by : Bool → PageUse → Bool
 keeps_by known Free = not known
 keeps_by known Current = true
 keeps_by known Claimed = false
+keeps_by known Kept = true
 
 -- the current copy may stand on this page
 abbrev pub keeps : State → ℕ → Bool
 keeps s page = keeps_by s.known (s.uses page)
 
--- a page that may be listed as one of the current copy
+-- a page that may be listed as one of the current copy: it was there when the copy became current, or was found
 pub record IsListable (s : State) (page : ℕ) : Type 0 where
   pub from_2 : 2 ≤ page
-  pub there : page < s.count
+  pub there : page < s.settled
+
+-- a page of the current copy, whose pages are known: the next copy may keep it
+pub record IsKeepable (s : State) (page : ℕ) : Type 0 where
+  pub known : s.known ≡ true
+  pub from_2 : 2 ≤ page
   pub kept : keeps s page ≡ true
+
+-- a page that was claimed may be written whole, while no publish has failed
+pub record IsWritable (s : State) (page : ℕ) (bytes : List ℕ) : Type 0 where
+  pub claimed : s.uses page ≡ Claimed
+  pub len : length bytes ≡ PAGE_BYTES
+  pub sound : s.failed ≡ false
+
+-- a header may be published: the other gate is closed, no publish has failed, and it can be spelled and comes later
+pub record IsPublishable (s : State) (header : Header) : Type 0 where
+  pub closed : s.closed ≡ true
+  pub sound : s.failed ≡ false
+  pub spelled : HasHeaderSpelling header
+  pub later : s.header.epoch < header.epoch
+
+-- nothing is claimed or kept for a next copy
+abbrev pub IsIdle : State → Type 0
+IsIdle s = (page : ℕ) → is_next (s.uses page) ≡ false
 
 -- a header was found: no page is known to be used, and none is claimed
 abbrev pub attached : ℕ → Header → ℕ → Bool → State
@@ -54,6 +79,14 @@ known_by s uses = record s { known = true; uses = uses }
 -- a page was claimed
 abbrev pub with_claimed : State → ℕ → State
 with_claimed s page = with_uses s (with_use page Claimed s.uses)
+
+-- a page is kept for the next copy
+abbrev pub with_kept : State → ℕ → State
+with_kept s page = with_uses s (with_use page Kept s.uses)
+
+-- the next copy was given up
+abbrev pub abandoned_in : State → State
+abandoned_in s = with_uses s (abandoned_uses s.uses)
 
 -- there are so many pages
 abbrev pub with_count : State → ℕ → State
@@ -75,6 +108,6 @@ with_failed s = record s { failed = true }
 abbrev pub published_with : State → Header → (ℕ → PageUse) → State
 published_with s header uses = record s { slot = other s.slot; header = header; settled = s.count; known = true; uses = uses; closed = false; failed = false }
 
--- and they are those that were claimed
+-- and they are those that were claimed or kept
 abbrev pub published : State → Header → State
 published s header = published_with s header (renewed_uses s.uses)

@@ -13,7 +13,10 @@ mod table;
 #[cfg(test)]
 mod tests;
 
-pub use law::{a_header_in_the_picked_slot_is_current, an_image_is_opened_with_its_graph};
+pub use law::{
+    a_header_in_the_picked_slot_is_current, an_image_is_opened_with_its_graph,
+    the_next_copy_grows_beside_the_current_one,
+};
 pub use making::init;
 pub use page_use::PageUse;
 pub use pages::Pages;

@@ -3,7 +3,7 @@ ghost use Rattle.std.specs.Prelude.{◌≡◌, ◌*◌, ◌≤◌, ◌<◌, ◌^
 ghost use Rattle.pm_disk.specs.Made.{with_sync};
 ghost use Rattle.pm_disk.specs.Disk.{IfTold, LeavesOnly, HasCause};
 ghost use Rattle.pm_layout.specs.Headers.{HasHeaderSpelling};
-ghost use Rattle.pm_shadow.specs.Runs.{OnlyLooks};
+ghost use Rattle.pm_shadow.specs.Runs.{IsSynced, OnlyLooks};
 ghost use Rattle.pm_shadow.specs.Attaching.{IsSlotOf, IsSeenIn, IsFoundIn, IsFaultOf, IsAttachFault};
 
 use crate::attaching::{Found, Seen, SlotRead};
@@ -11,10 +11,11 @@ use crate::slots::gate_place;
 use pm_disk::{Disk, DiskFailed};
 use pm_types::{OpenFault, PAGE_BYTES};
 
-/// Reads a slot of a store: its body and its gate.
+/// Reads a slot of a store on a disk that is synced: its body and its gate.
 fn read_slot<D: Disk>(disk: &mut D, slot: u64) -> Result<SlotRead, DiskFailed>
     requires slot { slot < 2 }
     requires long { IfTold (D.contents disk.old) (λ bytes. 2 * PAGE_BYTES ≤ length bytes) }
+    requires synced { IsSynced (D.contents disk.old) (D.image disk.old) }
     ensures read { IfOk result (λ read. IfTold (D.contents disk.old) (λ bytes. IsSlotOf bytes slot read)) }
     ensures looks { OnlyLooks D.contents D.image D.moment D.since disk.old disk.new }
     ensures cause { HasCause (D.count disk.old) (D.count disk.new) result }
@@ -30,9 +31,10 @@ fn read_slot<D: Disk>(disk: &mut D, slot: u64) -> Result<SlotRead, DiskFailed>
     })
 }
 
-/// Reads both slots of a store that has them.
+/// Reads both slots of a store that has them, on a disk that is synced.
 fn read_slots<D: Disk>(disk: &mut D, count: u64) -> Result<Seen, DiskFailed>
     requires long { IfTold (D.contents disk.old) (λ bytes. 2 * PAGE_BYTES ≤ length bytes) }
+    requires synced { IsSynced (D.contents disk.old) (D.image disk.old) }
     ensures count { IfOk result (λ seen. seen.count ≡ count) }
     ensures read { IfOk result (λ seen. IfTold (D.contents disk.old) (λ bytes. IsSlotOf bytes 0 seen.zeroth × IsSlotOf bytes 1 seen.first)) }
     ensures looks { OnlyLooks D.contents D.image D.moment D.since disk.old disk.new }

@@ -1,5 +1,5 @@
 ghost use Rattle.std.specs.Prelude.{◌≡◌};
-ghost use Rattle.pm_shadow.specs.Uses.{is_free, forgotten, renewed};
+ghost use Rattle.pm_shadow.specs.Uses.{is_free, renewed, abandoned};
 
 /// What a page of a store is used for.
 #[derive(Clone, Copy, Debug, PartialEq, Eq)]
@@ -10,6 +10,8 @@ pub enum PageUse {
     Current,
     /// It was claimed for the next copy, and may be written.
     Claimed,
+    /// The current copy stands on it, and the next one will too: it is not written.
+    Kept,
 }
 
 impl PageUse {
@@ -19,17 +21,7 @@ impl PageUse {
     {
         match self {
             PageUse::Free => true,
-            PageUse::Current | PageUse::Claimed => false,
-        }
-    }
-
-    /// What it is used for where the current copy's pages are to be listed anew.
-    pub(crate) fn forgotten(self) -> PageUse
-        ensures { result ≡ forgotten self }
-    {
-        match self {
-            PageUse::Free | PageUse::Current => PageUse::Free,
-            PageUse::Claimed => PageUse::Claimed,
+            PageUse::Current | PageUse::Claimed | PageUse::Kept => false,
         }
     }
 
@@ -39,7 +31,17 @@ impl PageUse {
     {
         match self {
             PageUse::Free | PageUse::Current => PageUse::Free,
-            PageUse::Claimed => PageUse::Current,
+            PageUse::Claimed | PageUse::Kept => PageUse::Current,
+        }
+    }
+
+    /// What it is used for once the next copy is given up.
+    pub(crate) fn abandoned(self) -> PageUse
+        ensures { result ≡ abandoned self }
+    {
+        match self {
+            PageUse::Free | PageUse::Claimed => PageUse::Free,
+            PageUse::Current | PageUse::Kept => PageUse::Current,
         }
     }
 }

@@ -1,5 +1,5 @@
 //! The pages of a store, of which a copy uses some, and the next copy others.
-ghost use Rattle.std.specs.Prelude.{◌≡◌, ◌+◌, ◌*◌, ◌-◌, ◌^◌, ◌<◌, ◌≤◌, ℕ, List, Some, false, length};
+ghost use Rattle.std.specs.Prelude.{◌≡◌, ◌+◌, ◌*◌, ◌-◌, ◌^◌, ◌<◌, ◌≤◌, ℕ, List, [], Some, false, length};
 ghost use Rattle.pm_shadow.specs.Uses.{use_of};
 ghost use Rattle.pm_shadow.specs.Images.{IsSound};
 
@@ -35,22 +35,26 @@ pub struct Pages<D: Disk> {
     failed: bool,
     ghost is_slot: { slot < 2 },
     ghost few: { count < 2 ^ 50 },
+    // where the pages of the current copy are not known, no page is used
+    ghost unused: { known ≡ false → use_of table.uses.items ≡ use_of [] },
     ghost sound: { failed ≡ false → (bytes : List ℕ) → D.contents disk ≡ Some bytes
         → IsSound (record { slot = slot; header = header; settled = settled; count = count; known = known; uses = use_of table.uses.items; closed = closed; failed = failed }) bytes (D.image disk) },
 }
 
 impl<D: Disk> Pages<D> {
-    ghost use Rattle.std.specs.Prelude.{◌≡◌, ◌⊎◌, ◌+◌, ◌*◌, ◌-◌, ◌^◌, ◌<◌, ◌≤◌, ℕ, List, All, Some, true, false, [], ◌∷◌, length, option_map, not, Ok, MatchResult, IfOk, IfErr, OnOk, OnErr};
+    ghost use Rattle.std.specs.Prelude.{◌≡◌, ◌⊎◌, ◌+◌, ◌*◌, ◌-◌, ◌^◌, ◌<◌, ◌≤◌, ℕ, List, All, Some, true, false, [], ◌∷◌, length, option_map, not, Ok, MatchResult, IsOk, IfOk, IfErr, OnOk, OnErr};
     ghost use Rattle.pm_disk.specs.Writes.{written, TornIfTold};
     ghost use Rattle.pm_disk.specs.Made.{with_sync, with_write};
     ghost use Rattle.pm_disk.specs.Disk.{IfTold, SameImages, LeavesOnly, HasCause};
     ghost use Rattle.pm_layout.specs.Headers.{HasHeaderSpelling};
     ghost use Rattle.pm_image.specs.Opening.{current, is_open, page_count, page_of, gate_place, open_gate};
+    ghost use Rattle.pm_image.specs.Graphs.{Graph};
     ghost use Rattle.pm_shadow.specs.Uses.{IsLowestFree, IsListed};
-    ghost use Rattle.pm_shadow.specs.State.{other, attached, IsListable, known_by, with_claimed, with_page, with_closed, with_failed, published};
+    ghost use Rattle.pm_shadow.specs.State.{other, attached, IsListable, IsKeepable, IsWritable, IsPublishable, known_by, with_claimed, with_kept, abandoned_in, with_page, with_closed, with_failed, published};
+    ghost use Rattle.pm_shadow.specs.Copies.{AreUsed, KeepsGraph};
     ghost use Rattle.pm_shadow.specs.Images.{IsSound, Holds, Renews, WritesPage, place_of, with_header, with_gate};
     ghost use Rattle.pm_shadow.specs.Runs.{OnlyLooks};
-    ghost use Rattle.pm_shadow.specs.Attaching.{IsFaultOf, IsAttachFault, IsFoundIn};
+    ghost use Rattle.pm_shadow.specs.Attaching.{IsFaultOf, IsAttachFault, IsFoundIn, HasFound};
     ghost use Rattle.pm_shadow.specs.Pages.{state, disk_of};
 
     /// Finds the current header of a store. The disk is synced first, and nothing is written. The pages of
@@ -61,20 +65,16 @@ impl<D: Disk> Pages<D> {
     /// `NotAStore`, `Version`, `Damaged` and `Malformed` by the first rule of a header that fails, and
     /// `Disk` where the disk failed. The disk is handed back.
     pub fn attach(alloc: Global, disk: D) -> Result<Pages<D>, (D, OpenFault)>
-        ensures found { IfOk result (λ it. IfTold (D.contents disk) (λ bytes. current bytes ≡ Ok (record { slot = (state it).slot; header = (state it).header }))) }
+        ensures found { IfOk result (λ it. IfTold (D.contents disk) (HasFound (state it))) }
         ensures state { IfOk result (λ it. state it ≡ attached (state it).slot (state it).header (state it).count (state it).closed) }
-        ensures seen { IfOk result (λ it. IfTold (D.contents disk) (λ bytes. ((state it).count ≡ page_count bytes) × ((state it).closed ≡ not (is_open bytes (other (state it).slot))))) }
-        ensures told { IfOk result (λ it. D.contents (disk_of it) ≡ D.contents disk) }
-        ensures only { IfOk result (λ it. IfTold (D.contents disk) (λ bytes. (left : List ℕ) → D.image (disk_of it) left → left ≡ bytes)) }
-        ensures leaves { IfOk result (λ it. LeavesOnly D.moment D.since disk (disk_of it) (D.image disk)) }
-        ensures count { IfOk result (λ it. D.count (disk_of it) ≡ D.count disk) }
         // The header is one that can be spelled, whether the disk tells its contents or not.
         ensures spelled { IfOk result (λ it. HasHeaderSpelling (state it).header) }
-
+        ensures only { IfOk result (λ it. IfTold (D.contents disk) (λ bytes. (left : List ℕ) → D.image (disk_of it) left → left ≡ bytes)) }
+        ensures count { IfOk result (λ it. D.count (disk_of it) ≡ D.count disk) }
         ensures fault { IfErr result (λ e. IfTold (D.contents disk) (λ bytes. IsFaultOf bytes e.1)) }
         ensures cause { IfErr result (λ e. IsAttachFault (D.count disk) (D.count e.0) e.1) }
-        ensures told_err { IfErr result (λ e. D.contents e.0 ≡ D.contents disk) }
-        ensures leaves_err { IfErr result (λ e. LeavesOnly D.moment D.since disk e.0 (D.image disk)) }
+        ensures told { MatchResult result (λ it. D.contents (disk_of it) ≡ D.contents disk) (λ e. D.contents e.0 ≡ D.contents disk) }
+        ensures leaves { MatchResult result (λ it. LeavesOnly D.moment D.since disk (disk_of it) (D.image disk)) (λ e. LeavesOnly D.moment D.since disk e.0 (D.image disk)) }
         // One sync was made, no write, and no read past the end of what the disk told.
         ensures made { MatchResult result (λ it. D.made (disk_of it) ≡ with_sync (D.made disk)) (λ e. D.made e.0 ≡ with_sync (D.made disk)) }
     {
@@ -134,16 +134,21 @@ impl<D: Disk> Pages<D> {
         self.count
     }
 
-    /// Lists the pages that the current copy uses, which are known from then on. They are exactly these:
-    /// each is a page of the store from page 2 on, and where the pages were known, one of them.
+    /// Lists the pages that the current copy uses, which are known from then on. They are exactly these: those of
+    /// its catalog and of its cars, in any order, and no other. Before, they are not known; each is a page of the
+    /// store from page 2 on.
     pub fn commit_list(&mut self, alloc: Global, pages: &[u64]) -> Result<(), NoMemory>
-        requires { All (IsListable (state self.old)) pages.now }
-        ensures listed { OnOk result (IsListed pages.now (state self.old).uses (state self.new).uses) }
+        requires unknown { (state self.old).known ≡ false }
+        requires there { All (IsListable (state self.old)) pages.now }
+        requires used { IfTold (D.contents (disk_of self.old)) (λ bytes. AreUsed (state self.old) bytes pages.now) }
+        ensures listed { OnOk result (IsListed pages.now (state self.new).uses) }
+        // The graph of the current copy stands on the pages that are its own now, and on no others.
+        ensures keeps { OnOk result (IfTold (D.contents (disk_of self.old)) (λ bytes. (graph : Graph) × KeepsGraph (state self.new) bytes graph)) }
         ensures state { OnOk result (state self.new ≡ known_by (state self.old) (state self.new).uses) }
         ensures state_err { OnErr result (state self.new ≡ state self.old) }
         ensures still { disk_of self.new ≡ disk_of self.old }
     {
-        let table = self.table.listing(alloc, pages)?;
+        let table = Table::listing(alloc, pages)?;
         self.table = table;
         self.known = true;
         Ok(())
@@ -159,6 +164,27 @@ impl<D: Disk> Pages<D> {
     {
         let page = self.table.claim()?;
         Ok(page)
+    }
+
+    /// Keeps a page of the current copy for the next one too: it is not written, and is a page of that copy once its
+    /// header is published. A page may be kept more than once. It takes no memory, and is always Ok.
+    pub fn keep(&mut self, page: u64) -> Result<(), NoMemory>
+        requires { IsKeepable (state self.old) page }
+        ensures ok { IsOk result }
+        ensures state { state self.new ≡ with_kept (state self.old) page }
+        ensures still { disk_of self.new ≡ disk_of self.old }
+    {
+        self.table.keep(page);
+        Ok(())
+    }
+
+    /// Gives the next copy up: nothing is claimed or kept any more. The claimed pages are free, and the kept ones are
+    /// those of the current copy alone. It takes no memory, and no call of the disk is made.
+    pub fn abandon(&mut self)
+        ensures state { state self.new ≡ abandoned_in (state self.old) }
+        ensures still { disk_of self.new ≡ disk_of self.old }
+    {
+        self.table.abandon();
     }
 
     /// Fills `into` with the bytes of a page.
@@ -177,16 +203,13 @@ impl<D: Disk> Pages<D> {
 
     /// Writes a page that was claimed.
     pub fn write_page(&mut self, page: u64, bytes: &[u8]) -> Result<(), DiskFailed>
-        requires claimed { (state self.old).uses page ≡ PageUse.Claimed }
-        requires len { length bytes.now ≡ PAGE_BYTES }
-        requires sound { (state self.old).failed ≡ false }
+        requires { IsWritable (state self.old) page bytes.now }
         ensures written { OnOk result (D.contents (disk_of self.new) ≡ option_map (written (place_of page) bytes.now) (D.contents (disk_of self.old))) }
         // The page reads so, and every other page stays.
         ensures pages { OnOk result ((was now : List ℕ) → D.contents (disk_of self.old) ≡ Some was → D.contents (disk_of self.new) ≡ Some now → WritesPage page bytes.now was now) }
         ensures torn { OnErr result (TornIfTold (place_of page) PAGE_BYTES (D.contents (disk_of self.old)) (D.contents (disk_of self.new))) }
         ensures state { OnOk result (state self.new ≡ with_page (state self.old) page) }
         ensures state_err { OnErr result (state self.new ≡ state self.old) }
-
         // A crash at any moment of the call leaves the current header and its pages.
         ensures leaves { IfTold (D.contents (disk_of self.old)) (λ told. LeavesOnly D.moment D.since (disk_of self.old) (disk_of self.new) (Holds (state self.old) told)) }
         ensures cause { HasCause (D.count (disk_of self.old)) (D.count (disk_of self.new)) result }
@@ -226,18 +249,17 @@ impl<D: Disk> Pages<D> {
     }
 
     /// Makes this header the current one: its body is written into the other slot and synced, and then
-    /// that slot's gate alone, and synced.
+    /// that slot's gate alone, and synced. The pages that were claimed or kept are the current copy's then, and all
+    /// others are free.
     pub fn publish(&mut self, header: &Header) -> Result<(), DiskFailed>
-        requires closed { (state self.old).closed ≡ true }
-        requires sound { (state self.old).failed ≡ false }
-        requires spelled { HasHeaderSpelling header.now }
-        requires later { (state self.old).header.epoch < header.now.epoch }
+        requires { IsPublishable (state self.old) header.now }
         ensures state { OnOk result (state self.new ≡ published (state self.old) header.now) }
         ensures state_err { OnErr result (state self.new ≡ with_failed (state self.old)) }
         ensures written { OnOk result (D.contents (disk_of self.new) ≡ option_map (λ told. with_gate (other (state self.old).slot) open_gate (with_header (other (state self.old).slot) header.now told)) (D.contents (disk_of self.old))) }
         ensures only { OnOk result (IfTold (D.contents (disk_of self.new)) (λ told. (left : List ℕ) → D.image (disk_of self.new) left → left ≡ told)) }
         ensures renews { OnOk result (IfTold (D.contents (disk_of self.old)) (λ told. IfTold (D.contents (disk_of self.new)) (Renews (state self.old) header.now told))) }
-
+        // Where it fails the contents are told still, and no page but that of the other slot is another.
+        ensures torn { OnErr result (TornIfTold (place_of (other (state self.old).slot)) PAGE_BYTES (D.contents (disk_of self.old)) (D.contents (disk_of self.new))) }
         // A crash at any moment of the call leaves the one header with its pages or the other.
         ensures leaves { IfTold (D.contents (disk_of self.old)) (λ told. LeavesOnly D.moment D.since (disk_of self.old) (disk_of self.new)
             (λ image. Holds (state self.old) told image ⊎ Renews (state self.old) header.now told image)) }

@@ -22,7 +22,8 @@ pub(crate) fn write_and_sync<D: Disk>(disk: &mut D, at: u64, bytes: &[u8]) -> Re
     disk.sync()
 }
 
-/// Two writes with a sync behind each. A crash leaves no part of the second unless it leaves the first whole.
+/// Two writes with a sync behind each, the second further on. A crash leaves no part of the second unless it leaves the
+/// first whole.
 pub(crate) fn write_one_by_one<D: Disk>(
     disk: &mut D,
     first_at: u64,
@@ -30,10 +31,11 @@ pub(crate) fn write_one_by_one<D: Disk>(
     second_at: u64,
     second: &[u8],
 ) -> Result<(), DiskFailed>
-    requires first { first_at + length first.now ≤ 2 ^ 63 - 1 }
+    requires first { first_at + length first.now ≤ second_at }
     requires second { second_at + length second.now ≤ 2 ^ 63 - 1 }
     ensures written { OnOk result (D.contents disk.new ≡ option_map (λ bytes. written second_at second.now (written first_at first.now bytes)) (D.contents disk.old)) }
     ensures only { OnOk result (IfTold (D.contents disk.new) (λ told. (left : List ℕ) → D.image disk.new left → left ≡ told)) }
+    ensures torn { OnErr result (TornIfTold first_at (second_at + length second.now - first_at) (D.contents disk.old) (D.contents disk.new)) }
     ensures in_order { IfTold (D.contents disk.old) (λ bytes. LeavesOnly D.moment D.since disk.old disk.new
         (IsInOrder (D.image disk.old) bytes first_at first.now second_at (length second.now))) }
     ensures cause { HasCause (D.count disk.old) (D.count disk.new) result }

@@ -1,6 +1,6 @@
 //! The pages of a store from page 2 on, and what each is used for.
 ghost use Rattle.std.specs.Prelude.{◌≡◌, ◌≢◌, ◌≤◌, ◌<◌, ◌+◌, ◌-◌, ◌^◌, ◌++◌, [], ◌∷◌, ℕ, List, All, length, map, replicate, reverse, vec_capacity, vec_len, Contains, IfOk, OnOk, OnErr};
-ghost use Rattle.pm_shadow.specs.Uses.{use_of, free_from, forgotten, renewed, marked};
+ghost use Rattle.pm_shadow.specs.Uses.{use_of, free_from, renewed, abandoned, marked};
 
 use crate::PageUse;
 use pm_types::NoMemory;
@@ -24,8 +24,8 @@ pub(crate) struct Table {
 }
 
 impl Table {
-    ghost use Rattle.std.specs.Prelude.{◌≡◌, ◌<◌, ◌≤◌, ◌+◌, ◌-◌, ◌^◌, ℕ, List, [], All, IfOk, OnOk, OnErr};
-    ghost use Rattle.pm_shadow.specs.Uses.{IsLowestFree, with_use, renewed_uses, IsListed};
+    ghost use Rattle.std.specs.Prelude.{◌≡◌, ◌<◌, ◌≤◌, ◌+◌, ◌-◌, ◌^◌, ℕ, List, [], All, IfOk, OnOk, OnErr, true};
+    ghost use Rattle.pm_shadow.specs.Uses.{IsLowestFree, is_current, with_use, renewed_uses, abandoned_uses, IsListed};
     ghost use Rattle.pm_shadow.specs.Tables.{uses_in};
 
     /// No page is used.
@@ -70,23 +70,40 @@ impl Table {
         Ok(FIRST_PAGE + len as u64)
     }
 
-    /// A table in which the current copy's pages are these, and the claimed ones stay claimed.
-    pub(crate) fn listing(&self, alloc: Global, pages: &[u64]) -> Result<Table, NoMemory>
+    /// A table in which the current copy's pages are these, and all others are free.
+    pub(crate) fn listing(alloc: Global, pages: &[u64]) -> Result<Table, NoMemory>
         requires { All (λ page. 2 ≤ page) pages.now }
-        ensures { IfOk result (λ table. IsListed pages.now (uses_in self.now) (uses_in table)) }
+        ensures { IfOk result (λ table. IsListed pages.now (uses_in table)) }
     {
-        let len = needed(self.uses.len(), pages);
+        let len = needed(pages);
         if len > MOST_PAGES {
             return Err(NoMemory);
         }
-        let mut uses = forgotten_uses(alloc, &self.uses, len)?;
+        let mut uses = free_uses(alloc, len)?;
         mark_all(&mut uses, pages);
         let mut free = Vec::with_capacity(alloc, len)?;
         list_free_again(&uses, &mut free);
         Ok(Table { uses, free })
     }
 
-    /// The claimed pages are those of the current copy now, and all others are free.
+    /// Keeps a page of the current copy for the next one.
+    pub(crate) fn keep(&mut self, page: u64)
+        requires from_2 { 2 ≤ page }
+        requires current { is_current (uses_in self.old page) ≡ true }
+        ensures { uses_in self.new ≡ with_use page PageUse.Kept (uses_in self.old) }
+    {
+        self.uses[(page - FIRST_PAGE) as usize] = PageUse::Kept;
+    }
+
+    /// Nothing is claimed or kept for the next copy any more: the claimed pages are free.
+    pub(crate) fn abandon(&mut self)
+        ensures { uses_in self.new ≡ abandoned_uses (uses_in self.old) }
+    {
+        abandon_all(&mut self.uses);
+        list_free_again(&self.uses, &mut self.free);
+    }
+
+    /// The claimed and the kept pages are those of the current copy now, and all others are free.
     pub(crate) fn renew(&mut self)
         ensures { uses_in self.new ≡ renewed_uses (uses_in self.old) }
     {
@@ -122,7 +139,7 @@ fn list_free_again(uses: &[PageUse], free: &mut Vec<u64>)
     free.reverse();
 }
 
-/// The claimed pages are those of the current copy now.
+/// The claimed and the kept pages are those of the current copy now.
 fn renew_all(uses: &mut [PageUse])
     ensures { uses.new ≡ map renewed uses.old }
 {
@@ -131,27 +148,30 @@ fn renew_all(uses: &mut [PageUse])
     }
 }
 
-/// A list of so many uses in which no page is one of the current copy.
-fn forgotten_uses(alloc: Global, uses: &[PageUse], len: usize) -> Result<Vec<PageUse>, NoMemory>
-    requires { length uses.now ≤ len }
-    ensures len { IfOk result (λ all. length all.items ≡ len) }
-    ensures items { IfOk result (λ all. all.items ≡ map forgotten uses.now ++ replicate (len - length uses.now) PageUse.Free) }
+/// No page is claimed or kept any more.
+fn abandon_all(uses: &mut [PageUse])
+    ensures { uses.new ≡ map abandoned uses.old }
 {
-    let mut all = Vec::with_capacity(alloc, len)?;
-    for page_use in uses {
-        all.push_reserved(page_use.forgotten());
+    for page_use in uses.iter_mut() {
+        *page_use = page_use.abandoned();
     }
-    all.resize(len, PageUse::Free)?;
-    Ok(all)
 }
 
-/// How long a list of at least `len` uses has to be so that it has all these pages.
-fn needed(len: usize, pages: &[u64]) -> usize
-    requires { All (λ page. 2 ≤ page) pages.now }
-    ensures least { len ≤ result }
-    ensures all { All (λ page. page < result + 2) pages.now }
+/// A list of so many pages, of which none is used.
+fn free_uses(alloc: Global, len: usize) -> Result<Vec<PageUse>, NoMemory>
+    ensures { IfOk result (λ uses. uses.items ≡ replicate len PageUse.Free) }
 {
-    let mut needed = len;
+    let mut uses = Vec::with_capacity(alloc, len)?;
+    uses.resize(len, PageUse::Free)?;
+    Ok(uses)
+}
+
+/// How long a list of uses has to be so that it has all these pages.
+fn needed(pages: &[u64]) -> usize
+    requires { All (λ page. 2 ≤ page) pages.now }
+    ensures { All (λ page. page < result + 2) pages.now }
+{
+    let mut needed = 0;
     for page in pages {
         needed = needed.max((*page - 1) as usize);
     }

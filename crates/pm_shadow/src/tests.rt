@@ -106,7 +106,10 @@ fn a_publish_that_stops_leaves_one_of_two_headers(rt: HostRuntime) -> Result<(),
 fn a_claimed_page_is_written_and_read(rt: HostRuntime) -> Result<(), Fail> {
     let alloc = rt.alloc();
     let mut disk = MemDisk::new(Vec::new(alloc), Vec::new(alloc));
-    assert_eq!(rt; init(alloc, &mut disk), Ok(()));
+    let Ok(()) = init(alloc, &mut disk) else {
+        assert!(rt; false, "init");
+        return Ok(());
+    };
     let Ok(mut pages) = Pages::attach(alloc, disk) else {
         assert!(rt; false, "attach");
         return Ok(());
@@ -114,6 +117,9 @@ fn a_claimed_page_is_written_and_read(rt: HostRuntime) -> Result<(), Fail> {
     assert!(rt; pages.page_count() == 3);
     if pages.page_count() == 3 {
         pages.commit_list(alloc, &[2])?;
+        pages.keep(2)?;
+        assert_eq!(rt; pages.claim()?, 3);
+        pages.abandon();
         let page = pages.claim()?;
         assert_eq!(rt; page, 3);
         let bytes = vec![in alloc; 7; 16_384]?;

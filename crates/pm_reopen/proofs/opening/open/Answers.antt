@@ -4,12 +4,13 @@ use Rattle.std.proofs.lemmas.Result.{err_from_is_err_and}
 use Rattle.pm_layout.specs.declared.header.Header.{Header}
 use Rattle.pm_plain.specs.Kept.{HasCopy}
 use Rattle.pm_shadow.specs.State.{State, IsListable, known_by}
+use Rattle.pm_shadow.specs.Copies.{AreUsed}
 use Rattle.pm_shadow.specs.Uses.{IsListed}
 use Rattle.pm_shadow.specs.Runs.{OnlyLooks}
 use Rattle.pm_shadow.specs.Pages.{state, disk_of}
-use Rattle.pm_shadow.proofs.TableLemmas.{claimed_from_2}
+use Rattle.pm_shadow.proofs.CopyLemmas.{listed_idle}
 use Rattle.pm_reopen.specs.Reading.{IsThere}
-use Rattle.pm_reopen.proofs.OpenLaws.{listable, none_claimed, read_has, read_opens, fails_opens, first_there, next_read}
+use Rattle.pm_reopen.proofs.OpenLaws.{not_known, listable, read_used, read_has, read_opens, fails_opens, first_there, next_read}
 use Rattle.pm_reopen.proofs.opening.open.Goals as goal
 
 pub returns-then-not-is_there-clause-fault : goal.returns-then-not-is_there-clause-fault
@@ -26,12 +27,24 @@ returns-in_err-used-clause-fault g c =
     let p = err_from_is_err_and c.from_residual.result c.from_residual.ensures.1 in
     rw (p.1, p.2) (λ bytes told. fails_opens (state c.args.pages.now) bytes c.in_err-used.field-0.0 (c.requires.current bytes told) (c.in_err-used.ensures.fault bytes told))
 
-pub commit_list-requires : goal.commit_list-requires
-commit_list-requires g c =
+pub commit_list-requires-clause-unknown : goal.commit_list-requires-clause-unknown
+commit_list-requires-clause-unknown g c = ap (λ (t : State). t.known) c.in_ok-used.ensures.looked.same ∙ not_known (state c.args.pages.now) c.requires.attached
+
+pub commit_list-requires-clause-there : goal.commit_list-requires-clause-there
+commit_list-requires-clause-there g c =
     let s = state c.args.pages.now in
     let P : State → List ℕ → Type 0 = λ t used. All (IsListable t) used in
     subst (λ (t : State). P t c.as_slice.result.now) (sym c.in_ok-used.ensures.looked.same)
     (subst (λ (used : List ℕ). P s used) (sym c.as_slice.ensures.value) (listable s c.requires.attached c.in_ok-used.used.items c.in_ok-used.ensures.read.there))
+
+pub commit_list-requires-clause-used : goal.commit_list-requires-clause-used
+commit_list-requires-clause-used g c bytes now =
+    let s = state c.args.pages.now in
+    let looked = c.in_ok-used.ensures.looked in
+    let told = sym looked.looks.told ∙ now in
+    subst (λ (t : State). AreUsed t bytes c.as_slice.result.now) (sym looked.same)
+    (subst (λ (used : List ℕ). AreUsed s bytes used) (sym c.as_slice.ensures.value)
+    (read_used s c.requires.attached (g.D.Disk.contents (disk_of c.args.pages.now)) bytes c.in_ok-used.used.items c.in_ok-used.copy c.in_ok-used.ensures.read (c.requires.current bytes told) told))
 
 pub returns-clause-has : goal.returns-clause-has
 returns-clause-has g c bytes told =
@@ -39,8 +52,7 @@ returns-clause-has g c bytes told =
     let uses = (state c.commit_list.new.self).uses in
     let looked = c.in_ok-used.ensures.looked in
     let before = sym looked.looks.told ∙ ap g.D.Disk.contents (sym c.in_ok-commit_list.ensures.still) ∙ told in
-    let listed = subst (λ (t : State). IsListed c.in_ok-used.used.items t.uses uses) looked.same
-    (subst (λ (used : List ℕ). IsListed used (state c.read_copy.new.pages).uses uses) c.as_slice.ensures.value c.in_ok-commit_list.ensures.listed) in
+    let listed = subst (λ (used : List ℕ). IsListed used uses) c.as_slice.ensures.value c.in_ok-commit_list.ensures.listed in
     let whole = c.in_ok-commit_list.ensures.state ∙ ap (λ (t : State). known_by t uses) looked.same in
     subst (λ (t : State). HasCopy t bytes c.in_ok-used.copy) (sym whole)
     (read_has s c.requires.attached uses (g.D.Disk.contents (disk_of c.args.pages.now)) bytes c.in_ok-used.used.items c.in_ok-used.copy c.in_ok-used.ensures.read listed (c.requires.current bytes before) before)
@@ -56,13 +68,8 @@ returns-clause-next g c =
 pub returns-clause-state : goal.returns-clause-state
 returns-clause-state g c = c.in_ok-commit_list.ensures.state ∙ ap (λ (t : State). known_by t (state c.commit_list.new.self).uses) c.in_ok-used.ensures.looked.same
 
-pub returns-clause-unclaimed : goal.returns-clause-unclaimed
-returns-clause-unclaimed g c page claimed =
-    let s = state c.args.pages.now in
-    let uses = (state c.commit_list.new.self).uses in
-    let listed = subst (λ (t : State). IsListed c.in_ok-used.used.items t.uses uses) c.in_ok-used.ensures.looked.same
-    (subst (λ (used : List ℕ). IsListed used (state c.read_copy.new.pages).uses uses) c.as_slice.ensures.value c.in_ok-commit_list.ensures.listed) in
-    none_claimed s c.requires.attached c.in_ok-used.used.items uses listed page (claimed_from_2 c.commit_list.new.self.table.uses.items page claimed) claimed
+pub returns-clause-idle : goal.returns-clause-idle
+returns-clause-idle g c = listed_idle c.as_slice.result.now (state c.commit_list.new.self).uses c.in_ok-commit_list.ensures.listed
 
 pub returns-clause-looks : goal.returns-clause-looks
 returns-clause-looks g c =

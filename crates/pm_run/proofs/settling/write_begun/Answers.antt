@@ -8,7 +8,7 @@ use Rattle.pm_run.proofs.settling.write_begun.Goals as goal
 pub returns-in-Ok : goal.returns-in-Ok
 returns-in-Ok g c =
     settled_event g.D.Disk.contents g.D.Disk.image g.D.Disk.moment g.D.Disk.since g.D.Disk.count g.D.Disk.made (state c.args.pages.now) (state c.settle.new.pages) (disk_of c.args.pages.now) (disk_of c.settle.new.pages)
-    c.args.world.now c.in-Some.field-0.now.0 c.in-Some.field-0.now.1 (sym c.in-Some.ensures.begun) c.in-Ok.ensures.known c.in-Ok.ensures.fine c.in-Ok.ensures.header c.in-Ok.ensures.has
+    c.args.world.now c.in-Some.field-0.now.0 c.in-Some.field-0.now.1 (sym c.in-Some.ensures.begun) c.in-Ok.ensures.rest c.in-Ok.ensures.header c.in-Ok.ensures.has
     (λ was told. c.in-Ok.ensures.told (was, told)) c.in-Ok.ensures.now c.settle.ensures.leaves c.in-Ok.ensures.cause c.settle.ensures.unread
 
 pub returns-in-Err : goal.returns-in-Err

@@ -16,7 +16,7 @@ loop-id-init g c =
     record {
       seen = [];
       all = refl;
-      filling = none_going (state it) (g.D.Disk.contents it.disk) c.new-filling.result c.new-filling.ensures.slots c.new-filling.ensures.used c.new-filling.ensures.entries c.new-filling.ensures.places;
+      filling = none_going (state it) (g.D.Disk.contents it.disk) c.new-filling.result c.requires.idle c.new-filling.ensures.slots c.new-filling.ensures.used c.new-filling.ensures.entries c.new-filling.ensures.places;
       goes = goes_still g.D.Disk.contents g.D.Disk.count (state it) it.disk c.requires.ready;
       spares = spares_still g.D.Disk.contents g.D.Disk.moment g.D.Disk.since g.D.Disk.made g.D.Disk.image (state it) it.disk (current_kept it c.requires.ready.fine) (g.met.D.Disk.only_now it.disk);
     }

@@ -6,7 +6,7 @@ use Rattle.pm_shadow.specs.State.{State}
 use Rattle.pm_shadow.specs.Pages.{state, disk_of}
 use Rattle.pm_plain.specs.Plain.{Opens}
 use Rattle.pm_save.proofs.LaidLemmas.{laid_next, laid_out}
-use Rattle.pm_save.proofs.SettleLemmas.{none_claimed, settled_leaves}
+use Rattle.pm_save.proofs.SettleLemmas.{published_rests, settled_leaves}
 use Rattle.pm_save.proofs.settling.settle.Goals as goal
 
 pub returns-in_err-first-clause-leaves : goal.returns-in_err-first-clause-leaves
@@ -53,8 +53,8 @@ returns-clause-now g c was told =
     let mid = c.in_ok-first.ensures.goes.told (was, told) in
     c.in_ok-publish.ensures.now copy mid.0 mid.1 (laid_next t mid.0 copy first header c.requires.plain (c.in_ok-first.ensures.laid mid.0 mid.1) refl c.next.ensures refl refl)
 
-pub returns-clause-unclaimed : goal.returns-clause-unclaimed
-returns-clause-unclaimed g c = none_claimed (state c.write_copy.new.pages) (state c.publish.new.pages) _ c.in_ok-publish.ensures.state
+pub returns-clause-rest : goal.returns-clause-rest
+returns-clause-rest g c = published_rests (state c.write_copy.new.pages) (state c.publish.new.pages) _ c.in_ok-publish.ensures.state
 
 pub returns-clause-laid : goal.returns-clause-laid
 returns-clause-laid g c bytes now_told =

@@ -21,11 +21,15 @@ returns-in_err-page-clause-spares g c =
     subst (Spares g.D.Disk.contents g.D.Disk.moment g.D.Disk.since g.D.Disk.made (state it) it.disk) (sym c.claim.ensures.still)
     (spares_still g.D.Disk.contents g.D.Disk.moment g.D.Disk.since g.D.Disk.made g.D.Disk.image (state it) it.disk (current_kept it c.requires.ready.fine) (g.met.D.Disk.only_now it.disk))
 
-pub write_page-requires-clause-claimed : goal.write_page-requires-clause-claimed
-write_page-requires-clause-claimed g c =
+pub write_page-requires : goal.write_page-requires
+write_page-requires g c =
     let page = c.in_ok-page.page in
     let it = c.args.pages.now in
-    ap (λ (s : State). s.uses page) c.in_ok-page.ensures.state ∙ ap (λ (b : Bool). if b then Claimed else (state it).uses page) (same_page page)
+    record {
+      claimed = ap (λ (s : State). s.uses page) c.in_ok-page.ensures.state ∙ ap (λ (b : Bool). if b then Claimed else (state it).uses page) (same_page page);
+      len = c.requires.len;
+      sound = ap (λ (s : State). s.failed) c.in_ok-page.ensures.state ∙ c.requires.ready.fine;
+    }
 
 pub returns-in_err-write_page-clause-spares : goal.returns-in_err-write_page-clause-spares
 returns-in_err-write_page-clause-spares g c =

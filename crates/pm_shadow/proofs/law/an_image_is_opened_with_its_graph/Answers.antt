@@ -1,4 +1,4 @@
-use Rattle.pm_shadow.proofs.CopyLemmas.{held_opened, held_keeps, renewed_opened, renewed_keeps, keeps_still, claimed_keeps}
+use Rattle.pm_shadow.proofs.CopyLemmas.{held_opened, held_keeps, renewed_opened, renewed_keeps, keeps_still}
 use Rattle.pm_shadow.proofs.law.an_image_is_opened_with_its_graph.Goals as goal
 
 pub returns-clause-held : goal.returns-clause-held
@@ -13,8 +13,5 @@ returns-clause-renewed c = renewed_opened
 pub returns-clause-next : goal.returns-clause-next
 returns-clause-next c = renewed_keeps
 
-pub returns-clause-fewer : goal.returns-clause-fewer
-returns-clause-fewer c = keeps_still
-
-pub returns-clause-claimed : goal.returns-clause-claimed
-returns-clause-claimed c = claimed_keeps
+pub returns-clause-same : goal.returns-clause-same
+returns-clause-same c = keeps_still

@@ -42,7 +42,7 @@ returns-in-Err-clause-store g c =
     (store_unrun g.D.Disk.contents g.D.Disk.image g.D.Disk.moment g.D.Disk.since g.K.Sink.written g.K.Sink.finished g.K.Sink.count c.args.disk c.in-Err.disk c.args.sink
     (not_opened fault) (undone_open fault)
     (refused_run g.D.Disk.contents g.D.Disk.image g.D.Disk.moment g.D.Disk.since c.args.disk c.in-Err.disk (not_opened fault) (none_opened fault) (tried_open fault)
-    c.in-Err.ensures.told_err c.in-Err.ensures.leaves_err (λ bytes told. refused_by_header bytes fault (c.in-Err.ensures.fault bytes told))))
+    c.in-Err.ensures.told c.in-Err.ensures.leaves (λ bytes told. refused_by_header bytes fault (c.in-Err.ensures.fault bytes told))))
 
 pub returns-in-Err-clause-causes : goal.returns-in-Err-clause-causes
 returns-in-Err-clause-causes g c =

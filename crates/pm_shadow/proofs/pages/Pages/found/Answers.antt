@@ -11,6 +11,7 @@ invariant_of-result g c =
     record {
       is_slot = c.requires.slot;
       few = c.requires.count;
+      unused = λ unknown. c.new.ensures;
       sound = λ fine bytes told.
           subst (λ (u : ℕ → PageUse). IsSound (with_uses (attached found.slot found.header found.count found.closed) u) bytes (g.D.Disk.image c.args.disk)) (sym c.new.ensures)
           (sound_found found bytes (g.D.Disk.image c.args.disk) (c.requires.sound bytes told));

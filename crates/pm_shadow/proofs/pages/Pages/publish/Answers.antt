@@ -32,6 +32,7 @@ invariant_of-self-2 g c =
     record {
       is_slot = omega arith;
       few = it.few;
+      unused = λ unknown. absurd (cc);
       sound = λ fine bytes told.
           let o = other it.slot in
           let made : g.D.Disk.contents now ≡ option_map (λ was. with_gate o open_gate (with_header o header was)) (g.D.Disk.contents it.disk) =

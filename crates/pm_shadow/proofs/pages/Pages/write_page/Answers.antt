@@ -25,6 +25,7 @@ invariant_of-self g c =
     record {
       is_slot = it.is_slot;
       few = it.few;
+      unused = it.unused;
       sound = λ fine. sound_after (state it) (place_of c.args.page) (length c.args.bytes.now) (g.D.Disk.contents it.disk) (g.D.Disk.contents c.write_at.new.self) (g.D.Disk.image it.disk) (g.D.Disk.image c.write_at.new.self) (it.sound fine)
           (cut (state it) c.args.page (length c.args.bytes.now) it.is_slot low c.requires.claimed c.requires.len)
           c.write_at.ensures.only_torn c.in_err-write_at.ensures.torn (g.met.D.Disk.contents_stay c.write_at.new.self);
@@ -48,6 +49,7 @@ invariant_of-self-2 g c =
     record {
       is_slot = it.is_slot;
       few = let few = it.few in let list = it.table.few in omega (arith, c.max-self.ensures);
+      unused = it.unused;
       sound = λ fine bytes told.
           let sound = sound_after (state it) (place_of c.args.page) (length c.args.bytes.now) (g.D.Disk.contents it.disk) (g.D.Disk.contents now) (g.D.Disk.image it.disk) (g.D.Disk.image now) (it.sound fine)
           (cut (state it) c.args.page (length c.args.bytes.now) it.is_slot low c.requires.claimed c.requires.len)
