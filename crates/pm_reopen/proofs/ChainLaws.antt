@@ -1,7 +1,7 @@
 -- The pages of a catalog, read one after another.
-use Rattle.std.proofs.Common.{◌≡◌, ℕ, zero, suc, ◌+◌, ◌-◌, ◌<◌, ◌≤◌, ◌^◌, Bool, true, false, not, ◌&&◌, ◌||◌, ◌==◌, nat_lt, nat_le, List, [], ◌∷◌, ◌++◌, Some, Result, Ok, Err, refl, sym, ap, subst, ◌∙◌, append_assoc, arith, if◌then◌else◌}
+use Rattle.std.proofs.Common.{Contains, ◌≡◌, ℕ, zero, suc, ◌+◌, ◌-◌, ◌<◌, ◌≤◌, ◌^◌, Bool, true, false, not, ◌&&◌, ◌||◌, ◌==◌, nat_lt, nat_le, List, [], ◌∷◌, ◌++◌, Some, Result, Ok, Err, refl, sym, ap, subst, ◌∙◌, append_assoc, arith, if◌then◌else◌}
 use Rattle.std.specs.List.{AllByRecursion}
-use Rattle.std.proofs.lemmas.List.{append-nil}
+use Rattle.std.proofs.lemmas.List.{append-nil, map-append}
 use Rattle.std.proofs.lemmas.Bool.Decides.{nat_tests}
 use Rattle.std.specs.FinSet as set
 use Rattle.pm_types.specs.declared.limits.TheConstants.{ROOTS, PAGE_BYTES}
@@ -180,3 +180,7 @@ sound_on count met front page read has there sound is =
           (all_both IsEntryNamed (entries_of front) read.entries sound.names (entries_named count (meeting_next met read.next) read.entries has.entries));
       roots = omega (arith, roots.0, roots.1);
     }
+
+-- the page that the chain begins with is one of its pages, once the next one was read
+pub begun_on : (catalog : Catalog) (page first : ℕ) (read : CatalogPage) → Contains (page_numbers catalog ++ page ∷ []) first → Contains (page_numbers (catalog ++ (page, read) ∷ [])) first
+begun_on catalog page first read begun = subst (λ (pages : List ℕ). Contains pages first) (sym (map-append (λ (link : ℕ × CatalogPage). link.0) catalog ((page, read) ∷ []))) begun

@@ -49,12 +49,13 @@ cars_there count next [] are = tt
 cars_there count next (kept ∷ cars) are = (are.0.there, cars_there count next cars are.1)
 
 -- a graph that was read with the pages that it stands on
-pub whole_read : (count : ℕ) (header : Header) (contents : Option (List ℕ)) (catalog : Catalog) (cars : List KeptPage) (used : List ℕ) (copy : Copy) → IsWhole count header.next catalog cars
+pub whole_read : (count : ℕ) (header : Header) (contents : Option (List ℕ)) (catalog : Catalog) (cars : List KeptPage) (used : List ℕ) (copy : Copy) → IsWhole count header.next catalog cars → Contains (page_numbers catalog) header.first
     → ((bytes : List ℕ) → contents ≡ Some bytes → graph_of (store_of count bytes) header ≡ Ok (record { catalog = catalog; cars = cars }))
     → used ≡ used_pages (record { catalog = catalog; cars = cars }) → IsBuilt cars (entries_of catalog) header.next copy → IsRead count header contents used copy
-whole_read count header contents catalog cars used copy whole found is built = record {
+whole_read count header contents catalog cars used copy whole begins found is built = record {
   graph = record { catalog = catalog; cars = cars };
   used_are = is;
+  first = subst (λ (pages : List ℕ). Contains pages header.first) (sym is) (Contains-append_left (page_numbers catalog) (map (λ (kept : KeptPage). kept.page) cars) header.first begins);
   there = subst (AllByRecursion (IsThere count)) (sym is) (all_both (IsThere count) (page_numbers catalog) (map (λ (kept : KeptPage). kept.page) cars) whole.sound.pages (cars_there count header.next cars whole.cars_are));
   plain = (both_true (list_all is_plain_car cars) (list_all (has_slot cars) (entries_of catalog)) built.readable).0;
   is_copy = built.is_copy;

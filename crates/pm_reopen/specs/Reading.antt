@@ -1,5 +1,5 @@
 -- What the readers of the pages of a store may answer, by what the definitions give.
-use Rattle.std.specs.Prelude.{◌≡◌, ℕ, ◌+◌, ◌<◌, ◌≤◌, List, [], ◌∷◌, ◌++◌, map, Option, Some, None, Result, Ok, Err}
+use Rattle.std.specs.Prelude.{◌≡◌, ℕ, ◌+◌, ◌<◌, ◌≤◌, List, Contains, [], ◌∷◌, ◌++◌, map, Option, Some, None, Result, Ok, Err}
 use Rattle.std.specs.Prelude.{true, false}
 use Rattle.std.specs.List.{AllByRecursion}
 use Rattle.std.specs.FinSet as set
@@ -189,11 +189,12 @@ pub record IsMeasured (kept : KeptPage) : Type 0 where
   pub fits : car_used kept.image.slots ≤ PAGE_BYTES
   pub within : AllByRecursion (λ (entry : ℕ × Slot). IsWithinLimits FIELDS entry.1) kept.image.slots
 
--- What was read of a copy: the pages that it stands on, and the copy itself, whose fields are null. Where the
+-- What was read of a copy: the pages that it stands on, with the one that the header names, and the copy itself, whose fields are null. Where the
 -- contents of the disk are told it is the copy that stands behind the header.
 pub record IsRead (count : ℕ) (header : Header) (contents : Option (List ℕ)) (used : List ℕ) (copy : Copy) : Type 0 where
   pub graph : Graph
   pub used_are : used ≡ used_pages graph
+  pub first : Contains used header.first
   pub there : AllByRecursion (IsThere count) used
   pub plain : is_plain graph ≡ true
   pub is_copy : copy ≡ copy_of header.next graph

@@ -1,6 +1,6 @@
 //! Opening the copy behind the current header.
 
-ghost use Rattle.std.specs.Prelude.{◌≡◌, ◌++◌, ℕ, List, IfOk, IfErr, OnOk, OnErr, IfSome, Ok, Err, map, true, false};
+ghost use Rattle.std.specs.Prelude.{◌≡◌, ◌++◌, ℕ, List, Contains, IfOk, IfErr, OnOk, OnErr, IfSome, Ok, Err, map, true, false};
 ghost use Rattle.pm_types.specs.declared.fault.OpenFault.TheVariants.{Broken};
 ghost use Rattle.pm_disk.specs.Disk.{IfTold};
 ghost use Rattle.pm_layout.specs.Headers.{HasHeaderSpelling};
@@ -65,6 +65,7 @@ fn read_whole<D: Disk>(alloc: Global, pages: &mut Pages<D>) -> Result<(Chain, Se
     requires { IsThere (state pages.old).count (state pages.old).header.first }
     ensures gives { IfTold (D.contents (disk_of pages.old)) (λ bytes. Gives (as_graph result) (graph_of (store_of (state pages.old).count bytes) (state pages.old).header)) }
     ensures whole { IfOk result (λ read. IsWhole (state pages.old).count (state pages.old).header.next read.0 read.1) }
+    ensures begins { IfOk result (λ read. Contains (page_numbers read.0) (state pages.old).header.first) }
     ensures looked { Looked pages.old pages.new }
     ensures counts { Counts (D.count (disk_of pages.old)) (D.count (disk_of pages.new)) result }
 {

@@ -1,6 +1,6 @@
 //! Reading the pages of a copy.
 
-ghost use Rattle.std.specs.Prelude.{◌≡◌, ◌<◌, ◌≤◌, ◌++◌, ℕ, List, IfOk, IfSome, OnOk, Some, length};
+ghost use Rattle.std.specs.Prelude.{◌≡◌, ◌<◌, ◌≤◌, ◌++◌, ℕ, List, Contains, IfOk, IfSome, OnOk, Some, length};
 ghost use Rattle.std.specs.List.{AllByRecursion};
 ghost use Rattle.std.specs.FinSet as set;
 ghost use Rattle.pm_types.specs.declared.limits.TheConstants.{FIELDS, PAGE_BYTES};
@@ -10,7 +10,7 @@ ghost use Rattle.pm_image.specs.CatalogPages.{HasCatalogPage, meeting_page};
 ghost use Rattle.pm_image.specs.Opening.{page_of};
 ghost use Rattle.pm_image.specs.Graphs.{undamaged, catalog_of, cars_from, entries_of};
 ghost use Rattle.pm_shadow.specs.Pages.{state, disk_of};
-ghost use Rattle.pm_reopen.specs.Reading.{Gives, GoesOn, behind, of_page, Counts, Looked, store_of, link_at, car_on, entry_car, with_car, car_list, IsThere, IsEntryThere, IsSound, IsCar};
+ghost use Rattle.pm_reopen.specs.Reading.{Gives, GoesOn, behind, of_page, Counts, Looked, store_of, link_at, car_on, entry_car, with_car, car_list, IsThere, IsEntryThere, IsSound, IsCar, page_numbers};
 
 use crate::chain::Chain;
 use crate::fault::ReadFault;
@@ -228,6 +228,7 @@ pub(crate) fn read_chain<D: Disk>(
     requires len { length buffer.old ≡ PAGE_BYTES }
     ensures gives { IfTold (D.contents (disk_of pages.old)) (λ bytes. Gives result (catalog_of (store_of (state pages.old).count bytes) (state pages.old).header)) }
     ensures sound { IfOk result (IsSound (state pages.old).count) }
+    ensures begins { IfOk result (λ chain. Contains (page_numbers chain) (state pages.old).header.first) }
     ensures looked { Looked pages.old pages.new }
     ensures counts { Counts (D.count (disk_of pages.old)) (D.count (disk_of pages.new)) result }
 {

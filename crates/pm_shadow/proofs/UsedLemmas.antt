@@ -65,10 +65,14 @@ opened_graph bytes found is =
     let same = ok_same {A = Opened} (record { current = one.0; graph = two.0 }) found two.2 in
     subst (λ (f : Opened). graph_of (pages_of bytes) f.current.header ≡ Ok f.graph) same two.1
 
+-- what is found in it
+found_blank : (bytes : List ℕ) (slot : ℕ) (header : Header) → bytes ≡ blank_store → current bytes ≡ Ok (record { slot = slot; header = header }) → header ≡ blank_header
+found_blank bytes slot header is now = ap (λ (c : Current). c.header) (ok_same {A = Current} (record { slot = slot; header = header }) (record { slot = 0; header = blank_header }) (sym now ∙ ap current is ∙ blank_current))
+
 -- its only page behind the headers is that of the catalog
 pub blank_used : (s : State) (bytes : List ℕ) → bytes ≡ blank_store → current bytes ≡ Ok (record { slot = s.slot; header = s.header }) → AreUsed s bytes (2 ∷ [])
 blank_used s bytes is now =
-    let header : s.header ≡ blank_header = ap (λ (c : Current). c.header) (ok_same {A = Current} (record { slot = s.slot; header = s.header }) (record { slot = 0; header = blank_header }) (sym now ∙ ap current is ∙ blank_current)) in
+    let header = found_blank bytes s.slot s.header is now in
     record {
       graph = record { catalog = (2, blank_catalog) ∷ []; cars = [] };
       found = (λ i. graph_of (pages_of (is i)) (header i)) ∙ opened_graph blank_store _ blank_found;
@@ -82,3 +86,8 @@ attached_used s before now bytes blank same told found =
     let both : Some bytes ≡ Some blank_store = sym told ∙ same ∙ blank in
     let is : bytes ≡ blank_store = cc both in
     blank_used s bytes is (ap current is ∙ (found blank_store blank).now)
+
+pub attached_first : (s : State) (before : Option (List ℕ)) → before ≡ Some blank_store → IfTold before (HasFound s) → Contains (2 ∷ []) s.header.first
+attached_first s before blank found =
+    let header = found_blank blank_store s.slot s.header refl (found blank_store blank).now in
+    subst (Contains (2 ∷ [])) (sym (ap (λ (h : Header). h.first) header)) (at_first 2 [])

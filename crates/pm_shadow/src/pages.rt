@@ -42,7 +42,7 @@ pub struct Pages<D: Disk> {
 }
 
 impl<D: Disk> Pages<D> {
-    ghost use Rattle.std.specs.Prelude.{◌≡◌, ◌⊎◌, ◌+◌, ◌*◌, ◌-◌, ◌^◌, ◌<◌, ◌≤◌, ℕ, List, All, Some, true, false, [], ◌∷◌, length, option_map, not, Ok, MatchResult, IsOk, IfOk, IfErr, OnOk, OnErr};
+    ghost use Rattle.std.specs.Prelude.{◌≡◌, ◌⊎◌, ◌+◌, ◌*◌, ◌-◌, ◌^◌, ◌<◌, ◌≤◌, ℕ, List, All, Contains, Some, true, false, [], ◌∷◌, length, option_map, not, Ok, MatchResult, IsOk, IfOk, IfErr, OnOk, OnErr};
     ghost use Rattle.pm_disk.specs.Writes.{written, TornIfTold};
     ghost use Rattle.pm_disk.specs.Made.{with_sync, with_write};
     ghost use Rattle.pm_disk.specs.Disk.{IfTold, SameImages, LeavesOnly, HasCause};
@@ -136,10 +136,11 @@ impl<D: Disk> Pages<D> {
 
     /// Lists the pages that the current copy uses, which are known from then on. They are exactly these: those of
     /// its catalog and of its cars, in any order, and no other. Before, they are not known; each is a page of the
-    /// store from page 2 on.
+    /// store from page 2 on, and the first page of the catalog is among them.
     pub fn commit_list(&mut self, alloc: Global, pages: &[u64]) -> Result<(), NoMemory>
         requires unknown { (state self.old).known ≡ false }
         requires there { All (IsListable (state self.old)) pages.now }
+        requires first { Contains pages.now (state self.old).header.first }
         requires used { IfTold (D.contents (disk_of self.old)) (λ bytes. AreUsed (state self.old) bytes pages.now) }
         ensures listed { OnOk result (IsListed pages.now (state self.new).uses) }
         // The graph of the current copy stands on the pages that are its own now, and on no others.

@@ -1,5 +1,5 @@
 use Rattle.std.proofs.Common.{ℕ, List, sym, ap, subst, ◌∙◌}
-use Rattle.std.specs.Prelude.{All}
+use Rattle.std.specs.Prelude.{All, Contains}
 use Rattle.std.proofs.lemmas.Result.{err_from_is_err_and}
 use Rattle.pm_layout.specs.declared.header.Header.{Header}
 use Rattle.pm_plain.specs.Kept.{HasCopy}
@@ -36,6 +36,12 @@ commit_list-requires-clause-there g c =
     let P : State → List ℕ → Type 0 = λ t used. All (IsListable t) used in
     subst (λ (t : State). P t c.as_slice.result.now) (sym c.in_ok-used.ensures.looked.same)
     (subst (λ (used : List ℕ). P s used) (sym c.as_slice.ensures.value) (listable s c.requires.attached c.in_ok-used.used.items c.in_ok-used.ensures.read.there))
+
+pub commit_list-requires-clause-first : goal.commit_list-requires-clause-first
+commit_list-requires-clause-first g c =
+    let P : State → List ℕ → Type 0 = λ t used. Contains used t.header.first in
+    subst (λ (t : State). P t c.as_slice.result.now) (sym c.in_ok-used.ensures.looked.same)
+    (subst (λ (used : List ℕ). P (state c.args.pages.now) used) (sym c.as_slice.ensures.value) c.in_ok-used.ensures.read.first)
 
 pub commit_list-requires-clause-used : goal.commit_list-requires-clause-used
 commit_list-requires-clause-used g c bytes now =

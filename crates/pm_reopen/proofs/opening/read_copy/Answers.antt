@@ -37,7 +37,7 @@ pub returns-clause-read : goal.returns-clause-read
 returns-clause-read g c =
     let header = c.args.pages.now.header in
     let built = subst (λ (h : Header). IsBuilt c.in_ok-chain.cars (entries_of c.in_ok-chain.chain) h.next c.in_ok-used.copy) c.header.ensures c.in_ok-used.ensures.built in
-    whole_read c.args.pages.now.count header (g.D.Disk.contents (disk_of c.args.pages.now)) c.in_ok-chain.chain c.in_ok-chain.cars c.in_ok-used.used.items c.in_ok-used.copy c.in_ok-chain.ensures.whole
+    whole_read c.args.pages.now.count header (g.D.Disk.contents (disk_of c.args.pages.now)) c.in_ok-chain.chain c.in_ok-chain.cars c.in_ok-used.used.items c.in_ok-used.copy c.in_ok-chain.ensures.whole c.in_ok-chain.ensures.begins
     (λ bytes told. c.in_ok-chain.ensures.gives bytes told) c.in_ok-used.ensures.pages built
 
 pub returns-clause-fits : goal.returns-clause-fits

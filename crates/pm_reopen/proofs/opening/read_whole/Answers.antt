@@ -75,6 +75,9 @@ returns-clause-gives g c bytes told =
 pub returns-in_err-cars-clause-looked : goal.returns-in_err-cars-clause-looked
 returns-in_err-cars-clause-looked g c = looked_then c.args.pages.now c.read_chain.new.pages c.read_cars.new.pages c.in_ok-chain.ensures.looked c.in_err-cars.ensures.looked
 
+pub returns-in_err-held-clause-looked : goal.returns-in_err-held-clause-looked
+returns-in_err-held-clause-looked g c = looked_then c.args.pages.now c.read_chain.new.pages c.read_cars.new.pages c.in_ok-chain.ensures.looked c.in_ok-cars.ensures.looked
+
 pub returns-in_err-check_links-clause-looked : goal.returns-in_err-check_links-clause-looked
 returns-in_err-check_links-clause-looked g c = looked_then c.args.pages.now c.read_chain.new.pages c.read_cars.new.pages c.in_ok-chain.ensures.looked c.in_ok-cars.ensures.looked
 

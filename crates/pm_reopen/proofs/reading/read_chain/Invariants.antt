@@ -1,7 +1,7 @@
-use Rattle.std.proofs.Common.{◌≡◌, ℕ, ◌-◌, List, Some}
+use Rattle.std.proofs.Common.{◌≡◌, ℕ, ◌-◌, ◌++◌, List, [], ◌∷◌, Contains, Some}
 use Rattle.pm_image.specs.Graphs.{catalog_from, catalog_of, most_pages, entries_of}
 use Rattle.pm_shadow.specs.Pages.{state, disk_of}
-use Rattle.pm_reopen.specs.Reading.{Looked, store_of, IsThere, IsSound, root_count}
+use Rattle.pm_reopen.specs.Reading.{Looked, store_of, IsThere, IsSound, root_count, page_numbers}
 use Rattle.pm_base.proofs.Fronts.{with_front}
 use Rattle.pm_reopen.proofs.reading.read_chain.Given as goal
 
@@ -13,5 +13,6 @@ invariant-loop g l = record {
       → with_front l.chain.items (catalog_from (most_pages - l.counter) (store_of (state l.fn.pages).count bytes) l.met l.page l.kept) ≡ catalog_of (store_of (state l.fn.pages).count bytes) (state l.fn.pages).header;
   there : IsThere (state l.fn.pages).count l.page;
   sound : IsSound (state l.fn.pages).count l.chain.items;
+  begun : Contains (page_numbers l.chain.items ++ l.page ∷ []) (state l.fn.pages).header.first;
   roots : l.met.roots ≡ root_count (entries_of l.chain.items);
 }

@@ -1,8 +1,11 @@
 use Rattle.std.proofs.Common.{ℕ, zero, suc, ◌<◌, [], ◌∷◌, slice_index_or, refl, sym, subst, arith}
 use Rattle.pm_shadow.specs.Pages.{state}
-use Rattle.pm_shadow.proofs.UsedLemmas.{attached_used}
+use Rattle.pm_shadow.proofs.UsedLemmas.{attached_first, attached_used}
 use Rattle.pm_save.proofs.TestLemmas.{none_plain, listed_rests}
 use Rattle.pm_save.proofs.tests.a_copy_without_an_object_has_a_catalog_page.Goals as goal
+
+pub commit_list-requires-clause-first : goal.commit_list-requires-clause-first
+commit_list-requires-clause-first g c = attached_first (state c.in-Ok-attach.pages) _ (c.in-Ok.ensures.blank _ refl) c.in-Ok-attach.ensures.found
 
 pub commit_list-requires-clause-used : goal.commit_list-requires-clause-used
 commit_list-requires-clause-used g c bytes told =

@@ -2,9 +2,12 @@ use Rattle.std.proofs.Common.{ℕ, zero, suc, ◌<◌, ◌≤◌, [], ◌∷◌,
 use Rattle.std.specs.FinMap.{insert}
 use Rattle.pm_types.specs.declared.limits.TheConstants.{OBJECT_BYTES}
 use Rattle.pm_shadow.specs.Pages.{state}
-use Rattle.pm_shadow.proofs.UsedLemmas.{attached_used}
+use Rattle.pm_shadow.proofs.UsedLemmas.{attached_first, attached_used}
 use Rattle.pm_save.proofs.TestLemmas.{one_plain, listed_rests}
 use Rattle.pm_save.proofs.tests.an_object_and_its_name_are_laid_out.Goals as goal
+
+pub commit_list-requires-clause-first : goal.commit_list-requires-clause-first
+commit_list-requires-clause-first g c = attached_first (state c.in-Ok-attach.pages) _ (c.in-Ok.ensures.blank _ refl) c.in-Ok-attach.ensures.found
 
 pub commit_list-requires-clause-used : goal.commit_list-requires-clause-used
 commit_list-requires-clause-used g c bytes told =

@@ -5,7 +5,7 @@ use Rattle.pm_shadow.specs.declared.page_use.PageUse.TheVariants.{Claimed}
 use Rattle.pm_shadow.specs.Uses.{with_use, IsListed}
 use Rattle.pm_shadow.specs.State.{State, IsKeepable, keeps, keeps_by, known_by, with_claimed}
 use Rattle.pm_shadow.specs.Pages.{state}
-use Rattle.pm_shadow.proofs.UsedLemmas.{attached_used}
+use Rattle.pm_shadow.proofs.UsedLemmas.{attached_first, attached_used}
 use Rattle.pm_shadow.proofs.tests.a_claimed_page_is_written_and_read.Goals as goal
 
 itself : (n : ℕ) → (n == n) ≡ true
@@ -24,6 +24,9 @@ listed_keepable s t is listed = record {
   from_2 = omega arith;
   kept = ap (λ (x : State). keeps x 2) is ∙ ap (keeps_by true) (listed.listed 2 (0, omega arith, refl));
 }
+
+pub commit_list-requires-clause-first : goal.commit_list-requires-clause-first
+commit_list-requires-clause-first g c = attached_first (state c.in-Ok-attach.pages) _ (c.in-Ok.ensures.blank _ refl) c.in-Ok-attach.ensures.found
 
 pub commit_list-requires-clause-used : goal.commit_list-requires-clause-used
 commit_list-requires-clause-used g c bytes told =
