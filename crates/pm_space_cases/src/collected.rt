@@ -85,10 +85,24 @@ fn walk<F: Fn(&[u64]) -> usize + Drop>(
     ask(space, oracle, alloc, client, &Cmd::Show { reg }, tally)?;
     let to = register(WALK + DEEP - left + 1)?;
     for index in 0..5 {
-        ask(space, oracle, alloc, client, &Cmd::Load { to, reg, index }, tally)?;
+        ask(
+            space,
+            oracle,
+            alloc,
+            client,
+            &Cmd::Load { to, reg, index },
+            tally,
+        )?;
         walk(space, oracle, alloc, client, left - 1, seen, tally)?;
     }
-    ask(space, oracle, alloc, client, &Cmd::Forget { reg: to }, tally)?;
+    ask(
+        space,
+        oracle,
+        alloc,
+        client,
+        &Cmd::Forget { reg: to },
+        tally,
+    )?;
     Ok(())
 }
 
@@ -114,7 +128,14 @@ fn look<F: Fn(&[u64]) -> usize + Drop>(
         ask(space, oracle, alloc, client, &Cmd::Find { to, name }, tally)?;
         walk(space, oracle, alloc, client, DEEP, &mut seen, tally)?;
     }
-    ask(space, oracle, alloc, client, &Cmd::Forget { reg: to }, tally)?;
+    ask(
+        space,
+        oracle,
+        alloc,
+        client,
+        &Cmd::Forget { reg: to },
+        tally,
+    )?;
     Ok(())
 }
 
@@ -216,7 +237,14 @@ fn push_plan<F: Fn(&[u64]) -> usize + Drop>(
     for _ in 0..plan.commands {
         draw = next_draw(draw);
         let cmd = command(alloc, draw, plan.size)?;
-        ask(&mut space, &mut oracle, alloc, (draw >> 27) % 2, &cmd, &mut tally)?;
+        ask(
+            &mut space,
+            &mut oracle,
+            alloc,
+            (draw >> 27) % 2,
+            &cmd,
+            &mut tally,
+        )?;
         collect(&mut space, &mut oracle, alloc, plan.events, &mut tally)?;
     }
     give_up(&mut space, &mut oracle, alloc, 20_000, &mut tally)?;
