@@ -2,6 +2,7 @@ pub mod Views
 pub mod Fields
 pub mod Swept
 pub mod Searches
+pub mod Quiet
 pub mod Lowest
 pub mod Fixes
 pub mod Rows

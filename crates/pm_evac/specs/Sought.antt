@@ -1,6 +1,6 @@
--- Sources that are sought slot by slot.
+-- Sources that are sought slot by slot, and cars that are sought one by one.
 use Rattle.std.specs.Prelude.{ℕ, Bool, ◌&&◌, ◌==◌, if◌then◌else◌, List, Option, Some, None}
-use Rattle.std.specs.List.{list_any}
+use Rattle.std.specs.List.{list_any, find}
 use Rattle.std.specs.Ordering.{is_lt}
 use Rattle.pm_types.specs.Orders.{source_cmp}
 use Rattle.pm_types.specs.declared.object.Slot.{Slot}
@@ -8,7 +8,8 @@ use Rattle.pm_types.specs.declared.source.RefSource.{RefSource}
 use Rattle.pm_types.specs.declared.source.RefSource.TheVariants.{Root, Handle, Field}
 use Rattle.pm_trains.specs.Trains.{Train, is_among}
 use Rattle.pm_view.specs.Reading.{cars_of}
-use Rattle.pm_view.specs.Events.{went, has_gone}
+use Rattle.pm_view.specs.Events.{went, has_gone, has_change}
+use Rattle.pm_space.specs.Linked.{Linked, queues_of, waiting}
 
 -- the entry of the lesser source
 abbrev pub lesser : Option (RefSource × ℕ) → Option (RefSource × ℕ) → Option (RefSource × ℕ)
@@ -29,3 +30,7 @@ abbrev pub inside_car : List Train → ℕ → RefSource → Option ℕ
 inside_car trains train (Root number) = None
 inside_car trains train (Handle client register) = None
 inside_car trains train (Field a index) = if is_among a.car (cars_of trains train) then Some a.car else None
+
+-- the first of these cars that has a queued change
+abbrev pub first_changed : Linked → List ℕ → Option ℕ
+first_changed links cars = find (λ car. has_change (waiting (queues_of links) car)) cars

@@ -1,18 +1,20 @@
-ghost use Rattle.std.specs.Prelude.{Ok};
+ghost use Rattle.std.specs.Prelude.{◌≡◌, Ok};
 ghost use Rattle.pm_types.specs.declared.event.Step.{Step};
 ghost use Rattle.pm_place.specs.Choosers.{IsChooser};
 ghost use Rattle.pm_view.specs.View.{SpaceView};
 ghost use Rattle.pm_view.specs.Law.{HeapLaw};
-ghost use Rattle.pm_view.specs.Events.{next_row};
+ghost use Rattle.pm_view.specs.Events.{apply, next_row};
 ghost use Rattle.pm_space.specs.Shown.{view};
 ghost use Rattle.pm_evac.specs.Steps.{IsEvent, IsApply, IsFix, IsMove, IsFinish, IsSweep, IsFree, KeepsWorlds, MovesOneAtMost, LowersWork, MakesEvent};
 
 use crate::events;
+use crate::finding::changed_car;
 use pm_law_collect::{an_event_keeps_the_law_and_the_worlds, an_event_moves_one_object_at_most};
 use pm_law_course::one_event_completes_a_collection;
 use pm_law_work::an_event_lowers_the_work_left;
 use pm_space::Space;
 use pm_types::{NoMemory, Step};
+use pm_view::Phase;
 use std::alloc::Global;
 
 /// A law of events that were made: the heap law is kept, and each world for which the space stood; the place of one
@@ -30,6 +32,25 @@ pub fn an_event_that_was_made_keeps_all()
     one_event_completes_a_collection();
 }
 
+// The car whose change is applied: while a train is drained the first of its cars that has one, and while a car is
+// emptied that car.
+fn applied_car<F: Drop>(space: &mut Space<F>) -> u64
+    requires { IsApply (next_row (view space.old.parts)) }
+    ensures row { next_row (view space.old.parts) ≡ apply result }
+    ensures parts { space.new.parts ≡ space.old.parts }
+{
+    match space.parts.phase {
+        Phase::Draining(train) => {
+            let Some(car) = changed_car(space, train) else {
+                unreachable!()
+            };
+            car
+        }
+        Phase::Moving(car) => car,
+        Phase::Idle | Phase::Sweeping(_) | Phase::Doomed(_) => unreachable!(),
+    }
+}
+
 /// Makes the next event where it applies a change: while a train is drained that of the first of its cars that has a
 /// queued change, and while a car is emptied that car's own. After want of memory all is as it was.
 pub fn apply_one<F: Fn(&[u64]) -> usize + Drop>(space: &mut Space<F>) -> Result<Step, NoMemory>
@@ -37,7 +58,8 @@ pub fn apply_one<F: Fn(&[u64]) -> usize + Drop>(space: &mut Space<F>) -> Result<
     ensures { MakesEvent F.Fn space.old.parts space.new.parts result }
 {
     an_event_that_was_made_keeps_all();
-    events::apply_one(&mut space.parts)
+    let car = applied_car(space);
+    events::apply_at(&mut space.parts, car)
 }
 
 /// Makes the next event where it fixes a source: the least source that the car which is emptied remembers and that
@@ -47,6 +69,7 @@ pub fn fix_one<F: Fn(&[u64]) -> usize + Drop>(space: &mut Space<F>) -> Result<St
     ensures { MakesEvent F.Fn space.old.parts space.new.parts result }
 {
     an_event_that_was_made_keeps_all();
+    space.quiet = 0;
     events::fix_one(&mut space.parts)
 }
 
@@ -63,6 +86,7 @@ pub fn move_one<F: Fn(&[u64]) -> usize + Drop>(
     ensures { MakesEvent F.Fn space.old.parts space.new.parts result }
 {
     an_event_that_was_made_keeps_all();
+    space.quiet = 0;
     events::move_one(&mut space.parts, alloc)
 }
 
@@ -76,6 +100,7 @@ pub fn sweep_one<F: Fn(&[u64]) -> usize + Drop>(
     ensures { MakesEvent F.Fn space.old.parts space.new.parts result }
 {
     an_event_that_was_made_keeps_all();
+    space.quiet = 0;
     events::sweep_one(&mut space.parts, alloc)
 }
 
@@ -87,6 +112,7 @@ pub fn free_car<F: Fn(&[u64]) -> usize + Drop>(space: &mut Space<F>) -> Result<S
     ensures { MakesEvent F.Fn space.old.parts space.new.parts result }
 {
     an_event_that_was_made_keeps_all();
+    space.quiet = 0;
     events::free_car(&mut space.parts)
 }
 
@@ -96,5 +122,6 @@ pub fn finish_car<F: Fn(&[u64]) -> usize + Drop>(space: &mut Space<F>) -> Step
     ensures { MakesEvent F.Fn space.old.parts space.new.parts (Ok result) }
 {
     an_event_that_was_made_keeps_all();
+    space.quiet = 0;
     events::finish_car(&mut space.parts)
 }

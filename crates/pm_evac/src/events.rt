@@ -1,13 +1,13 @@
 ghost use Rattle.std.specs.Prelude.{◌≡◌, if◌then◌else◌, None, IfOk, OnErr};
 ghost use Rattle.pm_view.specs.Law.{HeapLaw};
-ghost use Rattle.pm_view.specs.Events.{next_row};
+ghost use Rattle.pm_view.specs.Events.{apply, next_row};
 ghost use Rattle.pm_space.specs.Shown.{view, KeepsRest};
 ghost use Rattle.pm_place.specs.Choosers.{IsChooser};
 ghost use Rattle.pm_view.specs.declared.phase.Phase.TheVariants.{Moving};
-ghost use Rattle.pm_evac.specs.Steps.{IsEvent, IsChosenEvent, IsNextMove, IsApply, IsFix, IsMove, IsFinish, IsSweep, IsFree, swept_car};
+ghost use Rattle.pm_evac.specs.Steps.{IsEvent, IsChosenEvent, IsNextMove, IsFix, IsMove, IsFinish, IsSweep, IsFree, swept_car};
 
 use crate::applying::apply;
-use crate::finding::{anchor_in, changed_car, lowest_live};
+use crate::finding::{anchor_in, lowest_live};
 use crate::fixing::fix;
 use crate::freeing::{finish, free};
 use crate::moving::relocate;
@@ -21,31 +21,16 @@ use pm_types::{Addr, NoMemory, Step};
 use pm_view::Phase;
 use std::alloc::Global;
 
-/// Makes the next event where it applies a change: while a train is drained that of the first of its cars that has a
-/// queued change, and while a car is emptied that car's own. After want of memory all is as it was.
-pub fn apply_one<F>(parts: &mut Parts<F>) -> Result<Step, NoMemory>
-    requires law { HeapLaw (view parts.old) }
-    requires row { IsApply (next_row (view parts.old)) }
+/// Makes the next event where it applies the front change of this car's queue. After want of memory all is as it was.
+pub fn apply_at<F>(parts: &mut Parts<F>, car: u64) -> Result<Step, NoMemory>
+    requires { next_row (view parts.old) ≡ apply car }
     ensures ok { IfOk result (λ step. IsEvent (view parts.old) (view parts.new) step) }
     ensures err { OnErr result (view parts.new ≡ view parts.old) }
     ensures rest { KeepsRest parts.old parts.new }
 {
-    match parts.phase {
-        Phase::Draining(train) => {
-            let Some(car) = changed_car(parts, train) else {
-                unreachable!()
-            };
-            apply(parts, car)?;
-            let _completed = parts.completed;
-            Ok(Step::Applied { car })
-        }
-        Phase::Moving(car) => {
-            apply(parts, car)?;
-            let _completed = parts.completed;
-            Ok(Step::Applied { car })
-        }
-        Phase::Idle | Phase::Sweeping(_) | Phase::Doomed(_) => unreachable!(),
-    }
+    apply(parts, car)?;
+    let _completed = parts.completed;
+    Ok(Step::Applied { car })
 }
 
 /// Makes the next event where it fixes a source: the least source that the car which is emptied remembers and that

@@ -1,11 +1,11 @@
-ghost use Rattle.std.specs.Prelude.{◌≡◌, IsSome};
-ghost use Rattle.std.specs.List.{find};
-ghost use Rattle.pm_trains.specs.Trains.{cars_at};
+ghost use Rattle.std.specs.Prelude.{◌≡◌, None, take};
+ghost use Rattle.pm_view.specs.declared.phase.Phase.TheVariants.{Draining};
 ghost use Rattle.pm_view.specs.Events.{has_change, changed_car, anchor_in, lowest_live};
 ghost use Rattle.pm_space.specs.Linked.{queues_of, waiting};
 ghost use Rattle.pm_space.specs.Shown.{view};
+ghost use Rattle.pm_evac.specs.Sought.{first_changed};
 
-use pm_space::{LinkTable, Parts};
+use pm_space::{LinkTable, Parts, Space};
 use pm_types::Addr;
 
 /// Whether a change waits in a car's queue.
@@ -21,25 +21,34 @@ pub fn has_change(links: &LinkTable, car: u64) -> bool
     }
 }
 
-// The first of these cars that has a queued change.
-fn first_changed(links: &LinkTable, cars: &[u64]) -> Option<u64>
-    ensures { result ≡ find (λ car. has_change (waiting (queues_of links.now) car)) cars.now }
+// The first of these cars that has a queued change, and its place, or one behind the last. None before that place has one,
+// and it is sought from a place on before which none has.
+fn changed_from(links: &LinkTable, cars: &[u64], from: usize) -> (usize, Option<u64>)
+    requires { first_changed links.now (take from cars.now) ≡ None }
+    ensures quiet { first_changed links.now (take result.0 cars.now) ≡ None }
+    ensures found { result.1 ≡ first_changed links.now cars.now }
 {
-    for car in cars {
-        if has_change(links, *car) {
-            return Some(*car);
+    let mut at = from;
+    while at < cars.len() {
+        if has_change(links, cars[at]) {
+            return (at, Some(cars[at]));
         }
+        at += 1;
     }
-    None
+    (at, None)
 }
 
-/// The first car of a train that stands, in the train's order, that has a queued change. It looks at the cars before
-/// that one.
-pub fn changed_car<F>(parts: &Parts<F>, train: u64) -> Option<u64>
-    requires { IsSome (cars_at parts.now.trains.trains train) }
-    ensures { result ≡ changed_car (view parts.now) train }
+/// The first car of the train that is drained, in the train's order, that has a queued change. It looks at the cars from
+/// the place on before which none has one, and that place goes on to the car.
+pub fn changed_car<F: Drop>(space: &mut Space<F>, train: u64) -> Option<u64>
+    requires { (view space.old.parts).phase ≡ Draining train }
+    ensures car { result ≡ changed_car (view space.old.parts) train }
+    ensures parts { space.new.parts ≡ space.old.parts }
 {
-    first_changed(&parts.links, parts.trains.cars(train))
+    let cars = space.parts.trains.cars(train);
+    let (quiet, found) = changed_from(&space.parts.links, cars, space.quiet);
+    space.quiet = quiet;
+    found
 }
 
 /// The anchor with its train, where it lies in the car.

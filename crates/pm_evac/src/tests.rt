@@ -1,4 +1,4 @@
-use crate::{apply, changed_car, has_change, least, lowest_live, outside, stale};
+use crate::{apply, has_change, least, lowest_live, outside, stale};
 use pm_place::Placement;
 use pm_space::{Space, make_room, open_car, tell_all};
 use pm_types::{Addr, RefSource};
@@ -30,8 +30,8 @@ fn a_change_is_found_and_applied(rt: HostRuntime) -> Result<(), Fail> {
         None,
         named,
     );
-    let train = parts.trains.youngest();
-    assert_eq!(rt; changed_car(&parts, train), Some(2));
+    assert!(rt; !has_change(&parts.links, 1));
+    assert!(rt; has_change(&parts.links, 2));
     assert_eq!(rt; least(&parts, 2), None);
     apply(&mut parts, 2)?;
     assert!(rt; !has_change(&parts.links, 2));

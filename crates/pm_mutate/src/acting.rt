@@ -134,5 +134,6 @@ pub fn act<F: Drop>(
     every_command_but_new_leaves_objects_where_they_stand();
     new_adds_one_object_in_the_open_train();
     sound_registers(cmd);
+    space.quiet = 0;
     run(&mut space.parts, alloc, client, cmd)
 }

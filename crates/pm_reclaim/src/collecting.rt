@@ -44,12 +44,12 @@ pub enum Kind {
 }
 
 // While a train is drained.
-fn next_draining<F>(parts: &Parts<F>, train: u64) -> Kind
-    requires law { HeapLaw (view parts.now) }
-    requires phase { (view parts.now).phase ≡ Draining train }
-    ensures { result ≡ kind_of (next_row (view parts.now)) }
+fn next_draining<F: Drop>(space: &mut Space<F>, train: u64) -> Kind
+    requires { (view space.old.parts).phase ≡ Draining train }
+    ensures kind { result ≡ kind_of (next_row (view space.old.parts)) }
+    ensures parts { space.new.parts ≡ space.old.parts }
 {
-    match changed_car(parts, train) {
+    match changed_car(space, train) {
         Some(_) => Kind::Apply,
         None => Kind::Decide,
     }
@@ -85,21 +85,22 @@ fn next_swept<F>(parts: &Parts<F>, car: u64) -> Kind
     }
 }
 
-/// The kind of the event that comes next, on parts that keep the heap law.
-pub fn next_kind<F>(parts: &Parts<F>) -> Kind
-    requires { HeapLaw (view parts.now) }
-    ensures { result ≡ kind_of (next_row (view parts.now)) }
+/// The kind of the event that comes next. Nothing that is seen of the space changes: while a train is drained the place
+/// on its cars before which none has a change goes on.
+pub fn next_kind<F: Drop>(space: &mut Space<F>) -> Kind
+    ensures kind { result ≡ kind_of (next_row (view space.old.parts)) }
+    ensures parts { space.new.parts ≡ space.old.parts }
 {
-    match parts.phase {
-        Phase::Idle => match parts.trains.oldest() {
+    match space.parts.phase {
+        Phase::Idle => match space.parts.trains.oldest() {
             Some(_) => Kind::Select,
             None => Kind::Nothing,
         },
-        Phase::Draining(train) => next_draining(parts, train),
-        Phase::Moving(car) => next_moving(parts, car),
-        Phase::Sweeping(car) => next_swept(parts, car),
-        Phase::Doomed(train) => match parts.trains.first_car(train) {
-            Some(car) => next_swept(parts, car),
+        Phase::Draining(train) => next_draining(space, train),
+        Phase::Moving(car) => next_moving(&space.parts, car),
+        Phase::Sweeping(car) => next_swept(&space.parts, car),
+        Phase::Doomed(train) => match space.parts.trains.first_car(train) {
+            Some(car) => next_swept(&space.parts, car),
             None => Kind::Nothing,
         },
     }
@@ -125,7 +126,7 @@ pub fn collect_one<F: Fn(&[u64]) -> usize + Drop>(
     requires { IsChooser F.Fn space.old.parts.place }
     ensures { MakesEvent F.Fn space.old.parts space.new.parts result }
 {
-    match next_kind(&space.parts) {
+    match next_kind(space) {
         Kind::Nothing => Ok(rest(space)),
         Kind::Select => select(space, alloc),
         Kind::Apply => apply_one(space),

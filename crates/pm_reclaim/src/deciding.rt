@@ -137,5 +137,6 @@ pub fn decide<F: Fn(&[u64]) -> usize + Drop>(
     ensures { MakesEvent F.Fn space.old.parts space.new.parts result }
 {
     an_event_that_was_made_keeps_all();
+    space.quiet = 0;
     decide_next(&mut space.parts, alloc)
 }

@@ -2,3 +2,4 @@ pub mod Linked
 pub mod Shown
 pub mod KeptOnce
 pub mod Counted
+pub mod Quiet

@@ -7,6 +7,7 @@ ghost use Rattle.pm_view.specs.Counts.{standing, old};
 ghost use Rattle.pm_space.specs.Counted.{capped};
 ghost use Rattle.pm_space.specs.Shown.{view, LeadsWhereStored, KeepsRest};
 ghost use Rattle.pm_space.specs.KeptOnce.{HeapLaw-prop};
+ghost use Rattle.pm_space.specs.Quiet.{IsQuiet, IsQuiet-prop};
 
 use crate::links::LinkTable;
 use crate::parts::Parts;
@@ -26,7 +27,11 @@ use std::alloc::Global;
 #[derive(Drop)]
 pub struct Space<F> {
     pub parts: Parts<F>,
+    /// So many cars at the front of the train that is drained have no change waiting. Whoever changes the parts makes it
+    /// 0, or shows that it is so.
+    pub quiet: usize,
     ghost kept: { HeapLaw (view parts) } by { HeapLaw-prop (view parts) },
+    ghost still: { IsQuiet (view parts) quiet } by { IsQuiet-prop (view parts) quiet },
 }
 
 impl<F: Drop> Space<F> {
@@ -53,6 +58,7 @@ impl<F: Drop> Space<F> {
                 next: 1,
                 completed: 0,
             },
+            quiet: 0,
         })
     }
 
@@ -86,6 +92,7 @@ impl<F: Drop> Space<F> {
         ensures rest { KeepsRest self.old.parts self.new.parts }
     {
         a_source_is_set();
+        self.quiet = 0;
         spreading::spread(&mut self.parts, source, to)
     }
 

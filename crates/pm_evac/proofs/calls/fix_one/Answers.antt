@@ -2,11 +2,13 @@ use Rattle.pm_view.specs.Events.{next_row}
 use Rattle.pm_space.specs.Shown.{view}
 use Rattle.pm_evac.proofs.Counting.{lawful, makes}
 use Rattle.pm_evac.proofs.Chosen.{fix_chosen}
+use Rattle.pm_evac.proofs.Quiet.{quiet_none}
 use Rattle.pm_evac.proofs.calls.fix_one.Goals as goal
 
 pub invariant_of-space : goal.invariant_of-space
 invariant_of-space g c = record {
   kept = lawful g.F.Fn c.args.space.now.parts c.fix_one.new.parts c.args.space.now.kept c.fix_one.result c.an_event_that_was_made_keeps_all.ensures.law c.fix_one.ensures.ok c.fix_one.ensures.err;
+  still = quiet_none (view c.fix_one.new.parts);
 }
 
 pub returns : goal.returns

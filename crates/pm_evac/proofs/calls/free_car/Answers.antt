@@ -2,11 +2,13 @@ use Rattle.pm_view.specs.Events.{next_row}
 use Rattle.pm_space.specs.Shown.{view}
 use Rattle.pm_evac.proofs.Counting.{lawful, makes}
 use Rattle.pm_evac.proofs.Chosen.{free_chosen}
+use Rattle.pm_evac.proofs.Quiet.{quiet_none}
 use Rattle.pm_evac.proofs.calls.free_car.Goals as goal
 
 pub invariant_of-space : goal.invariant_of-space
 invariant_of-space g c = record {
   kept = lawful g.F.Fn c.args.space.now.parts c.free_car.new.parts c.args.space.now.kept c.free_car.result c.an_event_that_was_made_keeps_all.ensures.law c.free_car.ensures.ok c.free_car.ensures.err;
+  still = quiet_none (view c.free_car.new.parts);
 }
 
 pub returns : goal.returns

@@ -2,11 +2,13 @@ use Rattle.pm_view.specs.Events.{next_row}
 use Rattle.pm_space.specs.Shown.{view}
 use Rattle.pm_evac.proofs.Counting.{lawful, makes}
 use Rattle.pm_reclaim.proofs.KindRows.{select_chosen}
+use Rattle.pm_evac.proofs.Quiet.{quiet_none}
 use Rattle.pm_reclaim.proofs.selecting.select.Goals as goal
 
 pub invariant_of-space : goal.invariant_of-space
 invariant_of-space g c = record {
   kept = lawful g.F.Fn c.args.space.now.parts c.select_next.new.parts c.args.space.now.kept c.select_next.result c.an_event_that_was_made_keeps_all.ensures.law c.select_next.ensures.ok c.select_next.ensures.err;
+  still = quiet_none (view c.select_next.new.parts);
 }
 
 pub returns : goal.returns

@@ -1,0 +1,131 @@
+-- The front of a train in which no change waits.
+use Rattle.std.proofs.Common.{◌≡◌, ℕ, zero, suc, ◌+◌, ◌<◌, ◌≤◌, Bool, true, false, cond, ◌==◌, List, [], ◌∷◌, length, take, get_or, Option, Some, None, Result, Ok, Err, IfOk, OnErr, refl, sym, ap, subst, ◌∙◌, arith}
+use Rattle.std.specs.List.{find}
+use Rattle.std.specs.Cmp.{nat_cmp_total}
+use Rattle.std.specs.Option.{unwrap_or}
+use Rattle.std.specs.FinMap.{get, insert, get-insert}
+use Rattle.std.proofs.lemmas.Bool.{true≢false}
+use Rattle.std.proofs.lemmas.Option.{none-some, same_Some}
+use Rattle.std.proofs.lemmas.Bool.{eqb-true}
+use Rattle.std.specs.Ordering.{nat_cmp, eq_by_cmp}
+use Rattle.pm_model.proofs.Unused.{tied_nat}
+use Rattle.pm_types.specs.declared.address.Addr.{Addr}
+use Rattle.pm_trains.specs.Trains.{first_car}
+use Rattle.pm_types.specs.declared.source.Change.{Change}
+use Rattle.pm_types.specs.declared.no_memory.NoMemory.{NoMemory}
+use Rattle.pm_types.specs.declared.event.Step.{Step}
+use Rattle.pm_view.specs.declared.phase.Phase.TheVariants.{Draining}
+use Rattle.pm_view.specs.View.{SpaceView}
+use Rattle.pm_view.specs.Reading.{cars_of}
+use Rattle.pm_view.specs.Candidates.{queue_of}
+use Rattle.pm_view.specs.Collecting.{applied_front, applied_in}
+use Rattle.pm_view.specs.Events.{Row, apply, after, has_change, changed_car, to_note, draining_row, row_in, next_row}
+use Rattle.pm_space.specs.Quiet.{IsQuiet, first_waiting}
+use Rattle.pm_evac.specs.Steps.{counted, IsEvent}
+
+-- ---- lists
+
+-- where none of the first i passes, and the next does not, none of the first i + 1 does
+pub none_more : (test : ℕ → Bool) (xs : List ℕ) (i : ℕ) → i < length xs → find test (take i xs) ≡ None → test (get_or xs i 0) ≡ false → find test (take (i + 1) xs) ≡ None
+none_more test xs i inside none fails =
+    let more : i + 1 ≡ suc i = omega arith in
+    ap (λ (n : ℕ). find test (take n xs)) more ∙ next xs i inside none fails
+  where
+    next : (xs : List ℕ) (i : ℕ) → i < length xs → find test (take i xs) ≡ None → test (get_or xs i 0) ≡ false → find test (take (suc i) xs) ≡ None
+    next [] i inside none fails = absurd (omega (arith, inside))
+    next (x ∷ xs) zero inside none fails = ap (λ (b : Bool). cond b (Some x) None) fails
+    next (x ∷ xs) (suc i) inside none fails =
+        elim (test x) as (λ b. cond b (Some x) (find test (take i xs)) ≡ None → cond b (Some x) (find test (take (suc i) xs)) ≡ None) [
+          | true ↦ λ here. absurd (none-some x (sym here))
+          | false ↦ λ there. next xs i (omega (arith, inside)) there fails
+        ] none
+
+-- where the next passes it is the first that does
+pub found_here : (test : ℕ → Bool) (xs : List ℕ) (i : ℕ) → i < length xs → find test (take i xs) ≡ None → test (get_or xs i 0) ≡ true → find test xs ≡ Some (get_or xs i 0)
+found_here test [] i inside none passes = absurd (omega (arith, inside))
+found_here test (x ∷ xs) zero inside none passes = ap (λ (b : Bool). cond b (Some x) (find test xs)) passes
+found_here test (x ∷ xs) (suc i) inside none passes =
+    elim (test x) as (λ b. cond b (Some x) (find test (take i xs)) ≡ None → cond b (Some x) (find test xs) ≡ Some (get_or xs i 0)) [
+      | true ↦ λ here. absurd (none-some x (sym here))
+      | false ↦ λ there. found_here test xs i (omega (arith, inside)) there passes
+    ] none
+
+-- and behind the last there is none
+pub found_past : (test : ℕ → Bool) (xs : List ℕ) (i : ℕ) → length xs ≤ i → find test (take i xs) ≡ None → find test xs ≡ None
+found_past test [] zero past none = refl
+found_past test [] (suc i) past none = refl
+found_past test (x ∷ xs) zero past none = absurd (omega (arith, past))
+found_past test (x ∷ xs) (suc i) past none =
+    elim (test x) as (λ b. cond b (Some x) (find test (take i xs)) ≡ None → cond b (Some x) (find test xs) ≡ None) [
+      | true ↦ λ here. absurd (none-some x (sym here))
+      | false ↦ λ there. found_past test xs i (omega (arith, past)) there
+    ] none
+
+-- what fails where another test fails is not found where that is not
+none_too : (test other : ℕ → Bool) (xs : List ℕ) → ((x : ℕ) → test x ≡ false → other x ≡ false) → find test xs ≡ None → find other xs ≡ None
+none_too test other [] fails none = refl
+none_too test other (x ∷ xs) fails none =
+    elim (test x) as (λ b. test x ≡ b → cond b (Some x) (find test xs) ≡ None → cond (other x) (Some x) (find other xs) ≡ None) [
+      | true ↦ λ is here. absurd (none-some x (sym here))
+      | false ↦ λ is there. ap (λ (b : Bool). cond b (Some x) (find other xs)) (fails x is) ∙ none_too test other xs fails there
+    ] refl none
+
+-- ---- the front of a train
+
+-- no car is looked at
+pub quiet_none : (view : SpaceView) → IsQuiet view 0
+quiet_none view train is = refl
+
+-- those that were looked at
+pub quiet_front : (view : SpaceView) (train count : ℕ) (cars : List ℕ) → view.phase ≡ Draining train → cars_of view.trains.trains train ≡ cars → first_waiting view (take count cars) ≡ None → IsQuiet view count
+quiet_front view train count cars at are none other is =
+    let same : train ≡ other = cc (sym at ∙ is) in
+    subst (λ (t : ℕ). first_waiting view (take count (cars_of view.trains.trains t)) ≡ None) same (ap (λ (xs : List ℕ). first_waiting view (take count xs)) are ∙ none)
+
+-- what is found passes
+passes : (test : ℕ → Bool) (xs : List ℕ) (car : ℕ) → find test xs ≡ Some car → test car ≡ true
+passes test [] car is = absurd (none-some car is)
+passes test (x ∷ xs) car is =
+    elim (test x) as (λ b. test x ≡ b → cond b (Some x) (find test xs) ≡ Some car → test car ≡ true) [
+      | true ↦ λ it here. subst (λ (c : ℕ). test c ≡ true) (same_Some x car here) it
+      | false ↦ λ it there. passes test xs car there
+    ] refl is
+
+-- another car's queue is as it was
+others_wait : (view : SpaceView) (car : ℕ) (changes : List Change) (x : ℕ) → has_change (queue_of view car) ≡ true → has_change (queue_of view x) ≡ false → has_change (unwrap_or (get (insert view.queues car changes) x) []) ≡ false
+others_wait view car changes x waits none =
+    ap (λ (q : Option (List Change)). has_change (unwrap_or q [])) (get-insert nat_cmp_total view.queues car changes x)
+    ∙ elim (eq_by_cmp nat_cmp x car) as (λ b. eq_by_cmp nat_cmp x car ≡ b → has_change (unwrap_or (cond b (Some changes) (get view.queues x)) []) ≡ false) [
+      | true ↦ λ tied. absurd (true≢false (sym waits ∙ sym (ap (λ (c : ℕ). has_change (queue_of view c)) (eqb-true x car (sym (tied_nat x car) ∙ tied))) ∙ none))
+      | false ↦ λ apart. none
+    ] refl
+
+front_quiet : (view : SpaceView) (car count : ℕ) (q : List Change) → queue_of view car ≡ q → has_change q ≡ true → IsQuiet view count → IsQuiet (counted (applied_front view car q)) count
+front_quiet view car count [] is waits quiet = absurd (true≢false (sym waits))
+front_quiet view car count (change ∷ changes) is waits quiet = λ train at.
+    none_too (λ c. has_change (queue_of view c)) (λ c. has_change (unwrap_or (get (insert view.queues car changes) c) [])) (take count (cars_of view.trains.trains train))
+    (λ x none. others_wait view car changes x (ap has_change is) none) (quiet train at)
+
+drained_front : (view : SpaceView) (train car count : ℕ) (first : Option ℕ) (noted : Option Addr) (changed : Option ℕ) → draining_row train first changed noted ≡ apply car → changed ≡ Some car
+drained_front view train car count first noted (Some c) is = ap Some (cc is)
+drained_front view train car count first None None is = cc is
+drained_front view train car count None (Some a) None is = cc is
+drained_front view train car count (Some c) (Some a) None is = cc is
+
+-- where the front change of a car goes into its set, the front in which none waits stays
+pub applied_quiet : (view : SpaceView) (car count : ℕ) → next_row view ≡ apply car → IsQuiet view count → IsQuiet (counted (applied_in view car)) count
+applied_quiet view car count row quiet train at =
+    let was = same_phase (queue_of view car) at in
+    let here : row_in view (Draining train) ≡ apply car = ap (row_in view) (sym was) ∙ row in
+    let found = drained_front view train car count (first_car view.trains.trains train) (to_note view train) (changed_car view train) here in
+    front_quiet view car count (queue_of view car) refl (passes (λ c. has_change (queue_of view c)) (cars_of view.trains.trains train) car found) quiet train at
+  where
+    same_phase : (q : List Change) → (counted (applied_front view car q)).phase ≡ Draining train → view.phase ≡ Draining train
+    same_phase [] is = is
+    same_phase (change ∷ changes) is = is
+
+-- after the event, or after want of memory
+pub still_quiet : (old new : SpaceView) (car count : ℕ) (r : Result Step NoMemory) → next_row old ≡ apply car → IsQuiet old count → IfOk r (λ step. IsEvent old new step) → OnErr r (new ≡ old) → IsQuiet new count
+still_quiet old new car count (Ok step) row quiet event same =
+    subst (λ (v : SpaceView). IsQuiet v count) (sym (event.after ∙ ap (λ (r : Row). counted (after old event.picked event.number r)) row)) (applied_quiet old car count row quiet)
+still_quiet old new car count (Err e) row quiet event same = subst (λ (v : SpaceView). IsQuiet v count) (sym same) quiet
