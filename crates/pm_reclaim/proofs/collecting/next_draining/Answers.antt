@@ -16,5 +16,5 @@ returns-in-None-clause-kind g c =
     let at : IsAt (Draining c.args.train) v.trains.trains v.anchor = subst (λ p. IsAt p v.trains.trains v.anchor) c.requires c.args.space.now.kept.phase in
     let has = oldest_has 0 c.args.train v.trains.trains c.args.space.now.kept.built.trains.rising at.0 in
     subst (λ p. kinds.Decide ≡ kind_of (row_in v p)) (sym c.requires)
-    (subst (λ o. kinds.Decide ≡ kind_of (draining_row c.args.train (first_car v.trains.trains c.args.train) o (to_note v c.args.train))) c.in-None.ensures
+    (subst (λ o. kinds.Decide ≡ kind_of (draining_row c.args.train (first_car v.trains.trains c.args.train) o (to_note v c.args.train))) c.in-None.ensures.car
     (undrained c.args.train (first_car v.trains.trains c.args.train) (to_note v c.args.train) (has_first v.trains.trains c.args.train has)))
