@@ -1,7 +1,5 @@
 ghost use Rattle.std.specs.Prelude.{◌≡◌, ◌<◌, ℕ, if◌then◌else◌, [], ◌∷◌, ◌++◌, length, IfOk, OnOk};
 ghost use Rattle.std.specs.List.{list_any};
-ghost use Rattle.std.specs.Ordering.{nat_cmp};
-ghost use Rattle.std.specs.BTreeSet as sorted;
 ghost use Rattle.pm_trains.specs.Trains.{is_among};
 ghost use Rattle.pm_place.specs.Choosers.{IsChooser, IsPicked};
 ghost use Rattle.pm_remset.specs.Remembered.{AppendsSources};
@@ -9,7 +7,7 @@ ghost use Rattle.pm_view.specs.Law.{HeapLaw};
 ghost use Rattle.pm_view.specs.Candidates.{set_of, is_bare, candidates};
 ghost use Rattle.pm_view.specs.Events.{home, ways_out};
 ghost use Rattle.pm_space.specs.Shown.{view, IsLinked};
-ghost use Rattle.pm_evac.specs.Ways.{naming_train, is_train, numbered};
+ghost use Rattle.pm_evac.specs.Ways.{naming_train, AreHomes, numbers_in};
 
 use pm_space::Parts;
 use pm_types::{Addr, NoMemory, RefSource};
@@ -42,7 +40,7 @@ fn naming<F>(
     sources: &[RefSource],
 ) -> Result<BTreeSet<u64>, NoMemory>
     requires { IsLinked (view parts.now) }
-    ensures { IfOk result (λ trains. (n : ℕ) → sorted.contains nat_cmp trains n ≡ list_any (λ source. is_train (naming_train parts.now.trains.trains train source) n) sources.now) }
+    ensures { IfOk result (AreHomes parts.now.trains.trains train sources.now) }
 {
     let mut trains = BTreeSet::new(alloc);
     for source in sources {
@@ -82,7 +80,7 @@ fn in_order<F>(
     alloc: Global,
     trains: &BTreeSet<u64>,
 ) -> Result<Vec<u64>, NoMemory>
-    ensures { IfOk result (λ numbers. numbers.items ≡ numbered (sorted.contains nat_cmp trains.now) parts.now.trains.trains) }
+    ensures { IfOk result (λ numbers. numbers.items ≡ numbers_in trains.now parts.now.trains.trains) }
 {
     let mut numbers = Vec::new(alloc);
     for place in 0..parts.trains.len() {
