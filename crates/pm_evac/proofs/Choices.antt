@@ -1,5 +1,5 @@
 -- Which trains have an object that names another, sought source by source.
-use Rattle.std.proofs.Common.{◌≡◌, ℕ, zero, suc, ◌+◌, ◌<◌, ◌≤◌, ◌==◌, ◌&&◌, ◌||◌, arith, Bool, true, false, cond, not, if◌then◌else◌, refl, ap, sym, ◌∙◌, List, [], ◌∷◌, ◌++◌, length, take, get_or, map, Option, Some, None, is_some}
+use Rattle.std.proofs.Common.{◌≡◌, ℕ, zero, suc, ◌<◌, ◌≤◌, ◌==◌, ◌&&◌, ◌||◌, arith, Bool, true, false, cond, not, if◌then◌else◌, refl, ap, sym, ◌∙◌, List, [], ◌∷◌, ◌++◌, length, get_or, map, Option, Some, None, is_some}
 use Rattle.std.specs.Option.{option_and_then, unwrap_or}
 use Rattle.std.specs.List.{AllByRecursion, filter, list_any}
 use Rattle.std.specs.List as list
@@ -93,26 +93,6 @@ filter_same p q (t ∷ ts) same =
     let first = same 0 t (omega arith) in
     let rest = filter_same p q ts (λ k d inside. same (suc k) d (omega (arith, inside))) in
     λ i. cond (first i) (t ∷ rest i) (rest i)
-
--- the numbers of the trains up to a place, and that of the next one
-pub numbered_next : (p : ℕ → Bool) (ts : List Train) (i : ℕ) (d : Train) → i < length ts
-    → numbered p (take (i + 1) ts) ≡ numbered p (take i ts) ++ (if p (get_or ts i d).number then (get_or ts i d).number ∷ [] else [])
-numbered_next p [] i d inside = absurd (omega arith)
-numbered_next p (t ∷ ts) zero d inside = by_case (p t.number)
-  where
-    by_case : (b : Bool) → map (λ (t : Train). t.number) (cond b (t ∷ []) []) ≡ cond b (t.number ∷ []) []
-    by_case true = refl
-    by_case false = refl
-numbered_next p (t ∷ ts) (suc i) d inside =
-    let next : suc i + 1 ≡ suc (i + 1) = omega arith in
-    ap (λ n. numbered p (take n (t ∷ ts))) next ∙ by_case (p t.number) (numbered_next p ts i d (omega (arith, inside)))
-  where
-    by_case : (b : Bool) → numbered p (take (i + 1) ts) ≡ numbered p (take i ts) ++ (if p (get_or ts i d).number then (get_or ts i d).number ∷ [] else [])
-        → map (λ (t : Train). t.number) (cond b (t ∷ filter (λ (t : Train). p t.number) (take (i + 1) ts)) (filter (λ (t : Train). p t.number) (take (i + 1) ts)))
-        ≡ map (λ (t : Train). t.number) (cond b (t ∷ filter (λ (t : Train). p t.number) (take i ts)) (filter (λ (t : Train). p t.number) (take i ts)))
-        ++ (if p (get_or ts i d).number then (get_or ts i d).number ∷ [] else [])
-    by_case true later = ap (λ ns. t.number ∷ ns) later
-    by_case false later = later
 
 -- ---- which train a source is of
 

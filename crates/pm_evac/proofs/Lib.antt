@@ -11,6 +11,7 @@ pub mod Counting
 pub mod Beyond
 pub mod Skips
 pub mod Choices
+pub mod Homes
 pub mod Carried
 pub mod Places
 pub mod MoveRows

@@ -9,7 +9,7 @@ use Rattle.pm_types.specs.declared.source.RefSource.TheVariants.{Field}
 use Rattle.pm_cars.specs.Cars.{Car, Fits, object_room, with_birth}
 use Rattle.pm_view.specs.Sources.{same_address}
 use Rattle.pm_view.specs.View.{Cars, SpaceView}
-use Rattle.pm_view.specs.Reading.{slot_at, followed, is_aside}
+use Rattle.pm_view.specs.Reading.{slot_at, object_at, followed, is_aside}
 use Rattle.pm_view.specs.Barrier.{left, entered, told}
 use Rattle.pm_view.specs.Rows.{put_car, with_slot_at, with_car, IsVacant}
 use Rattle.pm_view.specs.Collecting.{field_news, moved}
@@ -72,6 +72,14 @@ pub record MayCarry (view : SpaceView) (links : Linked) (to : Addr) (object : Ob
   pub same : length fields ≡ length object.fields
   pub fits : FitsIn view.cars to.car (object_room object)
   pub room : (car : ℕ) → HasRoom links car (named_by object.fields car + named_by fields car)
+
+-- the object at the first address may be carried to the second, with these fields
+abbrev pub MayGo : SpaceView → Linked → Addr → Addr → List (Option Addr) → Type 0
+MayGo view links from to fields = IsSomeAnd (object_at view.cars from) (λ object. MayCarry view links to object fields)
+
+-- and was
+abbrev pub IsCarried : SpaceView → SpaceView → Addr → Addr → List (Option Addr) → Type 0
+IsCarried old new from to fields = IsSomeAnd (object_at old.cars from) (λ object. new ≡ carried old from to object fields)
 
 -- the object at an address went to a train, in a new car of the least number that no car had where it fits no other
 pub record IsMovedTo (old new : SpaceView) (from : Addr) (train : ℕ) : Type 0 where

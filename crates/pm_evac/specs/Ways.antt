@@ -1,7 +1,9 @@
 -- Trains to which an object may go, sought source by source.
-use Rattle.std.specs.Prelude.{ℕ, Bool, false, ◌==◌, cond, List, map, Option, Some, None}
+use Rattle.std.specs.Prelude.{◌≡◌, ℕ, Bool, false, ◌==◌, cond, List, map, Option, Some, None}
 use Rattle.std.specs.Option.{option_and_then}
-use Rattle.std.specs.List.{filter}
+use Rattle.std.specs.List.{filter, list_any}
+use Rattle.std.specs.Ordering.{nat_cmp}
+use Rattle.std.specs.BTreeSet as sorted
 use Rattle.pm_types.specs.declared.source.RefSource.{RefSource}
 use Rattle.pm_types.specs.declared.source.RefSource.TheVariants.{Root, Handle, Field}
 use Rattle.pm_trains.specs.Trains.{Train, train_of}
@@ -20,3 +22,11 @@ is_train (Some home) number = home == number
 -- the numbers of the trains whose numbers pass
 abbrev pub numbered : (ℕ → Bool) → List Train → List ℕ
 numbered passes trains = map (λ (t : Train). t.number) (filter (λ (t : Train). passes t.number) trains)
+
+-- these are the other trains that have an object with one of these sources
+abbrev pub AreHomes : List Train → ℕ → List RefSource → sorted.BTreeSet ℕ → Type 0
+AreHomes trains train sources homes = (n : ℕ) → sorted.contains nat_cmp homes n ≡ list_any (λ source. is_train (naming_train trains train source) n) sources
+
+-- their numbers, in the order of the trains
+abbrev pub numbers_in : sorted.BTreeSet ℕ → List Train → List ℕ
+numbers_in homes trains = numbered (sorted.contains nat_cmp homes) trains

@@ -1,4 +1,4 @@
-ghost use Rattle.std.specs.Prelude.{◌≡◌, ℕ, ◌≤◌, ◌==◌, true, false, ◌+◌, length, Some, IsSome, IsSomeAnd, IfOk, OnErr, option_map};
+ghost use Rattle.std.specs.Prelude.{◌≡◌, ℕ, ◌≤◌, ◌==◌, true, false, ◌+◌, length, Some, IsSome, IfOk, OnErr, option_map};
 ghost use Rattle.pm_types.specs.declared.limits.TheConstants.{FIELDS, OBJECT_BYTES};
 ghost use Rattle.pm_snap.specs.Snapped.{is_ready};
 ghost use Rattle.pm_cars.specs.Cars.{object_room};
@@ -11,7 +11,7 @@ ghost use Rattle.pm_space.specs.Linked.{sets_of, AreHoused, times};
 ghost use Rattle.pm_space.specs.Shown.{view, cars_of, HasBirthRoom, KeepsRest};
 ghost use Rattle.pm_evac.specs.Steps.{identity};
 ghost use Rattle.pm_evac.specs.Named.{named_by};
-ghost use Rattle.pm_evac.specs.Moves.{led, led_fields, carried, MayCarry, IsMovedTo};
+ghost use Rattle.pm_evac.specs.Moves.{led, led_fields, MayGo, IsCarried, IsMovedTo};
 ghost use Rattle.pm_evac.specs.Planned.{IsPlan};
 
 use crate::placing::{place_in, prepare_place, put_into, tail_for, take_away};
@@ -124,8 +124,8 @@ fn carry<F>(parts: &mut Parts<F>, from: Addr, to: Addr, fields: Vec<Option<Addr>
     requires ready { is_ready parts.old.cars to.car ≡ true }
     requires birth { HasBirthRoom parts.old.cars to.car }
     requires apart { (from.car == to.car) ≡ false }
-    requires may { IsSomeAnd (object_at (view parts.old).cars from) (λ object. MayCarry (view parts.old) parts.old.links to object fields.items) }
-    ensures view { IsSomeAnd (object_at (view parts.old).cars from) (λ object. view parts.new ≡ carried (view parts.old) from to object fields.items) }
+    requires may { MayGo (view parts.old) parts.old.links from to fields.items }
+    ensures view { IsCarried (view parts.old) (view parts.new) from to fields.items }
     ensures id { result ≡ identity (view parts.old) from }
     ensures rest { KeepsRest parts.old parts.new }
 {

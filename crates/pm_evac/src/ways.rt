@@ -1,7 +1,7 @@
 ghost use Rattle.std.specs.Prelude.{◌≡◌, ◌<◌, ℕ, if◌then◌else◌, [], ◌∷◌, ◌++◌, length, IfOk, OnOk};
 ghost use Rattle.std.specs.List.{list_any};
 ghost use Rattle.std.specs.Ordering.{nat_cmp};
-ghost use Rattle.std.specs.BTreeSet as sorted;
+ghost use Rattle.std.specs.BTreeSet.{IsOrdered};
 ghost use Rattle.pm_trains.specs.Trains.{is_among};
 ghost use Rattle.pm_place.specs.Choosers.{IsChooser, IsPicked};
 ghost use Rattle.pm_remset.specs.Remembered.{AppendsSources};
@@ -9,7 +9,7 @@ ghost use Rattle.pm_view.specs.Law.{HeapLaw};
 ghost use Rattle.pm_view.specs.Candidates.{set_of, is_bare, candidates};
 ghost use Rattle.pm_view.specs.Events.{home, ways_out};
 ghost use Rattle.pm_space.specs.Shown.{view, IsLinked};
-ghost use Rattle.pm_evac.specs.Ways.{naming_train, is_train, numbered};
+ghost use Rattle.pm_evac.specs.Ways.{naming_train, AreHomes};
 
 use pm_space::Parts;
 use pm_types::{Addr, NoMemory, RefSource};
@@ -42,7 +42,7 @@ fn naming<F>(
     sources: &[RefSource],
 ) -> Result<BTreeSet<u64>, NoMemory>
     requires { IsLinked (view parts.now) }
-    ensures { IfOk result (λ trains. (n : ℕ) → sorted.contains nat_cmp trains n ≡ list_any (λ source. is_train (naming_train parts.now.trains.trains train source) n) sources.now) }
+    ensures { IfOk result (AreHomes parts.now.trains.trains train sources.now) }
 {
     let mut trains = BTreeSet::new(alloc);
     for source in sources {
@@ -66,29 +66,13 @@ fn has_bare(sources: &[RefSource]) -> bool
     false
 }
 
-// Appends a number to a list where it is wanted.
-fn push_if(numbers: &mut Vec<u64>, is_wanted: bool, number: u64) -> Result<(), NoMemory>
-    ensures { OnOk result (numbers.new.items ≡ numbers.old.items ++ (if is_wanted then number ∷ [] else [])) }
+// The numbers in a set, in order.
+fn in_order(alloc: Global, trains: BTreeSet<u64>) -> Result<Vec<u64>, NoMemory>
+    ensures items { IfOk result (λ numbers. numbers.items ≡ trains.keys) }
+    ensures ordered { IsOrdered nat_cmp trains }
 {
-    if is_wanted {
-        numbers.push(number)?;
-    }
-    Ok(())
-}
-
-// The numbers of these trains, in the order of the trains that stand.
-fn in_order<F>(
-    parts: &Parts<F>,
-    alloc: Global,
-    trains: &BTreeSet<u64>,
-) -> Result<Vec<u64>, NoMemory>
-    ensures { IfOk result (λ numbers. numbers.items ≡ numbered (sorted.contains nat_cmp trains.now) parts.now.trains.trains) }
-{
-    let mut numbers = Vec::new(alloc);
-    for place in 0..parts.trains.len() {
-        let number = parts.trains.nth(place);
-        push_if(&mut numbers, trains.contains(&number), number)?;
-    }
+    let _len = trains.len();
+    let numbers = trains.into_iter().collect(alloc)?;
     Ok(numbers)
 }
 
@@ -120,7 +104,7 @@ fn sources_of<F>(parts: &Parts<F>, alloc: Global, at: Addr) -> Result<Vec<RefSou
 
 /// The trains to which the object at an address, of this train, may go: those that have an object that names it,
 /// ascending, and the open train behind them where a root or a register names it and the open train is not among them.
-/// It looks at the sources that name the object, and at the number of each train.
+/// It looks at the sources that name the object.
 pub fn ways_out<F>(
     parts: &Parts<F>,
     alloc: Global,
@@ -132,7 +116,7 @@ pub fn ways_out<F>(
 {
     let sources = sources_of(parts, alloc, at)?;
     let trains = naming(parts, alloc, train, &sources)?;
-    let mut ways = in_order(parts, alloc, &trains)?;
+    let mut ways = in_order(alloc, trains)?;
     let open_train = parts.trains.youngest();
     if !has_bare(&sources) {
         return Ok(ways);
