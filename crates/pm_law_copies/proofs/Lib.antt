@@ -10,3 +10,7 @@ pub mod OpenedCars
 pub mod OpenedTrains
 pub mod OpenedLaw
 pub mod OpenedStands
+pub mod OneSpace
+pub mod Sources
+pub mod SomeSpace
+pub mod Order

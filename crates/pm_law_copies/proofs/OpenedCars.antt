@@ -39,7 +39,7 @@ live_of all (Some (Moved to)) = None
 abbrev pub opened_slots : List CarImage → List (ℕ × Slot) → List (ℕ × Slot)
 opened_slots all es = flat_map (opened_slot all) es
 
-both : (a b : Bool) → T a → T b → T (a && b)
+pub both : (a b : Bool) → T a → T b → T (a && b)
 both true b one two = two
 both false b one two = one
 

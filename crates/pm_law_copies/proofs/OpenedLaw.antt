@@ -99,7 +99,7 @@ mapped_from : {X Y : Type 0} (f : X → Y) (o : Option X) (y : Y) → option_map
 mapped_from f None y is = cc
 mapped_from f (Some x) y is = (x, refl, same_Some (f x) y is)
 
-flat_from : (o : Option (Option Addr)) (a : Addr) → option_flatten o ≡ Some a → o ≡ Some (Some a)
+pub flat_from : (o : Option (Option Addr)) (a : Addr) → option_flatten o ≡ Some a → o ≡ Some (Some a)
 flat_from None a is = cc
 flat_from (Some o) a is = ap Some is
 

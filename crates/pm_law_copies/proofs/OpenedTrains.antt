@@ -42,7 +42,7 @@ any_append : (p : ℕ → Bool) (xs ys : List ℕ) → list_any p (xs ++ ys) ≡
 any_append p [] ys = refl
 any_append p (x ∷ xs) ys = elim (p x) as (λ b. (b || list_any p (xs ++ ys)) ≡ ((b || list_any p xs) || list_any p ys)) [ true ↦ refl | false ↦ any_append p xs ys ]
 
-in_a_train : (ts : List Train) (n : ℕ) → is_some (train_of ts n) ≡ is_among n (all_cars ts)
+pub in_a_train : (ts : List Train) (n : ℕ) → is_some (train_of ts n) ≡ is_among n (all_cars ts)
 in_a_train [] n = refl
 in_a_train (t ∷ ts) n =
     elim (is_among n t.cars) as (λ b. is_some (cond b (Some t.number) (train_of ts n)) ≡ (b || is_among n (all_cars ts))) [ true ↦ refl | false ↦ in_a_train ts n ]

@@ -1,10 +1,14 @@
 //! Which copy a space is, that what it lists is accepted again, and what opening makes of it. Each function's
 //! contract is the law, and the function does nothing.
 
-ghost use Rattle.std.specs.Prelude.{◌≡◌, ℕ, cond, List, None};
+ghost use Rattle.std.specs.Prelude.{◌≡◌, ℕ, not, cond, List, map, Some, None};
+ghost use Rattle.std.specs.List.{filter, AllByRecursion};
 ghost use Rattle.pm_types.specs.declared.address.Addr.{Addr};
 ghost use Rattle.pm_model.specs.World.{World, begin};
 ghost use Rattle.pm_model.specs.Copying.{copy};
+ghost use Rattle.pm_trains.specs.Trains.{train_of};
+ghost use Rattle.pm_trains.specs.Sound.{all_cars};
+ghost use Rattle.pm_image.specs.declared.car.CarImage.{CarImage};
 ghost use Rattle.pm_image.specs.declared.catalog.CatEntry.{CatEntry};
 ghost use Rattle.pm_image.specs.Graphs.{slot_named};
 ghost use Rattle.pm_view.specs.View.{SpaceView};
@@ -22,9 +26,12 @@ pub fn a_space_holds_its_worlds_copy()
 {}
 
 /// A law of lists: what is listed of a space is each slot as it stands, Live or Moved, but for those of cars that
-/// are set aside, which are not listed; and no rule refuses it.
+/// are set aside, which are not listed; the cars stand in the order of their trains, each listed with its train; and
+/// no rule refuses what is listed.
 pub fn a_copys_cars_are_accepted()
     ensures slots { (view : SpaceView) (a : Addr) → HeapLaw view → slot_named (listed_cars view) a ≡ cond (is_aside view a.car) None (slot_at view.cars a) }
+    ensures numbers { (view : SpaceView) → HeapLaw view → map (λ (car : CarImage). car.number) (listed_cars view) ≡ filter (λ car. not (is_aside view car)) (all_cars view.trains.trains) }
+    ensures trains { (view : SpaceView) → HeapLaw view → AllByRecursion (λ (one : Listed). train_of view.trains.trains one.1.number ≡ Some one.0) (listed view) }
     ensures accepted { (view : SpaceView) → HeapLaw view → IsAccepted (listed view) (root_entries view) view.next }
 {}
 
@@ -34,4 +41,12 @@ pub fn an_opened_space_keeps_the_law()
     ensures law { (listed : List Listed) (catalog : List CatEntry) (next : ℕ) (view : SpaceView) → IsAccepted listed catalog next → IsOpened listed catalog next view → HeapLaw view }
     ensures world { (listed : List Listed) (catalog : List CatEntry) (next : ℕ) (view : SpaceView) (number : ℕ) → IsAccepted listed catalog next → IsOpened listed catalog next view
         → Represents view (begin number (copy_listed listed catalog next)) }
+{}
+
+/// A law of opening: there is a space that it makes of cars and roots that no rule refuses, and one alone but for the
+/// numbers of the roots.
+pub fn opening_makes_one_space()
+    ensures some { (listed : List Listed) (catalog : List CatEntry) (next : ℕ) → IsAccepted listed catalog next → (view : SpaceView) × IsOpened listed catalog next view }
+    ensures one { (listed : List Listed) (catalog : List CatEntry) (next : ℕ) (view other : SpaceView) → IsOpened listed catalog next view → IsOpened listed catalog next other
+        → view.roots ≡ other.roots → view ≡ other }
 {}
