@@ -122,6 +122,10 @@ listed_in (Root name at ∷ entries) images = listed_in entries images
 listed_in (Car car train page digest ∷ entries) [] = []
 listed_in (Car car train page digest ∷ entries) (image ∷ images) = (train, image) ∷ listed_in entries images
 
+-- the cars that a graph lists, each with its train
+abbrev pub listed_graph : Graph → List Listed
+listed_graph graph = listed_in (entries_of graph.catalog) (images_of graph.cars)
+
 -- the space is what opening makes of a graph, under this next identity
 abbrev pub IsOpenedFrom : Graph → ℕ → SpaceView → Type 0
-IsOpenedFrom graph next_id view = IsOpened (listed_in (entries_of graph.catalog) (images_of graph.cars)) (entries_of graph.catalog) next_id view
+IsOpenedFrom graph next_id view = IsOpened (listed_graph graph) (entries_of graph.catalog) next_id view

@@ -14,3 +14,8 @@ pub mod OneSpace
 pub mod Sources
 pub mod SomeSpace
 pub mod Order
+pub mod Found
+pub mod Identities
+pub mod Follows
+pub mod FoundCars
+pub mod FoundStore
