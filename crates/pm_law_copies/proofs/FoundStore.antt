@@ -12,13 +12,20 @@ use Rattle.pm_layout.proofs.Numbers.{IsBytes, IsBytes-take, IsBytes-drop}
 use Rattle.pm_layout.proofs.HeaderLaws.{header_found}
 use Rattle.pm_base.proofs.Results.{bind_ok, ok_same, if_ok, wanted_ok}
 use Rattle.pm_image.specs.Opening.{page_of, page_count, header_body_of, is_open, epoch_in, greater_slot, open_slot, Current, is_placed, sound_header, header_in, current}
-use Rattle.pm_image.specs.Graphs.{graph_of, entries_of}
-use Rattle.pm_image.specs.Stands.{Opened, opened, pages_of}
+use Rattle.pm_image.specs.Graphs.{graph_of, entries_of, copy_of}
+use Rattle.pm_image.specs.Stands.{Opened, opened, pages_of, copy_in, Stands}
 use Rattle.pm_image.proofs.RuleLaws.{current_placed}
 use Rattle.pm_copies.specs.Accepted.{IsAccepted}
-use Rattle.pm_copies.specs.Opened.{listed_graph}
+use Rattle.pm_model.specs.World.{Copy, begin}
+use Rattle.pm_view.specs.View.{SpaceView}
+use Rattle.pm_view.specs.Law.{HeapLaw}
+use Rattle.pm_view.specs.Represents.{Represents}
+use Rattle.pm_copies.specs.Listed.{copy_listed}
+use Rattle.pm_copies.specs.Opened.{listed_graph, IsOpenedStore}
 use Rattle.pm_law_copies.proofs.Follows.{AreWhole}
-use Rattle.pm_law_copies.proofs.FoundCars.{graph_accepted}
+use Rattle.pm_law_copies.proofs.FoundCars.{graph_accepted, graph_copy}
+use Rattle.pm_law_copies.proofs.OpenedLaw.{keeps_law}
+use Rattle.pm_law_copies.proofs.OpenedStands.{stands}
 
 -- the pages of a list of bytes are whole
 page_length : (bytes : List ℕ) (page : ℕ) → page < length bytes / PAGE_BYTES → length (take PAGE_BYTES (drop (PAGE_BYTES * page) bytes)) ≡ PAGE_BYTES
@@ -94,3 +101,18 @@ unfolding InRange
 store_accepted bytes found fits is =
     let parts = store_found bytes found is in
     graph_accepted (pages_of bytes) found.current.header found.graph (whole_pages bytes fits) (current_placed bytes found.current parts.current) (current_range bytes found.current fits parts.current) parts.graph
+
+-- the space that opening makes of a store keeps the heap law
+pub store_law : (bytes : List ℕ) (view : SpaceView) → IsBytes bytes → IsOpenedStore bytes view → HeapLaw view
+store_law bytes view fits is = keeps_law (listed_graph is.found.graph) (entries_of is.found.graph.catalog) is.found.current.header.next view (store_accepted bytes is.found fits is.is_found) is.is_opened
+
+pub store_copy : (bytes : List ℕ) (found : Opened) → opened bytes ≡ Ok found → copy_listed (listed_graph found.graph) (entries_of found.graph.catalog) found.current.header.next ≡ copy_of found.current.header.next found.graph
+store_copy bytes found is = graph_copy (pages_of bytes) found.current.header found.graph found.current.header.next (store_found bytes found is).graph
+
+-- and stands for the world of its copy
+pub store_stands : (bytes : List ℕ) (number : ℕ) (copy : Copy) (view : SpaceView) → IsBytes bytes → Stands bytes number copy → IsOpenedStore bytes view → Represents view (begin number copy)
+store_stands bytes number copy view fits stood is =
+    let same : is.found ≡ stood.found = ok_same is.found stood.found (sym is.is_found ∙ stood.is_found) in
+    let world = stands (listed_graph is.found.graph) (entries_of is.found.graph.catalog) is.found.current.header.next view (store_accepted bytes is.found fits is.is_found) is.is_opened number in
+    let copies : copy_listed (listed_graph is.found.graph) (entries_of is.found.graph.catalog) is.found.current.header.next ≡ copy = store_copy bytes is.found is.is_found ∙ ap copy_in same ∙ sym stood.is_copy in
+    subst (λ (copy : Copy). Represents view (begin number copy)) copies world

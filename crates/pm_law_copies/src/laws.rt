@@ -1,23 +1,25 @@
 //! Which copy a space is, that what it lists is accepted again, and what opening makes of it. Each function's
 //! contract is the law, and the function does nothing.
 
-ghost use Rattle.std.specs.Prelude.{◌≡◌, ℕ, not, cond, List, map, Some, None};
+ghost use Rattle.std.specs.Prelude.{◌≡◌, ℕ, not, cond, List, map, Some, None, Ok};
 ghost use Rattle.std.specs.List.{filter, AllByRecursion};
 ghost use Rattle.pm_types.specs.declared.address.Addr.{Addr};
-ghost use Rattle.pm_model.specs.World.{World, begin};
+ghost use Rattle.pm_model.specs.World.{World, Copy, begin};
 ghost use Rattle.pm_model.specs.Copying.{copy};
 ghost use Rattle.pm_trains.specs.Trains.{train_of};
 ghost use Rattle.pm_trains.specs.Sound.{all_cars};
 ghost use Rattle.pm_image.specs.declared.car.CarImage.{CarImage};
 ghost use Rattle.pm_image.specs.declared.catalog.CatEntry.{CatEntry};
-ghost use Rattle.pm_image.specs.Graphs.{slot_named};
+ghost use Rattle.pm_image.specs.CarAnswers.{AreBytes};
+ghost use Rattle.pm_image.specs.Graphs.{slot_named, entries_of, copy_of};
+ghost use Rattle.pm_image.specs.Stands.{Opened, Stands, opened};
 ghost use Rattle.pm_view.specs.View.{SpaceView};
 ghost use Rattle.pm_view.specs.Reading.{slot_at, is_aside};
 ghost use Rattle.pm_view.specs.Law.{HeapLaw};
 ghost use Rattle.pm_view.specs.Represents.{Represents};
 ghost use Rattle.pm_copies.specs.Listed.{Listed, listed, listed_cars, root_entries, copy_listed, copy_in};
 ghost use Rattle.pm_copies.specs.Accepted.{IsAccepted};
-ghost use Rattle.pm_copies.specs.Opened.{IsOpened};
+ghost use Rattle.pm_copies.specs.Opened.{IsOpened, listed_graph, IsOpenedStore};
 
 /// A law of copies: the copy of every world that a space stands for is the one that its listed cars and its
 /// roots are.
@@ -49,4 +51,16 @@ pub fn opening_makes_one_space()
     ensures some { (listed : List Listed) (catalog : List CatEntry) (next : ℕ) → IsAccepted listed catalog next → (view : SpaceView) × IsOpened listed catalog next view }
     ensures one { (listed : List Listed) (catalog : List CatEntry) (next : ℕ) (view other : SpaceView) → IsOpened listed catalog next view → IsOpened listed catalog next other
         → view.roots ≡ other.roots → view ≡ other }
+{}
+
+/// A law of stores: where bytes stand for a copy, what they list is accepted and is that copy; and the space that opening
+/// makes of them keeps the heap law and stands for the world in which the copy was just opened, under its number.
+pub fn a_store_is_opened_as_its_copy()
+    ensures accepted { (bytes : List ℕ) (found : Opened) → AreBytes bytes → opened bytes ≡ Ok found
+        → IsAccepted (listed_graph found.graph) (entries_of found.graph.catalog) found.current.header.next }
+    ensures copy { (bytes : List ℕ) (found : Opened) → opened bytes ≡ Ok found
+        → copy_listed (listed_graph found.graph) (entries_of found.graph.catalog) found.current.header.next ≡ copy_of found.current.header.next found.graph }
+    ensures law { (bytes : List ℕ) (view : SpaceView) → AreBytes bytes → IsOpenedStore bytes view → HeapLaw view }
+    ensures world { (bytes : List ℕ) (number : ℕ) (copy : Copy) (view : SpaceView) → AreBytes bytes → Stands bytes number copy → IsOpenedStore bytes view
+        → Represents view (begin number copy) }
 {}
