@@ -1,14 +1,10 @@
 -- The entries of a catalog that was read: numbers of cars differ, trains never fall, names ascend.
-use Rattle.std.proofs.Common.{◌≡◌, ℕ, zero, suc, ◌+◌, ◌<◌, ◌≤◌, ◌==◌, ◌&&◌, ◌||◌, Bool, true, false, not, nat_lt, nat_le, refl, ap, sym, subst, ◌∙◌, List, [], ◌∷◌, ◌++◌, length, Option, Some, None, Result, Ok, Err, arith, if◌then◌else◌}
-use Rattle.std.specs.List.{flat_map}
+use Rattle.std.proofs.Common.{◌≡◌, ℕ, zero, suc, ◌+◌, ◌<◌, ◌≤◌, ◌==◌, ◌&&◌, ◌||◌, Bool, true, false, not, nat_lt, nat_le, refl, ap, subst, List, [], ◌∷◌, ◌++◌, length, Option, Some, None, Result, Ok, Err, arith, if◌then◌else◌}
 use Rattle.std.specs.FinSet as set
 use Rattle.std.proofs.lemmas.Bool.{ltb-true}
 use Rattle.pm_types.specs.declared.limits.TheConstants.{PAGE_BYTES, ROOTS}
-use Rattle.pm_types.specs.declared.fault.OpenFault.{OpenFault}
-use Rattle.pm_types.specs.declared.fault.OpenFault.TheVariants.{Broken}
 use Rattle.pm_layout.specs.declared.header.Header.{Header}
 use Rattle.pm_layout.proofs.Numbers.{IsBytes}
-use Rattle.pm_base.specs.Results.{◌>>=◌}
 use Rattle.pm_base.proofs.Results.{bind_ok, ok_same}
 use Rattle.pm_image.specs.declared.catalog.CatEntry.{CatEntry}
 use Rattle.pm_image.specs.declared.catalog.CatEntry.TheVariants.{Car, Root}
@@ -47,9 +43,10 @@ free_below count met page free =
 
 follow : (count : ℕ) (met : Met) (entries : List CatEntry) → AreNext (Some count) met entries → FollowsMet count met entries
 follow count met [] next = tt
-follow count met (Car car train page digest ∷ entries) next =
-    (record { from_one = next.0.numbered; other = next.0.other; in_order = next.0.in_order; below = free_below count met.pages page next.0.free },
-    follow count (meeting met (Car car train page digest)) entries next.1)
+follow count met (Car car train page digest ∷ entries) next = (
+  record { from_one = next.0.numbered; other = next.0.other; in_order = next.0.in_order; below = free_below count met.pages page next.0.free },
+  follow count (meeting met (Car car train page digest)) entries next.1,
+)
 follow count met (Root name at ∷ entries) next = (next.0.in_order, ltb-true met.roots ROOTS next.0.left, follow count (meeting met (Root name at)) entries next.1)
 
 follow_on : (count : ℕ) (met : Met) (xs ys : List CatEntry) → FollowsMet count met xs → FollowsMet count (meeting_all met xs) ys → FollowsMet count met (xs ++ ys)

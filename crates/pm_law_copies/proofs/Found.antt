@@ -1,18 +1,15 @@
 -- What a graph that was found lists.
-use Rattle.std.proofs.Common.{◌≡◌, ℕ, refl, ap, sym, subst, ◌∙◌, List, [], ◌∷◌, Some, Result, Ok, Err}
+use Rattle.std.proofs.Common.{◌≡◌, ℕ, ap, subst, List, [], ◌∷◌, Some, Ok}
 use Rattle.std.specs.FinSet as set
-use Rattle.pm_types.specs.declared.fault.OpenFault.{OpenFault}
 use Rattle.pm_layout.specs.declared.header.Header.{Header}
 use Rattle.pm_layout.specs.Headers.{most_fields}
-use Rattle.pm_base.specs.Results.{◌>>=◌}
 use Rattle.pm_base.proofs.Results.{bind_ok, ok_same}
-use Rattle.pm_image.specs.declared.car.CarImage.{CarImage}
 use Rattle.pm_image.specs.declared.catalog.CatEntry.{CatEntry}
 use Rattle.pm_image.specs.declared.catalog.CatEntry.TheVariants.{Car, Root}
 use Rattle.pm_image.specs.declared.settled.KeptPage.{KeptPage}
 use Rattle.pm_image.specs.CarPages.{Numbers, car_at}
 use Rattle.pm_image.specs.Graphs.{Pages, Graph, on_page, undamaged, with_identities, images_of, entries_of, catalog_of, cars_from, linked, sites_of, graph_of}
-use Rattle.pm_copies.specs.Listed.{Listed, images}
+use Rattle.pm_copies.specs.Listed.{images}
 use Rattle.pm_copies.specs.Opened.{listed_in, listed_graph}
 
 -- as many cars are found as entries list

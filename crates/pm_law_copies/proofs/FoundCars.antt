@@ -1,17 +1,16 @@
 -- The cars of a graph that was found, and that what it lists is accepted.
-use Rattle.std.proofs.Common.{◌≡◌, ℕ, suc, ◌+◌, ◌<◌, ◌≤◌, ◌==◌, Bool, true, false, refl, ap, sym, subst, ◌∙◌, List, [], ◌∷◌, length, Option, Some, None, Result, Ok, Err, arith, if◌then◌else◌}
+use Rattle.std.proofs.Common.{◌≡◌, ℕ, ◌+◌, ◌<◌, ◌≤◌, ◌==◌, true, false, ap, sym, subst, ◌∙◌, List, [], ◌∷◌, Option, Some, None, Ok, arith, if◌then◌else◌}
 use Rattle.std.specs.List.{AllByRecursion}
 use Rattle.std.specs.FinSet as set
 use Rattle.std.proofs.lemmas.Bool.{eqb-true}
-use Rattle.pm_types.specs.declared.limits.TheConstants.{FIELDS, OLD_FIELDS, OLD_VERSION, ROOTS}
+use Rattle.pm_types.specs.declared.limits.TheConstants.{FIELDS, OLD_FIELDS, OLD_VERSION}
 use Rattle.pm_types.specs.declared.address.Addr.{Addr}
 use Rattle.pm_types.specs.declared.object.Object.{Object}
 use Rattle.pm_types.specs.declared.object.Slot.{Slot}
 use Rattle.pm_types.specs.declared.object.Slot.TheVariants.{Live, Moved}
 use Rattle.pm_layout.specs.declared.header.Header.{Header}
 use Rattle.pm_layout.specs.Headers.{most_fields}
-use Rattle.pm_layout.specs.Spelling.{HasSpelling, IsWithinLimits}
-use Rattle.pm_base.specs.Results.{◌>>=◌}
+use Rattle.pm_layout.specs.Spelling.{HasSpelling}
 use Rattle.pm_base.proofs.Results.{bind_ok, ok_same}
 use Rattle.pm_model.proofs.Unused.{tied_nat}
 use Rattle.pm_image.specs.declared.car.CarImage.{CarImage}
@@ -25,7 +24,7 @@ use Rattle.pm_image.specs.Leading.{CarLeads, RootLeads}
 use Rattle.pm_image.proofs.CarTakes.{car_takes}
 use Rattle.pm_image.proofs.LeadLaws.{graph_leads}
 use Rattle.pm_model.specs.Copying.{copied}
-use Rattle.pm_copies.specs.Listed.{Listed, images, copy_listed}
+use Rattle.pm_copies.specs.Listed.{copy_listed}
 use Rattle.pm_copies.specs.Accepted.{Differ, NeverFall, IsAccepted}
 use Rattle.pm_copies.specs.Accepted as accepted
 use Rattle.pm_copies.specs.Opened.{listed_in, listed_graph}
@@ -69,15 +68,21 @@ module _ (pages : Pages) (whole : AreWhole pages) (most next : ℕ) (few : most 
       let rest = cars_read (with_identities met two.0.slots) (set.insert numbers car) now name roots entries three.0 follows.1 three.1 in
       subst (CarsRead next met numbers train (Car car now page digest ∷ entries)) (ok_same made read three.2) (record {
         fall = (follows.0.in_order, rest.fall);
-        cars = (record {
-          from_one = subst (λ n. 0 < n) (sym number) follows.0.from_one;
-          ascend = taken.has.ascend;
-          fits = taken.has.fits;
-          slots = all_weaker (λ (e : ℕ × Slot). HasSpelling most e.1) (λ (e : ℕ × Slot). HasSpelling FIELDS e.1) two.0.slots (λ e has. wider most e.1 few has) taken.has.slots;
-        }, rest.cars);
+        cars = (
+          record {
+            from_one = subst (λ n. 0 < n) (sym number) follows.0.from_one;
+            ascend = taken.has.ascend;
+            fits = taken.has.fits;
+            slots = all_weaker (λ (e : ℕ × Slot). HasSpelling most e.1) (λ (e : ℕ × Slot). HasSpelling FIELDS e.1) two.0.slots (λ e has. wider most e.1 few has) taken.has.slots;
+          },
+          rest.cars,
+        );
         fresh = (ap (set.contains numbers) number ∙ follows.0.other, all_weaker (λ (other : CarImage). set.contains (set.insert numbers car) other.number ≡ false) (λ (other : CarImage). set.contains numbers other.number ≡ false) (images_of three.0) (λ other none. (not_old numbers car other.number none).0) rest.fresh);
-        differ = (all_weaker (λ (other : CarImage). set.contains (set.insert numbers car) other.number ≡ false) (λ (other : CarImage). (other.number == two.0.number) ≡ false) (images_of three.0)
-            (λ other none. ap (λ n. other.number == n) number ∙ sym (tied_nat other.number car) ∙ (not_old numbers car other.number none).1) rest.fresh, rest.differ);
+        differ = (
+          all_weaker (λ (other : CarImage). set.contains (set.insert numbers car) other.number ≡ false) (λ (other : CarImage). (other.number == two.0.number) ≡ false) (images_of three.0)
+              (λ other none. ap (λ n. other.number == n) number ∙ sym (tied_nat other.number car) ∙ (not_old numbers car other.number none).1) rest.fresh,
+          rest.differ,
+        );
         free = (taken.has.free, rest.free);
       })
 

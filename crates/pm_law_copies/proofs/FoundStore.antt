@@ -1,17 +1,15 @@
 -- A store that stands for a copy: what it lists is accepted.
-use Rattle.std.proofs.Common.{◌≡◌, ℕ, zero, suc, ◌+◌, ◌*◌, ◌/◌, ◌<◌, ◌≤◌, ◌&&◌, Bool, true, false, nat_lt, refl, ap, sym, subst, ◌∙◌, List, length, take, drop, Option, Some, None, Result, Ok, Err, arith, length-take, length-drop, if◌then◌else◌}
-use Rattle.std.proofs.lemmas.Bool.{ltb-true, ltb-false}
-use Rattle.std.specs.Result.{IfOk}
+use Rattle.std.proofs.Common.{◌≡◌, ℕ, ◌*◌, ◌/◌, ◌<◌, ◌≤◌, ◌&&◌, Bool, true, false, nat_lt, refl, ap, sym, subst, ◌∙◌, List, length, take, drop, Option, Some, None, Result, Ok, Err, arith, length-take, length-drop, if◌then◌else◌}
+use Rattle.std.proofs.lemmas.Bool.{ltb-false}
 use Rattle.pm_types.specs.declared.limits.TheConstants.{PAGE_BYTES}
-use Rattle.pm_types.specs.declared.fault.OpenFault.{OpenFault}
 use Rattle.pm_types.specs.declared.fault.OpenFault.TheVariants.{NotAStore, Malformed}
 use Rattle.pm_layout.specs.declared.header.Header.{Header}
 use Rattle.pm_layout.specs.declared.header.HeaderFault.{HeaderFault}
-use Rattle.pm_layout.specs.Headers.{HasHeaderSpelling, header_at, header_spelling}
+use Rattle.pm_layout.specs.Headers.{HasHeaderSpelling, header_at}
 use Rattle.pm_layout.proofs.Numbers.{IsBytes, IsBytes-take, IsBytes-drop}
 use Rattle.pm_layout.proofs.HeaderLaws.{header_found}
 use Rattle.pm_base.proofs.Results.{bind_ok, ok_same, if_ok, wanted_ok}
-use Rattle.pm_image.specs.Opening.{page_of, page_count, header_body_of, is_open, epoch_in, greater_slot, open_slot, Current, is_placed, sound_header, header_in, current}
+use Rattle.pm_image.specs.Opening.{page_count, header_body_of, is_open, epoch_in, greater_slot, open_slot, Current, is_placed, sound_header, header_in, current}
 use Rattle.pm_image.specs.Graphs.{graph_of, entries_of, copy_of}
 use Rattle.pm_image.specs.Stands.{Opened, opened, pages_of, copy_in, Stands}
 use Rattle.pm_image.proofs.RuleLaws.{current_placed}

@@ -1,18 +1,17 @@
 -- Identities that were not met before, car by car, differ.
-use Rattle.std.proofs.Common.{◌≡◌, ℕ, ◌+◌, ◌<◌, ◌≤◌, ◌==◌, ◌||◌, Bool, true, false, cond, nat_le, refl, ap, sym, subst, ◌∙◌, List, [], ◌∷◌, Option, Some, None, arith}
-use Rattle.std.specs.List.{AllByRecursion}
+use Rattle.std.proofs.Common.{◌≡◌, ℕ, ◌<◌, ◌==◌, ◌||◌, Bool, true, false, cond, nat_le, refl, ap, sym, subst, ◌∙◌, List, [], ◌∷◌, Some, arith}
 use Rattle.std.specs.Ordering.{nat_cmp, eq_by_cmp}
 use Rattle.std.specs.Cmp.{eq_by_cmp_equiv}
 use Rattle.std.specs.FinSet as set
 use Rattle.std.proofs.lemmas.Cmp.{nat_cmp_total}
-use Rattle.std.proofs.lemmas.Bool.{eqb-true, eq-eqb, true≢false}
+use Rattle.std.proofs.lemmas.Bool.{eqb-true, true≢false}
 use Rattle.std.proofs.lemmas.Bool.Decides.{nat_tests}
 use Rattle.pm_types.specs.declared.address.Addr.{Addr}
 use Rattle.pm_types.specs.declared.object.Object.{Object}
 use Rattle.pm_types.specs.declared.object.Slot.{Slot}
 use Rattle.pm_types.specs.declared.object.Slot.TheVariants.{Live, Moved}
 use Rattle.pm_image.specs.declared.car.CarImage.{CarImage}
-use Rattle.pm_image.specs.CarPages.{Numbers, is_taken, with_identity, AreFree}
+use Rattle.pm_image.specs.CarPages.{Numbers, is_taken, AreFree}
 use Rattle.pm_image.specs.Graphs.{slot_in, slot_named, with_identities}
 
 -- ---- sets of numbers

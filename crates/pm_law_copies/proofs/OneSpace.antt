@@ -1,7 +1,7 @@
 -- Opening makes one space but for the numbers of roots.
 use Rattle.std.proofs.Common.{◌≡◌, ℕ, cond, refl, ap, sym, ◌∙◌, List, [], Option, Some, None, is_some}
 use Rattle.std.specs.Option.{option_map}
-use Rattle.std.specs.FinMap.{get, entries, same_map, nat_cmp-IsAntisymmetric}
+use Rattle.std.specs.FinMap.{get, same_map, nat_cmp-IsAntisymmetric}
 use Rattle.std.proofs.lemmas.Cmp.{nat_cmp_total}
 use Rattle.pm_types.proofs.Orders.{sources_total, sources_antisymmetric}
 use Rattle.pm_types.specs.declared.source.RefSource.{RefSource}

@@ -1,7 +1,7 @@
 -- In which order cars are listed.
 use Rattle.std.proofs.Common.{◌≡◌, ℕ, ◌+◌, ◌≤◌, ◌==◌, ◌||◌, Bool, true, false, cond, not, refl, ap, sym, subst, ◌∙◌, List, [], ◌∷◌, ◌++◌, map, Option, Some, None, arith, is_some, if◌then◌else◌}
-use Rattle.std.specs.List.{flat_map, filter, AllByRecursion, list_any, count_by}
-use Rattle.std.specs.FinMap.{get, entries}
+use Rattle.std.specs.List.{flat_map, filter, AllByRecursion, count_by}
+use Rattle.std.specs.FinMap.{get}
 use Rattle.std.proofs.lemmas.List.{map-append}
 use Rattle.std.proofs.lemmas.Bool.{eq-eqb}
 use Rattle.std.proofs.lemmas.List.Sums.{sum_by-cons}
@@ -56,6 +56,7 @@ module _ (view : SpaceView) (law : HeapLaw view) where
       first_part : (xs ys : List ℕ) → AllByRecursion Stands (xs ++ ys) → AllByRecursion Stands xs
       first_part [] ys all = tt
       first_part (x ∷ xs) ys all = (all.0, first_part xs ys all.1)
+
       last_part : (xs ys : List ℕ) → AllByRecursion Stands (xs ++ ys) → AllByRecursion Stands ys
       last_part [] ys all = all
       last_part (x ∷ xs) ys all = last_part xs ys all.1
@@ -150,8 +151,10 @@ module _ (view : SpaceView) where
       (λ one is. (among_first one.1.number t.cars (all_cars trains) is.1, ap (λ b. if b then Some t.number else train_of trains one.1.number) is.1 ∙ ap Some (sym is.0)))
       (cars_in_train t.number t.cars))
       (all_weaker (IsAt trains) (IsAt (t ∷ trains)) (flat_map (listed_of view) trains)
-      (λ one is. (among_second one.1.number t.cars (all_cars trains) is.0,
-      ap (λ b. if b then Some t.number else train_of trains one.1.number) (not_twice one.1.number t.cars (all_cars trains) (is_among one.1.number t.cars) refl is.0 (once one.1.number)) ∙ is.1))
+      (λ one is. (
+        among_second one.1.number t.cars (all_cars trains) is.0,
+        ap (λ b. if b then Some t.number else train_of trains one.1.number) (not_twice one.1.number t.cars (all_cars trains) (is_among one.1.number t.cars) refl is.0 (once one.1.number)) ∙ is.1,
+      ))
       (trains_right trains (λ n. fewer n t.cars (all_cars trains) (once n))))
 
   -- each car is listed with the train in which it stands

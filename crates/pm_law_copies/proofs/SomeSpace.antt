@@ -1,14 +1,14 @@
 -- Cars and roots that no rule refuses can be opened.
-use Rattle.std.proofs.Common.{◌≡◌, ℕ, suc, ◌+◌, ◌<◌, ◌≤◌, ◌==◌, ◌&&◌, Bool, true, false, cond, T, refl, ap, sym, subst, ◌∙◌, List, [], ◌∷◌, map, Option, Some, None, arith, is_some}
+use Rattle.std.proofs.Common.{◌≡◌, ℕ, suc, ◌≤◌, true, false, cond, T, refl, ap, sym, subst, ◌∙◌, List, [], ◌∷◌, map, Option, Some, None, arith, is_some}
 use Rattle.std.specs.Option.{option_map}
 use Rattle.std.specs.declared.cmp.Ordering.{Ordering}
 use Rattle.std.specs.declared.cmp.Ordering.TheVariants.{Less, Equal, Greater}
-use Rattle.std.specs.Ordering.{is_eq, is_lt, nat_cmp, eq_by_cmp}
+use Rattle.std.specs.Ordering.{is_lt, nat_cmp, eq_by_cmp}
 use Rattle.std.specs.FinMap.{get, entries, get-entries, from_entries, from_sorted, get-from_entries, get-from_sorted, entries-from_sorted, same_map, empty, get-empty, nat_cmp-IsAntisymmetric}
 use Rattle.std.specs.FinMap.Entries.{find, below_all, is_sorted}
 use Rattle.std.proofs.lemmas.Cmp.{nat_cmp_total}
 use Rattle.std.proofs.lemmas.Map.Views.{tells_apart}
-use Rattle.std.proofs.lemmas.Option.{same_Some, none-some}
+use Rattle.std.proofs.lemmas.Option.{same_Some}
 use Rattle.pm_types.specs.Orders.{name_cmp, place_cmp}
 use Rattle.pm_types.proofs.Orders.{names_total, names_antisymmetric}
 use Rattle.pm_types.specs.declared.address.Addr.{Addr}
@@ -203,17 +203,20 @@ module _ (listed : List Listed) (catalog : List CatEntry) (next_id : ℕ) (ok : 
   -- there is a space that opening makes of them
   pub some_space : (view : SpaceView) × IsOpened listed catalog next_id view
   unfolding view opened_view no_changes
-  some_space = (view, record {
-    cars = refl;
-    trains = refl;
-    roots = bound_roots (images listed) catalog ok.names;
-    numbers = differ;
-    sets = λ car. ap is_some (set_at car) ∙ mapped_some (get view.cars car) (remembering (all_stored view.cars view.roots) car);
-    remembered = remembered;
-    queues = queue_at;
-    registers = refl;
-    anchor = refl;
-    phase = refl;
-    next = refl;
-    completed = refl;
-  })
+  some_space = (
+    view,
+    record {
+      cars = refl;
+      trains = refl;
+      roots = bound_roots (images listed) catalog ok.names;
+      numbers = differ;
+      sets = λ car. ap is_some (set_at car) ∙ mapped_some (get view.cars car) (remembering (all_stored view.cars view.roots) car);
+      remembered = remembered;
+      queues = queue_at;
+      registers = refl;
+      anchor = refl;
+      phase = refl;
+      next = refl;
+      completed = refl;
+    },
+  )

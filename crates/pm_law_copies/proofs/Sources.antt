@@ -1,15 +1,15 @@
 -- What the sources of cars and roots store, as a list, and remembered sets that are made of it.
-use Rattle.std.proofs.Common.{◌≡◌, ◌⊎◌, inl, inr, ℕ, zero, suc, ◌+◌, ◌==◌, ◌&&◌, Bool, true, false, cond, T, refl, ap, sym, subst, ◌∙◌, List, [], ◌∷◌, ◌++◌, map, Option, Some, None, arith, is_some}
+use Rattle.std.proofs.Common.{◌≡◌, ◌⊎◌, inl, inr, ℕ, zero, suc, ◌+◌, ◌==◌, ◌&&◌, Bool, true, false, cond, refl, ap, sym, subst, ◌∙◌, List, [], ◌∷◌, ◌++◌, map, Option, Some, None, arith, is_some}
 use Rattle.std.specs.Option.{option_and_then, option_flatten}
 use Rattle.std.specs.List.{flat_map, AllByRecursion, slice_get}
 use Rattle.std.specs.declared.cmp.Ordering.{Ordering}
-use Rattle.std.specs.Ordering.{is_eq, nat_cmp, eq_by_cmp}
+use Rattle.std.specs.Ordering.{nat_cmp, eq_by_cmp}
 use Rattle.std.specs.Cmp.{IsTotalOrder, eq_by_cmp_equiv}
-use Rattle.std.specs.FinMap.{FinMap, IsAntisymmetric, get, entries, entries_sorted, get-entries, from_entries, get-from_entries, nat_cmp-IsAntisymmetric}
+use Rattle.std.specs.FinMap.{IsAntisymmetric, get, entries, entries_sorted, get-entries, from_entries, get-from_entries, nat_cmp-IsAntisymmetric}
 use Rattle.std.specs.FinMap.Entries.{find}
 use Rattle.std.proofs.lemmas.Cmp.{nat_cmp_total}
 use Rattle.std.proofs.lemmas.Map.Views.{tells_apart}
-use Rattle.std.proofs.lemmas.Option.{same_Some, none-some, cond_some}
+use Rattle.std.proofs.lemmas.Option.{same_Some}
 use Rattle.pm_types.specs.Orders.{name_cmp, source_cmp}
 use Rattle.pm_types.proofs.Orders.{names_total, names_antisymmetric, sources_total, sources_antisymmetric}
 use Rattle.pm_types.specs.declared.address.Addr.{Addr}
@@ -134,6 +134,7 @@ module _ (cars : Cars) (roots : Bindings) where
     where
       later : (k i : ℕ) → suc k + i ≡ k + suc i
       later k i = omega arith
+
       at : (k : ℕ) → k ≡ k + 0
       at k = omega arith
 
@@ -178,6 +179,7 @@ module _ (cars : Cars) (roots : Bindings) where
     where
       at : (k : ℕ) → k ≡ k + 0
       at k = omega arith
+
       same_one : (b to : Addr) → Some (Some b) ≡ Some (Some to) → b ≡ to
       same_one b to is = cc
   field_in a k (Some b ∷ fields) (suc i) to is = inr (subst (λ n. IsIn (field_sources a (suc k) fields) (Field a n, to)) (later k i) (field_in a (suc k) fields i to is))
