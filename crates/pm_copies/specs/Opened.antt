@@ -1,5 +1,5 @@
 -- What opening makes of listed cars and roots.
-use Rattle.std.specs.Prelude.{◌≡◌, ℕ, suc, ◌+◌, ◌==◌, Bool, true, false, cond, is_some, if◌then◌else◌, List, [], ◌∷◌, map, Some, None, option_map}
+use Rattle.std.specs.Prelude.{◌≡◌, ℕ, suc, ◌+◌, ◌==◌, Bool, true, false, cond, is_some, if◌then◌else◌, List, [], ◌∷◌, map, Some, None, option_map, Ok}
 use Rattle.std.specs.List.{flat_map}
 use Rattle.std.specs.FinMap.{get, entries, from_entries, empty}
 use Rattle.pm_types.specs.declared.address.Addr.{Addr}
@@ -14,6 +14,7 @@ use Rattle.pm_image.specs.declared.car.CarImage.{CarImage}
 use Rattle.pm_image.specs.declared.catalog.CatEntry.{CatEntry}
 use Rattle.pm_image.specs.declared.catalog.CatEntry.TheVariants.{Car, Root}
 use Rattle.pm_image.specs.Graphs.{Graph, slot_named, images_of, entries_of}
+use Rattle.pm_image.specs.Stands.{Opened, opened}
 use Rattle.pm_view.specs.declared.phase.Phase.TheVariants.{Idle}
 use Rattle.pm_view.specs.Sources.{outside, slot_in}
 use Rattle.pm_view.specs.View.{Cars, Sources, SpaceView}
@@ -122,6 +123,16 @@ listed_in (Root name at ∷ entries) images = listed_in entries images
 listed_in (Car car train page digest ∷ entries) [] = []
 listed_in (Car car train page digest ∷ entries) (image ∷ images) = (train, image) ∷ listed_in entries images
 
+-- the cars that a graph lists, each with its train
+abbrev pub listed_graph : Graph → List Listed
+listed_graph graph = listed_in (entries_of graph.catalog) (images_of graph.cars)
+
 -- the space is what opening makes of a graph, under this next identity
 abbrev pub IsOpenedFrom : Graph → ℕ → SpaceView → Type 0
-IsOpenedFrom graph next_id view = IsOpened (listed_in (entries_of graph.catalog) (images_of graph.cars)) (entries_of graph.catalog) next_id view
+IsOpenedFrom graph next_id view = IsOpened (listed_graph graph) (entries_of graph.catalog) next_id view
+
+-- The space is what opening makes of the bytes of a store, in which this is found.
+pub record IsOpenedStore (bytes : List ℕ) (view : SpaceView) : Type 0 where
+  pub found : Opened
+  pub is_found : opened bytes ≡ Ok found
+  pub is_opened : IsOpenedFrom found.graph found.current.header.next view

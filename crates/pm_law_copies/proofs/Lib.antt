@@ -10,3 +10,12 @@ pub mod OpenedCars
 pub mod OpenedTrains
 pub mod OpenedLaw
 pub mod OpenedStands
+pub mod OneSpace
+pub mod Sources
+pub mod SomeSpace
+pub mod Order
+pub mod Found
+pub mod Identities
+pub mod Follows
+pub mod FoundCars
+pub mod FoundStore

@@ -1,14 +1,14 @@
 -- The cars that opening makes.
-use Rattle.std.proofs.Common.{◌≡◌, ◌⊎◌, inl, inr, ℕ, zero, suc, ◌+◌, ◌*◌, ◌<◌, ◌≤◌, ◌==◌, ◌&&◌, Bool, true, false, cond, T, refl, ap, sym, subst, ◌∙◌, List, [], ◌∷◌, ◌++◌, map, length, Option, Some, None, arith, is_some}
+use Rattle.std.proofs.Common.{◌≡◌, ℕ, ◌+◌, ◌*◌, ◌<◌, ◌≤◌, ◌==◌, ◌&&◌, Bool, true, false, cond, T, refl, ap, sym, subst, ◌∙◌, List, [], ◌∷◌, map, length, Option, Some, None, arith}
 use Rattle.std.specs.Option.{option_and_then, option_map}
 use Rattle.std.specs.List.{flat_map, AllByRecursion, sum_by}
-use Rattle.std.specs.Ordering.{is_eq, is_lt, nat_cmp, eq_by_cmp, MatchOrdering}
+use Rattle.std.specs.Ordering.{is_lt, nat_cmp, eq_by_cmp}
 use Rattle.std.specs.declared.cmp.Ordering.TheVariants.{Less}
 use Rattle.std.specs.Cmp.{nat_cmp_is}
 use Rattle.std.specs.FinMap.{get, entries, values, from_entries, from_sorted, get-from_entries, get-from_sorted, entries-from_sorted, same_map, nat_cmp-IsAntisymmetric}
 use Rattle.std.specs.FinMap.Entries.{find, below_all, is_sorted}
 use Rattle.std.proofs.lemmas.Cmp.{nat_cmp_total}
-use Rattle.std.proofs.lemmas.Bool.{eqb-true, eq-eqb}
+use Rattle.std.proofs.lemmas.Bool.{eqb-true}
 use Rattle.std.proofs.lemmas.List.{length-map}
 use Rattle.std.proofs.lemmas.List.Sums.{sum_by-cons}
 use Rattle.std.proofs.lemmas.Option.{same_Some}
@@ -26,7 +26,7 @@ use Rattle.pm_copies.specs.Accepted.{Differ}
 use Rattle.pm_copies.specs.Opened.{resolved_at, opened_object, opened_slot, next_after, opened_car, has_object, opened_entry, opened_cars}
 use Rattle.pm_law_copies.proofs.Lists.{or_else, nat_turned}
 use Rattle.pm_law_copies.proofs.Naming.{car_named, named_in, all_in_cars}
-use Rattle.pm_law_copies.proofs.Accepting.{room_used, below}
+use Rattle.pm_law_copies.proofs.Accepting.{room_used}
 use Rattle.pm_law_copies.proofs.Objects.{find_in_two, slot_from, no_such_car}
 
 -- what opening makes of what a slot holds: an object, or nothing where it was Moved
@@ -39,7 +39,7 @@ live_of all (Some (Moved to)) = None
 abbrev pub opened_slots : List CarImage → List (ℕ × Slot) → List (ℕ × Slot)
 opened_slots all es = flat_map (opened_slot all) es
 
-both : (a b : Bool) → T a → T b → T (a && b)
+pub both : (a b : Bool) → T a → T b → T (a && b)
 both true b one two = two
 both false b one two = one
 

@@ -1,14 +1,14 @@
 -- A space that was opened keeps the heap law.
-use Rattle.std.proofs.Common.{◌≡◌, ℕ, ◌+◌, ◌<◌, ◌≤◌, ◌==◌, Bool, true, false, cond, not, refl, ap, sym, subst, ◌∙◌, List, [], ◌∷◌, ◌++◌, map, length, Option, Some, None, arith, is_some}
-use Rattle.std.specs.Option.{IsSome, IfSome, option_and_then, option_map, option_flatten}
-use Rattle.std.specs.List.{AllByRecursion, slice_get, sum_by}
-use Rattle.std.specs.FinMap.{get, entries, get-entries, get-empty, len, len-entries, empty}
+use Rattle.std.proofs.Common.{◌≡◌, ℕ, ◌<◌, ◌≤◌, ◌==◌, Bool, true, false, cond, refl, ap, sym, subst, ◌∙◌, List, [], ◌∷◌, map, length, Option, Some, None, arith, is_some}
+use Rattle.std.specs.Option.{option_and_then, option_map, option_flatten}
+use Rattle.std.specs.List.{AllByRecursion, slice_get}
+use Rattle.std.specs.FinMap.{get, entries, get-entries, get-empty, len-entries}
 use Rattle.std.specs.FinMap.Entries.{find}
 use Rattle.std.specs.Ordering.{eq_by_cmp}
 use Rattle.std.proofs.lemmas.List.{length-map}
 use Rattle.std.proofs.lemmas.Option.{slice_get-map, same_Some, none-some}
 use Rattle.pm_types.specs.Orders.{name_cmp, place_cmp}
-use Rattle.pm_types.specs.declared.limits.TheConstants.{FIELDS, OBJECT_BYTES, ROOTS}
+use Rattle.pm_types.specs.declared.limits.TheConstants.{FIELDS, ROOTS}
 use Rattle.pm_types.specs.declared.address.Addr.{Addr}
 use Rattle.pm_types.specs.declared.object.Object.{Object}
 use Rattle.pm_types.specs.declared.object.Slot.{Slot}
@@ -21,17 +21,15 @@ use Rattle.pm_cars.specs.declared.look.Look.TheVariants as looks
 use Rattle.pm_trains.specs.Trains.{Trains, train_of}
 use Rattle.pm_trains.specs.Sound as line
 use Rattle.std.proofs.lemmas.Bool.{eqb-true}
-use Rattle.pm_roots.specs.Bindings.{address_at}
 use Rattle.pm_layout.specs.Spelling.{HasSpelling}
 use Rattle.pm_image.specs.declared.car.CarImage.{CarImage}
 use Rattle.pm_image.specs.declared.catalog.CatEntry.{CatEntry}
 use Rattle.pm_image.specs.CarPages.{Ascend}
 use Rattle.pm_image.specs.Graphs.{slot_named, identity_in, identity_through, resolved}
-use Rattle.pm_image.specs.Leading.{FieldLeads, SlotLeads, CarLeads, RootLeads}
-use Rattle.pm_view.specs.declared.phase.Phase.TheVariants.{Idle}
+use Rattle.pm_image.specs.Leading.{FieldLeads, SlotLeads}
 use Rattle.pm_view.specs.Sources.{outside, slot_in}
-use Rattle.pm_view.specs.View.{Cars, Sources, SpaceView}
-use Rattle.pm_view.specs.Reading.{slot_at, object_at, field_of, stored, followed, aside_in, is_aside, is_from}
+use Rattle.pm_view.specs.View.{Sources, SpaceView}
+use Rattle.pm_view.specs.Reading.{slot_at, object_at, field_of, stored, followed, aside_in, is_aside}
 use Rattle.pm_view.specs.Effective.{effective, effective_in}
 use Rattle.pm_view.specs.Seen.{seen, Leads, IsTied}
 use Rattle.pm_view.specs.Law.{IsObject, IsBuilt, IsAt, IsAnchor, HeapLaw}
@@ -40,7 +38,7 @@ use Rattle.pm_law_rows.proofs.Numbers.{owner}
 use Rattle.pm_copies.specs.Listed.{Listed, images}
 use Rattle.pm_copies.specs.Accepted.{IsAccepted, roots_in}
 use Rattle.pm_copies.specs.Accepted as accepted
-use Rattle.pm_copies.specs.Opened.{resolved_at, opened_object, opened_car, opened_cars, opened_trains, opened_root, unnumbered, IsOpened}
+use Rattle.pm_copies.specs.Opened.{resolved_at, opened_object, opened_root, unnumbered, IsOpened}
 use Rattle.pm_law_copies.proofs.Lists.{all_at}
 use Rattle.pm_law_copies.proofs.Naming.{all_in_cars, all_named}
 use Rattle.pm_law_copies.proofs.CopyOf.{all_weaker, all_roots, found_unnumbered}
@@ -99,7 +97,7 @@ mapped_from : {X Y : Type 0} (f : X → Y) (o : Option X) (y : Y) → option_map
 mapped_from f None y is = cc
 mapped_from f (Some x) y is = (x, refl, same_Some (f x) y is)
 
-flat_from : (o : Option (Option Addr)) (a : Addr) → option_flatten o ≡ Some a → o ≡ Some (Some a)
+pub flat_from : (o : Option (Option Addr)) (a : Addr) → option_flatten o ≡ Some a → o ≡ Some (Some a)
 flat_from None a is = cc
 flat_from (Some o) a is = ap Some is
 

@@ -1,7 +1,7 @@
 -- A space that was opened stands for the world in which its copy was just opened.
 use Rattle.std.proofs.Common.{◌≡◌, ℕ, false, refl, ap, sym, subst, ◌∙◌, List, [], ◌∷◌, map, Option, Some, None}
 use Rattle.std.specs.Option.{option_and_then, option_map, IsSomeAnd}
-use Rattle.std.specs.List.{AllByRecursion, Contains, slice_get}
+use Rattle.std.specs.List.{Contains}
 use Rattle.std.specs.FinMap.{get, entries, get-entries, get-empty}
 use Rattle.std.specs.FinMap.Entries.{find}
 use Rattle.std.proofs.lemmas.Option.{same_Some, none-some}
@@ -20,14 +20,13 @@ use Rattle.pm_model.proofs.Reached.{copied_kept, copied_reached}
 use Rattle.pm_image.specs.declared.catalog.CatEntry.{CatEntry}
 use Rattle.pm_image.specs.Graphs.{slot_named, identity_in, identity_through, resolved, resolved_field, heap_of, roots_of}
 use Rattle.pm_view.specs.View.{SpaceView}
-use Rattle.pm_view.specs.Reading.{slot_at, object_at, is_aside, followed, resolve, id_at, named_by}
+use Rattle.pm_view.specs.Reading.{object_at, is_aside, followed, id_at, named_by}
 use Rattle.pm_view.specs.Represents.{names, meaning, IsForgotten, Represents}
 use Rattle.pm_law_rows.proofs.Reaches.{Means}
 use Rattle.pm_law_rows.proofs.SpreadMeans.{stands_for}
 use Rattle.pm_copies.specs.Listed.{Listed, images, copy_listed}
 use Rattle.pm_copies.specs.Accepted.{IsAccepted, roots_in}
-use Rattle.pm_copies.specs.Opened.{resolved_at, opened_object, opened_root, unnumbered, IsOpened}
-use Rattle.pm_law_copies.proofs.Resolving.{id_in}
+use Rattle.pm_copies.specs.Opened.{resolved_at, opened_object, IsOpened}
 use Rattle.pm_law_copies.proofs.Objects.{told}
 use Rattle.pm_law_copies.proofs.Objects as heaps
 use Rattle.pm_law_copies.proofs.CopyOf.{root_of_copy, found_unnumbered}

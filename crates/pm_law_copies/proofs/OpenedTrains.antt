@@ -1,23 +1,21 @@
 -- The trains that opening makes.
-use Rattle.std.proofs.Common.{◌≡◌, ℕ, suc, ◌+◌, ◌<◌, ◌≤◌, ◌==◌, ◌||◌, Bool, true, false, cond, refl, ap, sym, subst, ◌∙◌, List, [], ◌∷◌, ◌++◌, map, length, Option, Some, None, arith, is_some}
+use Rattle.std.proofs.Common.{◌≡◌, ℕ, suc, ◌+◌, ◌<◌, ◌≤◌, ◌==◌, ◌||◌, Bool, true, false, cond, refl, ap, sym, subst, ◌∙◌, List, [], ◌∷◌, ◌++◌, map, length, Some, arith, is_some}
 use Rattle.std.specs.List.{flat_map, AllByRecursion, list_any, count_by}
-use Rattle.std.specs.Ordering.{is_eq, nat_cmp, eq_by_cmp}
+use Rattle.std.specs.Ordering.{nat_cmp, eq_by_cmp}
 use Rattle.std.specs.FinMap.{get, get-from_entries}
-use Rattle.std.specs.FinMap.Entries.{find, is_some-find}
+use Rattle.std.specs.FinMap.Entries.{is_some-find}
 use Rattle.std.proofs.lemmas.Cmp.{nat_cmp_total}
-use Rattle.std.proofs.lemmas.Bool.{eqb-true, eq-eqb}
-use Rattle.std.proofs.lemmas.List.{append-nil}
+use Rattle.std.proofs.lemmas.Bool.{eqb-true}
 use Rattle.std.proofs.lemmas.List.Sums.{sum_by-cons}
-use Rattle.pm_types.specs.declared.object.Slot.{Slot}
 use Rattle.pm_cars.specs.Cars.{Car}
-use Rattle.pm_trains.specs.Trains.{Train, is_among, train_of, empty_train}
+use Rattle.pm_trains.specs.Trains.{Train, is_among, train_of}
 use Rattle.pm_trains.specs.Sound.{Rise, Filled, all_cars, places}
 use Rattle.pm_trains.specs.Sound as line
 use Rattle.pm_image.specs.declared.car.CarImage.{CarImage}
 use Rattle.pm_copies.specs.Listed.{Listed, images}
 use Rattle.pm_copies.specs.Accepted.{Differ}
 use Rattle.pm_copies.specs.Opened.{has_object, opened_car, opened_entry, opened_cars, kept_car, before, grouped, numbered, opened_trains}
-use Rattle.pm_law_copies.proofs.Lists.{nat_turned, count_append}
+use Rattle.pm_law_copies.proofs.Lists.{nat_turned}
 
 -- the cars of these, without the numbers of their trains
 abbrev cars_in : List (ℕ × ℕ) → List ℕ
@@ -42,7 +40,7 @@ any_append : (p : ℕ → Bool) (xs ys : List ℕ) → list_any p (xs ++ ys) ≡
 any_append p [] ys = refl
 any_append p (x ∷ xs) ys = elim (p x) as (λ b. (b || list_any p (xs ++ ys)) ≡ ((b || list_any p xs) || list_any p ys)) [ true ↦ refl | false ↦ any_append p xs ys ]
 
-in_a_train : (ts : List Train) (n : ℕ) → is_some (train_of ts n) ≡ is_among n (all_cars ts)
+pub in_a_train : (ts : List Train) (n : ℕ) → is_some (train_of ts n) ≡ is_among n (all_cars ts)
 in_a_train [] n = refl
 in_a_train (t ∷ ts) n =
     elim (is_among n t.cars) as (λ b. is_some (cond b (Some t.number) (train_of ts n)) ≡ (b || is_among n (all_cars ts))) [ true ↦ refl | false ↦ in_a_train ts n ]
