@@ -1,5 +1,5 @@
 -- How runs of calls of a disk are joined.
-use Rattle.std.proofs.Common.{◌≡◌, inl, inr, ⊎_elim, ℕ, ◌+◌, ◌-◌, ◌≤◌, max, List, length, Option, Some, None, refl, ◌∙◌, ap, subst, arith}
+use Rattle.std.proofs.Common.{◌≡◌, inl, inr, ℕ, ◌+◌, ◌-◌, ◌≤◌, List, length, Option, Some, None, refl, ◌∙◌, ap, subst, arith}
 use Rattle.std.specs.Prelude.{option_map}
 use Rattle.pm_disk.specs.Writes.{written, Torn, TornIfTold}
 use Rattle.pm_disk.specs.Disk.{LeavesOnly, SameImages, Elapses}
@@ -49,10 +49,13 @@ pub torn_second : (first_at : ℕ) (first : List ℕ) (second_at n : ℕ) (old m
     → TornIfTold first_at (second_at + n - first_at) old new
 torn_second first_at first second_at n old mid new order is torn = record {
   told = λ was told.
-      let it = torn.told (written first_at first was) (is ∙ ap (option_map (written first_at first)) told) in
-      (it.0, it.1, torn_then first_at (second_at + n - first_at) was (written first_at first was) it.0
-      (torn_wider first_at (length first) first_at (second_at + n - first_at) was (written first_at first was) (omega arith) (omega arith) (torn_written first_at first was))
-      (torn_wider second_at n first_at (second_at + n - first_at) (written first_at first was) it.0 (omega arith) (omega arith) it.2));
+      let it = torn.told (written first_at first was) (is ∙ ap (option_map (written first_at first)) told) in (
+        it.0,
+        it.1,
+        torn_then first_at (second_at + n - first_at) was (written first_at first was) it.0
+            (torn_wider first_at (length first) first_at (second_at + n - first_at) was (written first_at first was) (omega arith) (omega arith) (torn_written first_at first was))
+            (torn_wider second_at n first_at (second_at + n - first_at) (written first_at first was) it.0 (omega arith) (omega arith) it.2),
+      );
   untold = λ untold. torn.untold (is ∙ ap (option_map (written first_at first)) untold);
 }
 

@@ -1,9 +1,6 @@
-use Rattle.std.proofs.Common.{◌≡◌, ℕ, zero, suc, ◌<◌, ◌==◌, true, [], ◌∷◌, slice_index_or, if◌then◌else◌, refl, sym, ap, subst, ◌∙◌, arith}
-use Rattle.std.proofs.lemmas.Bool.Decides.{nat_tests}
-use Rattle.pm_shadow.specs.declared.page_use.PageUse.{PageUse}
-use Rattle.pm_shadow.specs.declared.page_use.PageUse.TheVariants.{Claimed}
-use Rattle.pm_shadow.specs.Uses.{with_use, IsListed}
-use Rattle.pm_shadow.specs.State.{State, IsKeepable, keeps, keeps_by, known_by, with_claimed}
+use Rattle.std.proofs.Common.{◌≡◌, true, [], ◌∷◌, refl, ap, ◌∙◌, arith}
+use Rattle.pm_shadow.specs.Uses.{IsListed}
+use Rattle.pm_shadow.specs.State.{State, IsKeepable, keeps, keeps_by, known_by}
 use Rattle.pm_shadow.specs.Pages.{state}
 use Rattle.pm_shadow.proofs.UsedLemmas.{attached_first, attached_used}
 use Rattle.pm_shadow.proofs.tests.a_kept_page_is_one_of_both_copies.Goals as goal
