@@ -10,7 +10,7 @@ use Rattle.pm_image.specs.Stands.{opened, pages_of}
 use Rattle.pm_image.proofs.FrameLaws.{graph_too, opened_as}
 use Rattle.pm_shadow.specs.declared.page_use.PageUse.{PageUse}
 use Rattle.pm_shadow.specs.declared.page_use.PageUse.TheVariants.{Free, Current, Claimed, Kept}
-use Rattle.pm_shadow.specs.Uses.{with_use, is_next, renewed, renewed_uses, abandoned, abandoned_uses, IsListed, IsLowestFree}
+use Rattle.pm_shadow.specs.Uses.{with_use, is_next, renewed, renewed_uses, abandoned, IsListed, IsLowestFree}
 use Rattle.pm_shadow.specs.State.{State, other, keeps, keeps_by, IsListable, known_by, with_claimed, with_kept, abandoned_in, published, IsIdle}
 use Rattle.pm_shadow.specs.Images.{Heads, Holds, Renews}
 use Rattle.pm_shadow.specs.Copies.{AreUsed, KeepsGraph, NextGraph, IsLowestUnused, current_graph, next_graph, KeepsSamePages}

@@ -1,5 +1,5 @@
 -- How runs of calls of a disk are joined.
-use Rattle.std.proofs.Common.{◌≡◌, inl, inr, ⊎_elim, ℕ, ◌+◌, ◌-◌, ◌≤◌, max, List, length, Option, Some, None, refl, ◌∙◌, ap, subst, arith}
+use Rattle.std.proofs.Common.{◌≡◌, inl, inr, ℕ, ◌+◌, ◌-◌, ◌≤◌, List, length, Option, Some, None, refl, ◌∙◌, ap, subst, arith}
 use Rattle.std.specs.Prelude.{option_map}
 use Rattle.pm_disk.specs.Writes.{written, Torn, TornIfTold}
 use Rattle.pm_disk.specs.Disk.{LeavesOnly, SameImages, Elapses}

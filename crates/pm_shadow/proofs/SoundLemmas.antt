@@ -1,7 +1,7 @@
 -- What is known of a disk stays known.
 use Rattle.std.proofs.Common.{◌≡◌, ◌⊎◌, inl, inr, ℕ, ◌+◌, ◌-◌, ◌/◌, ◌<◌, ◌≤◌, max, Bool, true, false, List, length, Option, Some, refl, sym, ◌∙◌, ap, subst, arith}
-use Rattle.std.specs.Prelude.{Result, Ok, Err, IfOk, OnErr, option_map, All, Contains, nat_lt, slice_index_or, [], ◌==◌, if◌then◌else◌}
-use Rattle.pm_shadow.specs.Uses.{use_of, with_use, is_current, abandoned, abandoned_uses, IsListed}
+use Rattle.std.specs.Prelude.{Result, Ok, Err, IfOk, OnErr, option_map, nat_lt, slice_index_or, [], ◌==◌, if◌then◌else◌}
+use Rattle.pm_shadow.specs.Uses.{use_of, with_use, is_current, abandoned}
 use Rattle.pm_shadow.specs.declared.page_use.PageUse.TheVariants.{Free, Current, Claimed, Kept}
 use Rattle.std.proofs.lemmas.Bool.{eqb-true}
 use Rattle.pm_types.specs.declared.limits.TheConstants.{PAGE_BYTES}

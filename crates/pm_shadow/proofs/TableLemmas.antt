@@ -3,7 +3,7 @@ use Rattle.std.proofs.Common.{◌≡◌, ◌≢◌, ℕ, zero, suc, Bool, true, 
 use Rattle.std.proofs.Math.ListN.{set}
 use Rattle.std.proofs.Math.Seq.{set-append_seam}
 use Rattle.std.specs.Prelude.{All, reverse, if◌then◌else◌}
-use Rattle.pm_shadow.specs.Uses.{IsListed, marked, use_of, free_from, is_free, is_current, abandoned, abandoned_uses, IsLowestFree, with_use}
+use Rattle.pm_shadow.specs.Uses.{IsListed, marked, use_of, free_from, is_current, abandoned, abandoned_uses, IsLowestFree, with_use}
 use Rattle.pm_shadow.specs.declared.page_use.PageUse.{PageUse}
 use Rattle.pm_shadow.specs.declared.page_use.PageUse.TheVariants.{Free, Current, Claimed, Kept}
 use Rattle.std.proofs.lemmas.List.{map-append, take_more, length-map, length-take-le, append_assoc, get_or-append_right, get_or_past, get_or_append_left, reverse-append, reverse-reverse, get_or-set_other, get_or-map, get_or-replicate, length-replicate, get_or_default}

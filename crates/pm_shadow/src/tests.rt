@@ -132,3 +132,36 @@ fn a_claimed_page_is_written_and_read(rt: HostRuntime) -> Result<(), Fail> {
     }
     Ok(())
 }
+
+#[test]
+fn a_kept_page_is_one_of_both_copies(rt: HostRuntime) -> Result<(), Fail> {
+    let alloc = rt.alloc();
+    let mut disk = MemDisk::new(Vec::new(alloc), Vec::new(alloc));
+    let Ok(()) = init(alloc, &mut disk) else {
+        assert!(rt; false, "init");
+        return Ok(());
+    };
+    let Ok(mut pages) = Pages::attach(alloc, disk) else {
+        assert!(rt; false, "attach");
+        return Ok(());
+    };
+    let next = Header {
+        version: 2,
+        epoch: 1,
+        next: 1,
+        first: 2,
+        digest: [0; 32],
+    };
+    if pages.page_count() == 3 {
+        pages.commit_list(alloc, &[2])?;
+        pages.keep(2)?;
+        assert_eq!(rt; pages.claim()?, 3);
+        let closed = pages.close_gate();
+        assert!(rt; closed.is_ok() && pages.header().epoch < 1);
+        if closed.is_ok() && pages.header().epoch < 1 && pages.publish(&next).is_ok() {
+            assert_eq!(rt; pages.claim()?, 4);
+        }
+        assert_eq!(rt; pages.header().epoch, 1);
+    }
+    Ok(())
+}

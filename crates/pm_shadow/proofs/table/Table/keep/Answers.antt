@@ -1,4 +1,4 @@
-use Rattle.std.proofs.Common.{◌≡◌, ◌≤◌, ◌-◌, ◌^◌, List, ℕ, length, ap, sym, ◌∙◌, arith, length-set, vec_capacity, true}
+use Rattle.std.proofs.Common.{◌≤◌, ◌-◌, ◌^◌, List, ℕ, length, ap, sym, ◌∙◌, arith, length-set, vec_capacity}
 use Rattle.std.specs.Prelude.{reverse}
 use Rattle.std.proofs.Math.ListN.{set}
 use Rattle.pm_shadow.specs.declared.page_use.PageUse.TheVariants.{Kept}

@@ -1,9 +1,5 @@
-use Rattle.std.proofs.Common.{◌≡◌, List, length, replicate, ap, ◌∙◌, arith}
-use Rattle.std.specs.Prelude.{reverse}
-use Rattle.std.proofs.lemmas.List.{length-replicate}
-use Rattle.pm_shadow.specs.declared.page_use.PageUse.TheVariants.{Free}
-use Rattle.pm_shadow.specs.declared.page_use.PageUse.{PageUse}
-use Rattle.pm_shadow.specs.Uses.{marked, free_from}
+use Rattle.std.proofs.Common.{ap, ◌∙◌}
+use Rattle.pm_shadow.specs.Uses.{marked}
 use Rattle.pm_shadow.proofs.TableLemmas.{is_listed}
 use Rattle.pm_shadow.proofs.table.Table.listing.Goals as goal
 
