@@ -1,8 +1,6 @@
-use crate::{Keep, Table, put};
+use crate::{Keep, Table};
 use pm_types::NoMemory;
 use std::alloc::Global;
-use std::collections::BTreeMap;
-use std::process::Abort;
 use std::test::Fail;
 
 #[derive(Debug, PartialEq, Drop)]
@@ -32,13 +30,6 @@ fn remove(table: &mut Table<Held>, key: u64) -> Option<u64> {
     }
 }
 
-fn change(table: &mut Table<Held>, key: u64, number: u64) -> Result<(), NoMemory> {
-    if table.get(key).is_none() {
-        return Ok(());
-    }
-    put(table, key, Held { number })
-}
-
 fn add_at(table: &mut Table<Held>, key: u64, number: u64) -> bool {
     if key == 0 || table.get(key).is_some() {
         return false;
@@ -49,21 +40,6 @@ fn add_at(table: &mut Table<Held>, key: u64, number: u64) -> bool {
 fn freeze(table: &mut Table<Held>) {
     table.thaw();
     table.freeze();
-}
-
-// What the table has now and what is frozen, at each key up to 2,100, against two plain maps.
-fn agrees(
-    rt: &impl Abort,
-    table: &Table<Held>,
-    current: &BTreeMap<u64, u64>,
-    frozen: &BTreeMap<u64, u64>,
-) {
-    for key in 0..2100 {
-        let now = table.get(key).map(|held| held.number);
-        assert_eq!(rt; now, current.get(&key).copied());
-        let then = table.frozen(key).map(|held| held.number);
-        assert_eq!(rt; then, frozen.get(&key).copied());
-    }
 }
 
 #[test]
@@ -91,41 +67,6 @@ fn the_lowest_key_is_given_first(rt: HostRuntime) {
         assert_eq!(rt; table.vacant(), key);
         assert_eq!(rt; add(&mut table, 9), Some(key));
     }
-}
-
-#[test]
-fn a_frozen_table_against_two_plain_maps(rt: HostRuntime) -> Result<(), Fail> {
-    let alloc = rt.alloc();
-    let mut table = Table::new(alloc);
-    let mut current = BTreeMap::new(alloc);
-    let mut frozen = BTreeMap::new(alloc);
-    for key in 1..2001 {
-        assert_eq!(rt; add(&mut table, 3 * key), Some(key));
-        current.insert(key, 3 * key)?;
-        frozen.insert(key, 3 * key)?;
-    }
-    freeze(&mut table);
-    for key in 1..2001 {
-        change(&mut table, key, 5 * key)?;
-        current.insert(key, 5 * key)?;
-    }
-    agrees(&rt, &table, &current, &frozen);
-    for step in 0..600 {
-        let key = 2000 - 3 * step;
-        assert_eq!(rt; remove(&mut table, key), Some(5 * key));
-        current.remove(&key);
-    }
-    agrees(&rt, &table, &current, &frozen);
-    for step in 0..650 {
-        let key = table.vacant();
-        assert_eq!(rt; add(&mut table, step), Some(key));
-        current.insert(key, step)?;
-    }
-    agrees(&rt, &table, &current, &frozen);
-    assert_eq!(rt; table.get(2050).is_some(), true);
-    table.thaw();
-    agrees(&rt, &table, &current, &BTreeMap::new(alloc));
-    Ok(())
 }
 
 #[test]

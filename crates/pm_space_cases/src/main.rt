@@ -5,12 +5,14 @@
 mod collected;
 mod drawn;
 mod fault;
+mod frozen;
 mod queued;
 mod scripted;
 mod spaced;
 
 use collected::push_collected;
 use fault::Fault;
+use frozen::push_frozen;
 use queued::push_queued;
 use scripted::{Shows, push_script};
 use spaced::{push_births, push_drawn, push_names};
@@ -44,6 +46,7 @@ fn take(alloc: Global, line: &str, out: &mut String) -> Result<(), Fault> {
         "replies" => push_script(alloc, text, Shows::Replies, out)?,
         "end" => push_script(alloc, text, Shows::End, out)?,
         "last" => push_script(alloc, text, Shows::Last, out)?,
+        "frozen" => push_frozen(alloc, number(text)?, out)?,
         "queued" => push_queued(alloc, number(text)?, out)?,
         _ => return Err(Fault::Step),
     }
