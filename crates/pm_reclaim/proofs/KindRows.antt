@@ -1,5 +1,5 @@
 -- Which kind of event comes next, and where no train is picked.
-use Rattle.std.proofs.Common.{◌≡◌, ℕ, ◌<◌, length, arith, true, false, Bool, refl, ap, sym, subst, ◌∙◌, List, [], ◌∷◌, Option, Some, None, is_some}
+use Rattle.std.proofs.Common.{◌≡◌, ℕ, ◌<◌, length, arith, true, false, refl, ap, sym, subst, List, [], ◌∷◌, Option, Some, None, is_some}
 use Rattle.std.specs.List.{find, slice_get}
 use Rattle.std.specs.Option.{IsSomeAnd, option_and_then}
 use Rattle.std.specs.Borrow.{Bor}

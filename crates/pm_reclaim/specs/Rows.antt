@@ -1,5 +1,5 @@
 -- Which events are made here.
-use Rattle.std.specs.Prelude.{◌≡◌, ℕ, Bool, not, is_some, List, Option, Some, None, option_map, option_and_then}
+use Rattle.std.specs.Prelude.{◌≡◌, ℕ, Bool, not, is_some, List, Option, option_map, option_and_then}
 use Rattle.std.specs.List.{find}
 use Rattle.std.specs.Borrow.{Bor}
 use Rattle.std.specs.Fn.{Shared}

@@ -1,4 +1,4 @@
-use Rattle.std.proofs.Common.{◌≡◌, sym, subst, None}
+use Rattle.std.proofs.Common.{◌≡◌, sym, subst}
 use Rattle.pm_trains.specs.Trains.{first_car}
 use Rattle.pm_view.specs.declared.phase.Phase.TheVariants.{Draining}
 use Rattle.pm_view.specs.Law.{IsAt}

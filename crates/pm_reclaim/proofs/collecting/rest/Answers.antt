@@ -1,6 +1,6 @@
-use Rattle.std.proofs.Common.{rules, ◌≡◌, refl, sym, ap, subst, ◌∙◌, Ok}
+use Rattle.std.proofs.Common.{rules, refl, sym, ap, subst, ◌∙◌, Ok}
 use Rattle.pm_types.specs.declared.event.Step.TheVariants.{Nothing}
-use Rattle.pm_view.specs.Events.{nothing, next_row, after, MayPick, MayPlace}
+use Rattle.pm_view.specs.Events.{next_row, after, MayPick, MayPlace}
 use Rattle.pm_space.specs.Shown.{view}
 use Rattle.pm_evac.specs.Steps.{counted, step_of}
 use Rattle.pm_evac.proofs.Views.{is_counted}

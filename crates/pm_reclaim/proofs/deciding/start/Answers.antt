@@ -1,4 +1,4 @@
-use Rattle.std.proofs.Common.{rules, ◌≡◌, refl, sym, ap, subst, ◌∙◌}
+use Rattle.std.proofs.Common.{rules, sym, ap, subst, ◌∙◌}
 use Rattle.pm_types.specs.declared.event.Step.TheVariants.{Started}
 use Rattle.pm_view.specs.View.{SpaceView}
 use Rattle.pm_view.specs.declared.phase.Phase.TheVariants.{Moving}
