@@ -181,8 +181,8 @@ pub record IsMeasured (kept : KeptPage) : Type 0 where
   pub fits : car_used kept.image.slots ≤ PAGE_BYTES
   pub within : AllByRecursion (λ (entry : ℕ × Slot). IsWithinLimits FIELDS entry.1) kept.image.slots
 
--- What was read of a copy: the pages that it stands on, with the one that the header names, and the copy itself, whose fields are null. Where the
--- contents of the disk are told it is the copy that stands behind the header.
+-- What was read of a copy: the pages that it stands on, among them the one that the header names, and the copy itself,
+-- whose fields are null. Where the contents of the disk are told it is the copy that stands behind the header.
 pub record IsRead (count : ℕ) (header : Header) (contents : Option (List ℕ)) (used : List ℕ) (copy : Copy) : Type 0 where
   pub graph : Graph
   pub used_are : used ≡ used_pages graph
