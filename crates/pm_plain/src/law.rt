@@ -43,7 +43,8 @@ pub fn an_image_is_opened_as_its_copy()
     // An image that has the current header and the pages of its copy is opened as that copy, and has it.
     ensures held { (s : State) (bytes image : List ℕ) (copy : Copy) → HasCopy s bytes copy → Holds s bytes image → Opens image s.header.epoch copy }
     ensures still { (s : State) (bytes image : List ℕ) (copy : Copy) → HasCopy s bytes copy → Holds s bytes image → HasCopy s image copy }
-    ensures same { (s t : State) (bytes : List ℕ) (copy : Copy) → KeepsSamePages s t → HasCopy s bytes copy → HasCopy t bytes copy }
+    ensures same { (s t : State) (bytes : List ℕ) (copy : Copy) → KeepsSamePages s t → HasCopy s bytes copy
+        → HasCopy t bytes copy }
     // An image that has the next header is opened as the copy that was laid behind it, and has that one.
     ensures renewed { (s : State) (header : Header) (bytes image : List ℕ) (copy : Copy) → HasNextCopy s bytes header copy → Renews s header bytes image → Opens image header.epoch copy }
     ensures next { (s : State) (header : Header) (bytes image : List ℕ) (copy : Copy) → HasNextCopy s bytes header copy → Renews s header bytes image → HasCopy (published s header) image copy }

@@ -2,7 +2,6 @@
 use Rattle.std.specs.Prelude.{◌≡◌, ℕ, ◌+◌, ◌<◌, ◌≤◌, List, Contains, [], ◌∷◌, ◌++◌, map, Option, Some, None, Result, Ok, Err}
 use Rattle.std.specs.Prelude.{true, false}
 use Rattle.std.specs.List.{AllByRecursion}
-use Rattle.std.specs.FinSet as set
 use Rattle.pm_base.specs.Counts.{Rose}
 use Rattle.pm_types.specs.declared.limits.TheConstants.{FIELDS, ROOTS, PAGE_BYTES}
 use Rattle.pm_types.specs.Names.{IsName}
@@ -25,7 +24,7 @@ use Rattle.pm_image.specs.CarPages.{Numbers, HasCarPage, car_at, car_used}
 use Rattle.pm_image.specs.CarAnswers.{a_car}
 use Rattle.pm_image.specs.CatalogPages.{Met, catalog_at, catalog_used}
 use Rattle.pm_image.specs.Opening.{page_of}
-use Rattle.pm_image.specs.Graphs.{images_of, Pages as Store, Graph, Catalog, undamaged, on_page, catalog_of, entries_of, cars_from, with_identities, linked, sites_of, graph_of, used_pages, copy_of}
+use Rattle.pm_image.specs.Graphs.{images_of, Pages as Store, Graph, Catalog, undamaged, on_page, entries_of, with_identities, linked, sites_of, graph_of, used_pages, copy_of}
 use Rattle.pm_plain.specs.Plain.{is_plain}
 use Rattle.pm_shadow.specs.declared.pages.Pages.{Pages}
 use Rattle.pm_shadow.specs.Pages.{state, disk_of}
@@ -189,8 +188,8 @@ pub record IsMeasured (kept : KeptPage) : Type 0 where
   pub fits : car_used kept.image.slots ≤ PAGE_BYTES
   pub within : AllByRecursion (λ (entry : ℕ × Slot). IsWithinLimits FIELDS entry.1) kept.image.slots
 
--- What was read of a copy: the pages that it stands on, with the one that the header names, and the copy itself, whose fields are null. Where the
--- contents of the disk are told it is the copy that stands behind the header.
+-- What was read of a copy: the pages that it stands on, among them the one that the header names, and the copy itself,
+-- whose fields are null. Where the contents of the disk are told it is the copy that stands behind the header.
 pub record IsRead (count : ℕ) (header : Header) (contents : Option (List ℕ)) (used : List ℕ) (copy : Copy) : Type 0 where
   pub graph : Graph
   pub used_are : used ≡ used_pages graph

@@ -1,5 +1,5 @@
 -- What events and lines do to the disk, from their parts.
-use Rattle.std.proofs.Common.{◌≡◌, ◌⊎◌, inl, inr, ⊎_elim, ℕ, ◌≤◌, true, false, List, [], ◌∷◌, ◌++◌, Option, Some, None, refl, sym, ap, subst, ◌∙◌}
+use Rattle.std.proofs.Common.{◌≡◌, ◌⊎◌, inl, inr, ⊎_elim, ℕ, ◌≤◌, List, [], ◌∷◌, ◌++◌, Option, Some, None, refl, sym, ap, subst, ◌∙◌}
 use Rattle.pm_types.specs.declared.entry.Entry.{Entry}
 use Rattle.pm_disk.specs.Made.{Made}
 use Rattle.pm_disk.specs.Disk.{LeavesOnly}
@@ -20,7 +20,7 @@ use Rattle.pm_run.specs.Causes.{stop_of, CountsDisk}
 use Rattle.pm_run.specs.Images.{IsSettled, IsInProgress}
 use Rattle.pm_run.specs.Storing.{IsReady, Stores}
 use Rattle.pm_run.specs.Events.{entry_of, IsOfEvent, MakesEvent}
-use Rattle.pm_run.specs.Running.{StepsTo, IsOfStep, IsLastAt, StepsOnDisk, RunsOnDisk}
+use Rattle.pm_run.specs.Running.{StepsTo, IsOfStep, StepsOnDisk, RunsOnDisk}
 use Rattle.pm_run.proofs.Storing.{settled_world, settled_stores, settling_leaves, failing_leaves, memory_leaves, still_leaves, same_stores, OfChain, chain_goes_on, chain_is_run, run_ends}
 use Rattle.pm_run.proofs.Runs.{no_end, not_grown}
 

@@ -1,5 +1,5 @@
 -- What a crash may leave while events are made.
-use Rattle.std.proofs.Common.{◌≡◌, ◌⊎◌, inl, inr, ⊎_elim, ℕ, Bool, true, false, List, [], ◌∷◌, ◌++◌, Option, Some, None, refl, sym, ap, subst, ◌∙◌}
+use Rattle.std.proofs.Common.{◌≡◌, ◌⊎◌, inl, inr, ⊎_elim, ℕ, true, List, [], ◌∷◌, ◌++◌, Option, Some, None, refl, sym, ap, subst, ◌∙◌}
 use Rattle.pm_types.specs.declared.command.Cmd.{Cmd}
 use Rattle.pm_types.specs.declared.command.Cmd.TheVariants.{Settle}
 use Rattle.pm_disk.specs.Disk.{LeavesOnly}
@@ -10,11 +10,7 @@ use Rattle.std.proofs.lemmas.List.Elements.{Contains-append_left}
 use Rattle.pm_types.specs.declared.entry.Entry.{Entry}
 use Rattle.pm_model.proofs.ChainLaws.{chain_more, chain_ends}
 use Rattle.pm_model.proofs.Members.{at_first, in_rest}
-use Rattle.std.specs.Prelude.{length, nat_lt, ◌||◌, if◌then◌else◌}
-use Rattle.std.specs.FinMap.{get}
-use Rattle.pm_types.specs.declared.limits.TheConstants.{FIELDS, OBJECT_BYTES, LAST_ID, LAST_COPY}
-use Rattle.pm_types.specs.declared.reply.Reply.{Reply}
-use Rattle.pm_model.specs.World.{World, Copy, held, settling}
+use Rattle.pm_model.specs.World.{World, Copy, settling}
 use Rattle.pm_model.specs.Answer.{answer, answer_settle}
 use Rattle.pm_model.specs.Frames.{is_settle}
 use Rattle.pm_model.specs.Journal.{IsLegal, after, chain, settled_in}

@@ -7,7 +7,7 @@ use Rattle.pm_io.specs.Streams.{AppendsPart}
 use Rattle.pm_save.specs.declared.fault.SaveFault.{SaveFault}
 use Rattle.pm_save.specs.declared.fault.SaveFault.TheVariants.{Disk, Memory}
 use Rattle.pm_run.specs.declared.stop.Stop.{Stop}
-use Rattle.pm_run.specs.declared.stop.Stop.TheVariants.{Memory as NoRoom, Writing, Device}
+use Rattle.pm_run.specs.declared.stop.Stop.TheVariants.{Memory as NoRoom, Writing}
 use Rattle.pm_run.specs.Causes.{CountsSink, IsDone, IsElsewhere, stop_of}
 use Rattle.pm_run.specs.Writing.{Wrote, WrotePart, WroteAll, WritesOn, WroteRun}
 

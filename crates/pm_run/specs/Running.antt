@@ -8,7 +8,7 @@ use Rattle.pm_model.specs.World.{World}
 use Rattle.pm_model.specs.Journal.{IsLegal, after, requests_of}
 use Rattle.pm_shadow.specs.State.{State}
 use Rattle.pm_run.specs.declared.stop.Stop.{Stop}
-use Rattle.pm_run.specs.declared.stop.Stop.TheVariants.{Memory, Writing, Device}
+use Rattle.pm_run.specs.declared.stop.Stop.TheVariants.{Writing, Device}
 use Rattle.pm_run.specs.Causes.{CountsDisk}
 use Rattle.pm_run.specs.Events.{Answers, AnswersNothing}
 use Rattle.pm_run.specs.Images.{IsSettled, IsInProgress}

@@ -1,5 +1,5 @@
 -- What a crash leaves while a copy is settled.
-use Rattle.std.proofs.Common.{◌≡◌, ◌⊎◌, inl, ℕ, List, Option, Some, refl, sym, ◌∙◌, ap, subst}
+use Rattle.std.proofs.Common.{◌≡◌, ◌⊎◌, inl, ℕ, List, Option, Some, refl, sym, subst}
 use Rattle.pm_layout.specs.declared.header.Header.{Header}
 use Rattle.pm_disk.specs.Made.{Made}
 use Rattle.pm_disk.specs.Disk.{LeavesOnly}

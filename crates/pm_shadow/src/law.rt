@@ -26,14 +26,17 @@ pub fn an_image_is_opened_with_its_graph()
     ensures renewed { (s : State) (header : Header) (bytes image : List ℕ) (graph : Graph) → NextGraph s bytes header graph → Renews s header bytes image → opened image ≡ Ok (next_graph s header graph) }
     ensures next { (s : State) (header : Header) (bytes image : List ℕ) (graph : Graph) → NextGraph s bytes header graph → Renews s header bytes image → KeepsGraph (published s header) image graph }
     // The graph is kept by what keeps the same pages.
-    ensures same { (s t : State) (bytes : List ℕ) (graph : Graph) → KeepsSamePages s t → KeepsGraph s bytes graph → KeepsGraph t bytes graph }
+    ensures same { (s t : State) (bytes : List ℕ) (graph : Graph) → KeepsSamePages s t → KeepsGraph s bytes graph
+        → KeepsGraph t bytes graph }
 {}
 
 /// Pages that are claimed, kept and given up are so beside the current copy, whose pages are known.
 pub fn the_next_copy_grows_beside_the_current_one()
     // The lowest free page is the lowest that the graph of the current copy does not use and that was not claimed.
-    ensures lowest { (s : State) (bytes : List ℕ) (graph : Graph) (page : ℕ) → s.known ≡ true → KeepsGraph s bytes graph → IsLowestFree s.uses page → IsLowestUnused s graph page }
-    ensures claimed { (s : State) (page : ℕ) → s.known ≡ true → s.uses page ≡ Free → KeepsSamePages s (with_claimed s page) }
+    ensures lowest { (s : State) (bytes : List ℕ) (graph : Graph) (page : ℕ) → s.known ≡ true → KeepsGraph s bytes graph
+        → IsLowestFree s.uses page → IsLowestUnused s graph page }
+    ensures claimed { (s : State) (page : ℕ) → s.known ≡ true → s.uses page ≡ Free
+        → KeepsSamePages s (with_claimed s page) }
     ensures kept { (s : State) (page : ℕ) → keeps s page ≡ true → KeepsSamePages s (with_kept s page) }
     ensures abandoned { (s : State) → s.known ≡ true → KeepsSamePages s (abandoned_in s) }
     // Nothing is claimed or kept once the pages of the current copy were listed, the next copy was given up, or its

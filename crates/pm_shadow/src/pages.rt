@@ -69,14 +69,18 @@ impl<D: Disk> Pages<D> {
         ensures state { IfOk result (λ it. state it ≡ attached (state it).slot (state it).header (state it).count (state it).closed) }
         // The header is one that can be spelled, whether the disk tells its contents or not.
         ensures spelled { IfOk result (λ it. HasHeaderSpelling (state it).header) }
-        ensures only { IfOk result (λ it. IfTold (D.contents disk) (λ bytes. (left : List ℕ) → D.image (disk_of it) left → left ≡ bytes)) }
+        ensures only { IfOk result (λ it. IfTold (D.contents disk) (λ bytes.
+            (left : List ℕ) → D.image (disk_of it) left → left ≡ bytes)) }
         ensures count { IfOk result (λ it. D.count (disk_of it) ≡ D.count disk) }
         ensures fault { IfErr result (λ e. IfTold (D.contents disk) (λ bytes. IsFaultOf bytes e.1)) }
         ensures cause { IfErr result (λ e. IsAttachFault (D.count disk) (D.count e.0) e.1) }
-        ensures told { MatchResult result (λ it. D.contents (disk_of it) ≡ D.contents disk) (λ e. D.contents e.0 ≡ D.contents disk) }
-        ensures leaves { MatchResult result (λ it. LeavesOnly D.moment D.since disk (disk_of it) (D.image disk)) (λ e. LeavesOnly D.moment D.since disk e.0 (D.image disk)) }
+        ensures told { MatchResult result (λ it. D.contents (disk_of it) ≡ D.contents disk)
+            (λ e. D.contents e.0 ≡ D.contents disk) }
+        ensures leaves { MatchResult result (λ it. LeavesOnly D.moment D.since disk (disk_of it) (D.image disk))
+            (λ e. LeavesOnly D.moment D.since disk e.0 (D.image disk)) }
         // One sync was made, no write, and no read past the end of what the disk told.
-        ensures made { MatchResult result (λ it. D.made (disk_of it) ≡ with_sync (D.made disk)) (λ e. D.made e.0 ≡ with_sync (D.made disk)) }
+        ensures made { MatchResult result (λ it. D.made (disk_of it) ≡ with_sync (D.made disk))
+            (λ e. D.made e.0 ≡ with_sync (D.made disk)) }
     {
         let mut disk = disk;
         match find(&mut disk) {
@@ -144,7 +148,8 @@ impl<D: Disk> Pages<D> {
         requires used { IfTold (D.contents (disk_of self.old)) (λ bytes. AreUsed (state self.old) bytes pages.now) }
         ensures listed { OnOk result (IsListed pages.now (state self.new).uses) }
         // The graph of the current copy stands on the pages that are its own now, and on no others.
-        ensures keeps { OnOk result (IfTold (D.contents (disk_of self.old)) (λ bytes. (graph : Graph) × KeepsGraph (state self.new) bytes graph)) }
+        ensures keeps { OnOk result (IfTold (D.contents (disk_of self.old)) (λ bytes.
+            (graph : Graph) × KeepsGraph (state self.new) bytes graph)) }
         ensures state { OnOk result (state self.new ≡ known_by (state self.old) (state self.new).uses) }
         ensures state_err { OnErr result (state self.new ≡ state self.old) }
         ensures still { disk_of self.new ≡ disk_of self.old }
@@ -260,7 +265,8 @@ impl<D: Disk> Pages<D> {
         ensures only { OnOk result (IfTold (D.contents (disk_of self.new)) (λ told. (left : List ℕ) → D.image (disk_of self.new) left → left ≡ told)) }
         ensures renews { OnOk result (IfTold (D.contents (disk_of self.old)) (λ told. IfTold (D.contents (disk_of self.new)) (Renews (state self.old) header.now told))) }
         // Where it fails the contents are told still, and no page but that of the other slot is another.
-        ensures torn { OnErr result (TornIfTold (place_of (other (state self.old).slot)) PAGE_BYTES (D.contents (disk_of self.old)) (D.contents (disk_of self.new))) }
+        ensures torn { OnErr result (TornIfTold (place_of (other (state self.old).slot)) PAGE_BYTES
+            (D.contents (disk_of self.old)) (D.contents (disk_of self.new))) }
         // A crash at any moment of the call leaves the one header with its pages or the other.
         ensures leaves { IfTold (D.contents (disk_of self.old)) (λ told. LeavesOnly D.moment D.since (disk_of self.old) (disk_of self.new)
             (λ image. Holds (state self.old) told image ⊎ Renews (state self.old) header.now told image)) }

@@ -35,7 +35,8 @@ pub(crate) fn write_one_by_one<D: Disk>(
     requires second { second_at + length second.now ≤ 2 ^ 63 - 1 }
     ensures written { OnOk result (D.contents disk.new ≡ option_map (λ bytes. written second_at second.now (written first_at first.now bytes)) (D.contents disk.old)) }
     ensures only { OnOk result (IfTold (D.contents disk.new) (λ told. (left : List ℕ) → D.image disk.new left → left ≡ told)) }
-    ensures torn { OnErr result (TornIfTold first_at (second_at + length second.now - first_at) (D.contents disk.old) (D.contents disk.new)) }
+    ensures torn { OnErr result (TornIfTold first_at (second_at + length second.now - first_at)
+        (D.contents disk.old) (D.contents disk.new)) }
     ensures in_order { IfTold (D.contents disk.old) (λ bytes. LeavesOnly D.moment D.since disk.old disk.new
         (IsInOrder (D.image disk.old) bytes first_at first.now second_at (length second.now))) }
     ensures cause { HasCause (D.count disk.old) (D.count disk.new) result }

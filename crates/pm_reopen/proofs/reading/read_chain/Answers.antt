@@ -1,4 +1,4 @@
-use Rattle.std.proofs.Common.{rules, [], ◌∷◌, Contains, ◌≡◌, ◌+◌, ◌-◌, ◌≤◌, ◌^◌, ℕ, Some, Ok, Err, sym, ap, subst, ◌∙◌, arith}
+use Rattle.std.proofs.Common.{rules, [], ◌∷◌, Contains, ◌≡◌, ◌+◌, ◌-◌, ◌≤◌, ◌^◌, ℕ, Some, Ok, sym, ap, subst, ◌∙◌, arith}
 use Rattle.std.proofs.lemmas.Result.{err_from_is_err_and}
 use Rattle.std.proofs.lemmas.List.Elements.{Contains-append_left}
 use Rattle.pm_image.specs.declared.catalog.CatalogPage.{CatalogPage}

@@ -1,4 +1,4 @@
-use Rattle.std.proofs.Common.{ℕ, zero, suc, ◌<◌, [], ◌∷◌, slice_index_or, refl, sym, subst, arith}
+use Rattle.std.proofs.Common.{[], ◌∷◌, refl}
 use Rattle.pm_shadow.specs.Pages.{state}
 use Rattle.pm_shadow.proofs.UsedLemmas.{attached_first, attached_used}
 use Rattle.pm_save.proofs.TestLemmas.{none_plain, listed_rests}

@@ -1,4 +1,4 @@
-use Rattle.std.proofs.Common.{ℕ, zero, suc, ◌<◌, ◌≤◌, [], ◌∷◌, length, slice_index_or, refl, sym, ap, subst, ◌∙◌, arith}
+use Rattle.std.proofs.Common.{◌≤◌, [], ◌∷◌, length, refl, ap, ◌∙◌, arith}
 use Rattle.std.specs.FinMap.{insert}
 use Rattle.pm_types.specs.declared.limits.TheConstants.{OBJECT_BYTES}
 use Rattle.pm_shadow.specs.Pages.{state}
