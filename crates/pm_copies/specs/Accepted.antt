@@ -10,9 +10,9 @@ use Rattle.pm_layout.specs.Spelling.{HasSpelling}
 use Rattle.pm_image.specs.declared.car.CarImage.{CarImage}
 use Rattle.pm_image.specs.declared.catalog.CatEntry.{CatEntry}
 use Rattle.pm_image.specs.declared.catalog.CatEntry.TheVariants.{Car, Root}
-use Rattle.pm_image.specs.CarPages.{Ascend, car_used}
+use Rattle.pm_image.specs.CarPages.{Numbers, Ascend, car_used, HasCarPage}
 use Rattle.pm_image.specs.CatalogPages.{is_next_name}
-use Rattle.pm_image.specs.Graphs.{slot_named}
+use Rattle.pm_image.specs.Graphs.{slot_named, with_identities}
 use Rattle.pm_image.specs.Leading.{CarLeads, RootLeads}
 use Rattle.pm_copies.specs.Listed.{Listed, images}
 
@@ -65,3 +65,9 @@ pub record IsAccepted (listed : List Listed) (catalog : List CatEntry) (next_id 
   -- names ascend, and are not too many
   pub names : NamesAscend None catalog
   pub few : length (roots_in catalog) ≤ ROOTS
+
+-- Each car has a page, of objects of at most so many fields and under this next identity, where these identities were
+-- met before the first car, and those of a car before the next one.
+abbrev pub HavePages : ℕ → ℕ → Numbers → List CarImage → Type 0
+HavePages most next_id met [] = Unit {0}
+HavePages most next_id met (car ∷ cars) = HasCarPage (record { most = most; next = next_id; number = Some car.number }) met car × HavePages most next_id (with_identities met car.slots) cars

@@ -19,3 +19,4 @@ pub mod Identities
 pub mod Follows
 pub mod FoundCars
 pub mod FoundStore
+pub mod Pages
