@@ -28,20 +28,12 @@ use Rattle.pm_view.specs.Represents.{names, meaning, IsForgotten, Represents}
 use Rattle.pm_copies.specs.Listed.{listed_cars, root_entry, root_entries, copy_in}
 use Rattle.pm_copies.specs.Accepted.{IsCar, root_in, roots_in}
 use Rattle.pm_copies.specs.Opened.{unnumbered}
-use Rattle.pm_law_copies.proofs.Lists.{or_else, all_fields}
+use Rattle.pm_law_copies.proofs.Lists.{or_else, all_fields, all_weaker, map_same}
 use Rattle.pm_law_copies.proofs.Resolving.{resolved_is, field_leads, root_leads, object_listed}
 use Rattle.pm_law_copies.proofs.Accepting.{accepted}
 use Rattle.pm_law_copies.proofs.Objects.{told, find_in_two}
 use Rattle.pm_law_copies.proofs.Objects as heaps
 use Rattle.pm_law_copies.proofs.Alike.{copied_alike, named_last}
-
-pub map_same : {X Y : Type 0} (f g : X → Y) (xs : List X) → AllByRecursion (λ x. f x ≡ g x) xs → map f xs ≡ map g xs
-map_same f g [] all = refl
-map_same f g (x ∷ xs) all = λ i. all.0 i ∷ map_same f g xs all.1 i
-
-pub all_weaker : {X : Type 0} (P Q : X → Type 0) (xs : List X) → ((x : X) → P x → Q x) → AllByRecursion P xs → AllByRecursion Q xs
-all_weaker P Q [] weaker all = tt
-all_weaker P Q (x ∷ xs) weaker all = (weaker x all.0, all_weaker P Q xs weaker all.1)
 
 -- ---- roots
 

@@ -28,7 +28,7 @@ use Rattle.pm_copies.specs.Listed.{copy_listed}
 use Rattle.pm_copies.specs.Accepted.{Differ, NeverFall, IsAccepted}
 use Rattle.pm_copies.specs.Accepted as accepted
 use Rattle.pm_copies.specs.Opened.{listed_in, listed_graph}
-use Rattle.pm_law_copies.proofs.CopyOf.{all_weaker}
+use Rattle.pm_law_copies.proofs.Lists.{all_weaker}
 use Rattle.pm_law_copies.proofs.Found.{graph_made, graph_listed}
 use Rattle.pm_law_copies.proofs.Identities.{AllFree, not_old, free_named, apart_named}
 use Rattle.pm_law_copies.proofs.Follows.{Follows, AreWhole, on_page_read, entries_follow, names_follow, roots_few}

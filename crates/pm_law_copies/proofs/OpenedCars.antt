@@ -149,7 +149,7 @@ module _ (all : List CarImage) where
   next_grows least [] ascend = omega arith
   next_grows least (e ∷ es) ascend = let later = next_grows (e.0 + 1) es ascend.2 in let low = ascend.0 in omega (arith, later, low)
 
-  next_past : (least : ℕ) (es : List (ℕ × Slot)) (n : ℕ) (slot : Slot) → Ascend least es → slot_in es n ≡ Some slot → n < next_after least es
+  pub next_past : (least : ℕ) (es : List (ℕ × Slot)) (n : ℕ) (slot : Slot) → Ascend least es → slot_in es n ≡ Some slot → n < next_after least es
   next_past least [] n slot ascend is = cc
   next_past least (e ∷ es) n slot ascend is = elim (e.0 == n) as (λ b. (e.0 == n) ≡ b → cond b (Some e.1) (slot_in es n) ≡ Some slot → n < next_after (e.0 + 1) es) [
     | true ↦ λ here is. let same = eqb-true e.0 n here in let later = next_grows (e.0 + 1) es ascend.2 in omega (arith, same, later)

@@ -39,9 +39,9 @@ use Rattle.pm_copies.specs.Listed.{Listed, images}
 use Rattle.pm_copies.specs.Accepted.{IsAccepted, roots_in}
 use Rattle.pm_copies.specs.Accepted as accepted
 use Rattle.pm_copies.specs.Opened.{resolved_at, opened_object, opened_root, unnumbered, IsOpened}
-use Rattle.pm_law_copies.proofs.Lists.{all_at}
+use Rattle.pm_law_copies.proofs.Lists.{all_at, all_weaker}
 use Rattle.pm_law_copies.proofs.Naming.{all_in_cars, all_named}
-use Rattle.pm_law_copies.proofs.CopyOf.{all_weaker, all_roots, found_unnumbered}
+use Rattle.pm_law_copies.proofs.CopyOf.{all_roots, found_unnumbered}
 use Rattle.pm_law_copies.proofs.OpenedCars.{live_of, slot_at_opened, from_listed, car_sound, car_has, car_still}
 use Rattle.pm_law_copies.proofs.OpenedTrains.{linked, trains_sound}
 
@@ -121,7 +121,7 @@ module _ (listed : List Listed) (catalog : List CatEntry) (next_id : ℕ) (view 
   live_look a was is = ap look_of (slot_there a ∙ ap (live_of (images listed)) is)
 
   pub none_aside : (car : ℕ) → is_aside view car ≡ false
-  none_aside car = ap (λ phase. aside_in phase view.trains.trains car) opened.phase
+  none_aside car = ap (λ phase. aside_in phase view.trains.trains car) opened.fresh.phase
 
   spelled : (a : Addr) (was : Object) → slot_named (images listed) a ≡ Some (Live was) → HasSpelling FIELDS (Live was)
   spelled a was is = all_named (λ (e : ℕ × Slot). HasSpelling FIELDS e.1) (images listed) a (Live was) (all_weaker accepted.IsCar (λ (car : CarImage). AllByRecursion (λ (e : ℕ × Slot). HasSpelling FIELDS e.1) car.slots) (images listed) (λ car is. is.slots) ok.cars) is
@@ -165,7 +165,7 @@ module _ (listed : List Listed) (catalog : List CatEntry) (next_id : ℕ) (view 
   -- whatever is stored leads to an object
   pub stored_here : (x : RefSource) (a : Addr) → stored view x ≡ Some a → IsHere a
   stored_here (Root number) a is = let name = owner view.roots number a is in root_here name.0 (number, a) name.1
-  stored_here (Handle client register) a is = let clash : None ≡ Some a = sym (ap (λ registers. get registers (client, register)) opened.registers ∙ get-empty place_cmp (client, register)) ∙ is in cc
+  stored_here (Handle client register) a is = let clash : None ≡ Some a = sym (ap (λ registers. get registers (client, register)) opened.fresh.registers ∙ get-empty place_cmp (client, register)) ∙ is in cc
   stored_here (Field b i) a is = field_here b i a (object_at view.cars b) refl is
 
   -- ---- remembered sets
@@ -197,11 +197,11 @@ module _ (listed : List Listed) (catalog : List CatEntry) (next_id : ℕ) (view 
   effective_is car x = by_set (get view.sets car) refl
     where
       by_set : (o : Option Sources) → get view.sets car ≡ o → effective_in o (get view.queues car) x ≡ cond (outside car x) (slot_in car (stored view x)) None
-      by_set None is = sym (nothing_either (outside car x) (slot_in car (stored view x)) (none_named car x (stored view x) refl (sym (opened.sets car) ∙ ap is_some is)))
+      by_set None is = sym (nothing_either (outside car x) (slot_in car (stored view x)) (none_named car x (stored view x) refl (sym (opened.fresh.sets car) ∙ ap is_some is)))
       by_set (Some set) is =
-          ap (λ queue. effective_in (Some set) queue x) (opened.queues car)
-          ∙ no_change set (get view.cars car) (sym (opened.sets car) ∙ ap is_some is) x
-          ∙ opened.remembered car set x is
+          ap (λ queue. effective_in (Some set) queue x) (opened.fresh.queues car)
+          ∙ no_change set (get view.cars car) (sym (opened.fresh.sets car) ∙ ap is_some is) x
+          ∙ opened.fresh.remembered car set x is
 
   outside_only : (out : Bool) (o : Option ℕ) (n : ℕ) → cond out o None ≡ Some n → (out ≡ true) × (o ≡ Some n)
   outside_only true o n is = (refl, is)
@@ -239,7 +239,7 @@ module _ (listed : List Listed) (catalog : List CatEntry) (next_id : ℕ) (view 
       let fine = spelled a from.0 from.1 in
       subst (IsObject view) (sym from.2) (record {
         first = fine.numbered.0;
-        given = subst (λ n. from.0.id < n) (sym opened.next) (ok.given a from.0 from.1);
+        given = subst (λ n. from.0.id < n) (sym opened.fresh.next) (ok.given a from.0 from.1);
         fields = subst (λ n. n ≤ FIELDS) (sym (length-map from.0.fields (option_map (resolved_at (images listed))))) fine.within.0;
         bytes = fine.within.1;
       })
@@ -248,12 +248,12 @@ module _ (listed : List Listed) (catalog : List CatEntry) (next_id : ℕ) (view 
   built = record {
     trains = subst line_sound (sym opened.trains) (trains_sound listed ok.differ);
     linked = λ car. ap (λ (trains : Trains). is_some (train_of trains.trains car)) opened.trains ∙ linked listed car ∙ ap (λ cars. is_some (get cars car)) (sym opened.cars);
-    sets = opened.sets;
-    queues = λ car. ap is_some (opened.queues car) ∙ some_either (get view.cars car);
+    sets = opened.fresh.sets;
+    queues = λ car. ap is_some (opened.fresh.queues car) ∙ some_either (get view.cars car);
     cars = car_is;
     objects = object_is;
     apart = λ a b o p at_a at_b same. let from = object_from a o at_a in let other = object_from b p at_b in ok.apart a b from.0 other.0 from.1 other.1 (ap (λ (o : Object). o.id) (sym from.2) ∙ same ∙ ap (λ (o : Object). o.id) other.2);
-    next = subst (λ n. (1 ≤ n) × (n ≤ 4294967296)) (sym opened.next) ok.next;
+    next = subst (λ n. (1 ≤ n) × (n ≤ 4294967296)) (sym opened.fresh.next) ok.next;
     births = no_births view.trains.births (ap (λ (trains : Trains). trains.births) opened.trains) _;
   }
     where
@@ -272,11 +272,11 @@ module _ (listed : List Listed) (catalog : List CatEntry) (next_id : ℕ) (view 
   keeps_law = record {
     built = built;
     named = record {
-      numbers = opened.numbers;
+      numbers = opened.fresh.numbers;
       few = subst (λ n. n ≤ ROOTS) (sym (len-entries view.roots ∙ sym (length-map (entries view.roots) unnumbered) ∙ ap length opened.roots ∙ length-map (roots_in catalog) (opened_root (images listed)))) ok.few;
-      registers = λ client register a is. absurd (none-some a (sym (ap (λ registers. get registers (client, register)) opened.registers ∙ get-empty place_cmp (client, register)) ∙ is));
+      registers = λ client register a is. absurd (none-some a (sym (ap (λ registers. get registers (client, register)) opened.fresh.registers ∙ get-empty place_cmp (client, register)) ∙ is));
     };
     tied = tied;
-    phase = subst (λ phase. IsAt phase view.trains.trains view.anchor) (sym opened.phase) tt;
-    anchor = λ a to is. absurd (none-some (a, to) (sym opened.anchor ∙ is));
+    phase = subst (λ phase. IsAt phase view.trains.trains view.anchor) (sym opened.fresh.phase) tt;
+    anchor = λ a to is. absurd (none-some (a, to) (sym opened.fresh.anchor ∙ is));
   }

@@ -1,5 +1,5 @@
 -- Cars that are accepted have pages.
-use Rattle.std.proofs.Common.{◌≡◌, ◌⊎◌, inl, inr, ⊎_elim, ℕ, ◌+◌, ◌<◌, ◌≤◌, ◌==◌, ◌||◌, Bool, true, false, cond, nat_le, refl, ap, sym, subst, ◌∙◌, List, [], ◌∷◌, Option, Some, None, arith}
+use Rattle.std.proofs.Common.{◌≡◌, ◌⊎◌, inl, inr, ⊎_elim, ℕ, ◌+◌, ◌<◌, ◌==◌, ◌||◌, Bool, true, false, cond, nat_le, refl, ap, sym, subst, ◌∙◌, List, [], ◌∷◌, Option, Some, arith}
 use Rattle.std.specs.List.{AllByRecursion}
 use Rattle.std.specs.Ordering.{nat_cmp, eq_by_cmp}
 use Rattle.std.specs.FinMap.{nat_cmp-IsAntisymmetric}
@@ -23,7 +23,7 @@ use Rattle.pm_copies.specs.Listed.{Listed, images}
 use Rattle.pm_copies.specs.Accepted.{Differ, IsAccepted, HavePages}
 use Rattle.pm_copies.specs.Accepted as accepted
 use Rattle.pm_law_copies.proofs.Naming.{car_named, slot_lies, all_named}
-use Rattle.pm_law_copies.proofs.CopyOf.{all_weaker}
+use Rattle.pm_law_copies.proofs.Lists.{all_weaker}
 use Rattle.pm_law_copies.proofs.Objects.{slot_from, slot_behind, no_such_car, named_behind}
 
 -- ---- the slots of a car
@@ -52,17 +52,21 @@ slots_free : (next : ℕ) (met : Numbers) (least : ℕ) (es : List (ℕ × Slot)
     → ((m n : ℕ) (o p : Object) → slot_in es m ≡ Some (Live o) → slot_in es n ≡ Some (Live p) → o.id ≡ p.id → m ≡ n) → AreFree next met es
 slots_free next met least [] ascend each apart = tt
 slots_free next met least ((m, Live object) ∷ es) ascend each apart =
-    let first = each m object (here m (Live object) es) in
-    (not_taken next met object.id first.0 first.1 first.2,
-    slots_free next (set.insert met object.id) (m + 1) es ascend.2
-    (λ n o is.
-    let there = slot_behind least (m, Live object) es n (Live o) ascend is in
-    let known = each n o there in
-    (known.0, known.1, not_added met object.id o.id known.2 (λ tied.
-    let same : n ≡ m = apart n m o object there (here m (Live object) es) (tells_apart nat_cmp-IsAntisymmetric o.id object.id tied) in
-    let later = slot_from (m + 1) es n (Live o) ascend.2 is in
-    omega (arith, same, later))))
-    (λ n k o p is is_too same. apart n k o p (slot_behind least (m, Live object) es n (Live o) ascend is) (slot_behind least (m, Live object) es k (Live p) ascend is_too) same))
+    let first = each m object (here m (Live object) es) in (
+      not_taken next met object.id first.0 first.1 first.2,
+      slots_free next (set.insert met object.id) (m + 1) es ascend.2
+          (λ n o is.
+          let there = slot_behind least (m, Live object) es n (Live o) ascend is in
+          let known = each n o there in (
+            known.0,
+            known.1,
+            not_added met object.id o.id known.2 (λ tied.
+                let same : n ≡ m = apart n m o object there (here m (Live object) es) (tells_apart nat_cmp-IsAntisymmetric o.id object.id tied) in
+                let later = slot_from (m + 1) es n (Live o) ascend.2 is in
+                omega (arith, same, later)),
+          ))
+          (λ n k o p is is_too same. apart n k o p (slot_behind least (m, Live object) es n (Live o) ascend is) (slot_behind least (m, Live object) es k (Live p) ascend is_too) same),
+    )
 slots_free next met least ((m, Moved to) ∷ es) ascend each apart =
     slots_free next met (m + 1) es ascend.2
     (λ n o is. each n o (slot_behind least (m, Moved to) es n (Live o) ascend is))
@@ -139,15 +143,17 @@ new_behind next met car cars differ is each apart a o there =
 
 pages_read : (next : ℕ) (met : Numbers) (cars : List CarImage) → AllByRecursion accepted.IsCar cars → Differ cars → AreNew next met cars → AreApart cars → HavePages FIELDS next met cars
 pages_read next met [] are differ each apart = tt
-pages_read next met (car ∷ cars) are differ each apart =
-    (first_page (record { most = FIELDS; next = next; number = Some car.number }) met car cars refl are.0 each apart,
-    pages_read next (with_identities met car.slots) cars are.1 differ.1 (new_behind next met car cars differ are.0 each apart) (apart_behind car cars differ apart))
+pages_read next met (car ∷ cars) are differ each apart = (
+  first_page (record { most = FIELDS; next = next; number = Some car.number }) met car cars refl are.0 each apart,
+  pages_read next (with_identities met car.slots) cars are.1 differ.1 (new_behind next met car cars differ are.0 each apart) (apart_behind car cars differ apart),
+)
 
 pages_written : (cars : List CarImage) → AllByRecursion accepted.IsCar cars → Differ cars → AreNew 4294967296 set.empty cars → AreApart cars → AllByRecursion (HasCarPage (one_car FIELDS) set.empty) cars
 pages_written [] are differ each apart = tt
-pages_written (car ∷ cars) are differ each apart =
-    (first_page (one_car FIELDS) set.empty car cars refl are.0 each apart,
-    pages_written cars are.1 differ.1 (λ a o there. each a o (named_behind car cars a (Live o) differ there)) (apart_behind car cars differ apart))
+pages_written (car ∷ cars) are differ each apart = (
+  first_page (one_car FIELDS) set.empty car cars refl are.0 each apart,
+  pages_written cars are.1 differ.1 (λ a o there. each a o (named_behind car cars a (Live o) differ there)) (apart_behind car cars differ apart),
+)
 
 -- ---- what is accepted
 

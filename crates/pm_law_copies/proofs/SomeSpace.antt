@@ -209,14 +209,16 @@ module _ (listed : List Listed) (catalog : List CatEntry) (next_id : ℕ) (ok : 
       cars = refl;
       trains = refl;
       roots = bound_roots (images listed) catalog ok.names;
-      numbers = differ;
-      sets = λ car. ap is_some (set_at car) ∙ mapped_some (get view.cars car) (remembering (all_stored view.cars view.roots) car);
-      remembered = remembered;
-      queues = queue_at;
-      registers = refl;
-      anchor = refl;
-      phase = refl;
-      next = refl;
-      completed = refl;
+      fresh = record {
+        numbers = differ;
+        sets = λ car. ap is_some (set_at car) ∙ mapped_some (get view.cars car) (remembering (all_stored view.cars view.roots) car);
+        remembered = remembered;
+        queues = queue_at;
+        registers = refl;
+        anchor = refl;
+        phase = refl;
+        next = refl;
+        completed = refl;
+      };
     },
   )

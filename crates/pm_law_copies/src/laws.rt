@@ -1,11 +1,14 @@
 //! Which copy a space is, that what it lists is accepted again, and what opening makes of it. Each function's
 //! contract is the law, and the function does nothing.
 
-ghost use Rattle.std.specs.Prelude.{◌≡◌, ℕ, not, cond, List, map, Some, None, Ok};
+ghost use Rattle.std.specs.Prelude.{◌≡◌, ◌<◌, ℕ, not, cond, List, map, Some, None, Ok};
 ghost use Rattle.std.specs.List.{filter, AllByRecursion};
 ghost use Rattle.std.specs.FinSet as set;
+ghost use Rattle.std.specs.FinMap.{get};
 ghost use Rattle.pm_types.specs.declared.limits.TheConstants.{FIELDS};
 ghost use Rattle.pm_types.specs.declared.address.Addr.{Addr};
+ghost use Rattle.pm_types.specs.declared.object.Slot.{Slot};
+ghost use Rattle.pm_cars.specs.Cars.{Car};
 ghost use Rattle.pm_model.specs.World.{World, Copy, begin};
 ghost use Rattle.pm_model.specs.Copying.{copy};
 ghost use Rattle.pm_trains.specs.Trains.{train_of};
@@ -14,10 +17,10 @@ ghost use Rattle.pm_image.specs.declared.car.CarImage.{CarImage};
 ghost use Rattle.pm_image.specs.declared.catalog.CatEntry.{CatEntry};
 ghost use Rattle.pm_image.specs.CarAnswers.{AreBytes};
 ghost use Rattle.pm_image.specs.CarPages.{one_car, HasCarPage};
-ghost use Rattle.pm_image.specs.Graphs.{slot_named, entries_of, copy_of};
+ghost use Rattle.pm_image.specs.Graphs.{slot_named, identity_in, entries_of, copy_of};
 ghost use Rattle.pm_image.specs.Stands.{Opened, Stands, opened};
 ghost use Rattle.pm_view.specs.View.{SpaceView};
-ghost use Rattle.pm_view.specs.Reading.{slot_at, is_aside};
+ghost use Rattle.pm_view.specs.Reading.{slot_at, id_at, is_aside};
 ghost use Rattle.pm_view.specs.Law.{HeapLaw};
 ghost use Rattle.pm_view.specs.Represents.{Represents};
 ghost use Rattle.pm_copies.specs.Listed.{Listed, images, listed, listed_cars, root_entries, copy_listed, copy_in};
@@ -54,13 +57,27 @@ pub fn accepted_cars_have_pages()
 {}
 
 /// A law of opening: the space that opening makes of cars and roots that no rule refuses keeps the heap law, and
-/// stands for the world in which their copy was just opened, under whatever number.
+/// stands for the world in which their copy was just opened, under whatever number. It would save that copy again.
 pub fn an_opened_space_keeps_the_law()
     ensures law { (listed : List Listed) (catalog : List CatEntry) (next : ℕ) (view : SpaceView)
         → IsAccepted listed catalog next → IsOpened listed catalog next view → HeapLaw view }
     ensures world { (listed : List Listed) (catalog : List CatEntry) (next : ℕ) (view : SpaceView) (number : ℕ)
         → IsAccepted listed catalog next → IsOpened listed catalog next view
         → Represents view (begin number (copy_listed listed catalog next)) }
+    ensures copy { (listed : List Listed) (catalog : List CatEntry) (next : ℕ) (view : SpaceView)
+        → IsAccepted listed catalog next → IsOpened listed catalog next view
+        → copy_in view ≡ copy_listed listed catalog next }
+{}
+
+/// A law of opening: each object stays in its slot, and no other slot has one; no slot that was listed comes after the
+/// next one of its car.
+pub fn opening_leaves_objects_in_their_slots()
+    ensures objects { (listed : List Listed) (catalog : List CatEntry) (next : ℕ) (view : SpaceView) (a : Addr)
+        → IsAccepted listed catalog next → IsOpened listed catalog next view
+        → id_at view a ≡ identity_in (slot_named (images listed) a) }
+    ensures next { (listed : List Listed) (catalog : List CatEntry) (next : ℕ) (view : SpaceView) (a : Addr)
+        (slot : Slot) (car : Car) → IsAccepted listed catalog next → IsOpened listed catalog next view
+        → slot_named (images listed) a ≡ Some slot → get view.cars a.car ≡ Some car → a.slot < car.next }
 {}
 
 /// A law of opening: there is a space that it makes of cars and roots that no rule refuses, and one alone but for the

@@ -7,5 +7,6 @@ mod laws;
 pub use examples::examples_of_opening;
 pub use laws::{
     a_copys_cars_are_accepted, a_space_holds_its_worlds_copy, a_store_is_opened_as_its_copy,
-    accepted_cars_have_pages, an_opened_space_keeps_the_law, opening_makes_one_space,
+    accepted_cars_have_pages, an_opened_space_keeps_the_law, opening_leaves_objects_in_their_slots,
+    opening_makes_one_space,
 };
