@@ -8,6 +8,7 @@ pub mod Alike
 pub mod CopyOf
 pub mod OpenedCars
 pub mod OpenedTrains
+pub mod Fresh
 pub mod OpenedLaw
 pub mod OpenedStands
 pub mod OneSpace

@@ -39,6 +39,7 @@ use Rattle.pm_copies.specs.Listed.{Listed, images}
 use Rattle.pm_copies.specs.Accepted.{IsAccepted, roots_in}
 use Rattle.pm_copies.specs.Accepted as accepted
 use Rattle.pm_copies.specs.Opened.{resolved_at, opened_object, opened_root, unnumbered, IsOpened}
+use Rattle.pm_law_copies.proofs.Fresh.{IsMade, fresh_law}
 use Rattle.pm_law_copies.proofs.Lists.{all_at, all_weaker}
 use Rattle.pm_law_copies.proofs.Naming.{all_in_cars, all_named}
 use Rattle.pm_law_copies.proofs.CopyOf.{all_roots, found_unnumbered}
@@ -71,10 +72,6 @@ pub opened_from : (all : List CarImage) (o : Option Slot) (object : Object) → 
 opened_from all None object is = cc
 opened_from all (Some (Live was)) object is = (was, refl, sym (same_Some (opened_object all was) object is))
 opened_from all (Some (Moved to)) object is = cc
-
--- the queue of a car that was just opened
-abbrev no_change_yet : Car → List Change
-no_change_yet car = []
 
 -- ---- the roots
 
@@ -168,56 +165,6 @@ module _ (listed : List Listed) (catalog : List CatEntry) (next_id : ℕ) (view 
   stored_here (Handle client register) a is = let clash : None ≡ Some a = sym (ap (λ registers. get registers (client, register)) opened.fresh.registers ∙ get-empty place_cmp (client, register)) ∙ is in cc
   stored_here (Field b i) a is = field_here b i a (object_at view.cars b) refl is
 
-  -- ---- remembered sets
-
-  car_here : (a : Addr) → IsHere a → is_some (get view.cars a.car) ≡ true
-  car_here a here = there (get view.cars a.car) refl
-    where
-      there : (o : Option Car) → get view.cars a.car ≡ o → is_some o ≡ true
-      there None is = let clash : looks.Gone ≡ looks.Live = sym (ap (λ o. look_of (option_and_then (λ (car : Car). get car.slots a.slot) o)) is) ∙ here in cc
-      there (Some car) is = refl
-
-  none_named : (car : ℕ) (x : RefSource) (o : Option Addr) → stored view x ≡ o → is_some (get view.cars car) ≡ false → slot_in car o ≡ None
-  none_named car x None is gone = refl
-  none_named car x (Some a) is gone = elim (a.car == car) as (λ b. (a.car == car) ≡ b → cond b (Some a.slot) None ≡ None) [
-    | true ↦ λ same. let clash : true ≡ false = sym (car_here a (stored_here x a is)) ∙ ap (λ n. is_some (get view.cars n)) (eqb-true a.car car same) ∙ gone in cc
-    | false ↦ λ apart. refl
-  ] refl
-
-  nothing_either : (out : Bool) (o : Option ℕ) → o ≡ None → cond out o None ≡ None
-  nothing_either true o none = none
-  nothing_either false o none = refl
-
-  no_change : (set : Sources) (o : Option Car) → is_some o ≡ true → (x : RefSource) → effective_in (Some set) (option_map (λ _. []) o) x ≡ get set x
-  no_change set None some x = cc
-  no_change set (Some car) some x = refl
-
-  -- what an effective set gives is just what the sources outside the car name of it
-  effective_is : (car : ℕ) (x : RefSource) → effective view car x ≡ cond (outside car x) (slot_in car (stored view x)) None
-  effective_is car x = by_set (get view.sets car) refl
-    where
-      by_set : (o : Option Sources) → get view.sets car ≡ o → effective_in o (get view.queues car) x ≡ cond (outside car x) (slot_in car (stored view x)) None
-      by_set None is = sym (nothing_either (outside car x) (slot_in car (stored view x)) (none_named car x (stored view x) refl (sym (opened.fresh.sets car) ∙ ap is_some is)))
-      by_set (Some set) is =
-          ap (λ queue. effective_in (Some set) queue x) (opened.fresh.queues car)
-          ∙ no_change set (get view.cars car) (sym (opened.fresh.sets car) ∙ ap is_some is) x
-          ∙ opened.fresh.remembered car set x is
-
-  outside_only : (out : Bool) (o : Option ℕ) (n : ℕ) → cond out o None ≡ Some n → (out ≡ true) × (o ≡ Some n)
-  outside_only true o n is = (refl, is)
-  outside_only false o n is = cc
-
-  leads_here : (a : Addr) → IsHere a → Leads (seen view) a (look_of (slot_at view.cars a))
-  leads_here a here = subst (Leads (seen view) a) (sym here) tt
-
-  tied : IsTied (seen view)
-  tied = record {
-    reads = λ car x free up out. effective_is car x ∙ ap (λ b. cond b (slot_in car (stored view x)) None) out;
-    holds = λ car x n free is. outside_only (outside car x) (slot_in car (stored view x)) n (sym (effective_is car x) ∙ is);
-    leads = λ x a up is. (none_aside a.car, leads_here a (stored_here x a is));
-    moved = λ a b free is. absurd (opened_look (images listed) (slot_named (images listed) a) b (ap look_of (sym (slot_there a)) ∙ is));
-  }
-
   -- ---- cars and objects
 
   car_is : (n : ℕ) (car : Car) → get view.cars n ≡ Some car → law_of.IsCar view n car
@@ -244,39 +191,24 @@ module _ (listed : List Listed) (catalog : List CatEntry) (next_id : ℕ) (view 
         bytes = fine.within.1;
       })
 
-  built : IsBuilt view
-  built = record {
-    trains = subst line_sound (sym opened.trains) (trains_sound listed ok.differ);
+  AreSound : Trains → Type 0
+  AreSound trains = line.IsSound trains
+
+  made : IsMade next_id view
+  unfolding AreSound
+  made = record {
+    trains = subst AreSound (sym opened.trains) (trains_sound listed ok.differ);
+    births = ap (λ (trains : Trains). trains.births) opened.trains;
     linked = λ car. ap (λ (trains : Trains). is_some (train_of trains.trains car)) opened.trains ∙ linked listed car ∙ ap (λ cars. is_some (get cars car)) (sym opened.cars);
-    sets = opened.fresh.sets;
-    queues = λ car. ap is_some (opened.fresh.queues car) ∙ some_either (get view.cars car);
     cars = car_is;
     objects = object_is;
     apart = λ a b o p at_a at_b same. let from = object_from a o at_a in let other = object_from b p at_b in ok.apart a b from.0 other.0 from.1 other.1 (ap (λ (o : Object). o.id) (sym from.2) ∙ same ∙ ap (λ (o : Object). o.id) other.2);
-    next = subst (λ n. (1 ≤ n) × (n ≤ 4294967296)) (sym opened.fresh.next) ok.next;
-    births = no_births view.trains.births (ap (λ (trains : Trains). trains.births) opened.trains) _;
+    next = ok.next;
+    few = subst (λ n. n ≤ ROOTS) (sym (len-entries view.roots ∙ sym (length-map (entries view.roots) unnumbered) ∙ ap length opened.roots ∙ length-map (roots_in catalog) (opened_root (images listed)))) ok.few;
+    here = stored_here;
+    still = λ a b is. opened_look (images listed) (slot_named (images listed) a) b (ap look_of (sym (slot_there a)) ∙ is);
   }
-    where
-      line_sound : Trains → Type 0
-      line_sound trains = line.IsSound trains
-
-      some_either : (o : Option Car) → is_some (option_map no_change_yet o) ≡ is_some o
-      some_either None = refl
-      some_either (Some car) = refl
-
-      no_births : (births : ℕ) → births ≡ 0 → (n : ℕ) → births ≤ n
-      no_births births none n = omega (arith, none)
 
   -- a space that was opened keeps the heap law
   pub keeps_law : HeapLaw view
-  keeps_law = record {
-    built = built;
-    named = record {
-      numbers = opened.fresh.numbers;
-      few = subst (λ n. n ≤ ROOTS) (sym (len-entries view.roots ∙ sym (length-map (entries view.roots) unnumbered) ∙ ap length opened.roots ∙ length-map (roots_in catalog) (opened_root (images listed)))) ok.few;
-      registers = λ client register a is. absurd (none-some a (sym (ap (λ registers. get registers (client, register)) opened.fresh.registers ∙ get-empty place_cmp (client, register)) ∙ is));
-    };
-    tied = tied;
-    phase = subst (λ phase. IsAt phase view.trains.trains view.anchor) (sym opened.fresh.phase) tt;
-    anchor = λ a to is. absurd (none-some (a, to) (sym opened.fresh.anchor ∙ is));
-  }
+  keeps_law = fresh_law next_id view opened.fresh made
