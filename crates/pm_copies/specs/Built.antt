@@ -1,6 +1,6 @@
 -- A space that is built of cars in trains, and of roots.
 use Rattle.std.specs.Prelude.{◌≡◌, ◌⊎◌, ℕ, ◌+◌, ◌<◌, ◌≤◌, ◌==◌, false, if◌then◌else◌, List, [], ◌∷◌, length, map, slice_get, Some, IsSome}
-use Rattle.std.specs.List.{AllByRecursion}
+use Rattle.std.specs.List.{flat_map, AllByRecursion}
 use Rattle.std.specs.FinMap.{from_entries}
 use Rattle.pm_base.specs.Mapped.{mapped}
 use Rattle.pm_types.specs.declared.limits.TheConstants.{FIELDS, OBJECT_BYTES, ROOTS}
@@ -10,10 +10,12 @@ use Rattle.pm_cars.specs.Cars.{Car, live_count, moved_count}
 use Rattle.pm_cars.specs.Cars as car_sound
 use Rattle.pm_trains.specs.Trains.{Trains}
 use Rattle.pm_image.specs.declared.car.CarImage.{CarImage}
+use Rattle.pm_image.specs.declared.catalog.CatEntry.{CatEntry}
 use Rattle.pm_view.specs.View.{Cars, SpaceView}
 use Rattle.pm_view.specs.Reading.{object_at}
 use Rattle.pm_copies.specs.Listed.{Listed, images}
-use Rattle.pm_copies.specs.Opened.{has_object, opened_car, numbered, grouped, IsFresh}
+use Rattle.pm_copies.specs.Accepted.{roots_in}
+use Rattle.pm_copies.specs.Opened.{has_object, opened_car, opened_root, numbered, grouped, IsFresh}
 
 -- a car with the number of its train
 abbrev pub Placed : Type 0
@@ -98,3 +100,11 @@ renumbered_on now train (one ∷ others) = if train == one.0 then (now, one.1) �
 abbrev pub renumbered : List Placed → List Placed
 renumbered [] = []
 renumbered (one ∷ others) = (1, one.1) ∷ renumbered_on 1 one.0 others
+
+-- the cars that a space is built of where these are opened
+abbrev pub opening_cars : List Listed → List Placed
+opening_cars listed = renumbered (flat_map (opened_placed (images listed)) listed)
+
+-- and its roots
+abbrev pub opening_roots : List Listed → List CatEntry → List (List ℕ × Addr)
+opening_roots listed catalog = map (opened_root (images listed)) (roots_in catalog)

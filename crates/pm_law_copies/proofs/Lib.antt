@@ -21,3 +21,5 @@ pub mod Follows
 pub mod FoundCars
 pub mod FoundStore
 pub mod Pages
+pub mod BuiltLaw
+pub mod OpenedBuilt

@@ -83,7 +83,7 @@ found_opened cars (root ∷ roots) name = elim (eq_by_cmp name_cmp name root.0) 
 ]
 
 -- what holds of each root holds of one that is found
-all_found : (P : Addr → Type 0) (roots : List (List ℕ × Addr)) (name : List ℕ) (at : Addr) → AllByRecursion (λ (root : List ℕ × Addr). P root.1) roots → find name_cmp name roots ≡ Some at → P at
+pub all_found : (P : Addr → Type 0) (roots : List (List ℕ × Addr)) (name : List ℕ) (at : Addr) → AllByRecursion (λ (root : List ℕ × Addr). P root.1) roots → find name_cmp name roots ≡ Some at → P at
 all_found P [] name at all is = cc
 all_found P (root ∷ roots) name at all is = elim (eq_by_cmp name_cmp name root.0) as (λ b. cond b (Some root.1) (find name_cmp name roots) ≡ Some at → P at) [
   | true ↦ λ is. subst P (same_Some root.1 at is) all.0

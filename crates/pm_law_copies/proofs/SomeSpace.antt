@@ -82,12 +82,12 @@ one_name k (root ∷ roots) p q n a b is is_too =
 
 -- ---- names in order
 
-is_less : (r : Ordering) → is_lt r ≡ true → r ≡ Less
+pub is_less : (r : Ordering) → is_lt r ≡ true → r ≡ Less
 is_less Less is = refl
 is_less Equal is = cc
 is_less Greater is = cc
 
-less_lt : (r : Ordering) → r ≡ Less → T (is_lt r)
+pub less_lt : (r : Ordering) → r ≡ Less → T (is_lt r)
 less_lt r is = subst (λ r. T (is_lt r)) (sym is) tt
 
 module _ (cars : List CarImage) where
