@@ -23,3 +23,4 @@ pub mod FoundStore
 pub mod Pages
 pub mod BuiltLaw
 pub mod OpenedBuilt
+pub mod OpeningBuilds

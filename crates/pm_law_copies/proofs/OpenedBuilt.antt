@@ -71,7 +71,7 @@ module _ (all : List CarImage) where
     | false ↦ places_opened listed
   ]
 
-same_cars : (listed : List Listed) → built_cars (opening_cars listed) ≡ opened_cars (images listed)
+pub same_cars : (listed : List Listed) → built_cars (opening_cars listed) ≡ opened_cars (images listed)
 same_cars listed = ap from_entries (rows_same (flat_map (opened_placed (images listed)) listed) ∙ rows_opened (images listed) listed)
 
 -- ---- trains are the same once they are numbered from 1
@@ -175,7 +175,7 @@ grouped_same (one ∷ placed) = before_same 1 one.0 one.1.number (grouped (map p
     ∙ next_test 1 one.0 placed
     ∙ ap (λ n. n == one.0) (sym (begins_is (first_train one.0 placed) _ y ys is_too (begins_grouped one.0 placed))))
 
-same_trains : (listed : List Listed) → built_trains (opening_cars listed) ≡ opened_trains listed
+pub same_trains : (listed : List Listed) → built_trains (opening_cars listed) ≡ opened_trains listed
 same_trains listed =
     let placed : List Placed = flat_map (opened_placed (images listed)) listed in
     let trains : numbered 1 (grouped (map place_of (renumbered placed))) ≡ numbered 1 (grouped (flat_map kept_car listed)) =
