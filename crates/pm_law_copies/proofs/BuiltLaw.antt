@@ -1,10 +1,8 @@
 -- A space that is built keeps the heap law.
-use Rattle.std.proofs.Common.{◌≡◌, ℕ, zero, suc, ◌+◌, ◌<◌, ◌≤◌, ◌==◌, Bool, true, false, cond, refl, ap, sym, subst, ◌∙◌, List, [], ◌∷◌, map, length, Option, Some, None, arith, is_some}
-use Rattle.std.specs.Option.{IsSome, option_and_then, option_map}
+use Rattle.std.proofs.Common.{◌≡◌, ℕ, suc, ◌+◌, ◌<◌, ◌≤◌, ◌==◌, Bool, true, false, cond, refl, ap, sym, subst, ◌∙◌, List, [], ◌∷◌, map, length, Option, Some, None, arith, is_some}
+use Rattle.std.specs.Option.{option_and_then, option_map}
 use Rattle.std.specs.List.{AllByRecursion, count_by, sum_by, slice_get}
-use Rattle.std.specs.declared.cmp.Ordering.{Ordering}
 use Rattle.std.specs.Ordering.{nat_cmp, eq_by_cmp}
-use Rattle.std.specs.Cmp.{IsTotalOrder}
 use Rattle.std.specs.FinMap.{FinMap, get, entries, get-entries, get-empty, len, len-empty, len-insert, from_entries, get-from_entries, contains_key, nat_cmp-IsAntisymmetric}
 use Rattle.std.specs.FinMap.Entries.{find, is_some-find}
 use Rattle.std.proofs.lemmas.Cmp.{nat_cmp_total}
@@ -12,26 +10,24 @@ use Rattle.std.proofs.lemmas.Bool.{eqb-true}
 use Rattle.std.proofs.lemmas.Map.Views.{tells_apart}
 use Rattle.std.proofs.lemmas.List.Sums.{sum_by-cons}
 use Rattle.std.proofs.lemmas.Option.{same_Some}
-use Rattle.pm_base.specs.Mapped.{mapped}
 use Rattle.pm_base.proofs.Mapped.{get-mapped, len-mapped}
 use Rattle.pm_types.specs.Orders.{name_cmp, place_cmp}
 use Rattle.pm_types.proofs.Orders.{names_total}
-use Rattle.pm_types.specs.declared.limits.TheConstants.{ROOTS}
 use Rattle.pm_types.specs.declared.address.Addr.{Addr}
 use Rattle.pm_types.specs.declared.object.Object.{Object}
 use Rattle.pm_types.specs.declared.object.Slot.{Slot}
 use Rattle.pm_types.specs.declared.object.Slot.TheVariants.{Live, Moved}
 use Rattle.pm_types.specs.declared.source.RefSource.{RefSource}
 use Rattle.pm_types.specs.declared.source.RefSource.TheVariants.{Root, Handle, Field}
-use Rattle.pm_cars.specs.Cars.{Car, one_moved, moved_count, look_of, object_of}
+use Rattle.pm_cars.specs.Cars.{Car, one_moved, look_of, object_of}
 use Rattle.pm_cars.specs.declared.look.Look.TheVariants as looks
 use Rattle.pm_trains.specs.Trains.{Trains, is_among, train_of}
 use Rattle.pm_trains.specs.Sound as line
-use Rattle.pm_view.specs.View.{Cars, SpaceView}
+use Rattle.pm_view.specs.View.{SpaceView}
 use Rattle.pm_view.specs.Reading.{slot_at, object_at, field_of, stored}
-use Rattle.pm_view.specs.Law.{IsCar, IsObject, HeapLaw}
+use Rattle.pm_view.specs.Law.{IsCar, HeapLaw}
 use Rattle.pm_law_rows.proofs.Numbers.{owner}
-use Rattle.pm_copies.specs.Built.{Placed, built_cars, place_of, built_trains, CarsDiffer, IsFull, MayBuild, IsBuilt}
+use Rattle.pm_copies.specs.Built.{Placed, built_cars, place_of, CarsDiffer, IsFull, MayBuild, IsBuilt}
 use Rattle.pm_law_copies.proofs.Fresh.{IsMade, fresh_law}
 use Rattle.pm_law_copies.proofs.OpenedLaw.{all_found, flat_from}
 use Rattle.pm_law_copies.proofs.OpenedTrains.{cars_in, among_keys, in_trains, line_sound}

@@ -1,7 +1,6 @@
 -- A space in which nothing has happened yet keeps the heap law, where its cars, objects and trains are as they must be.
-use Rattle.std.proofs.Common.{◌≡◌, ℕ, ◌<◌, ◌≤◌, ◌==◌, Bool, true, false, cond, not, refl, ap, sym, subst, ◌∙◌, List, [], ◌∷◌, length, Option, Some, None, arith, is_some}
-use Rattle.std.specs.Option.{IsSome, option_and_then, option_map}
-use Rattle.std.specs.List.{sum_by}
+use Rattle.std.proofs.Common.{◌≡◌, ℕ, ◌≤◌, ◌==◌, Bool, true, false, cond, refl, ap, sym, subst, ◌∙◌, List, [], Option, Some, None, arith, is_some}
+use Rattle.std.specs.Option.{option_and_then, option_map}
 use Rattle.std.specs.FinMap.{get, get-empty, len}
 use Rattle.std.proofs.lemmas.Bool.{eqb-true}
 use Rattle.std.proofs.lemmas.Option.{none-some}
@@ -9,7 +8,6 @@ use Rattle.pm_types.specs.Orders.{place_cmp}
 use Rattle.pm_types.specs.declared.limits.TheConstants.{ROOTS}
 use Rattle.pm_types.specs.declared.address.Addr.{Addr}
 use Rattle.pm_types.specs.declared.object.Object.{Object}
-use Rattle.pm_types.specs.declared.object.Slot.{Slot}
 use Rattle.pm_types.specs.declared.source.RefSource.{RefSource}
 use Rattle.pm_types.specs.declared.source.Change.{Change}
 use Rattle.pm_cars.specs.Cars.{Car, look_of}

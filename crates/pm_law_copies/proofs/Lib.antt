@@ -13,6 +13,7 @@ pub mod OpenedLaw
 pub mod OpenedStands
 pub mod OneSpace
 pub mod Sources
+pub mod Named
 pub mod SomeSpace
 pub mod Order
 pub mod Found

@@ -5,6 +5,7 @@ use Rattle.std.specs.declared.cmp.Ordering.{Ordering}
 use Rattle.std.specs.declared.cmp.Ordering.TheVariants.{Less, Equal, Greater}
 use Rattle.std.specs.Ordering.{is_eq, is_lt, eq_by_cmp, nat_cmp}
 use Rattle.std.specs.Cmp.{IsTotalOrder}
+use Rattle.std.specs.FinMap.{IsAntisymmetric, entries, from_entries, from_sorted, get-from_entries, get-from_sorted, entries-from_sorted, same_map}
 use Rattle.std.specs.FinMap.Entries.{find, below_all, is_sorted}
 use Rattle.std.proofs.lemmas.List.Sums.{sum_by-append, sum_by-cons}
 use Rattle.pm_roots.proofs.Sorted.{first, second, find_first}
@@ -101,6 +102,12 @@ module _ {K X : Type 0} {R : K → K → Ordering} (o : IsTotalOrder R) where
   pub all_entries : (P : K × X → Type 0) (es : List (K × X)) → T (is_sorted R es) → ((k : K) (x : X) → find R k es ≡ Some x → P (k, x)) → AllByRecursion P es
   all_entries P [] sorted each = tt
   all_entries P (e ∷ es) sorted each = (each e.0 e.1 (find_first o e es), all_entries P es (second _ _ sorted) (λ k x is. each k x (found_later e es k x sorted is)))
+
+-- a list in order is the entries of the map that is made of it
+pub entries_made : {K X : Type 0} {R : K → K → Ordering} → IsTotalOrder R → IsAntisymmetric R → (es : List (K × X)) → T (is_sorted R es) → entries (from_entries {R = R} es) ≡ es
+entries_made {R = R} o same es sorted =
+    ap entries (same_map o same (from_entries {R = R} es) (from_sorted {R = R} es) (λ q. get-from_entries o es q ∙ sym (get-from_sorted R es q sorted)))
+    ∙ entries-from_sorted R es sorted
 
 -- a search by number is one by the order
 pub nat_turned : (m n : ℕ) → (m == n) ≡ is_eq (nat_cmp n m)

@@ -1,43 +1,15 @@
 -- What opening makes of cars and roots is built of the cars that have an object, with their trains numbered anew.
-use Rattle.std.proofs.Common.{◌≡◌, ◌⊎◌, inl, inr, ℕ, suc, ◌+◌, ◌<◌, ◌≤◌, ◌==◌, ◌&&◌, Bool, true, false, cond, T, refl, ap, sym, subst, ◌∙◌, List, [], ◌∷◌, ◌++◌, map, length, Option, Some, None, arith, is_some, if◌then◌else◌}
-use Rattle.std.specs.Option.{IsSome}
-use Rattle.std.specs.List.{flat_map, AllByRecursion, slice_get}
-use Rattle.std.specs.declared.cmp.Ordering.{Ordering}
-use Rattle.std.specs.Ordering.{is_lt, nat_cmp}
-use Rattle.std.specs.FinMap.{FinMap, get, entries, from_entries, from_sorted, get-from_entries, get-from_sorted, entries-from_sorted, same_map}
-use Rattle.std.specs.FinMap.Entries.{find, below_all, is_sorted}
+use Rattle.std.proofs.Common.{◌≡◌, ℕ, suc, ◌+◌, ◌==◌, Bool, true, false, cond, refl, ap, sym, subst, ◌∙◌, List, [], ◌∷◌, ◌++◌, map, arith, if◌then◌else◌}
+use Rattle.std.specs.List.{flat_map}
+use Rattle.std.specs.FinMap.{from_entries}
 use Rattle.std.proofs.lemmas.Bool.{eqb-true, eq-eqb, true≢false}
 use Rattle.std.proofs.lemmas.Bool.Decides.{nat_tests}
-use Rattle.std.proofs.lemmas.List.{length-map, map-append}
-use Rattle.pm_base.specs.Mapped.{mapped}
-use Rattle.pm_base.proofs.Mapped.{entries-mapped}
-use Rattle.pm_types.specs.Orders.{name_cmp}
-use Rattle.pm_types.proofs.Orders.{names_total, names_antisymmetric}
-use Rattle.pm_types.specs.declared.limits.TheConstants.{ROOTS}
-use Rattle.pm_types.specs.declared.address.Addr.{Addr}
-use Rattle.pm_types.specs.declared.object.Object.{Object}
-use Rattle.pm_types.specs.declared.object.Slot.TheVariants.{Live}
-use Rattle.pm_types.specs.declared.source.RefSource.TheVariants.{Field}
-use Rattle.pm_cars.specs.Cars.{Car, look_of, object_of}
-use Rattle.pm_cars.specs.declared.look.Look.TheVariants as looks
-use Rattle.pm_trains.specs.Trains.{Train, Trains}
+use Rattle.pm_cars.specs.Cars.{Car}
+use Rattle.pm_trains.specs.Trains.{Train}
 use Rattle.pm_image.specs.declared.car.CarImage.{CarImage}
-use Rattle.pm_image.specs.declared.catalog.CatEntry.{CatEntry}
-use Rattle.pm_image.specs.declared.catalog.CatEntry.TheVariants as kinds
-use Rattle.pm_image.specs.Graphs.{resolved}
-use Rattle.pm_view.specs.View.{Cars, SpaceView}
-use Rattle.pm_view.specs.Reading.{slot_at, object_at, stored}
 use Rattle.pm_copies.specs.Listed.{Listed, images}
-use Rattle.pm_copies.specs.Accepted.{Differ, NamesAscend, roots_in, IsAccepted}
-use Rattle.pm_copies.specs.Accepted as accepted
-use Rattle.pm_copies.specs.Opened.{has_object, opened_car, opened_entry, opened_cars, kept_car, before, grouped, numbered, opened_trains, opened_root, resolved_at, unnumbered, IsOpened}
-use Rattle.pm_copies.specs.Built.{Placed, built_cars, place_of, built_trains, StepFrom, Steps, CarsDiffer, IsFull, IsGiven, MayBuild, IsBuilt, opened_placed, renumbered_on, renumbered, opening_cars, opening_roots}
-use Rattle.pm_law_copies.proofs.Lists.{all_append, all_mapped, all_weaker}
-use Rattle.pm_law_copies.proofs.CopyOf.{all_roots}
-use Rattle.pm_law_copies.proofs.OpenedCars.{both, car_sound, car_has, car_still}
-use Rattle.pm_law_copies.proofs.OpenedLaw.{ascend, object_there, stored_here, resolved_live, keeps_law}
-use Rattle.pm_law_copies.proofs.Resolving.{field_stored}
-use Rattle.pm_law_copies.proofs.SomeSpace.{is_less, less_lt, some_space}
+use Rattle.pm_copies.specs.Opened.{has_object, opened_car, opened_entry, opened_cars, kept_car, before, grouped, numbered, opened_trains}
+use Rattle.pm_copies.specs.Built.{Placed, built_cars, place_of, built_trains, opened_placed, renumbered_on, renumbered, opening_cars}
 
 -- the cars as entries of a map
 abbrev rows : List Placed → List (ℕ × Car)

@@ -1,12 +1,12 @@
 -- A space that was opened keeps the heap law.
-use Rattle.std.proofs.Common.{◌≡◌, ℕ, ◌<◌, ◌≤◌, ◌==◌, Bool, true, false, cond, refl, ap, sym, subst, ◌∙◌, List, [], ◌∷◌, map, length, Option, Some, None, arith, is_some}
-use Rattle.std.specs.Option.{option_and_then, option_map, option_flatten}
+use Rattle.std.proofs.Common.{◌≡◌, ℕ, ◌<◌, ◌≤◌, true, false, cond, refl, ap, sym, subst, ◌∙◌, List, [], ◌∷◌, map, length, Option, Some, None, is_some}
+use Rattle.std.specs.Option.{option_map, option_flatten}
 use Rattle.std.specs.List.{AllByRecursion, slice_get}
 use Rattle.std.specs.FinMap.{get, entries, get-entries, get-empty, len-entries}
 use Rattle.std.specs.FinMap.Entries.{find}
 use Rattle.std.specs.Ordering.{eq_by_cmp}
 use Rattle.std.proofs.lemmas.List.{length-map}
-use Rattle.std.proofs.lemmas.Option.{slice_get-map, same_Some, none-some}
+use Rattle.std.proofs.lemmas.Option.{slice_get-map, same_Some}
 use Rattle.pm_types.specs.Orders.{name_cmp, place_cmp}
 use Rattle.pm_types.specs.declared.limits.TheConstants.{FIELDS, ROOTS}
 use Rattle.pm_types.specs.declared.address.Addr.{Addr}
@@ -15,23 +15,18 @@ use Rattle.pm_types.specs.declared.object.Slot.{Slot}
 use Rattle.pm_types.specs.declared.object.Slot.TheVariants.{Live, Moved}
 use Rattle.pm_types.specs.declared.source.RefSource.{RefSource}
 use Rattle.pm_types.specs.declared.source.RefSource.TheVariants.{Root, Handle, Field}
-use Rattle.pm_types.specs.declared.source.Change.{Change}
 use Rattle.pm_cars.specs.Cars.{Car, look_of, object_of}
 use Rattle.pm_cars.specs.declared.look.Look.TheVariants as looks
 use Rattle.pm_trains.specs.Trains.{Trains, train_of}
 use Rattle.pm_trains.specs.Sound as line
-use Rattle.std.proofs.lemmas.Bool.{eqb-true}
 use Rattle.pm_layout.specs.Spelling.{HasSpelling}
 use Rattle.pm_image.specs.declared.car.CarImage.{CarImage}
 use Rattle.pm_image.specs.declared.catalog.CatEntry.{CatEntry}
 use Rattle.pm_image.specs.CarPages.{Ascend}
 use Rattle.pm_image.specs.Graphs.{slot_named, identity_in, identity_through, resolved}
 use Rattle.pm_image.specs.Leading.{FieldLeads, SlotLeads}
-use Rattle.pm_view.specs.Sources.{outside, slot_in}
-use Rattle.pm_view.specs.View.{Sources, SpaceView}
+use Rattle.pm_view.specs.View.{SpaceView}
 use Rattle.pm_view.specs.Reading.{slot_at, object_at, field_of, stored, followed, aside_in, is_aside}
-use Rattle.pm_view.specs.Effective.{effective, effective_in}
-use Rattle.pm_view.specs.Seen.{seen, Leads, IsTied}
 use Rattle.pm_view.specs.Law.{IsObject, IsBuilt, IsAt, IsAnchor, HeapLaw}
 use Rattle.pm_view.specs.Law as law_of
 use Rattle.pm_law_rows.proofs.Numbers.{owner}

@@ -1,10 +1,8 @@
 -- Opening builds its space: what is asked of cars and roots holds of those that it makes, and what is built of them is what it makes.
-use Rattle.std.proofs.Common.{◌≡◌, ◌⊎◌, inl, inr, ℕ, ◌+◌, ◌<◌, ◌≤◌, ◌==◌, ◌&&◌, Bool, true, false, cond, T, refl, ap, sym, subst, ◌∙◌, List, [], ◌∷◌, ◌++◌, map, length, Option, Some, None, is_some, if◌then◌else◌}
+use Rattle.std.proofs.Common.{◌≡◌, inl, inr, ℕ, ◌+◌, ◌<◌, ◌≤◌, ◌==◌, Bool, true, false, cond, refl, ap, sym, subst, ◌∙◌, List, [], ◌∷◌, ◌++◌, Option, Some, None, is_some, if◌then◌else◌}
 use Rattle.std.specs.Option.{IsSome}
-use Rattle.std.specs.List.{flat_map, AllByRecursion, slice_get}
-use Rattle.std.specs.declared.cmp.Ordering.TheVariants.{Less}
-use Rattle.std.specs.FinMap.{FinMap, get, entries, from_entries, from_sorted, get-from_entries, get-from_sorted, entries-from_sorted, same_map}
-use Rattle.std.specs.FinMap.Entries.{find, below_all, is_sorted}
+use Rattle.std.specs.List.{flat_map, AllByRecursion}
+use Rattle.std.specs.FinMap.{FinMap, entries}
 use Rattle.std.proofs.lemmas.List.{length-map}
 use Rattle.pm_base.proofs.Mapped.{entries-mapped}
 use Rattle.pm_types.specs.Orders.{name_cmp}
@@ -19,70 +17,35 @@ use Rattle.pm_cars.specs.Cars.{Car, look_of, object_of}
 use Rattle.pm_cars.specs.declared.look.Look.TheVariants as looks
 use Rattle.pm_image.specs.declared.car.CarImage.{CarImage}
 use Rattle.pm_image.specs.declared.catalog.CatEntry.{CatEntry}
-use Rattle.pm_image.specs.declared.catalog.CatEntry.TheVariants as kinds
 use Rattle.pm_image.specs.Graphs.{resolved}
-use Rattle.pm_view.specs.View.{Cars, SpaceView}
+use Rattle.pm_view.specs.View.{SpaceView}
 use Rattle.pm_view.specs.Reading.{slot_at, object_at}
 use Rattle.pm_view.specs.Law.{HeapLaw}
 use Rattle.pm_copies.specs.Listed.{Listed, images}
 use Rattle.pm_copies.specs.Accepted.{Differ, NamesAscend, roots_in, IsAccepted}
 use Rattle.pm_copies.specs.Accepted as accepted
-use Rattle.pm_copies.specs.Opened.{has_object, opened_car, opened_cars, opened_root, resolved_at, unnumbered, IsOpened}
-use Rattle.pm_copies.specs.Built.{Placed, built_cars, StepFrom, Steps, CarsDiffer, IsFull, IsGiven, MayBuild, IsBuilt, opened_placed, renumbered_on, renumbered, opening_cars, opening_roots}
-use Rattle.pm_law_copies.proofs.Lists.{all_append, all_mapped, all_weaker}
+use Rattle.pm_copies.specs.Opened.{has_object, opened_car, opened_root, resolved_at, IsOpened}
+use Rattle.pm_copies.specs.Built.{Placed, built_cars, StepFrom, Steps, CarsDiffer, IsFull, MayBuild, IsBuilt, opened_placed, renumbered_on, renumbered, opening_cars, opening_roots}
+use Rattle.pm_law_copies.proofs.Lists.{all_append, all_mapped, all_weaker, entries_made}
 use Rattle.pm_law_copies.proofs.CopyOf.{all_roots}
-use Rattle.pm_law_copies.proofs.OpenedCars.{both, car_sound, car_has, car_still}
+use Rattle.pm_law_copies.proofs.OpenedCars.{car_sound, car_has, car_still}
 use Rattle.pm_law_copies.proofs.OpenedLaw.{object_there, stored_here, resolved_live, keeps_law}
 use Rattle.pm_law_copies.proofs.Resolving.{field_stored}
-use Rattle.pm_law_copies.proofs.SomeSpace.{is_less, less_lt, some_space}
+use Rattle.pm_law_copies.proofs.Named.{named, named_sorted}
+use Rattle.pm_law_copies.proofs.SomeSpace.{some_space}
 use Rattle.pm_law_copies.proofs.OpenedBuilt.{same_cars, same_trains}
-
--- ---- roots in order
-
-module _ (cars : List CarImage) where
-  named : List CatEntry → List (List ℕ × Addr)
-  named catalog = map (opened_root cars) (roots_in catalog)
-
-  names_below : (p q : List ℕ) (catalog : List CatEntry) → name_cmp p q ≡ Less → NamesAscend (Some q) catalog → T (below_all name_cmp p (named catalog))
-  unfolding named
-  names_below p q [] less ascend = tt
-  names_below p q (kinds.Car car train page digest ∷ catalog) less ascend = names_below p q catalog less ascend
-  names_below p q (kinds.Root name at ∷ catalog) less ascend =
-      let further = names_total.trans p q name less (is_less (name_cmp q name) ascend.0) in
-      both _ _ (less_lt (name_cmp p name) further) (names_below p name catalog further ascend.1)
-
-  first_below : (q : List ℕ) (catalog : List CatEntry) → NamesAscend (Some q) catalog → T (below_all name_cmp q (named catalog))
-  unfolding named
-  first_below q [] ascend = tt
-  first_below q (kinds.Car car train page digest ∷ catalog) ascend = first_below q catalog ascend
-  first_below q (kinds.Root name at ∷ catalog) ascend =
-      let less = is_less (name_cmp q name) ascend.0 in
-      both _ _ (less_lt (name_cmp q name) less) (names_below q name catalog less ascend.1)
-
-  named_sorted : (before : Option (List ℕ)) (catalog : List CatEntry) → NamesAscend before catalog → T (is_sorted name_cmp (named catalog))
-  unfolding named
-  named_sorted before [] ascend = tt
-  named_sorted before (kinds.Car car train page digest ∷ catalog) ascend = named_sorted before catalog ascend
-  named_sorted before (kinds.Root name at ∷ catalog) ascend = both _ _ (first_below name catalog ascend.1) (named_sorted (Some name) catalog ascend.1)
-
-  named_entries : (catalog : List CatEntry) → NamesAscend None catalog → entries (from_entries {R = name_cmp} (named catalog)) ≡ named catalog
-  named_entries catalog ascend =
-      let sorted = named_sorted None catalog ascend in
-      ap entries (same_map names_total names_antisymmetric (from_entries {R = name_cmp} (named catalog)) (from_sorted {R = name_cmp} (named catalog)) (λ q. get-from_entries names_total (named catalog) q ∙ sym (get-from_sorted name_cmp (named catalog) q sorted)))
-      ∙ entries-from_sorted name_cmp (named catalog) sorted
 
 -- ---- what is built of them is what opening makes
 
 module _ (listed : List Listed) (catalog : List CatEntry) (next_id : ℕ) (ok : IsAccepted listed catalog next_id) where
   pub built_is_opened : (view : SpaceView) → IsBuilt (opening_cars listed) (opening_roots listed catalog) next_id view → IsOpened listed catalog next_id view
-  unfolding named
   built_is_opened view built = record {
     cars = built.cars ∙ same_cars listed;
     trains = built.trains ∙ same_trains listed;
     roots =
         sym (entries-mapped name_cmp (λ (bound : ℕ × Addr). bound.1) view.roots)
         ∙ ap (λ (m : FinMap name_cmp Addr). entries m) built.roots
-        ∙ named_entries (images listed) catalog ok.names;
+        ∙ entries_made names_total names_antisymmetric (named (images listed) catalog) (named_sorted (images listed) None catalog ok.names);
     fresh = built.fresh;
   }
 
