@@ -18,7 +18,7 @@ use Rattle.pm_copies.specs.Listed.{Listed, images}
 
 -- A car: its number is not 0, its slots ascend and none is over the last, it fits a page, and each slot has a spelling,
 -- so that fields and bytes are within the limits, no identity is 0, and each address has a car.
-pub record IsCar (car : CarImage) : Type 0 where
+pub record IsAcceptedCar (car : CarImage) : Type 0 where
   pub from_one : 0 < car.number
   pub ascend : Ascend 0 car.slots
   pub fits : car_used car.slots ≤ PAGE_BYTES
@@ -54,7 +54,7 @@ pub record IsAccepted (listed : List Listed) (catalog : List CatEntry) (next_id 
   pub next : (1 ≤ next_id) × (next_id ≤ 4294967296)
   -- trains never fall, each car is as it must be, and no two have one number
   pub trains : NeverFall 0 listed
-  pub cars : AllByRecursion IsCar (images listed)
+  pub cars : AllByRecursion IsAcceptedCar (images listed)
   pub differ : Differ (images listed)
   -- each identity is below the next one, and no two objects have the same
   pub given : (a : Addr) (object : Object) → slot_named (images listed) a ≡ Some (Live object) → object.id < next_id

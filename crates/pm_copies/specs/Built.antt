@@ -34,7 +34,7 @@ abbrev pub built_trains : List Placed → Trains
 built_trains placed = record { trains = numbered 1 (grouped (map place_of placed)); births = 0 }
 
 -- The space is built of these cars and roots, under this next identity. It is told by them but for the numbers of the roots.
-pub record IsBuilt (placed : List Placed) (named : List (List ℕ × Addr)) (next_id : ℕ) (view : SpaceView) : Type 0 where
+pub record IsBuiltOf (placed : List Placed) (named : List (List ℕ × Addr)) (next_id : ℕ) (view : SpaceView) : Type 0 where
   pub cars : view.cars ≡ built_cars placed
   pub trains : view.trains ≡ built_trains placed
   pub roots : mapped (λ (bound : ℕ × Addr). bound.1) view.roots ≡ from_entries named

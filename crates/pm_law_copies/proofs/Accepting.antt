@@ -30,7 +30,7 @@ use Rattle.pm_view.specs.View.{SpaceView}
 use Rattle.pm_view.specs.Reading.{slot_at, object_at, is_aside}
 use Rattle.pm_view.specs.Law.{HeapLaw}
 use Rattle.pm_copies.specs.Listed.{Listed, images, image_in, listed_car, listed_of, listed, listed_cars, root_entry, root_entries}
-use Rattle.pm_copies.specs.Accepted.{IsCar, Differ, NeverFall, NamesAscend, roots_in, IsAccepted}
+use Rattle.pm_copies.specs.Accepted.{IsAcceptedCar, Differ, NeverFall, NamesAscend, roots_in, IsAccepted}
 use Rattle.pm_law_copies.proofs.Lists.{all_append, all_fields, all_mapped, all_entries, count_append, none_counted}
 use Rattle.pm_roots.proofs.Sorted.{first, second}
 use Rattle.pm_law_copies.proofs.Listing.{images_append}
@@ -228,7 +228,7 @@ module _ (view : SpaceView) (law : HeapLaw view) where
       let live = live_look (slot_at view.cars to) (law.tied.moved a to free (ap look_of is)).1.0 in
       record { within = tt; numbered = car_from_one view law to (Live live.0) live.1 }
 
-  car_accepted : (n : ℕ) (car : Car) → is_aside view n ≡ false → get view.cars n ≡ Some car → IsCar (record { number = n; slots = entries car.slots })
+  car_accepted : (n : ℕ) (car : Car) → is_aside view n ≡ false → get view.cars n ≡ Some car → IsAcceptedCar (record { number = n; slots = entries car.slots })
   car_accepted n car free is =
       let known = law.built.cars n car is in
       record {
@@ -260,7 +260,7 @@ module _ (view : SpaceView) (law : HeapLaw view) where
   accepted = record {
     next = law.built.next;
     trains = trains_fall view 0 view.trains.trains law.built.trains.rising 0 (omega arith);
-    cars = all_listed view IsCar car_accepted;
+    cars = all_listed view IsAcceptedCar car_accepted;
     differ = differ_once (listed_cars view) (λ n. let few = trains_once view n view.trains.trains in let once = law.built.trains.single n in omega (arith, few, once));
     given = λ a object is. (law.built.objects a object (object_stands view law a object is).1).given;
     apart = λ a b o p at_a at_b same. law.built.apart a b o p (object_stands view law a o at_a).1 (object_stands view law b p at_b).1 same;

@@ -27,7 +27,7 @@ use Rattle.pm_view.specs.View.{SpaceView}
 use Rattle.pm_view.specs.Reading.{slot_at, object_at, field_of, stored}
 use Rattle.pm_view.specs.Law.{IsCar, HeapLaw}
 use Rattle.pm_law_rows.proofs.Numbers.{owner}
-use Rattle.pm_copies.specs.Built.{Placed, built_cars, place_of, CarsDiffer, IsFull, MayBuild, IsBuilt}
+use Rattle.pm_copies.specs.Built.{Placed, built_cars, place_of, CarsDiffer, IsFull, MayBuild, IsBuiltOf}
 use Rattle.pm_law_copies.proofs.Fresh.{IsMade, fresh_law}
 use Rattle.pm_law_copies.proofs.OpenedLaw.{all_found, flat_from}
 use Rattle.pm_law_copies.proofs.OpenedTrains.{cars_in, among_keys, in_trains, line_sound}
@@ -96,7 +96,7 @@ few_entries (e ∷ es) = subst (λ n. n ≤ suc (length es)) (sym (len-insert na
 
 -- ---- the law
 
-module _ (placed : List Placed) (named : List (List ℕ × Addr)) (next_id : ℕ) (view : SpaceView) (may : MayBuild placed named next_id) (built : IsBuilt placed named next_id view) where
+module _ (placed : List Placed) (named : List (List ℕ × Addr)) (next_id : ℕ) (view : SpaceView) (may : MayBuild placed named next_id) (built : IsBuiltOf placed named next_id view) where
   car_there : (n : ℕ) (car : Car) → get view.cars n ≡ Some car → (car.number ≡ n) × IsFull car
   car_there n car is = car_from IsFull placed n car may.cars (sym (get-from_entries nat_cmp_total (rows placed) n) ∙ ap (λ cars. get cars n) (sym built.cars) ∙ is)
 

@@ -26,7 +26,7 @@ use Rattle.pm_view.specs.Counts.{IsStanding}
 use Rattle.pm_view.specs.Law.{HeapLaw}
 use Rattle.pm_view.specs.Represents.{names, meaning, IsForgotten, Represents}
 use Rattle.pm_copies.specs.Listed.{listed_cars, root_entry, root_entries, copy_in}
-use Rattle.pm_copies.specs.Accepted.{IsCar, root_in, roots_in}
+use Rattle.pm_copies.specs.Accepted.{IsAcceptedCar, root_in, roots_in}
 use Rattle.pm_copies.specs.Opened.{unnumbered}
 use Rattle.pm_law_copies.proofs.Lists.{or_else, all_fields, all_weaker, map_same}
 use Rattle.pm_law_copies.proofs.Resolving.{resolved_is, field_leads, root_leads, object_listed}
@@ -111,7 +111,7 @@ module _ (view : SpaceView) (law : HeapLaw view) where
       λ i. record { fields = fields i; bytes = object.bytes }
 
   ascend : AllByRecursion (λ (car : CarImage). Ascend 0 car.slots) (listed_cars view)
-  ascend = all_weaker IsCar (λ (car : CarImage). Ascend 0 car.slots) (listed_cars view) (λ car is. is.ascend) (accepted view law).cars
+  ascend = all_weaker IsAcceptedCar (λ (car : CarImage). Ascend 0 car.slots) (listed_cars view) (λ car is. is.ascend) (accepted view law).cars
 
   -- the heap of a copy has an object that stands, as it is meant
   pub heap_has : (a : Addr) (object : kept.Object) → is_aside view a.car ≡ false → object_at view.cars a ≡ Some object → get (heap_of (listed_cars view)) object.id ≡ Some (meaning view object)

@@ -97,7 +97,7 @@ flat_from (Some o) a is = ap Some is
 
 module _ (listed : List Listed) (catalog : List CatEntry) (next_id : ℕ) (view : SpaceView) (ok : IsAccepted listed catalog next_id) (opened : IsOpened listed catalog next_id view) where
   pub ascend : AllByRecursion (λ (car : CarImage). Ascend 0 car.slots) (images listed)
-  ascend = all_weaker accepted.IsCar (λ (car : CarImage). Ascend 0 car.slots) (images listed) (λ car is. is.ascend) ok.cars
+  ascend = all_weaker accepted.IsAcceptedCar (λ (car : CarImage). Ascend 0 car.slots) (images listed) (λ car is. is.ascend) ok.cars
 
   pub slot_there : (a : Addr) → slot_at view.cars a ≡ live_of (images listed) (slot_named (images listed) a)
   slot_there a = ap (λ cars. slot_at cars a) opened.cars ∙ slot_at_opened (images listed) ok.differ ascend a
@@ -116,7 +116,7 @@ module _ (listed : List Listed) (catalog : List CatEntry) (next_id : ℕ) (view 
   none_aside car = ap (λ phase. aside_in phase view.trains.trains car) opened.fresh.phase
 
   spelled : (a : Addr) (was : Object) → slot_named (images listed) a ≡ Some (Live was) → HasSpelling FIELDS (Live was)
-  spelled a was is = all_named (λ (e : ℕ × Slot). HasSpelling FIELDS e.1) (images listed) a (Live was) (all_weaker accepted.IsCar (λ (car : CarImage). AllByRecursion (λ (e : ℕ × Slot). HasSpelling FIELDS e.1) car.slots) (images listed) (λ car is. is.slots) ok.cars) is
+  spelled a was is = all_named (λ (e : ℕ × Slot). HasSpelling FIELDS e.1) (images listed) a (Live was) (all_weaker accepted.IsAcceptedCar (λ (car : CarImage). AllByRecursion (λ (e : ℕ × Slot). HasSpelling FIELDS e.1) car.slots) (images listed) (λ car is. is.slots) ok.cars) is
 
   led : (a : Addr) (was : Object) → slot_named (images listed) a ≡ Some (Live was) → SlotLeads (images listed) (Live was)
   led a was is = all_named (λ (e : ℕ × Slot). SlotLeads (images listed) e.1) (images listed) a (Live was) ok.lead is
@@ -166,7 +166,7 @@ module _ (listed : List Listed) (catalog : List CatEntry) (next_id : ℕ) (view 
   car_is n car is =
       let from = from_listed (images listed) ok.differ ascend n car (ap (λ cars. get cars n) (sym opened.cars) ∙ is) in
       let image : CarImage = record { number = n; slots = from.0 } in
-      let known = all_in_cars accepted.IsCar (images listed) n from.0 ok.cars from.1 in
+      let known = all_in_cars accepted.IsAcceptedCar (images listed) n from.0 ok.cars from.1 in
       subst (law_of.IsCar view n) (sym from.3) (record {
         numbered = refl;
         from_one = known.from_one;

@@ -25,7 +25,7 @@ use Rattle.pm_copies.specs.Listed.{Listed, images}
 use Rattle.pm_copies.specs.Accepted.{Differ, NamesAscend, roots_in, IsAccepted}
 use Rattle.pm_copies.specs.Accepted as accepted
 use Rattle.pm_copies.specs.Opened.{has_object, opened_car, opened_root, resolved_at, IsOpened}
-use Rattle.pm_copies.specs.Built.{Placed, built_cars, StepFrom, Steps, CarsDiffer, IsFull, MayBuild, IsBuilt, opened_placed, renumbered_on, renumbered, opening_cars, opening_roots}
+use Rattle.pm_copies.specs.Built.{Placed, built_cars, StepFrom, Steps, CarsDiffer, IsFull, MayBuild, IsBuiltOf, opened_placed, renumbered_on, renumbered, opening_cars, opening_roots}
 use Rattle.pm_law_copies.proofs.Lists.{all_append, all_mapped, all_weaker, entries_made}
 use Rattle.pm_law_copies.proofs.CopyOf.{all_roots}
 use Rattle.pm_law_copies.proofs.OpenedCars.{car_sound, car_has, car_still}
@@ -38,7 +38,7 @@ use Rattle.pm_law_copies.proofs.OpenedBuilt.{same_cars, same_trains}
 -- ---- what is built of them is what opening makes
 
 module _ (listed : List Listed) (catalog : List CatEntry) (next_id : ℕ) (ok : IsAccepted listed catalog next_id) where
-  pub built_is_opened : (view : SpaceView) → IsBuilt (opening_cars listed) (opening_roots listed catalog) next_id view → IsOpened listed catalog next_id view
+  pub built_is_opened : (view : SpaceView) → IsBuiltOf (opening_cars listed) (opening_roots listed catalog) next_id view → IsOpened listed catalog next_id view
   built_is_opened view built = record {
     cars = built.cars ∙ same_cars listed;
     trains = built.trains ∙ same_trains listed;
@@ -51,7 +51,7 @@ module _ (listed : List Listed) (catalog : List CatEntry) (next_id : ℕ) (ok : 
 
 -- ---- and they may be built of
 
-full_cars : (all : List CarImage) (listed : List Listed) → AllByRecursion accepted.IsCar (images listed) → AllByRecursion (λ (one : Placed). IsFull one.1) (flat_map (opened_placed all) listed)
+full_cars : (all : List CarImage) (listed : List Listed) → AllByRecursion accepted.IsAcceptedCar (images listed) → AllByRecursion (λ (one : Placed). IsFull one.1) (flat_map (opened_placed all) listed)
 full_cars all [] are = tt
 full_cars all (one ∷ listed) are = all_append (λ (one : Placed). IsFull one.1) (opened_placed all one) (flat_map (opened_placed all) listed) (first (has_object one.1.slots) refl) (full_cars all listed are.1)
   where

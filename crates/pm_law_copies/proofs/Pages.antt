@@ -106,7 +106,7 @@ AreApart cars = (a b : Addr) (o p : Object) → slot_named cars a ≡ Some (Live
 first_named : (car : CarImage) (cars : List CarImage) (n : ℕ) (slot : Slot) → slot_in car.slots n ≡ Some slot → slot_named (car ∷ cars) (record { car = car.number; slot = n }) ≡ Some slot
 first_named car cars n slot is = ap (λ b. cond b (slot_in car.slots n) (slot_named cars (record { car = car.number; slot = n }))) (eq-eqb car.number car.number refl) ∙ is
 
-first_page : (scope : CarScope) (met : Numbers) (car : CarImage) (cars : List CarImage) → scope.most ≡ FIELDS → accepted.IsCar car → AreNew scope.next met (car ∷ cars) → AreApart (car ∷ cars) → HasCarPage scope met car
+first_page : (scope : CarScope) (met : Numbers) (car : CarImage) (cars : List CarImage) → scope.most ≡ FIELDS → accepted.IsAcceptedCar car → AreNew scope.next met (car ∷ cars) → AreApart (car ∷ cars) → HasCarPage scope met car
 first_page scope met car cars most is each apart = record {
   fits = is.fits;
   ascend = is.ascend;
@@ -128,7 +128,7 @@ elsewhere car cars a slot differ is same =
 apart_behind : (car : CarImage) (cars : List CarImage) → Differ (car ∷ cars) → AreApart (car ∷ cars) → AreApart cars
 apart_behind car cars differ apart a b o p at_a at_b same = apart a b o p (named_behind car cars a (Live o) differ at_a) (named_behind car cars b (Live p) differ at_b) same
 
-new_behind : (next : ℕ) (met : Numbers) (car : CarImage) (cars : List CarImage) → Differ (car ∷ cars) → accepted.IsCar car → AreNew next met (car ∷ cars) → AreApart (car ∷ cars) → AreNew next (with_identities met car.slots) cars
+new_behind : (next : ℕ) (met : Numbers) (car : CarImage) (cars : List CarImage) → Differ (car ∷ cars) → accepted.IsAcceptedCar car → AreNew next met (car ∷ cars) → AreApart (car ∷ cars) → AreNew next (with_identities met car.slots) cars
 new_behind next met car cars differ is each apart a o there =
     let behind = named_behind car cars a (Live o) differ there in
     let known = each a o behind in
@@ -141,14 +141,14 @@ new_behind next met car cars differ is each apart a o there =
     by true now none behind = absurd (⊎_elim (λ before. true≢false (sym before ∙ none)) (λ (has : HasId car.slots o.id). held has behind) (met_in met 0 car.slots o.id is.ascend now))
     by false now none behind = refl
 
-pages_read : (next : ℕ) (met : Numbers) (cars : List CarImage) → AllByRecursion accepted.IsCar cars → Differ cars → AreNew next met cars → AreApart cars → HavePages FIELDS next met cars
+pages_read : (next : ℕ) (met : Numbers) (cars : List CarImage) → AllByRecursion accepted.IsAcceptedCar cars → Differ cars → AreNew next met cars → AreApart cars → HavePages FIELDS next met cars
 pages_read next met [] are differ each apart = tt
 pages_read next met (car ∷ cars) are differ each apart = (
   first_page (record { most = FIELDS; next = next; number = Some car.number }) met car cars refl are.0 each apart,
   pages_read next (with_identities met car.slots) cars are.1 differ.1 (new_behind next met car cars differ are.0 each apart) (apart_behind car cars differ apart),
 )
 
-pages_written : (cars : List CarImage) → AllByRecursion accepted.IsCar cars → Differ cars → AreNew 4294967296 set.empty cars → AreApart cars → AllByRecursion (HasCarPage (one_car FIELDS) set.empty) cars
+pages_written : (cars : List CarImage) → AllByRecursion accepted.IsAcceptedCar cars → Differ cars → AreNew 4294967296 set.empty cars → AreApart cars → AllByRecursion (HasCarPage (one_car FIELDS) set.empty) cars
 pages_written [] are differ each apart = tt
 pages_written (car ∷ cars) are differ each apart = (
   first_page (one_car FIELDS) set.empty car cars refl are.0 each apart,
@@ -159,7 +159,7 @@ pages_written (car ∷ cars) are differ each apart = (
 
 module _ (listed : List Listed) (catalog : List CatEntry) (next_id : ℕ) (ok : IsAccepted listed catalog next_id) where
   over : (a : Addr) (o : Object) → slot_named (images listed) a ≡ Some (Live o) → 0 < o.id
-  over a o there = (all_named (λ (e : ℕ × Slot). HasSpelling FIELDS e.1) (images listed) a (Live o) (all_weaker accepted.IsCar (λ (car : CarImage). AllByRecursion (λ (e : ℕ × Slot). HasSpelling FIELDS e.1) car.slots) (images listed) (λ car is. is.slots) ok.cars) there).numbered.0
+  over a o there = (all_named (λ (e : ℕ × Slot). HasSpelling FIELDS e.1) (images listed) a (Live o) (all_weaker accepted.IsAcceptedCar (λ (car : CarImage). AllByRecursion (λ (e : ℕ × Slot). HasSpelling FIELDS e.1) car.slots) (images listed) (λ car is. is.slots) ok.cars) there).numbered.0
 
   pub have_pages : HavePages FIELDS next_id set.empty (images listed)
   have_pages = pages_read next_id set.empty (images listed) ok.cars ok.differ (λ a o there. (over a o there, ok.given a o there, set.contains-empty nat_cmp o.id)) ok.apart
