@@ -10,15 +10,15 @@ use Rattle.pm_layout.specs.Spelling.{HasSpelling}
 use Rattle.pm_image.specs.declared.car.CarImage.{CarImage}
 use Rattle.pm_image.specs.declared.catalog.CatEntry.{CatEntry}
 use Rattle.pm_image.specs.declared.catalog.CatEntry.TheVariants.{Car, Root}
-use Rattle.pm_image.specs.CarPages.{Ascend, car_used}
+use Rattle.pm_image.specs.CarPages.{Numbers, Ascend, car_used, HasCarPage}
 use Rattle.pm_image.specs.CatalogPages.{is_next_name}
-use Rattle.pm_image.specs.Graphs.{slot_named}
+use Rattle.pm_image.specs.Graphs.{slot_named, with_identities}
 use Rattle.pm_image.specs.Leading.{CarLeads, RootLeads}
 use Rattle.pm_copies.specs.Listed.{Listed, images}
 
 -- A car: its number is not 0, its slots ascend and none is over the last, it fits a page, and each slot has a spelling,
 -- so that fields and bytes are within the limits, no identity is 0, and each address has a car.
-pub record IsCar (car : CarImage) : Type 0 where
+pub record IsAcceptedCar (car : CarImage) : Type 0 where
   pub from_one : 0 < car.number
   pub ascend : Ascend 0 car.slots
   pub fits : car_used car.slots ≤ PAGE_BYTES
@@ -54,7 +54,7 @@ pub record IsAccepted (listed : List Listed) (catalog : List CatEntry) (next_id 
   pub next : (1 ≤ next_id) × (next_id ≤ 4294967296)
   -- trains never fall, each car is as it must be, and no two have one number
   pub trains : NeverFall 0 listed
-  pub cars : AllByRecursion IsCar (images listed)
+  pub cars : AllByRecursion IsAcceptedCar (images listed)
   pub differ : Differ (images listed)
   -- each identity is below the next one, and no two objects have the same
   pub given : (a : Addr) (object : Object) → slot_named (images listed) a ≡ Some (Live object) → object.id < next_id
@@ -65,3 +65,9 @@ pub record IsAccepted (listed : List Listed) (catalog : List CatEntry) (next_id 
   -- names ascend, and are not too many
   pub names : NamesAscend None catalog
   pub few : length (roots_in catalog) ≤ ROOTS
+
+-- Each car has a page, of objects of at most so many fields and under this next identity, where these identities were
+-- met before the first car, and those of a car before the next one.
+abbrev pub HavePages : ℕ → ℕ → Numbers → List CarImage → Type 0
+HavePages most next_id met [] = Unit {0}
+HavePages most next_id met (car ∷ cars) = HasCarPage (record { most = most; next = next_id; number = Some car.number }) met car × HavePages most next_id (with_identities met car.slots) cars

@@ -1,3 +1,4 @@
 pub mod Listed
 pub mod Accepted
 pub mod Opened
+pub mod Built

@@ -95,13 +95,9 @@ opened_root images root = (root.0, resolved_at images root.1)
 abbrev pub unnumbered : List ℕ × (ℕ × Addr) → List ℕ × Addr
 unnumbered e = (e.0, e.1.1)
 
--- The space is what opening makes of these cars and roots, under this next identity. It is told by them but for the
--- numbers of the roots, which may be any that differ.
-pub record IsOpened (listed : List Listed) (catalog : List CatEntry) (next_id : ℕ) (view : SpaceView) : Type 0 where
-  -- addresses are resolved, what had moved is Gone, and cars without an object are gone; the numbers of cars and slots stay
-  pub cars : view.cars ≡ opened_cars (images listed)
-  pub trains : view.trains ≡ opened_trains listed
-  pub roots : map unnumbered (entries view.roots) ≡ map (opened_root (images listed)) (roots_in catalog)
+-- Nothing has happened in the space since it was made of its cars and roots, under this next identity. The numbers of the
+-- roots may be any that differ.
+pub record IsFresh (next_id : ℕ) (view : SpaceView) : Type 0 where
   pub numbers : AllNumbersDiffer view.roots
   -- each car has a remembered set, of just the sources outside it that name a slot of it, and a queue without a change
   pub sets : (car : ℕ) → is_some (get view.sets car) ≡ is_some (get view.cars car)
@@ -113,6 +109,16 @@ pub record IsOpened (listed : List Listed) (catalog : List CatEntry) (next_id : 
   pub phase : view.phase ≡ Idle
   pub next : view.next ≡ next_id
   pub completed : view.completed ≡ 0
+
+-- The space is what opening makes of these cars and roots, under this next identity. It is told by them but for the
+-- numbers of the roots.
+pub record IsOpened (listed : List Listed) (catalog : List CatEntry) (next_id : ℕ) (view : SpaceView) : Type 0 where
+  -- addresses are resolved, what had moved is Gone, and cars without an object are gone; the numbers of cars and slots stay
+  pub cars : view.cars ≡ opened_cars (images listed)
+  pub trains : view.trains ≡ opened_trains listed
+  -- the names with their addresses, ascending
+  pub roots : map unnumbered (entries view.roots) ≡ map (opened_root (images listed)) (roots_in catalog)
+  pub fresh : IsFresh next_id view
 
 -- ---- what a catalog lists
 

@@ -30,8 +30,9 @@ use Rattle.pm_view.specs.View.{SpaceView}
 use Rattle.pm_view.specs.Reading.{slot_at, object_at, is_aside}
 use Rattle.pm_view.specs.Law.{HeapLaw}
 use Rattle.pm_copies.specs.Listed.{Listed, images, image_in, listed_car, listed_of, listed, listed_cars, root_entry, root_entries}
-use Rattle.pm_copies.specs.Accepted.{IsCar, Differ, NeverFall, NamesAscend, roots_in, IsAccepted}
-use Rattle.pm_law_copies.proofs.Lists.{all_append, all_fields, all_entries, count_append, none_counted, first_of_two, second_of_two}
+use Rattle.pm_copies.specs.Accepted.{IsAcceptedCar, Differ, NeverFall, NamesAscend, roots_in, IsAccepted}
+use Rattle.pm_law_copies.proofs.Lists.{all_append, all_fields, all_mapped, all_entries, count_append, none_counted}
+use Rattle.pm_roots.proofs.Sorted.{first, second}
 use Rattle.pm_law_copies.proofs.Listing.{images_append}
 use Rattle.pm_law_copies.proofs.Resolving.{live_look, car_from_one, resolved_some, field_leads, root_leads, leads_from_one, object_stands, object_listed}
 
@@ -51,11 +52,11 @@ IsFrom least e = (least ≤ e.0) × (e.0 ≤ 65535)
 
 above : (n : ℕ) (es : List (ℕ × Slot)) → T (below_all nat_cmp n es) → (least : ℕ) → AllByRecursion (IsFrom least) es → AllByRecursion (IsFrom (n + 1)) es
 above n [] less least all = tt
-above n (e ∷ es) less least all = let first = below n e.0 (first_of_two _ _ less) in ((omega (arith, first), all.0.1), above n es (second_of_two _ _ less) least all.1)
+above n (e ∷ es) less least all = let first = below n e.0 (first _ _ less) in ((omega (arith, first), all.0.1), above n es (second _ _ less) least all.1)
 
 ascending : (least : ℕ) (es : List (ℕ × Slot)) → T (is_sorted nat_cmp es) → AllByRecursion (IsFrom least) es → Ascend least es
 ascending least [] sorted all = tt
-ascending least (e ∷ es) sorted all = (all.0.0, all.0.1, ascending (e.0 + 1) es (second_of_two _ _ sorted) (above e.0 es (first_of_two _ _ sorted) least all.1))
+ascending least (e ∷ es) sorted all = (all.0.0, all.0.1, ascending (e.0 + 1) es (second _ _ sorted) (above e.0 es (first _ _ sorted) least all.1))
 
 -- ---- room
 
@@ -179,7 +180,7 @@ differ_once (car ∷ cars) once = (
 
 names_ascend : (e : List ℕ × (ℕ × Addr)) (es : List (List ℕ × (ℕ × Addr))) → T (is_sorted name_cmp (e ∷ es)) → NamesAscend (Some e.0) (map root_entry es)
 names_ascend e [] sorted = tt
-names_ascend e (f ∷ es) sorted = (is_true (is_lt (name_cmp e.0 f.0)) (first_of_two _ _ (first_of_two _ _ sorted)), names_ascend f es (second_of_two _ _ sorted))
+names_ascend e (f ∷ es) sorted = (is_true (is_lt (name_cmp e.0 f.0)) (first _ _ (first _ _ sorted)), names_ascend f es (second _ _ sorted))
   where
     is_true : (b : Bool) → T b → b ≡ true
     is_true true holds = refl
@@ -194,10 +195,6 @@ as_many [] = refl
 as_many (e ∷ es) = ap suc (as_many es)
 
 -- ---- what is listed is accepted
-
-all_mapped : {X Y : Type 0} (P : Y → Type 0) (f : X → Y) (xs : List X) → AllByRecursion (λ x. P (f x)) xs → AllByRecursion P (map f xs)
-all_mapped P f [] all = tt
-all_mapped P f (x ∷ xs) all = (all.0, all_mapped P f xs all.1)
 
 module _ (view : SpaceView) (law : HeapLaw view) where
   -- what stands in a slot of a car is read at its address
@@ -231,7 +228,7 @@ module _ (view : SpaceView) (law : HeapLaw view) where
       let live = live_look (slot_at view.cars to) (law.tied.moved a to free (ap look_of is)).1.0 in
       record { within = tt; numbered = car_from_one view law to (Live live.0) live.1 }
 
-  car_accepted : (n : ℕ) (car : Car) → is_aside view n ≡ false → get view.cars n ≡ Some car → IsCar (record { number = n; slots = entries car.slots })
+  car_accepted : (n : ℕ) (car : Car) → is_aside view n ≡ false → get view.cars n ≡ Some car → IsAcceptedCar (record { number = n; slots = entries car.slots })
   car_accepted n car free is =
       let known = law.built.cars n car is in
       record {
@@ -263,7 +260,7 @@ module _ (view : SpaceView) (law : HeapLaw view) where
   accepted = record {
     next = law.built.next;
     trains = trains_fall view 0 view.trains.trains law.built.trains.rising 0 (omega arith);
-    cars = all_listed view IsCar car_accepted;
+    cars = all_listed view IsAcceptedCar car_accepted;
     differ = differ_once (listed_cars view) (λ n. let few = trains_once view n view.trains.trains in let once = law.built.trains.single n in omega (arith, few, once));
     given = λ a object is. (law.built.objects a object (object_stands view law a object is).1).given;
     apart = λ a b o p at_a at_b same. law.built.apart a b o p (object_stands view law a o at_a).1 (object_stands view law b p at_b).1 same;

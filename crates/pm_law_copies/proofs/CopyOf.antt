@@ -26,22 +26,14 @@ use Rattle.pm_view.specs.Counts.{IsStanding}
 use Rattle.pm_view.specs.Law.{HeapLaw}
 use Rattle.pm_view.specs.Represents.{names, meaning, IsForgotten, Represents}
 use Rattle.pm_copies.specs.Listed.{listed_cars, root_entry, root_entries, copy_in}
-use Rattle.pm_copies.specs.Accepted.{IsCar, root_in, roots_in}
+use Rattle.pm_copies.specs.Accepted.{IsAcceptedCar, root_in, roots_in}
 use Rattle.pm_copies.specs.Opened.{unnumbered}
-use Rattle.pm_law_copies.proofs.Lists.{or_else, all_fields}
+use Rattle.pm_law_copies.proofs.Lists.{or_else, all_fields, all_weaker, map_same}
 use Rattle.pm_law_copies.proofs.Resolving.{resolved_is, field_leads, root_leads, object_listed}
 use Rattle.pm_law_copies.proofs.Accepting.{accepted}
 use Rattle.pm_law_copies.proofs.Objects.{told, find_in_two}
 use Rattle.pm_law_copies.proofs.Objects as heaps
 use Rattle.pm_law_copies.proofs.Alike.{copied_alike, named_last}
-
-pub map_same : {X Y : Type 0} (f g : X → Y) (xs : List X) → AllByRecursion (λ x. f x ≡ g x) xs → map f xs ≡ map g xs
-map_same f g [] all = refl
-map_same f g (x ∷ xs) all = λ i. all.0 i ∷ map_same f g xs all.1 i
-
-pub all_weaker : {X : Type 0} (P Q : X → Type 0) (xs : List X) → ((x : X) → P x → Q x) → AllByRecursion P xs → AllByRecursion Q xs
-all_weaker P Q [] weaker all = tt
-all_weaker P Q (x ∷ xs) weaker all = (weaker x all.0, all_weaker P Q xs weaker all.1)
 
 -- ---- roots
 
@@ -119,7 +111,7 @@ module _ (view : SpaceView) (law : HeapLaw view) where
       λ i. record { fields = fields i; bytes = object.bytes }
 
   ascend : AllByRecursion (λ (car : CarImage). Ascend 0 car.slots) (listed_cars view)
-  ascend = all_weaker IsCar (λ (car : CarImage). Ascend 0 car.slots) (listed_cars view) (λ car is. is.ascend) (accepted view law).cars
+  ascend = all_weaker IsAcceptedCar (λ (car : CarImage). Ascend 0 car.slots) (listed_cars view) (λ car is. is.ascend) (accepted view law).cars
 
   -- the heap of a copy has an object that stands, as it is meant
   pub heap_has : (a : Addr) (object : kept.Object) → is_aside view a.car ≡ false → object_at view.cars a ≡ Some object → get (heap_of (listed_cars view)) object.id ≡ Some (meaning view object)

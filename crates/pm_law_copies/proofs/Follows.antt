@@ -1,5 +1,5 @@
 -- The entries of a catalog that was read: numbers of cars differ, trains never fall, names ascend.
-use Rattle.std.proofs.Common.{◌≡◌, ℕ, zero, suc, ◌+◌, ◌<◌, ◌≤◌, ◌==◌, ◌&&◌, ◌||◌, Bool, true, false, not, nat_lt, nat_le, refl, ap, subst, List, [], ◌∷◌, ◌++◌, length, Option, Some, None, Result, Ok, Err, arith, if◌then◌else◌}
+use Rattle.std.proofs.Common.{◌≡◌, ℕ, zero, suc, ◌+◌, ◌<◌, ◌≤◌, ◌==◌, ◌&&◌, ◌||◌, true, false, not, nat_lt, nat_le, refl, ap, subst, List, [], ◌∷◌, ◌++◌, length, Option, Some, None, Result, Ok, Err, arith, if◌then◌else◌}
 use Rattle.std.specs.FinSet as set
 use Rattle.std.proofs.lemmas.Bool.{ltb-true}
 use Rattle.pm_types.specs.declared.limits.TheConstants.{PAGE_BYTES, ROOTS}
@@ -15,6 +15,7 @@ use Rattle.pm_image.specs.Opening.{is_placed}
 use Rattle.pm_image.specs.Graphs.{Pages, Catalog, on_page, undamaged, catalog_from, most_pages, catalog_of, entries_of}
 use Rattle.pm_image.proofs.CatalogTakes.{catalog_takes}
 use Rattle.pm_copies.specs.Accepted.{NamesAscend, roots_in}
+use Rattle.pm_law_copies.proofs.Lists.{both_true}
 
 -- each entry may come after those before it, whatever pages were met
 pub record CarFollows (count : ℕ) (cars : Numbers) (train : ℕ) (car now page : ℕ) : Type 0 where
@@ -30,10 +31,6 @@ Follows count cars train name roots (Root found at ∷ entries) = (is_next_name 
 
 abbrev FollowsMet : ℕ → Met → List CatEntry → Type 0
 FollowsMet count met entries = Follows count met.cars met.train met.name met.roots entries
-
-both_true : (a b : Bool) → (a && b) ≡ true → (a ≡ true) × (b ≡ true)
-both_true true b is = (refl, is)
-both_true false b is = cc
 
 free_below : (count : ℕ) (met : Numbers) (page : ℕ) → is_free_page (Some count) met page ≡ true → page < count
 free_below count met page free =

@@ -28,7 +28,7 @@ use Rattle.pm_copies.specs.Listed.{copy_listed}
 use Rattle.pm_copies.specs.Accepted.{Differ, NeverFall, IsAccepted}
 use Rattle.pm_copies.specs.Accepted as accepted
 use Rattle.pm_copies.specs.Opened.{listed_in, listed_graph}
-use Rattle.pm_law_copies.proofs.CopyOf.{all_weaker}
+use Rattle.pm_law_copies.proofs.Lists.{all_weaker}
 use Rattle.pm_law_copies.proofs.Found.{graph_made, graph_listed}
 use Rattle.pm_law_copies.proofs.Identities.{AllFree, not_old, free_named, apart_named}
 use Rattle.pm_law_copies.proofs.Follows.{Follows, AreWhole, on_page_read, entries_follow, names_follow, roots_few}
@@ -44,7 +44,7 @@ few_fields version = elim (version == OLD_VERSION) as (λ b. (if b then OLD_FIEL
 -- what is known of cars that were read after these identities, these numbers and this train
 pub record CarsRead (next : ℕ) (met numbers : Numbers) (train : ℕ) (entries : List CatEntry) (read : List KeptPage) : Type 0 where
   pub fall : NeverFall train (listed_in entries (images_of read))
-  pub cars : AllByRecursion accepted.IsCar (images_of read)
+  pub cars : AllByRecursion accepted.IsAcceptedCar (images_of read)
   pub fresh : AllByRecursion (λ (car : CarImage). set.contains numbers car.number ≡ false) (images_of read)
   pub differ : Differ (images_of read)
   pub free : AllFree next met (images_of read)
@@ -102,7 +102,7 @@ graph_accepted pages header graph whole placed next is =
     record {
       next = next;
       trains = read.fall;
-      cars = subst (AllByRecursion accepted.IsCar) same read.cars;
+      cars = subst (AllByRecursion accepted.IsAcceptedCar) same read.cars;
       differ = subst Differ same read.differ;
       given = subst (λ (cars : List CarImage). (a : Addr) (object : Object) → slot_named cars a ≡ Some (Live object) → object.id < header.next) same (λ a object there. (free_named header.next set.empty (images_of graph.cars) a object read.free there).0);
       apart = subst (λ (cars : List CarImage). (a b : Addr) (o p : Object) → slot_named cars a ≡ Some (Live o) → slot_named cars b ≡ Some (Live p) → o.id ≡ p.id → a ≡ b) same (λ a b o p at_a at_b ids. apart_named header.next set.empty (images_of graph.cars) a b o p read.free at_a at_b ids);

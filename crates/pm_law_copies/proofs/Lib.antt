@@ -8,10 +8,12 @@ pub mod Alike
 pub mod CopyOf
 pub mod OpenedCars
 pub mod OpenedTrains
+pub mod Fresh
 pub mod OpenedLaw
 pub mod OpenedStands
 pub mod OneSpace
 pub mod Sources
+pub mod Named
 pub mod SomeSpace
 pub mod Order
 pub mod Found
@@ -19,3 +21,7 @@ pub mod Identities
 pub mod Follows
 pub mod FoundCars
 pub mod FoundStore
+pub mod Pages
+pub mod BuiltLaw
+pub mod OpenedBuilt
+pub mod OpeningBuilds

@@ -20,11 +20,11 @@ module _ (listed : List Listed) (catalog : List CatEntry) (next_id : ℕ) (view 
 
   same_stored : (x : RefSource) → stored view x ≡ stored other x
   same_stored (Root number) = ap (λ roots. address_at roots number) roots
-  same_stored (Handle client register) = ap (λ registers. get registers (client, register)) (one.registers ∙ sym two.registers)
+  same_stored (Handle client register) = ap (λ registers. get registers (client, register)) (one.fresh.registers ∙ sym two.fresh.registers)
   same_stored (Field a i) = ap (λ cars. field_of (object_at cars a) i) same_cars
 
   same_set : (car : ℕ) (s t : Sources) → get view.sets car ≡ Some s → get other.sets car ≡ Some t → s ≡ t
-  same_set car s t is is_too = same_map sources_total sources_antisymmetric s t (λ x. one.remembered car s x is ∙ ap (λ o. cond (outside car x) (slot_in car o) None) (same_stored x) ∙ sym (two.remembered car t x is_too))
+  same_set car s t is is_too = same_map sources_total sources_antisymmetric s t (λ x. one.fresh.remembered car s x is ∙ ap (λ o. cond (outside car x) (slot_in car o) None) (same_stored x) ∙ sym (two.fresh.remembered car t x is_too))
 
   both_sets : (car : ℕ) (s t : Option Sources) → get view.sets car ≡ s → get other.sets car ≡ t → is_some s ≡ is_some t → s ≡ t
   both_sets car None None is is_too same = refl
@@ -33,10 +33,10 @@ module _ (listed : List Listed) (catalog : List CatEntry) (next_id : ℕ) (view 
   both_sets car (Some s) (Some t) is is_too same = ap Some (same_set car s t is is_too)
 
   same_sets : view.sets ≡ other.sets
-  same_sets = same_map nat_cmp_total nat_cmp-IsAntisymmetric view.sets other.sets (λ car. both_sets car (get view.sets car) (get other.sets car) refl refl (one.sets car ∙ ap (λ cars. is_some (get cars car)) same_cars ∙ sym (two.sets car)))
+  same_sets = same_map nat_cmp_total nat_cmp-IsAntisymmetric view.sets other.sets (λ car. both_sets car (get view.sets car) (get other.sets car) refl refl (one.fresh.sets car ∙ ap (λ cars. is_some (get cars car)) same_cars ∙ sym (two.fresh.sets car)))
 
   same_queues : view.queues ≡ other.queues
-  same_queues = same_map nat_cmp_total nat_cmp-IsAntisymmetric view.queues other.queues (λ car. one.queues car ∙ ap (λ cars. option_map (λ _. []) (get cars car)) same_cars ∙ sym (two.queues car))
+  same_queues = same_map nat_cmp_total nat_cmp-IsAntisymmetric view.queues other.queues (λ car. one.fresh.queues car ∙ ap (λ cars. option_map (λ _. []) (get cars car)) same_cars ∙ sym (two.fresh.queues car))
 
   pub one_space : view ≡ other
   one_space = λ i. record {
@@ -45,9 +45,9 @@ module _ (listed : List Listed) (catalog : List CatEntry) (next_id : ℕ) (view 
     queues = same_queues i;
     trains = (one.trains ∙ sym two.trains) i;
     roots = roots i;
-    registers = (one.registers ∙ sym two.registers) i;
-    anchor = (one.anchor ∙ sym two.anchor) i;
-    phase = (one.phase ∙ sym two.phase) i;
-    next = (one.next ∙ sym two.next) i;
-    completed = (one.completed ∙ sym two.completed) i;
+    registers = (one.fresh.registers ∙ sym two.fresh.registers) i;
+    anchor = (one.fresh.anchor ∙ sym two.fresh.anchor) i;
+    phase = (one.fresh.phase ∙ sym two.fresh.phase) i;
+    next = (one.fresh.next ∙ sym two.fresh.next) i;
+    completed = (one.fresh.completed ∙ sym two.fresh.completed) i;
   }

@@ -5,7 +5,7 @@ use Rattle.std.specs.List.{flat_map, AllByRecursion, sum_by}
 use Rattle.std.specs.Ordering.{is_lt, nat_cmp, eq_by_cmp}
 use Rattle.std.specs.declared.cmp.Ordering.TheVariants.{Less}
 use Rattle.std.specs.Cmp.{nat_cmp_is}
-use Rattle.std.specs.FinMap.{get, entries, values, from_entries, from_sorted, get-from_entries, get-from_sorted, entries-from_sorted, same_map, nat_cmp-IsAntisymmetric}
+use Rattle.std.specs.FinMap.{get, entries, values, from_entries, get-from_entries, nat_cmp-IsAntisymmetric}
 use Rattle.std.specs.FinMap.Entries.{find, below_all, is_sorted}
 use Rattle.std.proofs.lemmas.Cmp.{nat_cmp_total}
 use Rattle.std.proofs.lemmas.Bool.{eqb-true}
@@ -24,7 +24,7 @@ use Rattle.pm_image.specs.Graphs.{slot_in, slot_named}
 use Rattle.pm_view.specs.Reading.{slot_at}
 use Rattle.pm_copies.specs.Accepted.{Differ}
 use Rattle.pm_copies.specs.Opened.{resolved_at, opened_object, opened_slot, next_after, opened_car, has_object, opened_entry, opened_cars}
-use Rattle.pm_law_copies.proofs.Lists.{or_else, nat_turned}
+use Rattle.pm_law_copies.proofs.Lists.{or_else, nat_turned, entries_made}
 use Rattle.pm_law_copies.proofs.Naming.{car_named, named_in, all_in_cars}
 use Rattle.pm_law_copies.proofs.Accepting.{room_used}
 use Rattle.pm_law_copies.proofs.Objects.{find_in_two, slot_from, no_such_car}
@@ -107,10 +107,7 @@ module _ (all : List CarImage) where
   sorted_opened least ((m, Moved to) ∷ es) ascend = sorted_opened (m + 1) es ascend.2
 
   pub entries_opened : (least : ℕ) (es : List (ℕ × Slot)) → Ascend least es → entries (from_entries {R = nat_cmp} (opened_slots all es)) ≡ opened_slots all es
-  entries_opened least es ascend =
-      let sorted = sorted_opened least es ascend in
-      ap entries (same_map nat_cmp_total nat_cmp-IsAntisymmetric (from_entries {R = nat_cmp} (opened_slots all es)) (from_sorted {R = nat_cmp} (opened_slots all es)) (λ q. get-from_entries nat_cmp_total (opened_slots all es) q ∙ sym (get-from_sorted nat_cmp (opened_slots all es) q sorted)))
-      ∙ entries-from_sorted nat_cmp (opened_slots all es) sorted
+  entries_opened least es ascend = entries_made nat_cmp_total nat_cmp-IsAntisymmetric (opened_slots all es) (sorted_opened least es ascend)
 
   same_room : (object : Object) → object_room (opened_object all object) ≡ object_room object
   same_room object = ap (λ n. 17 + 12 * n + length object.bytes) (length-map object.fields (option_map (resolved_at all)))
@@ -149,7 +146,7 @@ module _ (all : List CarImage) where
   next_grows least [] ascend = omega arith
   next_grows least (e ∷ es) ascend = let later = next_grows (e.0 + 1) es ascend.2 in let low = ascend.0 in omega (arith, later, low)
 
-  next_past : (least : ℕ) (es : List (ℕ × Slot)) (n : ℕ) (slot : Slot) → Ascend least es → slot_in es n ≡ Some slot → n < next_after least es
+  pub next_past : (least : ℕ) (es : List (ℕ × Slot)) (n : ℕ) (slot : Slot) → Ascend least es → slot_in es n ≡ Some slot → n < next_after least es
   next_past least [] n slot ascend is = cc
   next_past least (e ∷ es) n slot ascend is = elim (e.0 == n) as (λ b. (e.0 == n) ≡ b → cond b (Some e.1) (slot_in es n) ≡ Some slot → n < next_after (e.0 + 1) es) [
     | true ↦ λ here is. let same = eqb-true e.0 n here in let later = next_grows (e.0 + 1) es ascend.2 in omega (arith, same, later)

@@ -1,12 +1,12 @@
 -- A space that was opened keeps the heap law.
-use Rattle.std.proofs.Common.{◌≡◌, ℕ, ◌<◌, ◌≤◌, ◌==◌, Bool, true, false, cond, refl, ap, sym, subst, ◌∙◌, List, [], ◌∷◌, map, length, Option, Some, None, arith, is_some}
-use Rattle.std.specs.Option.{option_and_then, option_map, option_flatten}
+use Rattle.std.proofs.Common.{◌≡◌, ℕ, ◌<◌, ◌≤◌, true, false, cond, refl, ap, sym, subst, ◌∙◌, List, [], ◌∷◌, map, length, Option, Some, None, is_some}
+use Rattle.std.specs.Option.{option_map, option_flatten}
 use Rattle.std.specs.List.{AllByRecursion, slice_get}
 use Rattle.std.specs.FinMap.{get, entries, get-entries, get-empty, len-entries}
 use Rattle.std.specs.FinMap.Entries.{find}
 use Rattle.std.specs.Ordering.{eq_by_cmp}
 use Rattle.std.proofs.lemmas.List.{length-map}
-use Rattle.std.proofs.lemmas.Option.{slice_get-map, same_Some, none-some}
+use Rattle.std.proofs.lemmas.Option.{slice_get-map, same_Some}
 use Rattle.pm_types.specs.Orders.{name_cmp, place_cmp}
 use Rattle.pm_types.specs.declared.limits.TheConstants.{FIELDS, ROOTS}
 use Rattle.pm_types.specs.declared.address.Addr.{Addr}
@@ -15,23 +15,18 @@ use Rattle.pm_types.specs.declared.object.Slot.{Slot}
 use Rattle.pm_types.specs.declared.object.Slot.TheVariants.{Live, Moved}
 use Rattle.pm_types.specs.declared.source.RefSource.{RefSource}
 use Rattle.pm_types.specs.declared.source.RefSource.TheVariants.{Root, Handle, Field}
-use Rattle.pm_types.specs.declared.source.Change.{Change}
 use Rattle.pm_cars.specs.Cars.{Car, look_of, object_of}
 use Rattle.pm_cars.specs.declared.look.Look.TheVariants as looks
 use Rattle.pm_trains.specs.Trains.{Trains, train_of}
 use Rattle.pm_trains.specs.Sound as line
-use Rattle.std.proofs.lemmas.Bool.{eqb-true}
 use Rattle.pm_layout.specs.Spelling.{HasSpelling}
 use Rattle.pm_image.specs.declared.car.CarImage.{CarImage}
 use Rattle.pm_image.specs.declared.catalog.CatEntry.{CatEntry}
 use Rattle.pm_image.specs.CarPages.{Ascend}
 use Rattle.pm_image.specs.Graphs.{slot_named, identity_in, identity_through, resolved}
 use Rattle.pm_image.specs.Leading.{FieldLeads, SlotLeads}
-use Rattle.pm_view.specs.Sources.{outside, slot_in}
-use Rattle.pm_view.specs.View.{Sources, SpaceView}
+use Rattle.pm_view.specs.View.{SpaceView}
 use Rattle.pm_view.specs.Reading.{slot_at, object_at, field_of, stored, followed, aside_in, is_aside}
-use Rattle.pm_view.specs.Effective.{effective, effective_in}
-use Rattle.pm_view.specs.Seen.{seen, Leads, IsTied}
 use Rattle.pm_view.specs.Law.{IsObject, IsBuilt, IsAt, IsAnchor, HeapLaw}
 use Rattle.pm_view.specs.Law as law_of
 use Rattle.pm_law_rows.proofs.Numbers.{owner}
@@ -39,9 +34,10 @@ use Rattle.pm_copies.specs.Listed.{Listed, images}
 use Rattle.pm_copies.specs.Accepted.{IsAccepted, roots_in}
 use Rattle.pm_copies.specs.Accepted as accepted
 use Rattle.pm_copies.specs.Opened.{resolved_at, opened_object, opened_root, unnumbered, IsOpened}
-use Rattle.pm_law_copies.proofs.Lists.{all_at}
+use Rattle.pm_law_copies.proofs.Fresh.{IsMade, fresh_law}
+use Rattle.pm_law_copies.proofs.Lists.{all_at, all_weaker}
 use Rattle.pm_law_copies.proofs.Naming.{all_in_cars, all_named}
-use Rattle.pm_law_copies.proofs.CopyOf.{all_weaker, all_roots, found_unnumbered}
+use Rattle.pm_law_copies.proofs.CopyOf.{all_roots, found_unnumbered}
 use Rattle.pm_law_copies.proofs.OpenedCars.{live_of, slot_at_opened, from_listed, car_sound, car_has, car_still}
 use Rattle.pm_law_copies.proofs.OpenedTrains.{linked, trains_sound}
 
@@ -72,10 +68,6 @@ opened_from all None object is = cc
 opened_from all (Some (Live was)) object is = (was, refl, sym (same_Some (opened_object all was) object is))
 opened_from all (Some (Moved to)) object is = cc
 
--- the queue of a car that was just opened
-abbrev no_change_yet : Car → List Change
-no_change_yet car = []
-
 -- ---- the roots
 
 pub found_opened : (cars : List CarImage) (roots : List (List ℕ × Addr)) (name : List ℕ) → find name_cmp name (map (opened_root cars) roots) ≡ option_map (resolved_at cars) (find name_cmp name roots)
@@ -86,7 +78,7 @@ found_opened cars (root ∷ roots) name = elim (eq_by_cmp name_cmp name root.0) 
 ]
 
 -- what holds of each root holds of one that is found
-all_found : (P : Addr → Type 0) (roots : List (List ℕ × Addr)) (name : List ℕ) (at : Addr) → AllByRecursion (λ (root : List ℕ × Addr). P root.1) roots → find name_cmp name roots ≡ Some at → P at
+pub all_found : (P : Addr → Type 0) (roots : List (List ℕ × Addr)) (name : List ℕ) (at : Addr) → AllByRecursion (λ (root : List ℕ × Addr). P root.1) roots → find name_cmp name roots ≡ Some at → P at
 all_found P [] name at all is = cc
 all_found P (root ∷ roots) name at all is = elim (eq_by_cmp name_cmp name root.0) as (λ b. cond b (Some root.1) (find name_cmp name roots) ≡ Some at → P at) [
   | true ↦ λ is. subst P (same_Some root.1 at is) all.0
@@ -105,7 +97,7 @@ flat_from (Some o) a is = ap Some is
 
 module _ (listed : List Listed) (catalog : List CatEntry) (next_id : ℕ) (view : SpaceView) (ok : IsAccepted listed catalog next_id) (opened : IsOpened listed catalog next_id view) where
   pub ascend : AllByRecursion (λ (car : CarImage). Ascend 0 car.slots) (images listed)
-  ascend = all_weaker accepted.IsCar (λ (car : CarImage). Ascend 0 car.slots) (images listed) (λ car is. is.ascend) ok.cars
+  ascend = all_weaker accepted.IsAcceptedCar (λ (car : CarImage). Ascend 0 car.slots) (images listed) (λ car is. is.ascend) ok.cars
 
   pub slot_there : (a : Addr) → slot_at view.cars a ≡ live_of (images listed) (slot_named (images listed) a)
   slot_there a = ap (λ cars. slot_at cars a) opened.cars ∙ slot_at_opened (images listed) ok.differ ascend a
@@ -121,10 +113,10 @@ module _ (listed : List Listed) (catalog : List CatEntry) (next_id : ℕ) (view 
   live_look a was is = ap look_of (slot_there a ∙ ap (live_of (images listed)) is)
 
   pub none_aside : (car : ℕ) → is_aside view car ≡ false
-  none_aside car = ap (λ phase. aside_in phase view.trains.trains car) opened.phase
+  none_aside car = ap (λ phase. aside_in phase view.trains.trains car) opened.fresh.phase
 
   spelled : (a : Addr) (was : Object) → slot_named (images listed) a ≡ Some (Live was) → HasSpelling FIELDS (Live was)
-  spelled a was is = all_named (λ (e : ℕ × Slot). HasSpelling FIELDS e.1) (images listed) a (Live was) (all_weaker accepted.IsCar (λ (car : CarImage). AllByRecursion (λ (e : ℕ × Slot). HasSpelling FIELDS e.1) car.slots) (images listed) (λ car is. is.slots) ok.cars) is
+  spelled a was is = all_named (λ (e : ℕ × Slot). HasSpelling FIELDS e.1) (images listed) a (Live was) (all_weaker accepted.IsAcceptedCar (λ (car : CarImage). AllByRecursion (λ (e : ℕ × Slot). HasSpelling FIELDS e.1) car.slots) (images listed) (λ car is. is.slots) ok.cars) is
 
   led : (a : Addr) (was : Object) → slot_named (images listed) a ≡ Some (Live was) → SlotLeads (images listed) (Live was)
   led a was is = all_named (λ (e : ℕ × Slot). SlotLeads (images listed) e.1) (images listed) a (Live was) ok.lead is
@@ -165,58 +157,8 @@ module _ (listed : List Listed) (catalog : List CatEntry) (next_id : ℕ) (view 
   -- whatever is stored leads to an object
   pub stored_here : (x : RefSource) (a : Addr) → stored view x ≡ Some a → IsHere a
   stored_here (Root number) a is = let name = owner view.roots number a is in root_here name.0 (number, a) name.1
-  stored_here (Handle client register) a is = let clash : None ≡ Some a = sym (ap (λ registers. get registers (client, register)) opened.registers ∙ get-empty place_cmp (client, register)) ∙ is in cc
+  stored_here (Handle client register) a is = let clash : None ≡ Some a = sym (ap (λ registers. get registers (client, register)) opened.fresh.registers ∙ get-empty place_cmp (client, register)) ∙ is in cc
   stored_here (Field b i) a is = field_here b i a (object_at view.cars b) refl is
-
-  -- ---- remembered sets
-
-  car_here : (a : Addr) → IsHere a → is_some (get view.cars a.car) ≡ true
-  car_here a here = there (get view.cars a.car) refl
-    where
-      there : (o : Option Car) → get view.cars a.car ≡ o → is_some o ≡ true
-      there None is = let clash : looks.Gone ≡ looks.Live = sym (ap (λ o. look_of (option_and_then (λ (car : Car). get car.slots a.slot) o)) is) ∙ here in cc
-      there (Some car) is = refl
-
-  none_named : (car : ℕ) (x : RefSource) (o : Option Addr) → stored view x ≡ o → is_some (get view.cars car) ≡ false → slot_in car o ≡ None
-  none_named car x None is gone = refl
-  none_named car x (Some a) is gone = elim (a.car == car) as (λ b. (a.car == car) ≡ b → cond b (Some a.slot) None ≡ None) [
-    | true ↦ λ same. let clash : true ≡ false = sym (car_here a (stored_here x a is)) ∙ ap (λ n. is_some (get view.cars n)) (eqb-true a.car car same) ∙ gone in cc
-    | false ↦ λ apart. refl
-  ] refl
-
-  nothing_either : (out : Bool) (o : Option ℕ) → o ≡ None → cond out o None ≡ None
-  nothing_either true o none = none
-  nothing_either false o none = refl
-
-  no_change : (set : Sources) (o : Option Car) → is_some o ≡ true → (x : RefSource) → effective_in (Some set) (option_map (λ _. []) o) x ≡ get set x
-  no_change set None some x = cc
-  no_change set (Some car) some x = refl
-
-  -- what an effective set gives is just what the sources outside the car name of it
-  effective_is : (car : ℕ) (x : RefSource) → effective view car x ≡ cond (outside car x) (slot_in car (stored view x)) None
-  effective_is car x = by_set (get view.sets car) refl
-    where
-      by_set : (o : Option Sources) → get view.sets car ≡ o → effective_in o (get view.queues car) x ≡ cond (outside car x) (slot_in car (stored view x)) None
-      by_set None is = sym (nothing_either (outside car x) (slot_in car (stored view x)) (none_named car x (stored view x) refl (sym (opened.sets car) ∙ ap is_some is)))
-      by_set (Some set) is =
-          ap (λ queue. effective_in (Some set) queue x) (opened.queues car)
-          ∙ no_change set (get view.cars car) (sym (opened.sets car) ∙ ap is_some is) x
-          ∙ opened.remembered car set x is
-
-  outside_only : (out : Bool) (o : Option ℕ) (n : ℕ) → cond out o None ≡ Some n → (out ≡ true) × (o ≡ Some n)
-  outside_only true o n is = (refl, is)
-  outside_only false o n is = cc
-
-  leads_here : (a : Addr) → IsHere a → Leads (seen view) a (look_of (slot_at view.cars a))
-  leads_here a here = subst (Leads (seen view) a) (sym here) tt
-
-  tied : IsTied (seen view)
-  tied = record {
-    reads = λ car x free up out. effective_is car x ∙ ap (λ b. cond b (slot_in car (stored view x)) None) out;
-    holds = λ car x n free is. outside_only (outside car x) (slot_in car (stored view x)) n (sym (effective_is car x) ∙ is);
-    leads = λ x a up is. (none_aside a.car, leads_here a (stored_here x a is));
-    moved = λ a b free is. absurd (opened_look (images listed) (slot_named (images listed) a) b (ap look_of (sym (slot_there a)) ∙ is));
-  }
 
   -- ---- cars and objects
 
@@ -224,7 +166,7 @@ module _ (listed : List Listed) (catalog : List CatEntry) (next_id : ℕ) (view 
   car_is n car is =
       let from = from_listed (images listed) ok.differ ascend n car (ap (λ cars. get cars n) (sym opened.cars) ∙ is) in
       let image : CarImage = record { number = n; slots = from.0 } in
-      let known = all_in_cars accepted.IsCar (images listed) n from.0 ok.cars from.1 in
+      let known = all_in_cars accepted.IsAcceptedCar (images listed) n from.0 ok.cars from.1 in
       subst (law_of.IsCar view n) (sym from.3) (record {
         numbered = refl;
         from_one = known.from_one;
@@ -239,44 +181,29 @@ module _ (listed : List Listed) (catalog : List CatEntry) (next_id : ℕ) (view 
       let fine = spelled a from.0 from.1 in
       subst (IsObject view) (sym from.2) (record {
         first = fine.numbered.0;
-        given = subst (λ n. from.0.id < n) (sym opened.next) (ok.given a from.0 from.1);
+        given = subst (λ n. from.0.id < n) (sym opened.fresh.next) (ok.given a from.0 from.1);
         fields = subst (λ n. n ≤ FIELDS) (sym (length-map from.0.fields (option_map (resolved_at (images listed))))) fine.within.0;
         bytes = fine.within.1;
       })
 
-  built : IsBuilt view
-  built = record {
-    trains = subst line_sound (sym opened.trains) (trains_sound listed ok.differ);
+  AreSound : Trains → Type 0
+  AreSound trains = line.IsSound trains
+
+  made : IsMade next_id view
+  unfolding AreSound
+  made = record {
+    trains = subst AreSound (sym opened.trains) (trains_sound listed ok.differ);
+    births = ap (λ (trains : Trains). trains.births) opened.trains;
     linked = λ car. ap (λ (trains : Trains). is_some (train_of trains.trains car)) opened.trains ∙ linked listed car ∙ ap (λ cars. is_some (get cars car)) (sym opened.cars);
-    sets = opened.sets;
-    queues = λ car. ap is_some (opened.queues car) ∙ some_either (get view.cars car);
     cars = car_is;
     objects = object_is;
     apart = λ a b o p at_a at_b same. let from = object_from a o at_a in let other = object_from b p at_b in ok.apart a b from.0 other.0 from.1 other.1 (ap (λ (o : Object). o.id) (sym from.2) ∙ same ∙ ap (λ (o : Object). o.id) other.2);
-    next = subst (λ n. (1 ≤ n) × (n ≤ 4294967296)) (sym opened.next) ok.next;
-    births = no_births view.trains.births (ap (λ (trains : Trains). trains.births) opened.trains) _;
+    next = ok.next;
+    few = subst (λ n. n ≤ ROOTS) (sym (len-entries view.roots ∙ sym (length-map (entries view.roots) unnumbered) ∙ ap length opened.roots ∙ length-map (roots_in catalog) (opened_root (images listed)))) ok.few;
+    here = stored_here;
+    still = λ a b is. opened_look (images listed) (slot_named (images listed) a) b (ap look_of (sym (slot_there a)) ∙ is);
   }
-    where
-      line_sound : Trains → Type 0
-      line_sound trains = line.IsSound trains
-
-      some_either : (o : Option Car) → is_some (option_map no_change_yet o) ≡ is_some o
-      some_either None = refl
-      some_either (Some car) = refl
-
-      no_births : (births : ℕ) → births ≡ 0 → (n : ℕ) → births ≤ n
-      no_births births none n = omega (arith, none)
 
   -- a space that was opened keeps the heap law
   pub keeps_law : HeapLaw view
-  keeps_law = record {
-    built = built;
-    named = record {
-      numbers = opened.numbers;
-      few = subst (λ n. n ≤ ROOTS) (sym (len-entries view.roots ∙ sym (length-map (entries view.roots) unnumbered) ∙ ap length opened.roots ∙ length-map (roots_in catalog) (opened_root (images listed)))) ok.few;
-      registers = λ client register a is. absurd (none-some a (sym (ap (λ registers. get registers (client, register)) opened.registers ∙ get-empty place_cmp (client, register)) ∙ is));
-    };
-    tied = tied;
-    phase = subst (λ phase. IsAt phase view.trains.trains view.anchor) (sym opened.phase) tt;
-    anchor = λ a to is. absurd (none-some (a, to) (sym opened.anchor ∙ is));
-  }
+  keeps_law = fresh_law next_id view opened.fresh made

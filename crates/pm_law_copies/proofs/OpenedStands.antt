@@ -1,5 +1,5 @@
 -- A space that was opened stands for the world in which its copy was just opened.
-use Rattle.std.proofs.Common.{◌≡◌, ℕ, false, refl, ap, sym, subst, ◌∙◌, List, [], ◌∷◌, map, Option, Some, None}
+use Rattle.std.proofs.Common.{◌≡◌, ℕ, ◌<◌, false, refl, ap, sym, subst, ◌∙◌, List, [], ◌∷◌, map, Option, Some, None}
 use Rattle.std.specs.Option.{option_and_then, option_map, IsSomeAnd}
 use Rattle.std.specs.List.{Contains}
 use Rattle.std.specs.FinMap.{get, entries, get-entries, get-empty}
@@ -10,27 +10,30 @@ use Rattle.pm_types.specs.declared.address.Addr.{Addr}
 use Rattle.pm_types.specs.declared.object.Object as kept
 use Rattle.pm_types.specs.declared.object.Slot.{Slot}
 use Rattle.pm_types.specs.declared.object.Slot.TheVariants.{Live, Moved}
-use Rattle.pm_cars.specs.Cars.{object_of}
+use Rattle.pm_cars.specs.Cars.{Car, object_of}
 use Rattle.pm_model.specs.Heap.{Object, Holds}
 use Rattle.pm_model.specs.World.{begin}
 use Rattle.pm_model.specs.Reachability.{IsReachable}
 use Rattle.pm_model.specs.Copying.{IsRoot}
 use Rattle.pm_model.proofs.Reaching.{reachable_next}
-use Rattle.pm_model.proofs.Reached.{copied_kept, copied_reached}
+use Rattle.pm_model.proofs.Reached.{copied_kept, copied_reached, copied_again}
 use Rattle.pm_image.specs.declared.catalog.CatEntry.{CatEntry}
-use Rattle.pm_image.specs.Graphs.{slot_named, identity_in, identity_through, resolved, resolved_field, heap_of, roots_of}
+use Rattle.pm_image.specs.declared.car.CarImage.{CarImage}
+use Rattle.pm_image.specs.CarPages.{Ascend}
+use Rattle.pm_image.specs.Graphs.{slot_in, slot_named, identity_in, identity_through, resolved, resolved_field, heap_of, roots_of}
 use Rattle.pm_view.specs.View.{SpaceView}
 use Rattle.pm_view.specs.Reading.{object_at, is_aside, followed, id_at, named_by}
 use Rattle.pm_view.specs.Represents.{names, meaning, IsForgotten, Represents}
 use Rattle.pm_law_rows.proofs.Reaches.{Means}
 use Rattle.pm_law_rows.proofs.SpreadMeans.{stands_for}
-use Rattle.pm_copies.specs.Listed.{Listed, images, copy_listed}
+use Rattle.pm_copies.specs.Listed.{Listed, images, copy_listed, copy_in}
 use Rattle.pm_copies.specs.Accepted.{IsAccepted, roots_in}
 use Rattle.pm_copies.specs.Opened.{resolved_at, opened_object, IsOpened}
 use Rattle.pm_law_copies.proofs.Objects.{told}
 use Rattle.pm_law_copies.proofs.Objects as heaps
-use Rattle.pm_law_copies.proofs.CopyOf.{root_of_copy, found_unnumbered}
-use Rattle.pm_law_copies.proofs.OpenedCars.{live_of}
+use Rattle.pm_law_copies.proofs.CopyOf.{root_of_copy, found_unnumbered, worlds_copy}
+use Rattle.pm_law_copies.proofs.Naming.{slot_lies, all_in_cars}
+use Rattle.pm_law_copies.proofs.OpenedCars.{live_of, from_listed, next_past}
 use Rattle.pm_law_copies.proofs.OpenedLaw.{ascend, slot_there, object_from, found_opened, keeps_law}
 
 mapped_twice : {X Y Z : Type 0} (f : X → Z) (g : Y → Z) (h : X → Y) (xs : List X) → ((x : X) → f x ≡ g (h x)) → map f xs ≡ map g (map h xs)
@@ -77,6 +80,10 @@ module _ (listed : List Listed) (catalog : List CatEntry) (next_id : ℕ) (view 
   heap_has : (a : Addr) (was : kept.Object) → slot_named (images listed) a ≡ Some (Live was) → get (heap_of (images listed)) was.id ≡ Some (told (images listed) was)
   heap_has a was is = heaps.object_at (images listed) ok.differ (ascend listed catalog next_id view ok opened) ok.apart a was is
 
+  -- each object stays in its slot, and no other slot has one
+  pub objects_stay : (a : Addr) → id_at view a ≡ identity_in (slot_named (images listed) a)
+  objects_stay a = ap (λ o. option_map (λ (o : kept.Object). o.id) (object_of o)) (slot_there listed catalog next_id view ok opened a) ∙ id_opened (slot_named (images listed) a)
+
   -- ---- names
 
   roots_same : (name : List ℕ) → option_map (λ (bound : ℕ × Addr). bound.1) (get view.roots name) ≡ option_map (resolved_at (images listed)) (find name_cmp name (roots_in catalog))
@@ -107,7 +114,7 @@ module _ (listed : List Listed) (catalog : List CatEntry) (next_id : ℕ) (view 
     means : Means view (begin number (copy_listed listed catalog next_id))
     means = record {
       roots = root_named;
-      registers = λ place. get-empty place_cmp place ∙ sym (ap (names view) (ap (λ registers. get registers place) opened.registers ∙ get-empty place_cmp place));
+      registers = λ place. get-empty place_cmp place ∙ sym (ap (names view) (ap (λ registers. get registers place) opened.fresh.registers ∙ get-empty place_cmp place));
       objects = λ a object known free is found.
           let from = object_from listed catalog next_id view ok opened a object is in
           let there = (copied_kept (heap_of (images listed)) (roots_of (images listed) catalog) next_id object.id known found).0 in
@@ -142,4 +149,20 @@ module _ (listed : List Listed) (catalog : List CatEntry) (next_id : ℕ) (view 
 
     -- it stands for the world in which its copy was just opened, under any number
     pub stands : Represents view (begin number (copy_listed listed catalog next_id))
-    stands = stands_for view (begin number (copy_listed listed catalog next_id)) (keeps_law listed catalog next_id view ok opened) means (sym opened.next) forgotten
+    stands = stands_for view (begin number (copy_listed listed catalog next_id)) (keeps_law listed catalog next_id view ok opened) means (sym opened.fresh.next) forgotten
+
+  -- what it would save is the copy that was opened
+  pub saves_again : copy_in view ≡ copy_listed listed catalog next_id
+  saves_again =
+      sym (worlds_copy view (keeps_law listed catalog next_id view ok opened) (begin 0 (copy_listed listed catalog next_id)) (stands 0))
+      ∙ copied_again (heap_of (images listed)) (roots_of (images listed) catalog) next_id
+
+  -- no slot that was listed comes after the next one of its car
+  pub next_past_listed : (a : Addr) (slot : Slot) (car : Car) → slot_named (images listed) a ≡ Some slot → get view.cars a.car ≡ Some car → a.slot < car.next
+  next_past_listed a slot car there is =
+      let from = from_listed (images listed) ok.differ (ascend listed catalog next_id view ok opened) a.car car (ap (λ cars. get cars a.car) (sym opened.cars) ∙ is) in
+      let lies = slot_lies (images listed) a slot there in
+      let same = same_Some lies.0 from.0 (sym lies.1 ∙ from.1) in
+      let image : CarImage = record { number = a.car; slots = from.0 } in
+      let known = all_in_cars (λ (car : CarImage). Ascend 0 car.slots) (images listed) a.car from.0 (ascend listed catalog next_id view ok opened) from.1 in
+      subst (λ (car : Car). a.slot < car.next) (sym from.3) (next_past (images listed) 0 from.0 a.slot slot known (ap (λ slots. slot_in slots a.slot) (sym same) ∙ lies.2))

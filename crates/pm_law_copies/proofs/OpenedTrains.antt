@@ -18,7 +18,7 @@ use Rattle.pm_copies.specs.Opened.{has_object, opened_car, opened_entry, opened_
 use Rattle.pm_law_copies.proofs.Lists.{nat_turned}
 
 -- the cars of these, without the numbers of their trains
-abbrev cars_in : List (ℕ × ℕ) → List ℕ
+abbrev pub cars_in : List (ℕ × ℕ) → List ℕ
 cars_in kept = map (λ (k : ℕ × ℕ). k.1) kept
 
 -- ---- which cars are in which trains
@@ -48,9 +48,13 @@ in_a_train (t ∷ ts) n =
 
 -- ---- which cars stand
 
-among_keys : (n : ℕ) (ks : List ℕ) → list_any (eq_by_cmp nat_cmp n) ks ≡ is_among n ks
+pub among_keys : (n : ℕ) (ks : List ℕ) → list_any (eq_by_cmp nat_cmp n) ks ≡ is_among n ks
 among_keys n [] = refl
 among_keys n (k ∷ ks) = ap (λ b. b || list_any (eq_by_cmp nat_cmp n) ks) (sym (nat_turned k n)) ∙ ap (λ b. (k == n) || b) (among_keys n ks)
+
+-- a car is in a train where it is one of these
+pub in_trains : (kept : List (ℕ × ℕ)) (n : ℕ) → is_some (train_of (numbered 1 (grouped kept)) n) ≡ is_among n (cars_in kept)
+in_trains kept n = in_a_train (numbered 1 (grouped kept)) n ∙ ap (is_among n) (cars_numbered 1 (grouped kept) ∙ cars_grouped kept)
 
 module _ (all : List CarImage) where
   same_cars : (listed : List Listed) → map (λ (e : ℕ × Car). e.0) (flat_map (opened_entry all) (images listed)) ≡ cars_in (flat_map kept_car listed)
@@ -64,8 +68,7 @@ module _ (all : List CarImage) where
 pub linked : (listed : List Listed) (n : ℕ) → is_some (train_of (opened_trains listed).trains n) ≡ is_some (get (opened_cars (images listed)) n)
 linked listed n =
     let es : List (ℕ × Car) = flat_map (opened_entry (images listed)) (images listed) in
-    in_a_train (numbered 1 (grouped (flat_map kept_car listed))) n
-    ∙ ap (is_among n) (cars_numbered 1 (grouped (flat_map kept_car listed)) ∙ cars_grouped (flat_map kept_car listed))
+    in_trains (flat_map kept_car listed) n
     ∙ sym (ap is_some (get-from_entries nat_cmp_total es n)
     ∙ is_some-find nat_cmp n es
     ∙ among_keys n (map (λ (e : ℕ × Car). e.0) es)
@@ -125,18 +128,21 @@ stand : (n : ℕ) (ts : List Train) → 0 < length (numbered n ts)
 stand n [] = omega arith
 stand n (t ∷ ts) = omega arith
 
--- the trains are as trains are
+-- trains of these cars are as trains are, where no car is there twice
+pub line_sound : (kept : List (ℕ × ℕ)) → ((n : ℕ) → count_by (λ c. c == n) (cars_in kept) ≤ 1) → line.IsSound (record { trains = numbered 1 (grouped kept); births = 0 })
+line_sound kept once = record {
+  standing = stand 1 (grouped kept);
+  rising = rise 0 1 (grouped kept) (omega arith);
+  filled = filled 1 (grouped kept) (some_grouped kept);
+  single = λ n.
+      let here = ap (count_by (λ c. c == n)) (cars_numbered 1 (grouped kept) ∙ cars_grouped kept) in
+      let few = once n in
+      omega (arith, here, few);
+  bounded = omega arith;
+}
+
 pub trains_sound : (listed : List Listed) → Differ (images listed) → line.IsSound (opened_trains listed)
-trains_sound listed differ =
-    let kept : List (ℕ × ℕ) = flat_map kept_car listed in
-    record {
-      standing = stand 1 (grouped kept);
-      rising = rise 0 1 (grouped kept) (omega arith);
-      filled = filled 1 (grouped kept) (some_grouped kept);
-      single = λ n.
-          let here = ap (count_by (λ c. c == n)) (cars_numbered 1 (grouped kept) ∙ cars_grouped kept) in
-          let few = kept_once n listed in
-          let once = once_of (images listed) differ n in
-          omega (arith, here, few, once);
-      bounded = omega arith;
-    }
+trains_sound listed differ = line_sound (flat_map kept_car listed) (λ n.
+    let few = kept_once n listed in
+    let once = once_of (images listed) differ n in
+    omega (arith, few, once))

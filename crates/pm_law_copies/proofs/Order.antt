@@ -13,7 +13,7 @@ use Rattle.pm_view.specs.View.{SpaceView}
 use Rattle.pm_view.specs.Reading.{is_aside}
 use Rattle.pm_view.specs.Law.{HeapLaw}
 use Rattle.pm_copies.specs.Listed.{Listed, images, image_in, listed_car, listed_of, listed, listed_cars}
-use Rattle.pm_law_copies.proofs.Lists.{all_append, count_append}
+use Rattle.pm_law_copies.proofs.Lists.{all_append, all_weaker, count_append}
 use Rattle.pm_law_copies.proofs.OpenedTrains.{in_a_train}
 
 -- the numbers of listed cars
@@ -101,10 +101,6 @@ not_twice n cars others true here there once =
     let two = among_counted n others there in
     let sum = count_append (λ c. c == n) cars others in
     absurd (omega (arith, one, two, sum, once))
-
-all_weaker : (P Q : Listed → Type 0) (xs : List Listed) → ((x : Listed) → P x → Q x) → AllByRecursion P xs → AllByRecursion Q xs
-all_weaker P Q [] weaker all = tt
-all_weaker P Q (x ∷ xs) weaker all = (weaker x all.0, all_weaker P Q xs weaker all.1)
 
 module _ (view : SpaceView) where
   -- it is listed with this train, and among these cars

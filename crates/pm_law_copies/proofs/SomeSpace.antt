@@ -1,10 +1,8 @@
 -- Cars and roots that no rule refuses can be opened.
-use Rattle.std.proofs.Common.{◌≡◌, ℕ, suc, ◌≤◌, true, false, cond, T, refl, ap, sym, subst, ◌∙◌, List, [], ◌∷◌, map, Option, Some, None, arith, is_some}
+use Rattle.std.proofs.Common.{◌≡◌, ℕ, suc, ◌≤◌, true, false, cond, T, refl, ap, sym, ◌∙◌, List, [], ◌∷◌, map, Option, Some, None, arith, is_some}
 use Rattle.std.specs.Option.{option_map}
-use Rattle.std.specs.declared.cmp.Ordering.{Ordering}
-use Rattle.std.specs.declared.cmp.Ordering.TheVariants.{Less, Equal, Greater}
-use Rattle.std.specs.Ordering.{is_lt, nat_cmp, eq_by_cmp}
-use Rattle.std.specs.FinMap.{get, entries, get-entries, from_entries, from_sorted, get-from_entries, get-from_sorted, entries-from_sorted, same_map, empty, get-empty, nat_cmp-IsAntisymmetric}
+use Rattle.std.specs.Ordering.{nat_cmp, eq_by_cmp}
+use Rattle.std.specs.FinMap.{get, entries, get-entries, from_entries, get-from_entries, empty, get-empty, nat_cmp-IsAntisymmetric}
 use Rattle.std.specs.FinMap.Entries.{find, below_all, is_sorted}
 use Rattle.std.proofs.lemmas.Cmp.{nat_cmp_total}
 use Rattle.std.proofs.lemmas.Map.Views.{tells_apart}
@@ -19,7 +17,6 @@ use Rattle.pm_cars.specs.Cars.{Car}
 use Rattle.pm_roots.specs.Bindings.{Bindings, AllNumbersDiffer}
 use Rattle.pm_image.specs.declared.car.CarImage.{CarImage}
 use Rattle.pm_image.specs.declared.catalog.CatEntry.{CatEntry}
-use Rattle.pm_image.specs.declared.catalog.CatEntry.TheVariants as kinds
 use Rattle.pm_view.specs.declared.phase.Phase.TheVariants.{Idle}
 use Rattle.pm_view.specs.Sources.{outside, slot_in}
 use Rattle.pm_view.specs.View.{Sources, SpaceView}
@@ -27,6 +24,9 @@ use Rattle.pm_view.specs.Reading.{stored}
 use Rattle.pm_copies.specs.Listed.{Listed, images}
 use Rattle.pm_copies.specs.Accepted.{NamesAscend, roots_in, IsAccepted}
 use Rattle.pm_copies.specs.Opened.{opened_cars, opened_trains, opened_root, unnumbered, IsOpened}
+use Rattle.pm_roots.proofs.Sorted.{first, second}
+use Rattle.pm_law_copies.proofs.Lists.{entries_made}
+use Rattle.pm_law_copies.proofs.Named.{named_sorted}
 use Rattle.pm_law_copies.proofs.OpenedCars.{both}
 use Rattle.pm_law_copies.proofs.Sources.{stores, all_stored, remembering, remembers}
 
@@ -82,49 +82,27 @@ one_name k (root ∷ roots) p q n a b is is_too =
 
 -- ---- names in order
 
-is_less : (r : Ordering) → is_lt r ≡ true → r ≡ Less
-is_less Less is = refl
-is_less Equal is = cc
-is_less Greater is = cc
+-- numbers change no order
+below_numbers : (p : List ℕ) (k : ℕ) (roots : List (List ℕ × Addr)) → T (below_all name_cmp p roots) → T (below_all name_cmp p (numbers_from k roots))
+unfolding numbers_from
+below_numbers p k [] below = tt
+below_numbers p k (root ∷ roots) below = both _ _ (first _ _ below) (below_numbers p (suc k) roots (second _ _ below))
 
-less_lt : (r : Ordering) → r ≡ Less → T (is_lt r)
-less_lt r is = subst (λ r. T (is_lt r)) (sym is) tt
+sorted_numbers : (k : ℕ) (roots : List (List ℕ × Addr)) → T (is_sorted name_cmp roots) → T (is_sorted name_cmp (numbers_from k roots))
+unfolding numbers_from
+sorted_numbers k [] sorted = tt
+sorted_numbers k (root ∷ roots) sorted = both _ _ (below_numbers root.0 (suc k) roots (first _ _ sorted)) (sorted_numbers (suc k) roots (second _ _ sorted))
 
 module _ (cars : List CarImage) where
   rows : ℕ → List CatEntry → List (List ℕ × (ℕ × Addr))
   rows k catalog = numbers_from k (map (opened_root cars) (roots_in catalog))
 
-  names_below : (p q : List ℕ) (k : ℕ) (catalog : List CatEntry) → name_cmp p q ≡ Less → NamesAscend (Some q) catalog → T (below_all name_cmp p (rows k catalog))
-  unfolding rows numbers_from
-  names_below p q k [] less ascend = tt
-  names_below p q k (kinds.Car car train page digest ∷ catalog) less ascend = names_below p q k catalog less ascend
-  names_below p q k (kinds.Root name at ∷ catalog) less ascend =
-      let further = names_total.trans p q name less (is_less (name_cmp q name) ascend.0) in
-      both _ _ (less_lt (name_cmp p name) further) (names_below p name (suc k) catalog further ascend.1)
-
-  first_below : (q : List ℕ) (k : ℕ) (catalog : List CatEntry) → NamesAscend (Some q) catalog → T (below_all name_cmp q (rows k catalog))
-  unfolding rows numbers_from
-  first_below q k [] ascend = tt
-  first_below q k (kinds.Car car train page digest ∷ catalog) ascend = first_below q k catalog ascend
-  first_below q k (kinds.Root name at ∷ catalog) ascend =
-      let less = is_less (name_cmp q name) ascend.0 in
-      both _ _ (less_lt (name_cmp q name) less) (names_below q name (suc k) catalog less ascend.1)
-
-  rows_sorted : (before : Option (List ℕ)) (k : ℕ) (catalog : List CatEntry) → NamesAscend before catalog → T (is_sorted name_cmp (rows k catalog))
-  unfolding rows numbers_from
-  rows_sorted before k [] ascend = tt
-  rows_sorted before k (kinds.Car car train page digest ∷ catalog) ascend = rows_sorted before k catalog ascend
-  rows_sorted before k (kinds.Root name at ∷ catalog) ascend = both _ _ (first_below name (suc k) catalog ascend.1) (rows_sorted (Some name) (suc k) catalog ascend.1)
-
   bindings : List CatEntry → Bindings
   bindings catalog = from_entries (rows 0 catalog)
 
   entries_bound : (catalog : List CatEntry) → NamesAscend None catalog → entries (bindings catalog) ≡ rows 0 catalog
-  unfolding bindings
-  entries_bound catalog ascend =
-      let sorted = rows_sorted None 0 catalog ascend in
-      ap entries (same_map names_total names_antisymmetric (from_entries {R = name_cmp} (rows 0 catalog)) (from_sorted {R = name_cmp} (rows 0 catalog)) (λ q. get-from_entries names_total (rows 0 catalog) q ∙ sym (get-from_sorted name_cmp (rows 0 catalog) q sorted)))
-      ∙ entries-from_sorted name_cmp (rows 0 catalog) sorted
+  unfolding bindings rows
+  entries_bound catalog ascend = entries_made names_total names_antisymmetric (rows 0 catalog) (sorted_numbers 0 (map (opened_root cars) (roots_in catalog)) (named_sorted cars None catalog ascend))
 
   bound_differ : (catalog : List CatEntry) → AllNumbersDiffer (bindings catalog)
   unfolding bindings rows
@@ -209,14 +187,16 @@ module _ (listed : List Listed) (catalog : List CatEntry) (next_id : ℕ) (ok : 
       cars = refl;
       trains = refl;
       roots = bound_roots (images listed) catalog ok.names;
-      numbers = differ;
-      sets = λ car. ap is_some (set_at car) ∙ mapped_some (get view.cars car) (remembering (all_stored view.cars view.roots) car);
-      remembered = remembered;
-      queues = queue_at;
-      registers = refl;
-      anchor = refl;
-      phase = refl;
-      next = refl;
-      completed = refl;
+      fresh = record {
+        numbers = differ;
+        sets = λ car. ap is_some (set_at car) ∙ mapped_some (get view.cars car) (remembering (all_stored view.cars view.roots) car);
+        remembered = remembered;
+        queues = queue_at;
+        registers = refl;
+        anchor = refl;
+        phase = refl;
+        next = refl;
+        completed = refl;
+      };
     },
   )

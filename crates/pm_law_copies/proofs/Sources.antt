@@ -24,14 +24,9 @@ use Rattle.pm_view.specs.Sources.{outside, slot_in}
 use Rattle.pm_view.specs.View.{Cars, Sources}
 use Rattle.pm_view.specs.Reading.{slot_at, object_at, field_of}
 use Rattle.pm_law_rows.proofs.Numbers.{owner, found_by_number}
-use Rattle.pm_law_copies.proofs.Lists.{or_else, all_append, all_entries}
+use Rattle.pm_law_copies.proofs.Lists.{or_else, all_append, all_mapped, all_entries, both_true}
 use Rattle.pm_law_copies.proofs.Objects.{find_in_two}
 use Rattle.pm_law_copies.proofs.OpenedLaw.{flat_from}
-
-both_hold : (a b : Bool) → (a && b) ≡ true → (a ≡ true) × (b ≡ true)
-both_hold true true is = (refl, refl)
-both_hold true false is = cc
-both_hold false b is = cc
 
 -- ---- members
 
@@ -61,10 +56,6 @@ in_mapped f (z ∷ xs) x (inr later) = inr (in_mapped f xs x later)
 all_flat : {X Y : Type 0} (P : Y → Type 0) (f : X → List Y) (xs : List X) → AllByRecursion (λ x. AllByRecursion P (f x)) xs → AllByRecursion P (flat_map f xs)
 all_flat P f [] all = tt
 all_flat P f (x ∷ xs) all = all_append P (f x) (flat_map f xs) all.0 (all_flat P f xs all.1)
-
-all_map : {X Y : Type 0} (P : Y → Type 0) (f : X → Y) (xs : List X) → AllByRecursion (λ x. P (f x)) xs → AllByRecursion P (map f xs)
-all_map P f [] all = tt
-all_map P f (x ∷ xs) all = (all.0, all_map P f xs all.1)
 
 module _ {K X : Type 0} {R : K → K → Ordering} (o : IsTotalOrder R) (same : IsAntisymmetric R) where
   in_entries : (es : List (K × X)) (k : K) (x : X) → find R k es ≡ Some x → IsIn es (k, x)
@@ -163,7 +154,7 @@ module _ (cars : Cars) (roots : Bindings) where
     all_right =
         all_append IsRight (flat_map car_sources (entries cars)) (map root_source (entries roots))
         (all_flat IsRight car_sources (entries cars) (all_entries nat_cmp_total (λ e. AllByRecursion IsRight (car_sources e)) (entries cars) (entries_sorted cars) car_right))
-        (all_map IsRight root_source (entries roots) (all_entries names_total (λ e. IsRight (root_source e)) (entries roots) (entries_sorted roots) root_right))
+        (all_mapped IsRight root_source (entries roots) (all_entries names_total (λ e. IsRight (root_source e)) (entries roots) (entries_sorted roots) root_right))
 
   -- ---- nothing that is stored is missing
 
@@ -225,7 +216,7 @@ module _ (cars : Cars) (roots : Bindings) where
   picked_one car e x s false is right found = cc
   picked_one car e x s true is right found = elim (eq_by_cmp source_cmp x e.0) as (λ b. eq_by_cmp source_cmp x e.0 ≡ b → cond b (Some e.1.slot) None ≡ Some s → IsOutside car x s) [
     | true ↦ λ tied found.
-        let both = both_hold (outside car e.0) (e.1.car == car) is in
+        let both = both_true (outside car e.0) (e.1.car == car) is in
         let named : slot_in car (stores cars roots e.0) ≡ Some s = ap (slot_in car) right ∙ ap (λ b. cond b (Some e.1.slot) None) both.1 ∙ found in
         subst (λ x. IsOutside car x s) (sym (tells_apart sources_antisymmetric x e.0 tied)) (both.0, named)
     | false ↦ λ apart found. cc

@@ -13,11 +13,18 @@ at car slot = record { car = car; slot = slot }
 abbrev pub object : ℕ → List (Option Addr) → Slot
 object id fields = Live (record { id = id; fields = fields; bytes = [] })
 
--- Train 3 has car 5, whose slot 2 was Moved; train 4 has car 7, which has a Moved slot alone; train 8 has car 9, with two
--- objects that name each other.
+-- car 5 has object 1, whose first field names slot 2, and that slot was Moved to car 9
+abbrev pub five : List (ℕ × Slot)
+five = (0, object 1 (Some (at 5 2) ∷ None ∷ [])) ∷ (2, Moved (at 9 1)) ∷ []
+
+-- car 7 has a Moved slot alone
+abbrev pub seven : List (ℕ × Slot)
+seven = (4, Moved (at 5 0)) ∷ []
+
+-- car 9 has objects 2 and 4, which name each other
+abbrev pub nine : List (ℕ × Slot)
+nine = (1, object 2 (Some (at 9 3) ∷ [])) ∷ (3, object 4 (Some (at 9 1) ∷ [])) ∷ []
+
+-- the three cars in trains 3, 4 and 8
 abbrev pub three : List Listed
-three =
-    (3, record { number = 5; slots = (0, object 1 (Some (at 5 2) ∷ None ∷ [])) ∷ (2, Moved (at 9 1)) ∷ [] })
-    ∷ (4, record { number = 7; slots = (4, Moved (at 5 0)) ∷ [] })
-    ∷ (8, record { number = 9; slots = (1, object 2 (Some (at 9 3) ∷ [])) ∷ (3, object 4 (Some (at 9 1) ∷ [])) ∷ [] })
-    ∷ []
+three = (3, record { number = 5; slots = five }) ∷ (4, record { number = 7; slots = seven }) ∷ (8, record { number = 9; slots = nine }) ∷ []
