@@ -260,6 +260,14 @@ fn push_plan<F: Fn(&[u64]) -> usize + Drop>(
     Ok(())
 }
 
+// A size in decimal.
+fn size(text: &str) -> Result<u32, Fault> {
+    match text.parse::<u32>() {
+        Ok(size) => Ok(size),
+        Err(_) => Err(Fault::Number),
+    }
+}
+
 /// `CHOOSER N E SIZE`: N commands that are drawn, over a new space and beside the plain slow program, of objects of up to
 /// three times SIZE bytes, and after each of them E events, after each of which the registers of the two clients are looked
 /// at, and after the last all that they reach; then all is given up, and 20,000 events are made. The chooser picks the `first` train, the `last` or the `middle`
@@ -270,7 +278,7 @@ pub(crate) fn push_collected(alloc: Global, text: &str, out: &mut String) -> Res
     let plan = Plan {
         commands: number(words.next().ok_or(Fault::Number)?)?,
         events: number(words.next().ok_or(Fault::Number)?)?,
-        size: number(words.next().ok_or(Fault::Number)?)? as u32,
+        size: size(words.next().ok_or(Fault::Number)?)?,
     };
     match chooser {
         "first" => push_plan(

@@ -10,7 +10,7 @@ use pm_mutate::act;
 use pm_place::Placement;
 use pm_reclaim::collect_one;
 use pm_space::Space;
-use pm_types::{Cmd, Entry, Step};
+use pm_types::{Cmd, Entry, SOURCE_BYTES, Step};
 use std::alloc::Global;
 use std::fmt::Write;
 
@@ -129,21 +129,25 @@ fn collect<F: Fn(&[u64]) -> usize + Drop>(
     show(events, out)
 }
 
-// Gives a command to the space, and answers its reply's line.
+// Gives a command to the space, and answers its reply's line, which does not depend on the command.
 fn answer<F: Fn(&[u64]) -> usize + Drop>(
     space: &mut Space<F>,
     alloc: Global,
     client: u32,
-    cmd: Cmd,
+    cmd: &Cmd,
 ) -> Result<String, Fault>
     requires { IsChooser F.Fn space.old.parts.place }
     ensures { IsChooser F.Fn space.new.parts.place }
 {
-    if client >= 8 || !acts(&cmd) {
+    if client >= 8 || !acts(cmd) {
         return Err(Fault::Step);
     }
-    let reply = act(space, alloc, client, &cmd)?;
-    let line = reply_text(alloc, &Entry { client, cmd, reply })?;
+    let entry = Entry {
+        client,
+        cmd: Cmd::Close,
+        reply: act(space, alloc, client, cmd)?,
+    };
+    let line = reply_text(alloc, &entry)?;
     match String::from_utf8(line) {
         Ok(line) => Ok(line),
         Err(_) => Err(Fault::Step),
@@ -154,7 +158,7 @@ fn answer<F: Fn(&[u64]) -> usize + Drop>(
 fn run<F: Fn(&[u64]) -> usize + Drop>(
     space: &mut Space<F>,
     alloc: Global,
-    lines: Vec<Line>,
+    lines: &[Line],
     shows: Shows,
     out: &mut String,
 ) -> Result<(Events, String), Fault>
@@ -171,12 +175,12 @@ fn run<F: Fn(&[u64]) -> usize + Drop>(
     for line in lines {
         match line {
             Line::Client { client, cmd } => {
-                last = answer(space, alloc, client, cmd)?;
+                last = answer(space, alloc, *client, cmd)?;
                 if matches!(shows, Shows::All | Shows::Replies) {
                     out.push_str(&last)?;
                 }
             }
-            Line::Gc(count) => collect(space, alloc, count, shows, &mut events, out)?,
+            Line::Gc(count) => collect(space, alloc, *count, shows, &mut events, out)?,
             Line::Flush(_) => return Err(Fault::Step),
         }
     }
@@ -192,11 +196,15 @@ pub(crate) fn push_script(
     shows: Shows,
     out: &mut String,
 ) -> Result<(), Fault> {
-    let Ok(script) = read_script(alloc, &script_of(alloc, text)?) else {
+    let bytes = script_of(alloc, text)?;
+    if bytes.len() > SOURCE_BYTES {
+        return Err(Fault::Script);
+    }
+    let Ok(script) = read_script(alloc, &bytes) else {
         return Err(Fault::Script);
     };
     let mut space = Space::new(alloc, Placement::new(|_: &[u64]| 0))?;
-    let (events, last) = run(&mut space, alloc, script.into_vec(), shows, out)?;
+    let (events, last) = run(&mut space, alloc, script.as_slice(), shows, out)?;
     if shows == Shows::Last {
         out.push_str(&last)?;
         return Ok(());
