@@ -1,5 +1,5 @@
 -- What the laws of commands say of a call that carried one out by its row.
-use Rattle.std.proofs.Common.{◌≡◌, ℕ, ◌<◌, true, ap, sym, subst, ◌∙◌, List, Result, Ok, Err, IfOk}
+use Rattle.std.proofs.Common.{◌≡◌, ℕ, ◌+◌, ◌<◌, ◌≤◌, arith, OnErr, true, ap, sym, subst, ◌∙◌, List, Result, Ok, Err, IfOk}
 use Rattle.pm_types.specs.declared.limits.TheConstants.{REGISTERS}
 use Rattle.pm_types.specs.declared.no_memory.NoMemory.{NoMemory}
 use Rattle.pm_types.specs.declared.command.Cmd.{Cmd}
@@ -9,10 +9,12 @@ use Rattle.pm_types.specs.declared.reply.Reply.TheVariants.{Ident}
 use Rattle.pm_model.specs.Answer.{is_refusal}
 use Rattle.pm_view.specs.View.{SpaceView}
 use Rattle.pm_view.specs.Objects.{AddsObject}
+use Rattle.pm_view.specs.Work.{work}
+use Rattle.pm_law_work.specs.Raises.{raises}
 use Rattle.pm_view.specs.Rows.{spent, birthplace, IsVacant}
 use Rattle.pm_view.specs.Commands.{row, fresh, HasRegisters, Picks, ArePicked}
 use Rattle.pm_mutate.specs.Picked.{IsForSomeRoot, IsForSomeCar, IsRow}
-use Rattle.pm_mutate.specs.Acts.{IsBirth}
+use Rattle.pm_mutate.specs.Acts.{IsBirth, AddsLittleWork}
 use Rattle.pm_mutate.proofs.FreeNumbers.{spare_root, is_spare}
 
 -- what is picked: a number of a root that no name has, and this number of a car
@@ -48,6 +50,14 @@ module _ (v w : SpaceView) (client : ℕ) (cmd : Cmd) where
       → ((picks : Picks) → is_refusal cmd (row v client cmd picks).0 ≡ true → (row v client cmd picks).1 ≡ v) → IfOk r (λ reply. is_refusal cmd reply ≡ true → w ≡ v)
   refused_still (Ok reply) is still = λ refused. ap (λ (p : Reply × SpaceView). p.1) is.2 ∙ still is.0 (subst (λ (p : Reply × SpaceView). is_refusal cmd p.0 ≡ true) is.2 refused)
   refused_still (Err e) is still = tt
+
+-- what the law says of work
+abbrev AddsToRow : SpaceView → ℕ → Cmd → Type 0
+AddsToRow v client cmd = (picks : Picks) → ArePicked v picks → work (row v client cmd picks).1 ≤ work v + raises cmd
+
+pub adds_little : (r : Result Reply NoMemory) (v w : SpaceView) (client : ℕ) (cmd : Cmd) → AddsToRow v client cmd → IfOk r (λ reply. IsRow v client cmd (reply, w)) → OnErr r (w ≡ v) → AddsLittleWork v cmd w
+adds_little (Ok reply) v w client cmd adds is same = subst (λ (p : Reply × SpaceView). work p.1 ≤ work v + raises cmd) (sym is.2) (adds is.0 is.1)
+adds_little (Err e) v w client cmd adds is same = subst (λ (u : SpaceView). work u ≤ work v + raises cmd) (sym same) (omega arith)
 
 -- what the law says of births
 abbrev Adds : SpaceView → ℕ → Type 0

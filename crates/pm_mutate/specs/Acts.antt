@@ -1,5 +1,5 @@
 -- What a command does, beyond its row.
-use Rattle.std.specs.Prelude.{◌≡◌, ℕ, true, None}
+use Rattle.std.specs.Prelude.{◌≡◌, ℕ, ◌+◌, ◌≤◌, true, None}
 use Rattle.std.specs.FinMap.{get}
 use Rattle.pm_types.specs.declared.address.Addr.{Addr}
 use Rattle.pm_types.specs.declared.command.Cmd.{Cmd}
@@ -11,6 +11,8 @@ use Rattle.pm_model.specs.Answer.{answer, is_refusal}
 use Rattle.pm_view.specs.View.{SpaceView}
 use Rattle.pm_view.specs.Represents.{Represents}
 use Rattle.pm_view.specs.Objects.{AddsObject}
+use Rattle.pm_view.specs.Work.{work}
+use Rattle.pm_law_work.specs.Raises.{raises}
 use Rattle.pm_law_commands.specs.Served.{IsServed}
 
 -- for every world that the space stands for, and in which no object has the next identity, the reply is the world's
@@ -21,6 +23,11 @@ Serves view client cmd reply after = (world : World) → Represents view world �
 -- a command that is refused leaves the space as it is
 abbrev pub IsStill : SpaceView → Cmd → Reply → SpaceView → Type 0
 IsStill view cmd reply after = is_refusal cmd reply ≡ true → after ≡ view
+
+-- A command adds at most six to the work that is left of a collection, and the one that empties all registers of a client
+-- at most 3,072.
+abbrev pub AddsLittleWork : SpaceView → Cmd → SpaceView → Type 0
+AddsLittleWork view cmd after = work after ≤ work view + raises cmd
 
 -- a `new` that is not refused adds one object, under the next identity, in the open train
 abbrev pub IsBirth : SpaceView → Cmd → Reply → SpaceView → Type 0

@@ -1,5 +1,5 @@
 use Rattle.pm_space.specs.Shown.{view}
-use Rattle.pm_mutate.proofs.Carried.{refused_still, born_so}
+use Rattle.pm_mutate.proofs.Carried.{refused_still, born_so, adds_little}
 use Rattle.pm_mutate.proofs.acting.act.Goals as goal
 
 pub returns-clause-refused : goal.returns-clause-refused
@@ -12,3 +12,8 @@ returns-clause-born g c =
     let v = view c.args.space.now.parts in
     born_so c.run.result v (view c.run.new.parts) c.args.client c.args.cmd.now c.sound_registers.ensures c.run.ensures.row
     (λ reg count bytes picks small are is. c.new_adds_one_object_in_the_open_train.ensures v c.args.client reg count bytes picks c.args.space.now.kept c.requires.client small are is)
+
+pub returns-clause-work : goal.returns-clause-work
+returns-clause-work g c =
+    let v = view c.args.space.now.parts in
+    adds_little c.run.result v (view c.run.new.parts) c.args.client c.args.cmd.now (λ picks are. c.a_command_adds_little_work.ensures v c.args.client c.args.cmd.now picks c.args.space.now.kept c.requires.client are) c.run.ensures.row c.run.ensures.err
