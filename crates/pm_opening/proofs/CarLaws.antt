@@ -1,0 +1,1 @@
+-- What a car is once all its slots were opened.

@@ -1,0 +1,5 @@
+//! Making a space of what the bytes of a store list.
+#![tactic(auto)]
+
+mod leading;
+mod opened_car;
