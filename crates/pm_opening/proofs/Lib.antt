@@ -1,2 +1,3 @@
 pub mod LeadingLaws
 pub mod CarLaws
+pub mod TrainLaws

@@ -3,3 +3,4 @@
 
 mod leading;
 mod opened_car;
+mod opened_trains;
