@@ -1,8 +1,13 @@
 -- The trains once all cars are in.
-use Rattle.std.proofs.Common.{◌≡◌, ℕ, suc, ◌+◌, ◌<◌, ◌≤◌, ◌==◌, Bool, true, false, cond, List, [], ◌∷◌, ◌++◌, length, Option, Some, None, IsSome, refl, sym, ap, subst, ◌∙◌, arith, append_assoc, if◌then◌else◌}
+use Rattle.std.proofs.Common.{◌≡◌, ℕ, suc, ◌+◌, ◌<◌, ◌≤◌, ◌==◌, Bool, true, false, cond, List, [], ◌∷◌, ◌++◌, length, Option, Some, None, IsSome, IsSomeAnd, is_some, refl, sym, ap, subst, ◌∙◌, arith, drop, append_assoc, if◌then◌else◌}
+use Rattle.std.proofs.Math.ListN.{drop_of_length-le}
 use Rattle.std.specs.List.{AllByRecursion}
+use Rattle.std.specs.Option.{option_map}
+use Rattle.std.proofs.lemmas.List.{length-append}
+use Rattle.pm_trains.proofs.Cars.{home_kept, home_rotated}
+use Rattle.pm_trains.proofs.Found.{cars_changed, last_changed, last_pushed}
 use Rattle.std.proofs.lemmas.Bool.{eqb-true}
-use Rattle.pm_trains.specs.Trains.{Train, Trains, train_of, youngest, last_number, appended, rotated, first_trains, empty_train}
+use Rattle.pm_trains.specs.Trains.{Train, Trains, cars_at, HasCar, train_of, youngest, last_number, appended, rotated, first_trains, empty_train}
 use Rattle.pm_trains.specs.Changes.{opened}
 use Rattle.pm_trains.proofs.Order.{differ, agree}
 use Rattle.pm_copies.specs.Opened.{before, grouped, numbered}
@@ -97,3 +102,37 @@ all_in (k ∷ kept) = in_order [] 1 (k.1 ∷ []) k.0 kept tt ∙ ap (λ ts. reco
 pub none_yet : (kept : List (ℕ × ℕ)) → AreNew first_trains.trains kept
 none_yet [] = tt
 none_yet (k ∷ kept) = (refl, none_yet kept)
+
+turned : (m n : ℕ) → (m == n) ≡ false → (n == m) ≡ false
+turned m n is = differ n m (λ same. let clash : true ≡ false = sym (agree m n (sym same)) ∙ is in cc)
+
+-- a car that is in no train is in none either once another one was put in
+still_new : (last : Option ℕ) (kept : ℕ × ℕ) (t : Trains) (q : ℕ) → (q == kept.1) ≡ false → train_of t.trains q ≡ None → train_of (with_kept last kept t).trains q ≡ None
+still_new last kept t q apart none = elim (goes_on last kept.0) as (λ b. train_of (if b then record t { trains = appended (youngest t.trains) kept.1 t.trains } else opened t kept.1).trains q ≡ None) [
+  | true ↦ home_kept q (youngest t.trains) kept.1 t.trains (turned q kept.1 apart) ∙ none
+  | false ↦ home_kept q (youngest t.trains + 1) kept.1 (rotated t.trains) (turned q kept.1 apart) ∙ home_rotated q (youngest t.trains + 1) t.trains ∙ none
+]
+
+pub all_still_new : (last : Option ℕ) (kept : ℕ × ℕ) (t : Trains) (others : List (ℕ × ℕ)) → AllByRecursion (λ (other : ℕ × ℕ). (other.1 == kept.1) ≡ false) others → AreNew t.trains others → AreNew (with_kept last kept t).trains others
+all_still_new last kept t [] apart none = tt
+all_still_new last kept t (other ∷ others) apart none = (still_new last kept t other.1 apart.0 none.0, all_still_new last kept t others apart.1 none.1)
+
+-- ---- the youngest train has a car
+
+some_behind : (o : Option (List ℕ)) (car : ℕ) → IsSome o → IsSomeAnd (option_map (λ cars. cars ++ car ∷ []) o) (λ cars. 0 < length cars)
+some_behind None car some = cc
+some_behind (Some cars) car some = let length_is = length-append cars (car ∷ []) in omega (arith, length_is)
+
+there : (m : ℕ) (ts : List Train) → IsSome (cars_at (ts ++ empty_train m ∷ []) m)
+there m [] = ap is_some (chosen (m == m) (Some []) None (itself m))
+there m (t ∷ ts) = elim (t.number == m) as (λ b. IsSome (if b then Some t.cars else cars_at (ts ++ empty_train m ∷ []) m)) [ true ↦ refl | false ↦ there m ts ]
+
+pub opened_has : (t : Trains) (car : ℕ) → HasCar (opened t car).trains (youngest (opened t car).trains)
+opened_has t car =
+    let m = youngest t.trains + 1 in
+    let last : youngest (opened t car).trains ≡ m = last_changed 0 m (λ cars. cars ++ car ∷ []) (rotated t.trains) ∙ last_pushed 0 m t.trains in
+    let found : cars_at (opened t car).trains m ≡ option_map (λ cars. cars ++ car ∷ []) (cars_at (rotated t.trains) m) = cars_changed m m (λ cars. cars ++ car ∷ []) (rotated t.trains) ∙ chosen (m == m) _ _ (itself m) in
+    subst (HasCar (opened t car).trains) (sym last) (subst (λ (o : Option (List ℕ)). IsSomeAnd o (λ cars. 0 < length cars)) (sym found) (some_behind (cars_at (rotated t.trains) m) car (there m t.trains)))
+
+pub walked_to_end : (kept : List (ℕ × ℕ)) (i : ℕ) (last : Option ℕ) (t : Trains) → length kept ≤ i → with_all_kept last (drop i kept) t ≡ closed last t
+walked_to_end kept i last t past = ap (λ (left : List (ℕ × ℕ)). with_all_kept last left t) (drop_of_length-le kept past)
