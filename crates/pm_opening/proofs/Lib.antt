@@ -1,3 +1,4 @@
 pub mod LeadingLaws
 pub mod CarLaws
 pub mod TrainLaws
+pub mod CarsLaws

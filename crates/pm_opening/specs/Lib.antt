@@ -1,3 +1,4 @@
 pub mod Leading
 pub mod Making
 pub mod Trains
+pub mod Cars

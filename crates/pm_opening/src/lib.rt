@@ -3,4 +3,5 @@
 
 mod leading;
 mod opened_car;
+mod opened_cars;
 mod opened_trains;
