@@ -2,3 +2,4 @@ pub mod LeadingLaws
 pub mod CarLaws
 pub mod TrainLaws
 pub mod CarsLaws
+pub mod RootLaws

@@ -2,3 +2,4 @@ pub mod Leading
 pub mod Making
 pub mod Trains
 pub mod Cars
+pub mod Roots

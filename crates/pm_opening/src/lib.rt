@@ -4,4 +4,5 @@
 mod leading;
 mod opened_car;
 mod opened_cars;
+mod opened_roots;
 mod opened_trains;
