@@ -28,7 +28,8 @@ use Rattle.pm_copies.specs.Listed.{Listed, images}
 use Rattle.pm_copies.specs.Accepted.{NamesAscend, roots_in, IsAccepted}
 use Rattle.pm_copies.specs.Opened.{opened_cars, opened_trains, opened_root, unnumbered, IsOpened}
 use Rattle.pm_law_copies.proofs.OpenedCars.{both}
-use Rattle.pm_law_copies.proofs.Sources.{stores, all_stored, remembering, remembers}
+use Rattle.pm_law_copies.specs.Storing.{stores, remembering}
+use Rattle.pm_law_copies.proofs.Sources.{all_stored, remembers}
 
 -- ---- maps by car
 
