@@ -3,3 +3,4 @@ pub mod CarLaws
 pub mod TrainLaws
 pub mod CarsLaws
 pub mod RootLaws
+pub mod TellingLaws

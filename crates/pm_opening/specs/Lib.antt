@@ -3,3 +3,4 @@ pub mod Making
 pub mod Trains
 pub mod Cars
 pub mod Roots
+pub mod Remembering

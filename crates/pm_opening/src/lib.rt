@@ -6,3 +6,4 @@ mod opened_car;
 mod opened_cars;
 mod opened_roots;
 mod opened_trains;
+mod remembering;
