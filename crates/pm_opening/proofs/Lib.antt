@@ -4,3 +4,5 @@ pub mod TrainLaws
 pub mod CarsLaws
 pub mod RootLaws
 pub mod TellingLaws
+pub mod KeptLaws
+pub mod PartsLaws

@@ -3,7 +3,9 @@
 
 mod leading;
 mod opened_car;
+mod kept;
 mod opened_cars;
 mod opened_roots;
 mod opened_trains;
+mod parts;
 mod remembering;
