@@ -1,11 +1,14 @@
 //! Making a space of what the bytes of a store list.
 #![tactic(auto)]
 
+mod building;
+mod kept;
 mod leading;
 mod opened_car;
-mod kept;
 mod opened_cars;
 mod opened_roots;
 mod opened_trains;
 mod parts;
 mod remembering;
+
+pub use building::build;
