@@ -23,11 +23,7 @@ fn follow(leads: &Leads, field: Option<Addr>) -> Option<Addr>
 }
 
 // Fields, each followed.
-fn follow_all(
-    alloc: Global,
-    leads: &Leads,
-    fields: &[Option<Addr>],
-) -> Result<Fields, NoMemory>
+fn follow_all(alloc: Global, leads: &Leads, fields: &[Option<Addr>]) -> Result<Fields, NoMemory>
     ensures { IfOk result (λ followed. followed ≡ map (option_map (resolved_by leads.now)) fields.now) }
 {
     let mut followed = Vec::with_capacity(alloc, fields.len())?;

@@ -60,11 +60,7 @@ fn tell_field(
 }
 
 // The object at this address has these fields.
-fn tell_fields(
-    links: &mut LinkTable,
-    at: Addr,
-    fields: &[Option<Addr>],
-) -> Result<(), NoMemory>
+fn tell_fields(links: &mut LinkTable, at: Addr, fields: &[Option<Addr>]) -> Result<(), NoMemory>
     requires { length fields.now < 2 ^ 32 }
     ensures { OnOk result (Adds links.old links.new (field_sources at 0 fields.now)) }
 {
@@ -121,11 +117,7 @@ fn tell_number(links: &mut LinkTable, table: &Table<Held>, number: u64) -> Resul
 }
 
 // These are the cars in the table, as they are listed.
-fn tell_cars(
-    links: &mut LinkTable,
-    table: &Table<Held>,
-    cars: &[KeptPage],
-) -> Result<(), NoMemory>
+fn tell_cars(links: &mut LinkTable, table: &Table<Held>, cars: &[KeptPage]) -> Result<(), NoMemory>
     ensures { OnOk result (Adds links.old links.new (flat_map car_sources (standing_of (cars_of table.now) (images_of cars.now)))) }
 {
     let mut left = cars.len();
