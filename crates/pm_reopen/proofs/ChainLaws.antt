@@ -218,7 +218,7 @@ leads_more most next begun met done cars entry car one leads entries more is =
     first (Root name at) None one is = is
     first (Root name at) (Some kept) one is = absurd one
     first (Car car train page digest) None one is = absurd one
-    first (Car car train page digest) (Some kept) one is = (one.0, is)
+    first (Car car train page digest) (Some kept) one is = (one.0, one.1, is)
 
 pub taken_more : {A : Type 0} (xs : List A) (i : ℕ) (x : A) → i < length xs → x ≡ get_or xs i x → take (i + 1) xs ≡ take i xs ++ x ∷ []
 taken_more [] i x lt is = absurd (omega (arith, lt))

@@ -184,13 +184,13 @@ Follow cars train name [] = Unit {0}
 Follow cars train name (Car car now page digest ∷ entries) = (0 < car) × (set.contains cars car ≡ false) × (train ≤ now) × Follow (set.insert cars car) now name entries
 Follow cars train name (Root found at ∷ entries) = (is_next_name name found ≡ true) × Follow cars train (Some found) entries
 
--- These are the cars that entries list, in order, each with a page after the identities that were met before it.
+-- These are the cars that entries list, in order, each with the number that is listed and with a page after the identities that were met before it.
 abbrev pub AreRead : ℕ → ℕ → Numbers → List CatEntry → List KeptPage → Type 0
 AreRead most next met [] [] = Unit {0}
 AreRead most next met [] (kept ∷ cars) = ⊥
 AreRead most next met (Root name at ∷ entries) cars = AreRead most next met entries cars
 AreRead most next met (Car car train page digest ∷ entries) [] = ⊥
-AreRead most next met (Car car train page digest ∷ entries) (kept ∷ cars) = HasCarPage (a_car most next (Some car)) met kept.image × AreRead most next (with_identities met kept.image.slots) entries cars
+AreRead most next met (Car car train page digest ∷ entries) (kept ∷ cars) = (kept.image.number ≡ car) × HasCarPage (a_car most next (Some car)) met kept.image × AreRead most next (with_identities met kept.image.slots) entries cars
 
 -- these entries and cars were read from some identities on, and what is read after them is read with these met
 abbrev pub LeadsOn : ℕ → ℕ → Numbers → List CatEntry → List KeptPage → Numbers → Type 0

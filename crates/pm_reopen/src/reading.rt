@@ -105,6 +105,7 @@ fn read_car<D: Disk>(
     requires most { most ≤ FIELDS }
     ensures gives { IfTold (D.contents (disk_of pages.old)) (λ bytes. Gives result (car_on most next (store_of (state pages.old).count bytes) met.old number page kept.now)) }
     ensures car { IfOk result (λ car. IsCar (state pages.old).count next car) }
+    ensures named { IfOk result (λ car. car.image.number ≡ number) }
     ensures reads { IfOk result (λ car. HasCarPage (a_car most next (Some number)) met.old car.image) }
     ensures met { IfOk result (λ car. met.new ≡ with_car met.old (Some car)) }
     ensures looked { Looked pages.old pages.new }
