@@ -6,3 +6,5 @@ pub mod RootLaws
 pub mod TellingLaws
 pub mod KeptLaws
 pub mod PartsLaws
+pub mod LeadLaws
+pub mod AcceptedLaws
