@@ -8,3 +8,4 @@ pub mod KeptLaws
 pub mod PartsLaws
 pub mod LeadLaws
 pub mod AcceptedLaws
+pub mod OpenLaws

@@ -4,3 +4,4 @@ pub mod Trains
 pub mod Cars
 pub mod Roots
 pub mod Remembering
+pub mod Opening

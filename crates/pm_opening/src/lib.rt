@@ -8,7 +8,9 @@ mod opened_car;
 mod opened_cars;
 mod opened_roots;
 mod opened_trains;
+mod opening;
 mod parts;
 mod remembering;
 
 pub use building::build;
+pub use opening::open_space;
