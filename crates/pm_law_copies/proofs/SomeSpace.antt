@@ -28,7 +28,8 @@ use Rattle.pm_roots.proofs.Sorted.{first, second}
 use Rattle.pm_law_copies.proofs.Lists.{entries_made}
 use Rattle.pm_law_copies.proofs.Named.{named_sorted}
 use Rattle.pm_law_copies.proofs.OpenedCars.{both}
-use Rattle.pm_law_copies.proofs.Sources.{stores, all_stored, remembering, remembers}
+use Rattle.pm_law_copies.specs.Storing.{stores, remembering}
+use Rattle.pm_law_copies.proofs.Sources.{all_stored, remembers}
 
 -- ---- maps by car
 

@@ -24,6 +24,7 @@ use Rattle.pm_view.specs.Sources.{outside, slot_in}
 use Rattle.pm_view.specs.View.{Cars, Sources}
 use Rattle.pm_view.specs.Reading.{slot_at, object_at, field_of}
 use Rattle.pm_law_rows.proofs.Numbers.{owner, found_by_number}
+use Rattle.pm_law_copies.specs.Storing.{Stored, field_sources, slot_sources, car_sources, root_source, stored_of, pick, remembering, stores}
 use Rattle.pm_law_copies.proofs.Lists.{or_else, all_append, all_mapped, all_entries, both_true}
 use Rattle.pm_law_copies.proofs.Objects.{find_in_two}
 use Rattle.pm_law_copies.proofs.OpenedLaw.{flat_from}
@@ -72,42 +73,9 @@ module _ {K X : Type 0} {R : K → K → Ordering} (o : IsTotalOrder R) (same : 
 
 -- ---- what is stored
 
-abbrev pub Stored : Type 0
-Stored = RefSource × Addr
-
--- the fields of an object from this index on
-field_sources : Addr → ℕ → List (Option Addr) → List Stored
-field_sources a k [] = []
-field_sources a k (None ∷ fields) = field_sources a (suc k) fields
-field_sources a k (Some to ∷ fields) = (Field a k, to) ∷ field_sources a (suc k) fields
-
-slot_sources : ℕ → ℕ × Slot → List Stored
-slot_sources n (s, Live object) = field_sources (record { car = n; slot = s }) 0 object.fields
-slot_sources n (s, Moved to) = []
-
-car_sources : ℕ × Car → List Stored
-car_sources e = flat_map (slot_sources e.0) (entries e.1.slots)
-
-root_source : List ℕ × (ℕ × Addr) → Stored
-root_source e = (Root e.1.0, e.1.1)
-
 -- all that cars and roots store
 pub all_stored : Cars → Bindings → List Stored
-all_stored cars roots = flat_map car_sources (entries cars) ++ map root_source (entries roots)
-
--- the sources of a car: those outside it that name a slot of it
-abbrev pick : ℕ → Stored → List (RefSource × ℕ)
-pick car e = cond (outside car e.0 && (e.1.car == car)) ((e.0, e.1.slot) ∷ []) []
-
--- the set that remembers them
-pub remembering : List Stored → ℕ → Sources
-remembering all car = from_entries (flat_map (pick car) all)
-
--- what cars and roots store, where no register holds anything
-abbrev pub stores : Cars → Bindings → RefSource → Option Addr
-stores cars roots (Root number) = address_at roots number
-stores cars roots (Handle client register) = None
-stores cars roots (Field a i) = field_of (object_at cars a) i
+all_stored cars roots = stored_of (entries cars) roots
 
 module _ (cars : Cars) (roots : Bindings) where
   -- the source stores this
@@ -115,7 +83,6 @@ module _ (cars : Cars) (roots : Bindings) where
   IsRight e = stores cars roots e.0 ≡ Some e.1
 
   fields_right : (a : Addr) (object : Object) (k : ℕ) (fields : List (Option Addr)) → object_at cars a ≡ Some object → ((i : ℕ) → slice_get object.fields (k + i) ≡ slice_get fields i) → AllByRecursion IsRight (field_sources a k fields)
-  unfolding field_sources
   fields_right a object k [] is part = tt
   fields_right a object k (None ∷ fields) is part = fields_right a object (suc k) fields is (λ i. ap (slice_get object.fields) (later k i) ∙ part (suc i))
     where
@@ -129,37 +96,41 @@ module _ (cars : Cars) (roots : Bindings) where
       at : (k : ℕ) → k ≡ k + 0
       at k = omega arith
 
-  at_address : (n : ℕ) (car : Car) (s : ℕ) (slot : Slot) → find nat_cmp n (entries cars) ≡ Some car → find nat_cmp s (entries car.slots) ≡ Some slot → slot_at cars (record { car = n; slot = s }) ≡ Some slot
-  at_address n car s slot is found = ap (option_and_then (λ (car : Car). get car.slots s)) (get-entries cars n ∙ is) ∙ get-entries car.slots s ∙ found
+  at_address : (n : ℕ) (car : Car) (s : ℕ) (slot : Slot) → get cars n ≡ Some car → find nat_cmp s (entries car.slots) ≡ Some slot → slot_at cars (record { car = n; slot = s }) ≡ Some slot
+  at_address n car s slot is found = ap (option_and_then (λ (car : Car). get car.slots s)) is ∙ get-entries car.slots s ∙ found
 
   slot_right : (n s : ℕ) (slot : Slot) → slot_at cars (record { car = n; slot = s }) ≡ Some slot → AllByRecursion IsRight (slot_sources n (s, slot))
-  unfolding slot_sources
   slot_right n s (Live object) is = fields_right (record { car = n; slot = s }) object 0 object.fields (ap object_of is) (λ i. ap (slice_get object.fields) (from_zero i))
     where
       from_zero : (i : ℕ) → 0 + i ≡ i
       from_zero i = omega arith
   slot_right n s (Moved to) is = tt
 
-  car_right : (n : ℕ) (car : Car) → find nat_cmp n (entries cars) ≡ Some car → AllByRecursion IsRight (car_sources (n, car))
-  unfolding car_sources
+  car_right : (n : ℕ) (car : Car) → get cars n ≡ Some car → AllByRecursion IsRight (car_sources (n, car))
   car_right n car is = all_flat IsRight (slot_sources n) (entries car.slots) (all_entries nat_cmp_total (λ e. AllByRecursion IsRight (slot_sources n e)) (entries car.slots) (entries_sorted car.slots) (λ s slot found. slot_right n s slot (at_address n car s slot is found)))
+
+  each_right : (listed : List (ℕ × Car)) → AllByRecursion (λ (e : ℕ × Car). get cars e.0 ≡ Some e.1) listed → AllByRecursion (λ e. AllByRecursion IsRight (car_sources e)) listed
+  each_right [] each = tt
+  each_right (e ∷ listed) each = (car_right e.0 e.1 each.0, each_right listed each.1)
+
+  -- these list the cars, each once
+  pub record AreCars (listed : List (ℕ × Car)) : Type 0 where
+    pub found : (n : ℕ) → find nat_cmp n listed ≡ get cars n
+    pub each : AllByRecursion (λ (e : ℕ × Car). get cars e.0 ≡ Some e.1) listed
 
   module _ (differ : AllNumbersDiffer roots) where
     root_right : (name : List ℕ) (bound : ℕ × Addr) → find name_cmp name (entries roots) ≡ Some bound → IsRight (root_source (name, bound))
-    unfolding root_source
     root_right name bound is = found_by_number roots differ name bound (get-entries roots name ∙ is)
 
-    all_right : AllByRecursion IsRight (all_stored cars roots)
-    unfolding all_stored
-    all_right =
-        all_append IsRight (flat_map car_sources (entries cars)) (map root_source (entries roots))
-        (all_flat IsRight car_sources (entries cars) (all_entries nat_cmp_total (λ e. AllByRecursion IsRight (car_sources e)) (entries cars) (entries_sorted cars) car_right))
+    all_right : (listed : List (ℕ × Car)) → AllByRecursion (λ (e : ℕ × Car). get cars e.0 ≡ Some e.1) listed → AllByRecursion IsRight (stored_of listed roots)
+    all_right listed each =
+        all_append IsRight (flat_map car_sources listed) (map root_source (entries roots))
+        (all_flat IsRight car_sources listed (each_right listed each))
         (all_mapped IsRight root_source (entries roots) (all_entries names_total (λ e. IsRight (root_source e)) (entries roots) (entries_sorted roots) root_right))
 
   -- ---- nothing that is stored is missing
 
   field_in : (a : Addr) (k : ℕ) (fields : List (Option Addr)) (i : ℕ) (to : Addr) → slice_get fields i ≡ Some (Some to) → IsIn (field_sources a k fields) (Field a (k + i), to)
-  unfolding field_sources
   field_in a k [] i to is = cc
   field_in a k (None ∷ fields) zero to is = cc
   field_in a k (None ∷ fields) (suc i) to is = subst (λ n. IsIn (field_sources a (suc k) fields) (Field a n, to)) (later k i) (field_in a (suc k) fields i to is)
@@ -178,33 +149,31 @@ module _ (cars : Cars) (roots : Bindings) where
       later : (k i : ℕ) → suc k + i ≡ k + suc i
       later k i = omega arith
 
-  in_car : (a : Addr) (car : Car) (object : Object) (i : ℕ) (to : Addr) → get cars a.car ≡ Some car → get car.slots a.slot ≡ Some (Live object) → slice_get object.fields i ≡ Some (Some to) → IsIn (flat_map car_sources (entries cars)) (Field a i, to)
-  unfolding car_sources slot_sources
-  in_car a car object i to is here field =
-      in_flat car_sources (entries cars) (a.car, car) (Field a i, to) (in_entries nat_cmp_total nat_cmp-IsAntisymmetric (entries cars) a.car car (sym (get-entries cars a.car) ∙ is))
+  in_car : (listed : List (ℕ × Car)) → AreCars listed → (a : Addr) (car : Car) (object : Object) (i : ℕ) (to : Addr) → get cars a.car ≡ Some car → get car.slots a.slot ≡ Some (Live object) → slice_get object.fields i ≡ Some (Some to) → IsIn (flat_map car_sources listed) (Field a i, to)
+  in_car listed are a car object i to is here field =
+      in_flat car_sources listed (a.car, car) (Field a i, to) (in_entries nat_cmp_total nat_cmp-IsAntisymmetric listed a.car car (are.found a.car ∙ is))
       (in_flat (slot_sources a.car) (entries car.slots) (a.slot, Live object) (Field a i, to) (in_entries nat_cmp_total nat_cmp-IsAntisymmetric (entries car.slots) a.slot (Live object) (sym (get-entries car.slots a.slot) ∙ here))
       (subst (λ n. IsIn (field_sources a 0 object.fields) (Field a n, to)) (from_zero i) (field_in a 0 object.fields i to field)))
     where
       from_zero : (i : ℕ) → 0 + i ≡ i
       from_zero i = omega arith
 
-  object_in : (a : Addr) (o : Option Car) → get cars a.car ≡ o → (i : ℕ) (to : Addr) → field_of (object_of (option_and_then (λ (car : Car). get car.slots a.slot) o)) i ≡ Some to → IsIn (flat_map car_sources (entries cars)) (Field a i, to)
-  object_in a None is i to field = cc
-  object_in a (Some car) is i to field = slot_in_car (get car.slots a.slot) refl field
+  object_in : (listed : List (ℕ × Car)) → AreCars listed → (a : Addr) (o : Option Car) → get cars a.car ≡ o → (i : ℕ) (to : Addr) → field_of (object_of (option_and_then (λ (car : Car). get car.slots a.slot) o)) i ≡ Some to → IsIn (flat_map car_sources listed) (Field a i, to)
+  object_in listed are a None is i to field = cc
+  object_in listed are a (Some car) is i to field = slot_in_car (get car.slots a.slot) refl field
     where
-      slot_in_car : (o : Option Slot) → get car.slots a.slot ≡ o → field_of (object_of o) i ≡ Some to → IsIn (flat_map car_sources (entries cars)) (Field a i, to)
+      slot_in_car : (o : Option Slot) → get car.slots a.slot ≡ o → field_of (object_of o) i ≡ Some to → IsIn (flat_map car_sources listed) (Field a i, to)
       slot_in_car None here field = cc
-      slot_in_car (Some (Live object)) here field = in_car a car object i to is here (flat_from (slice_get object.fields i) to field)
+      slot_in_car (Some (Live object)) here field = in_car listed are a car object i to is here (flat_from (slice_get object.fields i) to field)
       slot_in_car (Some (Moved b)) here field = cc
 
-  stored_in : (x : RefSource) (to : Addr) → stores cars roots x ≡ Some to → IsIn (all_stored cars roots) (x, to)
-  unfolding all_stored root_source
-  stored_in (Root number) to is =
+  stored_in : (listed : List (ℕ × Car)) → AreCars listed → (x : RefSource) (to : Addr) → stores cars roots x ≡ Some to → IsIn (stored_of listed roots) (x, to)
+  stored_in listed are (Root number) to is =
       let name = owner roots number to is in
-      in_second (flat_map car_sources (entries cars)) (map root_source (entries roots)) (Root number, to)
+      in_second (flat_map car_sources listed) (map root_source (entries roots)) (Root number, to)
       (in_mapped root_source (entries roots) (name.0, (number, to)) (in_entries names_total names_antisymmetric (entries roots) name.0 (number, to) (sym (get-entries roots name.0) ∙ name.1)))
-  stored_in (Handle client register) to is = cc
-  stored_in (Field a i) to is = in_first (flat_map car_sources (entries cars)) (map root_source (entries roots)) (Field a i, to) (object_in a (get cars a.car) refl i to is)
+  stored_in listed are (Handle client register) to is = cc
+  stored_in listed are (Field a i) to is = in_first (flat_map car_sources listed) (map root_source (entries roots)) (Field a i, to) (object_in listed are a (get cars a.car) refl i to is)
 
   -- ---- what a set remembers
 
@@ -236,24 +205,34 @@ module _ (cars : Cars) (roots : Bindings) where
   in_picked car e out same = subst (λ b. IsIn {X = RefSource × ℕ} (cond b ((e.0, e.1.slot) ∷ []) []) (e.0, e.1.slot)) (sym (λ i. out i && same i)) (inl refl)
 
   -- a source that is outside the car and names a slot of it is found
-  found_there : (car : ℕ) (x : RefSource) (a : Addr) → outside car x ≡ true → stores cars roots x ≡ Some a → (a.car == car) ≡ true → is_some (find source_cmp x (flat_map (pick car) (all_stored cars roots))) ≡ true
-  found_there car x a out is same =
-      found_in sources_total sources_antisymmetric (flat_map (pick car) (all_stored cars roots)) (x, a.slot)
-      (in_flat (pick car) (all_stored cars roots) (x, a) (x, a.slot) (stored_in x a is) (in_picked car (x, a) out same))
+  found_there : (listed : List (ℕ × Car)) → AreCars listed → (car : ℕ) (x : RefSource) (a : Addr) → outside car x ≡ true → stores cars roots x ≡ Some a → (a.car == car) ≡ true → is_some (find source_cmp x (flat_map (pick car) (stored_of listed roots))) ≡ true
+  found_there listed are car x a out is same =
+      found_in sources_total sources_antisymmetric (flat_map (pick car) (stored_of listed roots)) (x, a.slot)
+      (in_flat (pick car) (stored_of listed roots) (x, a) (x, a.slot) (stored_in listed are x a is) (in_picked car (x, a) out same))
 
-  nothing_there : (car : ℕ) (x : RefSource) (out : Bool) (p : Option Addr) → outside car x ≡ out → stores cars roots x ≡ p → find source_cmp x (flat_map (pick car) (all_stored cars roots)) ≡ None → cond out (slot_in car p) None ≡ None
-  nothing_there car x false p out is none = refl
-  nothing_there car x true None out is none = refl
-  nothing_there car x true (Some a) out is none = elim (a.car == car) as (λ b. (a.car == car) ≡ b → cond b (Some a.slot) None ≡ None) [
-    | true ↦ λ same. let clash : false ≡ true = sym (ap is_some none) ∙ found_there car x a out is same in cc
+  nothing_there : (listed : List (ℕ × Car)) → AreCars listed → (car : ℕ) (x : RefSource) (out : Bool) (p : Option Addr) → outside car x ≡ out → stores cars roots x ≡ p → find source_cmp x (flat_map (pick car) (stored_of listed roots)) ≡ None → cond out (slot_in car p) None ≡ None
+  nothing_there listed are car x false p out is none = refl
+  nothing_there listed are car x true None out is none = refl
+  nothing_there listed are car x true (Some a) out is none = elim (a.car == car) as (λ b. (a.car == car) ≡ b → cond b (Some a.slot) None ≡ None) [
+    | true ↦ λ same. let clash : false ≡ true = sym (ap is_some none) ∙ found_there listed are car x a out is same in cc
     | false ↦ λ apart. refl
   ] refl
 
   -- it remembers just the sources outside the car, with the slot that each names
-  pub remembers : AllNumbersDiffer roots → (car : ℕ) (x : RefSource) → get (remembering (all_stored cars roots) car) x ≡ cond (outside car x) (slot_in car (stores cars roots x)) None
-  unfolding remembering
-  remembers differ car x = get-from_entries sources_total (flat_map (pick car) (all_stored cars roots)) x ∙ by_found (find source_cmp x (flat_map (pick car) (all_stored cars roots))) refl
+  pub remembers_of : (listed : List (ℕ × Car)) → AreCars listed → AllNumbersDiffer roots → (car : ℕ) (x : RefSource) → get (remembering (stored_of listed roots) car) x ≡ cond (outside car x) (slot_in car (stores cars roots x)) None
+  remembers_of listed are differ car x = get-from_entries sources_total (flat_map (pick car) (stored_of listed roots)) x ∙ by_found (find source_cmp x (flat_map (pick car) (stored_of listed roots))) refl
     where
-      by_found : (o : Option ℕ) → find source_cmp x (flat_map (pick car) (all_stored cars roots)) ≡ o → o ≡ cond (outside car x) (slot_in car (stores cars roots x)) None
-      by_found None none = sym (nothing_there car x (outside car x) (stores cars roots x) refl refl none)
-      by_found (Some s) found = let there = picked car (all_stored cars roots) x s (all_right differ) found in sym (ap (λ b. cond b (slot_in car (stores cars roots x)) None) there.0 ∙ there.1)
+      by_found : (o : Option ℕ) → find source_cmp x (flat_map (pick car) (stored_of listed roots)) ≡ o → o ≡ cond (outside car x) (slot_in car (stores cars roots x)) None
+      by_found None none = sym (nothing_there listed are car x (outside car x) (stores cars roots x) refl refl none)
+      by_found (Some s) found = let there = picked car (stored_of listed roots) x s (all_right differ listed are.each) found in sym (ap (λ b. cond b (slot_in car (stores cars roots x)) None) there.0 ∙ there.1)
+
+  -- the cars as they are listed in their order
+  in_order : AreCars (entries cars)
+  in_order = record {
+    found = λ n. sym (get-entries cars n);
+    each = all_entries nat_cmp_total (λ (e : ℕ × Car). get cars e.0 ≡ Some e.1) (entries cars) (entries_sorted cars) (λ n car found. get-entries cars n ∙ found);
+  }
+
+  pub remembers : AllNumbersDiffer roots → (car : ℕ) (x : RefSource) → get (remembering (all_stored cars roots) car) x ≡ cond (outside car x) (slot_in car (stores cars roots x)) None
+  unfolding all_stored
+  remembers differ car x = remembers_of (entries cars) in_order differ car x

@@ -1,5 +1,5 @@
 -- The pages of a catalog, read one after another.
-use Rattle.std.proofs.Common.{Contains, ◌≡◌, ℕ, zero, suc, ◌+◌, ◌-◌, ◌<◌, ◌≤◌, ◌^◌, Bool, true, false, not, ◌&&◌, ◌||◌, ◌==◌, nat_lt, nat_le, List, [], ◌∷◌, ◌++◌, Some, Result, Ok, Err, refl, sym, ap, subst, ◌∙◌, append_assoc, arith, if◌then◌else◌}
+use Rattle.std.proofs.Common.{Contains, ◌≡◌, ℕ, zero, suc, ◌+◌, ◌-◌, ◌<◌, ◌≤◌, ◌^◌, Bool, true, false, not, ◌&&◌, ◌||◌, ◌==◌, nat_lt, nat_le, List, [], ◌∷◌, ◌++◌, length, take, get_or, Option, Some, None, Result, Ok, Err, refl, sym, ap, subst, ◌∙◌, append_assoc, arith, if◌then◌else◌}
 use Rattle.std.specs.List.{AllByRecursion}
 use Rattle.std.proofs.lemmas.List.{append-nil, map-append}
 use Rattle.std.proofs.lemmas.Bool.Decides.{nat_tests}
@@ -10,6 +10,7 @@ use Rattle.pm_types.specs.declared.fault.OpenFault.TheVariants.{Broken}
 use Rattle.pm_image.specs.declared.catalog.CatEntry.{CatEntry}
 use Rattle.pm_image.specs.declared.catalog.CatEntry.TheVariants.{Car, Root}
 use Rattle.pm_image.specs.declared.catalog.CatalogPage.{CatalogPage}
+use Rattle.pm_image.specs.declared.settled.KeptPage.{KeptPage}
 use Rattle.pm_base.specs.Results.{◌>>=◌}
 use Rattle.pm_image.specs.CarPages.{Numbers}
 use Rattle.pm_image.specs.CatalogPages.{Met, meeting, meeting_next, meeting_all, meeting_page, is_free_page, HasCatalogPage, AreNext, catalog_at, catalog_used}
@@ -21,7 +22,7 @@ use Rattle.pm_image.proofs.Results.{both_true}
 use Rattle.pm_base.proofs.Fronts.{with_front, regroup}
 use Rattle.pm_base.proofs.Results.{bind_ok, bound}
 use Rattle.pm_reopen.specs.declared.fault.ReadFault.{ReadFault}
-use Rattle.pm_reopen.specs.Reading.{Fails, link_at, IsThere, IsEntryThere, IsEntryNamed, root_count, page_numbers, IsSound}
+use Rattle.pm_reopen.specs.Reading.{Fails, link_at, IsThere, IsEntryThere, IsEntryNamed, root_count, page_numbers, IsSound, Follow, AreRead, LeadsOn, car_list, with_car}
 use Rattle.pm_reopen.proofs.Faults.{fails_too}
 use Rattle.pm_reopen.proofs.ReadLaws.{err_same}
 use Rattle.pm_reopen.proofs.Lists.{all_both}
@@ -184,3 +185,58 @@ sound_on count met front page read has there sound is =
 -- the page that the chain begins with is one of its pages, once the next one was read
 pub begun_on : (catalog : Catalog) (page first : ℕ) (read : CatalogPage) → Contains (page_numbers catalog ++ page ∷ []) first → Contains (page_numbers (catalog ++ (page, read) ∷ [])) first
 begun_on catalog page first read begun = subst (λ (pages : List ℕ). Contains pages first) (sym (map-append (λ (link : ℕ × CatalogPage). link.0) catalog ((page, read) ∷ []))) begun
+
+-- ---- each entry follows those before it
+
+follows : (count : ℕ) (met : Met) (entries more : List CatEntry) → AreNext (Some count) met entries → Follow (meeting_all met entries).cars (meeting_all met entries).train (meeting_all met entries).name more → Follow met.cars met.train met.name (entries ++ more)
+follows count met [] more next is = is
+follows count met (Car car train page digest ∷ entries) more next is = (next.0.numbered, next.0.other, next.0.in_order, follows count (meeting met (Car car train page digest)) entries more next.1 is)
+follows count met (Root name at ∷ entries) more next is = (next.0.in_order, follows count (meeting met (Root name at)) entries more next.1 is)
+
+-- which page comes next does not matter
+whatever_next : (met : Met) (next : ℕ) (entries : List CatEntry) → Follow (meeting_next met next).cars (meeting_next met next).train (meeting_next met next).name entries → Follow met.cars met.train met.name entries
+whatever_next met zero entries is = is
+whatever_next met (suc next) entries is = is
+
+-- once a page was read its entries follow those before it, and so does what follows them
+pub follow_more : (count : ℕ) (met : Met) (front : Catalog) (page : ℕ) (read : CatalogPage) (more : List CatEntry) → HasCatalogPage (Some count) met read
+    → ((more : List CatEntry) → Follow met.cars met.train met.name more → Follow set.empty 0 None (entries_of front ++ more))
+    → Follow (meeting_page met read).cars (meeting_page met read).train (meeting_page met read).name more → Follow set.empty 0 None (entries_of (front ++ (page, read) ∷ []) ++ more)
+follow_more count met front page read more has so_far is =
+    subst (Follow set.empty 0 None) (sym (append_assoc (entries_of front) read.entries more) ∙ ap (λ (es : List CatEntry). es ++ more) (sym (one_more front page read)))
+    (so_far (read.entries ++ more) (whatever_next met read.next (read.entries ++ more) (follows count (meeting_next met read.next) read.entries more has.entries is)))
+
+-- ---- the cars that are listed
+
+pub leads_more : (most next : ℕ) (begun met : Numbers) (done : List CatEntry) (cars : List KeptPage) (entry : CatEntry) (car : Option KeptPage) → AreRead most next met (entry ∷ []) (car_list car)
+    → LeadsOn most next begun done cars met → LeadsOn most next begun (done ++ entry ∷ []) (cars ++ car_list car) (with_car met car)
+leads_more most next begun met done cars entry car one leads entries more is =
+    subst (λ (es : List CatEntry). AreRead most next begun es ((cars ++ car_list car) ++ more)) (sym (append_assoc done (entry ∷ []) entries))
+    (subst (λ (ks : List KeptPage). AreRead most next begun (done ++ entry ∷ entries) ks) (sym (append_assoc cars (car_list car) more)) (leads (entry ∷ entries) (car_list car ++ more) (first entry car one is)))
+  where
+    first : (entry : CatEntry) (car : Option KeptPage) → AreRead most next met (entry ∷ []) (car_list car) → AreRead most next (with_car met car) entries more → AreRead most next met (entry ∷ entries) (car_list car ++ more)
+    first (Root name at) None one is = is
+    first (Root name at) (Some kept) one is = absurd one
+    first (Car car train page digest) None one is = absurd one
+    first (Car car train page digest) (Some kept) one is = (one.0, one.1, is)
+
+pub taken_more : {A : Type 0} (xs : List A) (i : ℕ) (x : A) → i < length xs → x ≡ get_or xs i x → take (i + 1) xs ≡ take i xs ++ x ∷ []
+taken_more [] i x lt is = absurd (omega (arith, lt))
+taken_more (y ∷ ys) zero x lt is = ap (λ k. k ∷ []) (sym is)
+taken_more (y ∷ ys) (suc i) x lt is =
+    let next : suc i + 1 ≡ suc (i + 1) = omega arith in
+    ap (λ (k : ℕ). take k (y ∷ ys)) next ∙ ap (λ (rest : List _). y ∷ rest) (taken_more ys i x (omega (arith, lt)) is)
+
+pub entries_more : (catalog : Catalog) (page : ℕ × CatalogPage) → entries_of (catalog ++ page ∷ []) ≡ entries_of catalog ++ page.1.entries
+entries_more catalog page = one_more catalog page.0 page.1
+
+pub reads_done : (most next : ℕ) (begun met : Numbers) (all : Catalog) (i : ℕ) (cars : List KeptPage) → length all ≤ i → LeadsOn most next begun (entries_of (take i all)) cars met → AreRead most next begun (entries_of all) cars
+reads_done most next begun met all i cars past leads =
+    subst (λ (es : List CatEntry). AreRead most next begun es cars) (append-nil (entries_of (take i all)) ∙ ap entries_of (all_taken all i past))
+    (subst (λ (ks : List KeptPage). AreRead most next begun (entries_of (take i all) ++ []) ks) (append-nil cars) (leads [] [] tt))
+  where
+    all_taken : (xs : Catalog) (i : ℕ) → length xs ≤ i → take i xs ≡ xs
+    all_taken [] zero past = refl
+    all_taken [] (suc i) past = refl
+    all_taken (x ∷ xs) zero past = absurd (omega (arith, past))
+    all_taken (x ∷ xs) (suc i) past = ap (λ rest. x ∷ rest) (all_taken xs i (omega (arith, past)))

@@ -22,7 +22,7 @@ use Rattle.pm_image.specs.declared.settled.KeptPage.{KeptPage}
 use Rattle.pm_base.specs.Results.{◌>>=◌}
 use Rattle.pm_image.specs.CarPages.{Numbers, HasCarPage, car_at, car_used}
 use Rattle.pm_image.specs.CarAnswers.{a_car}
-use Rattle.pm_image.specs.CatalogPages.{Met, catalog_at, catalog_used}
+use Rattle.pm_image.specs.CatalogPages.{Met, is_next_name, catalog_at, catalog_used}
 use Rattle.pm_image.specs.Opening.{page_of}
 use Rattle.pm_image.specs.Graphs.{images_of, Pages as Store, Graph, Catalog, undamaged, on_page, entries_of, with_identities, linked, sites_of, graph_of, used_pages, copy_of}
 use Rattle.pm_plain.specs.Plain.{is_plain}
@@ -177,11 +177,34 @@ abbrev pub as_graph : Result (Catalog × List KeptPage) ReadFault → Result Gra
 as_graph (Ok read) = Ok (record { catalog = read.0; cars = read.1 })
 as_graph (Err fault) = Err fault
 
--- What was read of a catalog and of its cars: their pages are pages of the store, and each address leads where it may.
+-- Each entry may come after those before it, by the numbers of cars that were met, the last train and the last name.
+abbrev pub Follow : Numbers → ℕ → Option (List ℕ) → List CatEntry → Type 0
+Follow cars train name [] = Unit {0}
+Follow cars train name (Car car now page digest ∷ entries) = (0 < car) × (set.contains cars car ≡ false) × (train ≤ now) × Follow (set.insert cars car) now name entries
+Follow cars train name (Root found at ∷ entries) = (is_next_name name found ≡ true) × Follow cars train (Some found) entries
+
+-- These are the cars that entries list, in order, each with the number that is listed and with a page after the identities that were met before it.
+abbrev pub AreRead : ℕ → ℕ → Numbers → List CatEntry → List KeptPage → Type 0
+AreRead most next met [] [] = Unit {0}
+AreRead most next met [] (kept ∷ cars) = ⊥
+AreRead most next met (Root name at ∷ entries) cars = AreRead most next met entries cars
+AreRead most next met (Car car train page digest ∷ entries) [] = ⊥
+AreRead most next met (Car car train page digest ∷ entries) (kept ∷ cars) = (kept.image.number ≡ car) × HasCarPage (a_car most next (Some car)) met kept.image × AreRead most next (with_identities met kept.image.slots) entries cars
+
+-- these entries and cars were read from some identities on, and what is read after them is read with these met
+abbrev pub LeadsOn : ℕ → ℕ → Numbers → List CatEntry → List KeptPage → Numbers → Type 0
+LeadsOn most next begun done cars met = (entries : List CatEntry) (more : List KeptPage) → AreRead most next met entries more → AreRead most next begun (done ++ entries) (cars ++ more)
+
+-- What was read of a catalog and of its cars: their pages are pages of the store, each entry follows those before it, the
+-- cars are those that it lists, and each address leads where it may.
 pub record IsWhole (count next : ℕ) (catalog : Catalog) (cars : List KeptPage) : Type 0 where
   pub sound : IsSound count catalog
   pub cars_are : AllByRecursion (IsCar count next) cars
   pub links : linked (images_of cars) (sites_of catalog cars) ≡ Ok tt
+  pub follow : Follow set.empty 0 None (entries_of catalog)
+  pub most : ℕ
+  pub few : most ≤ FIELDS
+  pub reads : AreRead most next set.empty (entries_of catalog) cars
 
 -- a car whose slots fit a page, each within the limits
 pub record IsMeasured (kept : KeptPage) : Type 0 where

@@ -13,4 +13,4 @@ mod reading;
 mod tests;
 
 pub use chain::Chain;
-pub use opening::{open_copy, read_graph};
+pub use opening::{flatten, open_copy, read_graph, with_cars};

@@ -31,8 +31,8 @@ use pm_shadow::Pages;
 use pm_types::{NoMemory, OpenFault, PAGE_BYTES};
 use std::alloc::Global;
 
-// The numbers of the pages of a catalog, and what they list, each in order.
-fn flatten(alloc: Global, chain: Chain) -> Result<(Vec<u64>, EntryList), NoMemory>
+/// The numbers of the pages of a catalog, and what they list, each in order.
+pub fn flatten(alloc: Global, chain: Chain) -> Result<(Vec<u64>, EntryList), NoMemory>
     ensures numbers { IfOk result (λ flat. flat.0.items ≡ page_numbers chain) }
     ensures entries { IfOk result (λ flat. flat.1 ≡ entries_of chain) }
 {
@@ -49,8 +49,8 @@ fn flatten(alloc: Global, chain: Chain) -> Result<(Vec<u64>, EntryList), NoMemor
     Ok((numbers, EntryList::from_vec(entries)))
 }
 
-// The pages of cars behind others.
-fn with_cars(numbers: Vec<u64>, cars: &[KeptPage]) -> Result<Vec<u64>, NoMemory>
+/// The numbers of pages, and behind them those of the pages of cars.
+pub fn with_cars(numbers: Vec<u64>, cars: &[KeptPage]) -> Result<Vec<u64>, NoMemory>
     ensures { IfOk result (λ used. used.items ≡ numbers.items ++ map (λ (kept : KeptPage). kept.page) cars.now) }
 {
     let mut used = numbers;
@@ -181,8 +181,10 @@ pub fn read_graph<D: Disk>(
     requires { IsThere (state pages.old).count (state pages.old).header.first }
     // Where the disk tells its contents it is the graph behind the header, or the first fault.
     ensures graph { IfTold (D.contents (disk_of pages.old)) (λ bytes. IsGraph result (graph_of (store_of (state pages.old).count bytes) (state pages.old).header)) }
-    // On any disk the pages are pages of the store, and each address leads where it may.
+    // On any disk the pages are pages of the store, with the one that the header names, each entry follows those before
+    // it, the cars are those that are listed, and each address leads where it may.
     ensures whole { IfOk result (λ read. IsWhole (state pages.old).count (state pages.old).header.next read.0 read.1) }
+    ensures begins { IfOk result (λ read. Contains (page_numbers read.0) (state pages.old).header.first) }
     ensures cause { IfErr result (IsGraphFault (D.count (disk_of pages.old)) (D.count (disk_of pages.new))) }
     ensures count { OnOk result (D.count (disk_of pages.new) ≡ D.count (disk_of pages.old)) }
     ensures looked { Looked pages.old pages.new }

@@ -1,16 +1,19 @@
 //! Reading the pages of a copy.
 
-ghost use Rattle.std.specs.Prelude.{◌≡◌, ◌<◌, ◌≤◌, ◌++◌, ℕ, List, Contains, IfOk, IfSome, OnOk, Some, length};
+ghost use Rattle.std.specs.Prelude.{◌≡◌, ◌<◌, ◌≤◌, ◌++◌, ℕ, List, Contains, IfOk, IfSome, OnOk, Some, None, [], ◌∷◌, length};
 ghost use Rattle.std.specs.List.{AllByRecursion};
 ghost use Rattle.std.specs.FinSet as set;
+ghost use Rattle.std.specs.Ordering.{nat_cmp};
 ghost use Rattle.pm_types.specs.declared.limits.TheConstants.{FIELDS, PAGE_BYTES};
 ghost use Rattle.pm_disk.specs.Disk.{IfTold};
 ghost use Rattle.pm_image.specs.declared.catalog.CatEntry.{CatEntry};
+ghost use Rattle.pm_image.specs.CarPages.{HasCarPage};
+ghost use Rattle.pm_image.specs.CarAnswers.{a_car};
 ghost use Rattle.pm_image.specs.CatalogPages.{HasCatalogPage, meeting_page};
 ghost use Rattle.pm_image.specs.Opening.{page_of};
 ghost use Rattle.pm_image.specs.Graphs.{undamaged, catalog_of, cars_from, entries_of};
 ghost use Rattle.pm_shadow.specs.Pages.{state, disk_of};
-ghost use Rattle.pm_reopen.specs.Reading.{Gives, GoesOn, behind, of_page, Counts, Looked, store_of, link_at, car_on, entry_car, with_car, car_list, IsThere, IsEntryThere, IsSound, IsCar, page_numbers};
+ghost use Rattle.pm_reopen.specs.Reading.{Gives, GoesOn, behind, of_page, Counts, Looked, store_of, link_at, car_on, entry_car, with_car, car_list, IsThere, IsEntryThere, IsSound, IsCar, page_numbers, Follow, AreRead, LeadsOn};
 
 use crate::chain::Chain;
 use crate::fault::ReadFault;
@@ -102,6 +105,8 @@ fn read_car<D: Disk>(
     requires most { most ≤ FIELDS }
     ensures gives { IfTold (D.contents (disk_of pages.old)) (λ bytes. Gives result (car_on most next (store_of (state pages.old).count bytes) met.old number page kept.now)) }
     ensures car { IfOk result (λ car. IsCar (state pages.old).count next car) }
+    ensures named { IfOk result (λ car. car.image.number ≡ number) }
+    ensures reads { IfOk result (λ car. HasCarPage (a_car most next (Some number)) met.old car.image) }
     ensures met { IfOk result (λ car. met.new ≡ with_car met.old (Some car)) }
     ensures looked { Looked pages.old pages.new }
     ensures counts { Counts (D.count (disk_of pages.old)) (D.count (disk_of pages.new)) result }
@@ -132,6 +137,7 @@ fn read_entry<D: Disk>(
     requires most { most ≤ FIELDS }
     ensures gives { IfTold (D.contents (disk_of pages.old)) (λ bytes. Gives result (entry_car most next (store_of (state pages.old).count bytes) met.old entry.now)) }
     ensures car { IfOk result (λ car. IfSome car (IsCar (state pages.old).count next)) }
+    ensures reads { IfOk result (λ car. AreRead most next met.old (entry.now ∷ []) (car_list car)) }
     ensures met { IfOk result (λ car. met.new ≡ with_car met.old car) }
     ensures looked { Looked pages.old pages.new }
     ensures counts { Counts (D.count (disk_of pages.old)) (D.count (disk_of pages.new)) result }
@@ -180,6 +186,8 @@ fn read_listed<D: Disk>(
         → GoesOn result (behind cars.old.items (cars_from most next (store_of (state pages.old).count bytes) met.old (entries.now ++ rest)))
         (behind cars.new.items (cars_from most next (store_of (state pages.old).count bytes) met.new rest))) }
     ensures cars { OnOk result (AllByRecursion (IsCar (state pages.old).count next) cars.new.items) }
+    ensures reads { OnOk result ((begun : set.FinSet nat_cmp) (done : List CatEntry) → LeadsOn most next begun done cars.old.items met.old
+        → LeadsOn most next begun (done ++ entries.now) cars.new.items met.new) }
     ensures looked { Looked pages.old pages.new }
     ensures counts { Counts (D.count (disk_of pages.old)) (D.count (disk_of pages.new)) result }
 {
@@ -204,6 +212,7 @@ pub(crate) fn read_cars<D: Disk>(
     requires most { most ≤ FIELDS }
     ensures gives { IfTold (D.contents (disk_of pages.old)) (λ bytes. Gives result (cars_from most next (store_of (state pages.old).count bytes) set.empty (entries_of catalog.now))) }
     ensures cars { IfOk result (λ cars. AllByRecursion (IsCar (state pages.old).count next) cars) }
+    ensures reads { IfOk result (λ cars. AreRead most next set.empty (entries_of catalog.now) cars) }
     ensures looked { Looked pages.old pages.new }
     ensures counts { Counts (D.count (disk_of pages.old)) (D.count (disk_of pages.new)) result }
 {
@@ -228,6 +237,7 @@ pub(crate) fn read_chain<D: Disk>(
     requires len { length buffer.old ≡ PAGE_BYTES }
     ensures gives { IfTold (D.contents (disk_of pages.old)) (λ bytes. Gives result (catalog_of (store_of (state pages.old).count bytes) (state pages.old).header)) }
     ensures sound { IfOk result (IsSound (state pages.old).count) }
+    ensures follow { IfOk result (λ chain. Follow set.empty 0 None (entries_of chain)) }
     ensures begins { IfOk result (λ chain. Contains (page_numbers chain) (state pages.old).header.first) }
     ensures looked { Looked pages.old pages.new }
     ensures counts { Counts (D.count (disk_of pages.old)) (D.count (disk_of pages.new)) result }

@@ -12,7 +12,7 @@ use Rattle.pm_image.specs.declared.settled.KeptPage.{KeptPage}
 use Rattle.pm_image.specs.Graphs.{images_of, Catalog, cars_from, entries_of, linked, sites_of}
 use Rattle.pm_shadow.specs.State.{State}
 use Rattle.pm_reopen.specs.declared.fault.ReadFault.TheVariants.{Malformed}
-use Rattle.pm_reopen.specs.Reading.{Fails, store_of, IsEntryThere, IsCar, IsMeasured}
+use Rattle.pm_reopen.specs.Reading.{Fails, store_of, IsEntryThere, IsCar, IsMeasured, AreRead}
 use Rattle.pm_reopen.proofs.GraphLaws.{few_fields, catalog_fails, cars_fail, links_fail, graph_found}
 use Rattle.pm_reopen.proofs.LookedLaws.{looked_then}
 use Rattle.pm_reopen.proofs.Walks.{all_measured}
@@ -92,4 +92,9 @@ returns-clause-whole g c =
       cars_are = subst (λ (h : Header). AllByRecursion (IsCar c.args.pages.now.count h.next) c.in_ok-cars.cars) c.header-header.ensures
           (subst (λ (n : ℕ). AllByRecursion (IsCar n c.header-header.result.now.next) c.in_ok-cars.cars) count c.in_ok-cars.ensures.cars);
       links = (λ i. linked (images_of (sym c.as_slice-kept.ensures i)) (sites_of (sym c.as_slice-listed.ensures i) (sym c.as_slice-kept.ensures i))) ∙ sym c.in_ok-check_links.ensures;
+      follow = c.in_ok-chain.ensures.follow;
+      most = c.most_fields-most.result;
+      few = subst (λ (n : ℕ). n ≤ FIELDS) (sym c.most_fields-most.ensures) (few_fields c.header-header.result.now.version);
+      reads = subst (λ (h : Header). AreRead c.most_fields-most.result h.next set.empty (entries_of c.in_ok-chain.chain) c.in_ok-cars.cars) c.header-header.ensures
+          (subst (λ (ps : Catalog). AreRead c.most_fields-most.result c.header-header.result.now.next set.empty (entries_of ps) c.in_ok-cars.cars) c.as_slice-listed.ensures c.in_ok-cars.ensures.reads);
     }

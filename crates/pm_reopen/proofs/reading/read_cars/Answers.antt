@@ -1,4 +1,4 @@
-use Rattle.std.proofs.Common.{◌≡◌, ◌+◌, ◌++◌, ℕ, List, drop, Ok, sym, ap, subst, ◌∙◌, arith}
+use Rattle.std.proofs.Common.{◌≡◌, ◌+◌, ◌≤◌, ◌++◌, ℕ, List, drop, take, Ok, Err, sym, ap, subst, ◌∙◌, arith}
 use Rattle.std.specs.List.{AllByRecursion}
 use Rattle.std.specs.FinSet as set
 use Rattle.std.proofs.lemmas.Result.{err_from_is_err_and}
@@ -6,8 +6,9 @@ use Rattle.pm_image.specs.declared.catalog.CatEntry.{CatEntry}
 use Rattle.pm_image.specs.declared.settled.KeptPage.{KeptPage}
 use Rattle.pm_image.specs.Graphs.{Catalog, cars_from, entries_of}
 use Rattle.pm_shadow.specs.State.{State}
-use Rattle.pm_reopen.specs.Reading.{Fails, store_of, IsCar, IsEntryThere}
+use Rattle.pm_reopen.specs.Reading.{Fails, store_of, IsCar, IsEntryThere, LeadsOn, AreRead}
 use Rattle.pm_reopen.proofs.Lists.{drop_here, first_all, second_all}
+use Rattle.pm_reopen.proofs.ChainLaws.{taken_more, entries_more, reads_done}
 use Rattle.pm_reopen.proofs.LookedLaws.{looked_then}
 use Rattle.pm_reopen.proofs.ReadLaws.{pages_on, pages_end, pages_done}
 use Rattle.pm_base.proofs.Fronts.{with_front}
@@ -60,6 +61,10 @@ loop-page-preserved g c =
           (subst (λ (n : ℕ). with_front done (cars_from c.args.most c.args.next (store_of n bytes) after rest) ≡ with_front l.cars.items (cars_from c.args.most c.args.next (store_of n bytes) l.met (c.as_slice-entries.result.now ++ rest))) count
           (c.in_ok-read_listed.ensures.gives bytes (l.invariant.looked.looks.told ∙ told) rest)) in
           pages_on c.args.most c.args.next store l.met after c.args.catalog.now l.page-index page l.cars.items done (cars_from c.args.most c.args.next store set.empty (entries_of c.args.catalog.now)) here given (l.invariant.so_far bytes told);
+      reads =
+          let so_far = c.in_ok-read_listed.ensures.reads set.empty (entries_of (take l.page-index c.args.catalog.now)) l.invariant.reads in
+          let es = ap (λ (es : List CatEntry). entries_of (take l.page-index c.args.catalog.now) ++ es) c.as_slice-entries.ensures ∙ sym (entries_more (take l.page-index c.args.catalog.now) page) ∙ ap entries_of (sym (taken_more c.args.catalog.now l.page-index page c.loop-page-test.true c.page-item.is)) in
+          subst (λ (es : List CatEntry). LeadsOn c.args.most c.args.next set.empty es done after) es so_far;
       there = second_all (IsEntryThere c.args.pages.now.count) page.1.entries rest (subst (λ (ps : Catalog). AllByRecursion (IsEntryThere c.args.pages.now.count) (entries_of ps)) here l.invariant.there);
       cars = subst (λ (n : ℕ). AllByRecursion (IsCar n c.args.next) done) count c.in_ok-read_listed.ensures.cars;
     }
@@ -71,3 +76,9 @@ returns-clause-gives g c bytes told =
     let low = c.loop-page-test.false in
     pages_done c.args.most c.args.next store l.met c.args.catalog.now l.page-index l.cars.items (cars_from c.args.most c.args.next store set.empty (entries_of c.args.catalog.now)) (omega arith) (l.invariant.so_far bytes told)
     ∙ ap (λ (ks : List KeptPage). Ok ks) (sym c.from_vec.ensures)
+
+pub returns-clause-reads : goal.returns-clause-reads
+returns-clause-reads g c =
+    let l = c.loop-page in
+    let low = c.loop-page-test.false in
+    subst (AreRead c.args.most c.args.next set.empty (entries_of c.args.catalog.now)) (sym c.from_vec.ensures) (reads_done c.args.most c.args.next set.empty l.met c.args.catalog.now l.page-index l.cars.items (omega arith) l.invariant.reads)

@@ -1,13 +1,15 @@
-use Rattle.std.proofs.Common.{rules, [], ◌∷◌, Contains, ◌≡◌, ◌+◌, ◌-◌, ◌≤◌, ◌^◌, ℕ, Some, Ok, sym, ap, subst, ◌∙◌, arith}
+use Rattle.std.proofs.Common.{rules, [], ◌∷◌, Contains, ◌≡◌, ◌+◌, ◌-◌, ◌≤◌, ◌^◌, ◌++◌, ℕ, Some, None, Ok, Err, sym, ap, subst, ◌∙◌, arith}
 use Rattle.std.proofs.lemmas.Result.{err_from_is_err_and}
 use Rattle.std.proofs.lemmas.List.Elements.{Contains-append_left}
+use Rattle.std.proofs.lemmas.List.{append-nil}
+use Rattle.std.specs.FinSet as set
 use Rattle.pm_image.specs.declared.catalog.CatalogPage.{CatalogPage}
 use Rattle.pm_image.specs.CatalogPages.{Met, HasCatalogPage}
 use Rattle.pm_image.specs.Graphs.{Catalog, catalog_from, catalog_of, most_pages, entries_of}
 use Rattle.pm_shadow.specs.State.{State}
-use Rattle.pm_reopen.specs.Reading.{Fails, store_of, link_at, IsSound, root_count, page_numbers}
+use Rattle.pm_reopen.specs.Reading.{Fails, store_of, link_at, IsSound, root_count, page_numbers, Follow}
 use Rattle.pm_reopen.proofs.LookedLaws.{looked_then}
-use Rattle.pm_reopen.proofs.ChainLaws.{chain_on, chain_done, chain_ends, chain_long, never_long, next_there, roots_on, sound_on, begun_on}
+use Rattle.pm_reopen.proofs.ChainLaws.{chain_on, chain_done, chain_ends, chain_long, never_long, next_there, roots_on, sound_on, begun_on, follow_more}
 use Rattle.pm_base.proofs.Fronts.{with_front}
 use Rattle.pm_reopen.proofs.reading.read_chain.Goals as goal
 
@@ -39,6 +41,15 @@ returns-then-next-eq0-clause-sound g c =
     let has = subst (λ (n : ℕ). HasCatalogPage (Some n) l.met read) (ap (λ (s : State). s.count) l.invariant.looked.same) c.in_ok-read.ensures.has in
     subst (IsSound count) (sym (c.from_vec.ensures ∙ c.in_ok-push.ensures.items)) (sound_on count l.met l.chain.items l.page read has l.invariant.there l.invariant.sound l.invariant.roots)
 
+pub returns-then-next-eq0-clause-follow : goal.returns-then-next-eq0-clause-follow
+returns-then-next-eq0-clause-follow g c =
+    let l = c.loop in
+    let read = c.in_ok-read.read in
+    let count = c.args.pages.now.count in
+    let has = subst (λ (n : ℕ). HasCatalogPage (Some n) l.met read) (ap (λ (s : State). s.count) l.invariant.looked.same) c.in_ok-read.ensures.has in
+    subst (Follow set.empty 0 None) (append-nil (entries_of c.from_vec.result))
+    (subst (λ (pages : Catalog). Follow set.empty 0 None (entries_of pages ++ [])) (sym (c.from_vec.ensures ∙ c.in_ok-push.ensures.items)) (follow_more count l.met l.chain.items l.page read [] has l.invariant.follow tt))
+
 pub returns-then-next-eq0-clause-begins : goal.returns-then-next-eq0-clause-begins
 returns-then-next-eq0-clause-begins g c =
     let l = c.loop in
@@ -65,6 +76,9 @@ loop-preserved g c =
       sound = subst (IsSound count) (sym items) (sound_on count l.met l.chain.items l.page read has l.invariant.there l.invariant.sound l.invariant.roots);
       begun = Contains-append_left (page_numbers c.push.new.self.items) (read.next ∷ []) c.args.pages.now.header.first
           (subst (λ (pages : Catalog). Contains (page_numbers pages) c.args.pages.now.header.first) (sym items) (begun_on l.chain.items l.page c.args.pages.now.header.first read l.invariant.begun));
+      follow = λ more is.
+          subst (λ (pages : Catalog). Follow set.empty 0 None (entries_of pages ++ more)) (sym items)
+          (follow_more count l.met l.chain.items l.page read more has l.invariant.follow (subst (λ (m : Met). Follow m.cars m.train m.name more) met is));
       roots = ap (λ (m : Met). m.roots) met ∙ (roots_on count l.met l.chain.items l.page read has l.invariant.sound l.invariant.roots).0 ∙ ap (λ (ps : Catalog). root_count (entries_of ps)) (sym items);
     }
 

@@ -1,7 +1,9 @@
-use Rattle.std.proofs.Common.{◌≡◌, ℕ, ◌-◌, ◌++◌, List, [], ◌∷◌, Contains, Some}
+use Rattle.std.proofs.Common.{◌≡◌, ℕ, ◌-◌, ◌++◌, List, [], ◌∷◌, Contains, Some, None}
+use Rattle.std.specs.FinSet as set
+use Rattle.pm_image.specs.declared.catalog.CatEntry.{CatEntry}
 use Rattle.pm_image.specs.Graphs.{catalog_from, catalog_of, most_pages, entries_of}
 use Rattle.pm_shadow.specs.Pages.{state, disk_of}
-use Rattle.pm_reopen.specs.Reading.{Looked, store_of, IsThere, IsSound, root_count, page_numbers}
+use Rattle.pm_reopen.specs.Reading.{Looked, store_of, IsThere, IsSound, root_count, page_numbers, Follow}
 use Rattle.pm_base.proofs.Fronts.{with_front}
 use Rattle.pm_reopen.proofs.reading.read_chain.Given as goal
 
@@ -14,5 +16,6 @@ invariant-loop g l = record {
   there : IsThere (state l.fn.pages).count l.page;
   sound : IsSound (state l.fn.pages).count l.chain.items;
   begun : Contains (page_numbers l.chain.items ++ l.page ∷ []) (state l.fn.pages).header.first;
+  follow : (more : List CatEntry) → Follow l.met.cars l.met.train l.met.name more → Follow set.empty 0 None (entries_of l.chain.items ++ more);
   roots : l.met.roots ≡ root_count (entries_of l.chain.items);
 }

@@ -1,11 +1,14 @@
-use Rattle.std.proofs.Common.{◌≡◌, ◌+◌, ◌++◌, ℕ, List, drop, Option, Ok, sym, ap, subst, ◌∙◌, arith}
+use Rattle.std.proofs.Common.{◌≡◌, ◌+◌, ◌++◌, [], ◌∷◌, ℕ, List, drop, take, append_assoc, Option, Ok, Err, sym, ap, subst, ◌∙◌, arith}
 use Rattle.std.specs.List.{AllByRecursion}
 use Rattle.std.specs.Prelude.{IfSome}
 use Rattle.std.proofs.lemmas.Result.{err_from_is_err_and}
+use Rattle.pm_image.specs.declared.catalog.CatEntry.{CatEntry}
+use Rattle.pm_image.specs.CarPages.{Numbers}
+use Rattle.pm_reopen.proofs.ChainLaws.{leads_more, taken_more}
 use Rattle.pm_image.specs.declared.settled.KeptPage.{KeptPage}
 use Rattle.pm_image.specs.Graphs.{cars_from}
 use Rattle.pm_shadow.specs.State.{State}
-use Rattle.pm_reopen.specs.Reading.{Fails, store_of, entry_car, car_list, IsCar}
+use Rattle.pm_reopen.specs.Reading.{Fails, store_of, entry_car, car_list, with_car, IsCar, LeadsOn}
 use Rattle.pm_reopen.proofs.Lists.{drop_here, all_both, all_listed}
 use Rattle.pm_reopen.proofs.LookedLaws.{looked_then}
 use Rattle.pm_reopen.proofs.ReadLaws.{cars_on, cars_end, page_done}
@@ -38,6 +41,12 @@ loop-entry-preserved g c =
           (λ i. with_front (c.in_ok-push.ensures i) (cars_from c.args.most c.args.next store (c.in_ok-car.ensures.met i) (drop (l.entry-index + 1) c.args.entries.now ++ rest)))
           ∙ cars_on c.args.most c.args.next store l.met c.args.entries.now rest l.entry-index entry c.in_ok-car.car l.cars.items (with_front c.args.cars.now.items (cars_from c.args.most c.args.next store c.args.met.now (c.args.entries.now ++ rest)))
           (drop_here c.args.entries.now l.entry-index entry c.loop-entry-test.true c.entry-item.is) given (l.invariant.so_far bytes told rest);
+      reads = λ begun done leads.
+          let one = leads_more c.args.most c.args.next begun l.met (done ++ take l.entry-index c.args.entries.now) l.cars.items entry c.in_ok-car.car c.in_ok-car.ensures.reads (l.invariant.reads begun done leads) in
+          let es = append_assoc done (take l.entry-index c.args.entries.now) (entry ∷ []) ∙ ap (λ (es : List CatEntry). done ++ es) (sym (taken_more c.args.entries.now l.entry-index entry c.loop-entry-test.true c.entry-item.is)) in
+          let all = subst (λ (es : List CatEntry). LeadsOn c.args.most c.args.next begun es (l.cars.items ++ car_list c.in_ok-car.car) (with_car l.met c.in_ok-car.car)) es one in
+          let pushed = subst (λ (ks : List KeptPage). LeadsOn c.args.most c.args.next begun (done ++ take (l.entry-index + 1) c.args.entries.now) ks (with_car l.met c.in_ok-car.car)) (sym c.in_ok-push.ensures) all in
+          subst (λ (m : Numbers). LeadsOn c.args.most c.args.next begun (done ++ take (l.entry-index + 1) c.args.entries.now) c.push.new.cars.items m) (sym c.in_ok-car.ensures.met) pushed;
       cars =
           let P : KeptPage → Type 0 = IsCar c.args.pages.now.count c.args.next in
           let one = subst (λ (n : ℕ). IfSome c.in_ok-car.car (IsCar n c.args.next)) count c.in_ok-car.ensures.car in

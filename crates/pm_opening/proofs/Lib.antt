@@ -1,0 +1,11 @@
+pub mod LeadingLaws
+pub mod CarLaws
+pub mod TrainLaws
+pub mod CarsLaws
+pub mod RootLaws
+pub mod TellingLaws
+pub mod KeptLaws
+pub mod PartsLaws
+pub mod LeadLaws
+pub mod AcceptedLaws
+pub mod OpenLaws

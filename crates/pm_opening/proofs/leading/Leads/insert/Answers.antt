@@ -1,0 +1,10 @@
+use Rattle.std.proofs.Common.{ap, ◌∙◌}
+use Rattle.std.specs.Cmp.{nat_cmp_total}
+use Rattle.std.specs.FinMap.{insert, nat_cmp-IsAntisymmetric}
+use Rattle.pm_base.proofs.Shown.{insert_shown}
+use Rattle.pm_opening.proofs.leading.Leads.insert.Goals as goal
+
+pub returns : goal.returns
+returns c =
+    insert_shown nat_cmp_total nat_cmp-IsAntisymmetric c.self.inside.cars c.insert.new.self c.args.number c.args.slots c.in_ok-insert.ensures.updates
+    ∙ ap (λ m. insert m c.args.number c.args.slots) c.self.view_is

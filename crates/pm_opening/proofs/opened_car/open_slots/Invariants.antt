@@ -1,0 +1,12 @@
+use Rattle.std.proofs.Common.{◌≡◌, ◌+◌, ◌≤◌, drop}
+use Rattle.pm_cars.specs.Cars.{used}
+use Rattle.pm_image.specs.CarPages.{Ascend, car_used}
+use Rattle.pm_opening.specs.Making.{with_slots}
+use Rattle.pm_opening.proofs.opened_car.open_slots.Given as goal
+
+abbrev pub invariant-loop-listed : goal.invariant-loop-listed
+invariant-loop-listed l = record {
+  so_far : with_slots l.leads l.car.car (drop l.listed-index l.slots) ≡ with_slots l.leads l.initial.car.car l.slots;
+  ascend : Ascend l.car.car.next (drop l.listed-index l.slots);
+  fits : used l.car.car + car_used (drop l.listed-index l.slots) ≤ 16398;
+}

@@ -1,0 +1,89 @@
+//! Putting the cars that are kept into trains.
+
+ghost use Rattle.std.specs.Prelude.{◌≡◌, ◌<◌, ◌^◌, IsTrue, IsSome, IfOk, OnOk, None};
+ghost use Rattle.pm_trains.specs.Trains.{HasCar, train_of, youngest};
+ghost use Rattle.pm_copies.specs.Opened.{grouped, numbered};
+ghost use Rattle.pm_opening.specs.Trains.{goes_on, with_kept, closed, AreApart, AreNew};
+
+use pm_trains::{Trains, a_new_train_is_the_youngest, an_appended_car_is_the_last};
+use pm_types::NoMemory;
+use std::alloc::Global;
+
+/// More trains than any memory holds.
+const TRAINS: u64 = 1 << 62;
+
+// A car of this train goes into the train of the one before it, or it is the first.
+fn goes_on(last: Option<u64>, train: u64) -> bool
+    ensures { result ≡ goes_on last train }
+{
+    match last {
+        Some(last) => last == train,
+        None => true,
+    }
+}
+
+// One more train can be opened.
+fn can_open(trains: &Trains) -> bool
+    ensures { IsTrue result → youngest trains.now.trains < 2 ^ 62 }
+{
+    trains.youngest() < TRAINS
+}
+
+// Puts a car into the youngest train where it goes on, and else into a new one.
+fn put_car(
+    alloc: Global,
+    trains: &mut Trains,
+    last: Option<u64>,
+    train: u64,
+    car: u64,
+) -> Result<(), NoMemory>
+    requires has { IsSome last → HasCar trains.old.trains (youngest trains.old.trains) }
+    requires is_new { train_of trains.old.trains car ≡ None }
+    ensures trains { OnOk result (trains.new ≡ with_kept last (train, car) trains.old) }
+    ensures has { OnOk result (HasCar trains.new.trains (youngest trains.new.trains)) }
+{
+    a_new_train_is_the_youngest();
+    an_appended_car_is_the_last();
+    if goes_on(last, train) {
+        let youngest = trains.youngest();
+        return trains.append_car(youngest, car);
+    }
+    if !can_open(trains) {
+        // No list is so long.
+        return Err(NoMemory);
+    }
+    trains.append_new(alloc, car)?;
+    Ok(())
+}
+
+// Opens a train behind the last one, if there is one with a car.
+fn close(alloc: Global, trains: &mut Trains, last: Option<u64>) -> Result<(), NoMemory>
+    requires { IsSome last → HasCar trains.old.trains (youngest trains.old.trains) }
+    ensures { OnOk result (trains.new ≡ closed last trains.old) }
+{
+    if last.is_none() {
+        return Ok(());
+    }
+    if !can_open(trains) {
+        // No list is so long.
+        return Err(NoMemory);
+    }
+    trains.rotate(alloc)?;
+    Ok(())
+}
+
+/// The trains of these cars, each given after the number of its train: they are numbered from 1 in their order, and an
+/// open train without a car follows.
+pub(crate) fn open_trains(alloc: Global, kept: &[(u64, u64)]) -> Result<Trains, NoMemory>
+    requires { AreApart kept.now }
+    ensures { IfOk result (λ trains. trains ≡ record { trains = numbered 1 (grouped kept.now); births = 0 }) }
+{
+    let mut trains = Trains::new(alloc)?;
+    let mut last = None;
+    for one in kept {
+        put_car(alloc, &mut trains, last, one.0, one.1)?;
+        last = Some(one.0);
+    }
+    close(alloc, &mut trains, last)?;
+    Ok(trains)
+}
