@@ -1,0 +1,5 @@
+pub mod Cutting
+pub mod Sizes
+pub mod Planned
+pub mod InOrder
+pub mod Again
