@@ -3,3 +3,5 @@ pub mod Sizes
 pub mod Planned
 pub mod InOrder
 pub mod Again
+pub mod Nothing
+pub mod Edges

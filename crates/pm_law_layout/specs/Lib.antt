@@ -1,3 +1,4 @@
 pub mod Plans
 pub mod Cutting
 pub mod Laid
+pub mod Examples
