@@ -107,7 +107,7 @@ trains_begin : (listed : List Listed) → NeverFall 0 listed → Neighbours IsNo
 trains_begin [] fall = tt
 trains_begin (one ∷ others) fall = trains_follow one.0 others fall.1
 
-root_names : (cars : List CarInTrain) (roots : List Named) → NamesAscend None (entries_for cars roots) → NamesAscend None (map root_entry roots)
+pub root_names : (cars : List CarInTrain) (roots : List Named) → NamesAscend None (entries_for cars roots) → NamesAscend None (map root_entry roots)
 root_names [] roots ascend = ascend
 root_names (car ∷ cars) roots ascend = root_names cars roots ascend
 

@@ -5,3 +5,4 @@ pub mod InOrder
 pub mod Again
 pub mod Nothing
 pub mod Edges
+pub mod Written
