@@ -31,7 +31,7 @@ use Rattle.pm_law_graphs.proofs.Cars.{AreCarsRead, are_below, are_in_range, are_
 use Rattle.pm_law_graphs.proofs.Found.{graph_found, spelled_opened}
 use Rattle.pm_law_graphs.proofs.Lists.{all_back, all_follow, all_front}
 use Rattle.pm_law_graphs.proofs.Sets.{new_apart}
-use Rattle.pm_law_layout.specs.Plans.{CarInTrain, Plan, PlannedPage, cars_in, chain_of, digest_of, first_of, graph_of_plan, in_list, planned_cars, planned_entries, planned_list}
+use Rattle.pm_law_layout.specs.Plans.{CarInTrain, Plan, PlannedPage, car_entry, cars_in, chain_of, digest_of, first_of, graph_of_plan, in_list, planned_cars, planned_entries, planned_list, planned_roots}
 use Rattle.pm_law_layout.specs.Cutting.{Fit, joined}
 use Rattle.pm_law_layout.specs.Laid.{HasFewFields, IsCarHeld, IsLaid, IsPageHeld}
 use Rattle.pm_law_layout.proofs.Planned.{chain_entries, kept_of, parts_of, places_of, plan_entries, plan_pages, same_images}
@@ -116,6 +116,11 @@ small_pages : (count : ℕ) (numbers : List ℕ) → count ≤ 2 ^ 64 → AllByR
 small_pages count [] few placed = tt
 small_pages count (page ∷ numbers) few placed = (let below = placed.0.1 in omega (arith, below, few), small_pages count numbers few placed.1)
 
+-- the entries of cars lead nowhere
+roots_lead : (images : List CarImage) (cars : List CarInTrain) (roots : List CatEntry) → AllByRecursion (RootLeads images) roots → AllByRecursion (RootLeads images) (map car_entry cars ++ roots)
+roots_lead images [] roots lead = lead
+roots_lead images (car ∷ cars) roots lead = (tt, roots_lead images cars roots lead)
+
 pub laid_spells : (pages : Pages) (header : Header) (plan : Plan) → pages.count ≤ 2 ^ 64 → IsLaid pages header plan → Spells pages header (graph_of_plan plan)
 laid_spells pages header plan few laid =
     let most = most_fields header.version in
@@ -128,7 +133,7 @@ laid_spells pages header plan few laid =
     let placed = held.own_pages.within in
     let small_catalog = small_pages pages.count (places_of plan.catalog) few (all_front (IsPlaced pages.count) (places_of plan.catalog) car_places placed) in
     let small_cars = small_pages pages.count car_places few (all_back (IsPlaced pages.count) (places_of plan.catalog) car_places placed) in
-    let read = cars_read most next pages set.empty (cars_in plan) (have_pages (planned_list plan) (planned_entries plan) next accepted) of_store.fields of_store.cars_in_range held.cars in
+    let read = cars_read most next pages set.empty (cars_in plan) (have_pages (planned_list plan) (planned_roots plan) next accepted) of_store.fields of_store.in_range.cars held.cars in
     let range = plan_range next most plan of_store (digests_kept pages cars held.cars small_cars) in
     let same = same_images (cars_in plan) in
     let entries = plan_entries plan laid.listed in
@@ -144,7 +149,7 @@ laid_spells pages header plan few laid =
       own_pages = subst (AreOwn 2 pages.count) (sym (plan_pages plan)) held.own_pages;
       cars_lead = subst (λ (cars : List CarImage). AllByRecursion (CarLeads cars) cars) (sym same) accepted.lead;
       roots_lead = subst (AllByRecursion (RootLeads (images_of cars))) (sym entries)
-          (subst (λ (cars : List CarImage). AllByRecursion (RootLeads cars) (planned_entries plan)) (sym same) accepted.roots);
+          (roots_lead (images_of cars) (cars_in plan) (planned_roots plan) (subst (λ (cars : List CarImage). AllByRecursion (RootLeads cars) (planned_roots plan)) (sym same) accepted.roots));
       in_range = record {
         catalog = chain_range plan.catalog small_catalog (subst (AllByRecursion IsEntryInRange) (sym laid.listed.whole) range);
         cars = are_in_range most next pages set.empty cars read;

@@ -107,10 +107,6 @@ trains_begin : (listed : List Listed) → NeverFall 0 listed → Neighbours IsNo
 trains_begin [] fall = tt
 trains_begin (one ∷ others) fall = trains_follow one.0 others fall.1
 
-pub root_names : (cars : List CarInTrain) (roots : List Named) → NamesAscend None (entries_for cars roots) → NamesAscend None (map root_entry roots)
-root_names [] roots ascend = ascend
-root_names (car ∷ cars) roots ascend = root_names cars roots ascend
-
 names_follow : (before : List ℕ) (roots : List Named) → NamesAscend (Some before) (map root_entry roots) → Follow ComesBefore before (map (λ (root : Named). root.0) roots)
 names_follow before [] ascend = tt
 names_follow before (root ∷ roots) ascend = (ascend.0, names_follow root.0 roots ascend.1)
@@ -119,10 +115,9 @@ names_begin : (roots : List Named) → NamesAscend None (map root_entry roots) �
 names_begin [] ascend = tt
 names_begin (root ∷ roots) ascend = names_follow root.0 roots ascend.1
 
-roots_back : (cars : List CarInTrain) (roots : List Named) → roots_in (entries_for cars roots) ≡ roots
-roots_back [] [] = refl
-roots_back [] (root ∷ roots) = ap (λ (rest : List Named). root ∷ rest) (roots_back [] roots)
-roots_back (car ∷ cars) roots = roots_back cars roots
+roots_back : (roots : List Named) → roots_in (map root_entry roots) ≡ roots
+roots_back [] = refl
+roots_back (root ∷ roots) = ap (λ (rest : List Named). root ∷ rest) (roots_back roots)
 
 all_names : (roots : List Named) → AllByRecursion (λ (root : Named). IsName root.0) roots → AllByRecursion IsName (map (λ (root : Named). root.0) roots)
 all_names [] all = tt
@@ -161,10 +156,9 @@ leads_found cars at (Some slot) all is leads =
     let last = last_of 0 lies.0 at.slot slot car.ascend lies.2 in
     record { from_one = car.from_one; address = record { car = car.below; slot = omega (arith, last) } }
 
-roots_found : (images : List CarImage) (cars : List CarInTrain) (roots : List Named) → AllByRecursion IsAddressed images → AllByRecursion (RootLeads images) (entries_for cars roots) → AllByRecursion (λ (root : Named). IsFound root.1) roots
-roots_found images [] [] all lead = tt
-roots_found images [] (root ∷ roots) all lead = (leads_found images root.1 (slot_named images root.1) all refl lead.0, roots_found images [] roots all lead.1)
-roots_found images (car ∷ cars) roots all lead = roots_found images cars roots all lead.1
+roots_found : (images : List CarImage) (roots : List Named) → AllByRecursion IsAddressed images → AllByRecursion (RootLeads images) (map root_entry roots) → AllByRecursion (λ (root : Named). IsFound root.1) roots
+roots_found images [] all lead = tt
+roots_found images (root ∷ roots) all lead = (leads_found images root.1 (slot_named images root.1) all refl lead.0, roots_found images roots all lead.1)
 
 range_images : (cars : List CarInTrain) → AllByRecursion (λ (kept : KeptPage). IsCarInRange kept.image) (kept_of cars) → AllByRecursion IsCarInRange (images (map in_list cars))
 range_images [] range = tt
@@ -177,7 +171,7 @@ have_cars (root ∷ roots) found = (found.0.from_one, have_cars roots found.1)
 pub plan_roots : (next most : ℕ) (plan : Plan) → IsOfStore next most plan → AllByRecursion (λ (root : Named). IsFound root.1) plan.roots
 plan_roots next most plan is =
     let cars = images (map in_list (cars_in plan)) in
-    roots_found cars (cars_in plan) plan.roots (addressed cars is.accepted.cars (range_images (cars_in plan) is.cars_in_range)) is.accepted.roots
+    roots_found cars plan.roots (addressed cars is.accepted.cars (range_images (cars_in plan) is.in_range.cars)) is.accepted.roots
 
 pub plan_ordered : (next most : ℕ) (plan : Plan) → IsOfStore next most plan → AreInOrder (planned_entries plan)
 plan_ordered next most plan is =
@@ -185,14 +179,14 @@ plan_ordered next most plan is =
     let roots = plan.roots in
     let accepted = is.accepted in
     let few = accepted.few in
-    let as_many = ap length (roots_back cars roots) in
+    let as_many = ap length (roots_back roots) in
     record {
       cars_first = first_cars cars roots;
       numbered = subst (AllByRecursion (λ (number : ℕ). 0 < number)) (sym (numbers_listed cars roots)) (over_zero (images (map in_list cars)) accepted.cars);
       numbers_apart = subst AreApart (sym (numbers_listed cars roots)) (numbers_apart (images (map in_list cars)) accepted.differ);
       trains = subst (Neighbours IsNoYounger) (sym (trains_listed cars roots)) (trains_begin (map in_list cars) accepted.trains);
-      names = subst (AllByRecursion IsName) (sym (names_listed cars roots)) (all_names roots is.names);
-      ascending = subst (Neighbours ComesBefore) (sym (names_listed cars roots)) (names_begin roots (root_names cars roots accepted.names));
+      names = subst (AllByRecursion IsName) (sym (names_listed cars roots)) (all_names roots is.in_range.names);
+      ascending = subst (Neighbours ComesBefore) (sym (names_listed cars roots)) (names_begin roots accepted.names);
       few = subst (λ (names : List (List ℕ)). length names ≤ ROOTS) (sym (names_listed cars roots)) (omega (arith, few, as_many, length-map roots (λ (root : Named). root.0)));
       have_cars = subst (AllByRecursion (λ (at : Addr). 0 < at.car)) (sym (addresses_listed cars roots)) (have_cars roots (plan_roots next most plan is));
     }
@@ -215,4 +209,4 @@ roots_in_range (root ∷ roots) found = (found.0.address, roots_in_range roots f
 
 pub plan_range : (next most : ℕ) (plan : Plan) → IsOfStore next most plan → AllByRecursion IsPlaceInRange (kept_of (cars_in plan)) → AllByRecursion IsEntryInRange (planned_entries plan)
 plan_range next most plan is places =
-    all_both IsEntryInRange (map car_entry (cars_in plan)) (map root_entry plan.roots) (cars_in_range (cars_in plan) is.cars_in_range is.trains_in_range places) (roots_in_range plan.roots (plan_roots next most plan is))
+    all_both IsEntryInRange (map car_entry (cars_in plan)) (map root_entry plan.roots) (cars_in_range (cars_in plan) is.in_range.cars is.in_range.trains places) (roots_in_range plan.roots (plan_roots next most plan is))

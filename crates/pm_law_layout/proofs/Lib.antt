@@ -6,3 +6,4 @@ pub mod Again
 pub mod Nothing
 pub mod Edges
 pub mod Written
+pub mod OfSpace

@@ -4,11 +4,11 @@ use Rattle.pm_image.specs.Blank.{blank_catalog_page, blank_header}
 use Rattle.pm_image.specs.Graphs.{Pages}
 use Rattle.pm_copies.specs.Accepted.{IsAccepted}
 use Rattle.pm_law_graphs.specs.Apart.{AreApart}
-use Rattle.pm_law_layout.specs.Plans.{planned_entries, planned_list}
+use Rattle.pm_law_layout.specs.Plans.{planned_roots, planned_list}
 use Rattle.pm_law_layout.specs.Laid.{HoldPlan, IsHeaderOf, IsLaid, IsListed, IsOfStore}
 use Rattle.pm_law_layout.specs.Examples.{nothing}
 
-nothing_accepted : IsAccepted (planned_list nothing) (planned_entries nothing) 1
+nothing_accepted : IsAccepted (planned_list nothing) (planned_roots nothing) 1
 nothing_accepted = record {
   next = (omega arith, omega arith);
   trains = tt;
@@ -32,7 +32,7 @@ one_page page number = by (page == number)
 pub holds_nothing : (pages : Pages) → 2 < pages.count → pages.page 2 ≡ blank_catalog_page → IsLaid pages blank_header nothing
 unfolding blank_catalog_page
 holds_nothing pages some is = record {
-  of_store = record { accepted = nothing_accepted; fields = tt; names = tt; cars_in_range = tt; trains_in_range = tt };
+  of_store = record { accepted = nothing_accepted; fields = tt; in_range = record { names = tt; cars = tt; trains = tt } };
   listed = record { whole = refl; fit = (omega arith, tt); filled = tt; some = omega arith };
   held = record { cars = tt; catalog = (is, tt); own_pages = record { within = ((omega arith, some), tt); apart = one_page 2 } };
   header_of = record { version = refl; first = refl; digest = refl };

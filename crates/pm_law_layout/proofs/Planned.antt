@@ -1,6 +1,7 @@
 -- What the graph of a plan lists: the plan's entries, cars and pages.
 use Rattle.std.proofs.Common.{◌≡◌, ℕ, List, [], ◌∷◌, ◌++◌, map, refl, sym, ap, ◌∙◌}
 use Rattle.pm_types.specs.declared.address.Addr.{Addr}
+use Rattle.pm_model.specs.World.{Roots}
 use Rattle.pm_model.specs.Copying.{copied}
 use Rattle.pm_image.specs.declared.car.CarImage.{CarImage}
 use Rattle.pm_image.specs.declared.catalog.CatEntry.{CatEntry}
@@ -9,7 +10,7 @@ use Rattle.pm_image.specs.declared.settled.KeptPage.{KeptPage}
 use Rattle.pm_image.specs.Graphs.{copy_of, entries_of, heap_of, images_of, roots_of, used_pages}
 use Rattle.pm_copies.specs.Listed.{Listed, copy_listed, images}
 use Rattle.pm_copies.specs.Opened.{listed_graph, listed_in}
-use Rattle.pm_law_layout.specs.Plans.{CarInTrain, Plan, PlannedPage, car_entry, cars_in, chain_of, graph_of_plan, in_list, planned_cars, planned_entries, planned_list, planned_pages, root_entry}
+use Rattle.pm_law_layout.specs.Plans.{CarInTrain, Plan, PlannedPage, car_entry, cars_in, chain_of, graph_of_plan, in_list, planned_cars, planned_entries, planned_list, planned_pages, planned_roots, root_entry}
 use Rattle.pm_law_layout.specs.Cutting.{OnePage, joined}
 use Rattle.pm_law_layout.specs.Laid.{IsListed}
 
@@ -59,7 +60,12 @@ pub plan_listed : (plan : Plan) → IsListed plan → listed_graph (graph_of_pla
 plan_listed plan listed =
     ap (λ (entries : List CatEntry). listed_in entries (images_of (planned_cars plan))) (plan_entries plan listed) ∙ cars_in_list (cars_in plan) plan.roots
 
-pub plan_copy : (plan : Plan) (next : ℕ) → IsListed plan → copy_of next (graph_of_plan plan) ≡ copy_listed (planned_list plan) (planned_entries plan) next
+roots_alone : (images : List CarImage) (cars : List CarInTrain) (roots : List CatEntry) → roots_of images (map car_entry cars ++ roots) ≡ roots_of images roots
+roots_alone images [] roots = refl
+roots_alone images (car ∷ cars) roots = roots_alone images cars roots
+
+pub plan_copy : (plan : Plan) (next : ℕ) → IsListed plan → copy_of next (graph_of_plan plan) ≡ copy_listed (planned_list plan) (planned_roots plan) next
 plan_copy plan next listed =
     ap (λ (entries : List CatEntry). copied (heap_of (images_of (planned_cars plan))) (roots_of (images_of (planned_cars plan)) entries) next) (plan_entries plan listed)
-    ∙ ap (λ (cars : List CarImage). copied (heap_of cars) (roots_of cars (planned_entries plan)) next) (same_images (cars_in plan))
+    ∙ ap (λ (roots : Roots). copied (heap_of (images_of (planned_cars plan))) roots next) (roots_alone (images_of (planned_cars plan)) (cars_in plan) (planned_roots plan))
+    ∙ ap (λ (cars : List CarImage). copied (heap_of cars) (roots_of cars (planned_roots plan)) next) (same_images (cars_in plan))

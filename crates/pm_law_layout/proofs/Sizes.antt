@@ -103,4 +103,4 @@ roots_fit (root ∷ roots) names = let short = names.0.short in (omega (arith, s
 
 pub planned_cut : (next most : ℕ) (plan : Plan) → IsOfStore next most plan → IsCut (planned_entries plan) (cut (planned_entries plan))
 planned_cut next most plan of_store =
-    is_cut (planned_entries plan) (all_both FitsAlone (map car_entry (cars_in plan)) (map root_entry plan.roots) (cars_fit (cars_in plan)) (roots_fit plan.roots of_store.names))
+    is_cut (planned_entries plan) (all_both FitsAlone (map car_entry (cars_in plan)) (map root_entry plan.roots) (cars_fit (cars_in plan)) (roots_fit plan.roots of_store.in_range.names))

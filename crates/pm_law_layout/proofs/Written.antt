@@ -20,14 +20,14 @@ use Rattle.pm_image.specs.CatalogPages.{AreNext, HasCatalogPage, IsNextEntry, Me
 use Rattle.pm_copies.specs.Listed.{images}
 use Rattle.pm_copies.specs.Accepted.{Differ, IsAcceptedCar, NamesAscend, NeverFall}
 use Rattle.pm_law_copies.proofs.Pages.{are_written}
-use Rattle.pm_law_layout.specs.Plans.{CarInTrain, Plan, PlannedPage, car_entry, cars_in, chain_of, digest_of, first_of, in_list, planned_cars, planned_entries, planned_list, root_entry}
+use Rattle.pm_law_layout.specs.Plans.{CarInTrain, Plan, PlannedPage, car_entry, cars_in, chain_of, digest_of, first_of, in_list, planned_cars, planned_entries, planned_list, planned_roots, root_entry}
 use Rattle.pm_law_layout.specs.Cutting.{Fit, OnePage, cut, joined}
 use Rattle.pm_law_layout.specs.Laid.{IsListed, IsOfStore}
 use Rattle.pm_law_layout.specs.Writing.{MayBeWritten}
 use Rattle.pm_law_layout.proofs.Planned.{kept_of, parts_of, places_of}
 use Rattle.pm_law_layout.proofs.Cutting.{one_cut}
 use Rattle.pm_law_layout.proofs.Sizes.{planned_cut}
-use Rattle.pm_law_layout.proofs.InOrder.{IsFound, Named, entries_for, plan_roots, root_names}
+use Rattle.pm_law_layout.proofs.InOrder.{IsFound, Named, entries_for, plan_roots}
 
 -- ---- cars
 
@@ -36,7 +36,7 @@ cars_alone [] all = tt
 cars_alone (car ∷ cars) all = (all.0, cars_alone cars all.1)
 
 pub plan_cars : (next most : ℕ) (plan : Plan) → IsOfStore next most plan → AllByRecursion (λ (kept : KeptPage). HasCarPage (one_car FIELDS) set.empty kept.image) (planned_cars plan)
-plan_cars next most plan is = cars_alone (cars_in plan) (are_written (planned_list plan) (planned_entries plan) next is.accepted)
+plan_cars next most plan is = cars_alone (cars_in plan) (are_written (planned_list plan) (planned_roots plan) next is.accepted)
 
 -- ---- entries, one after the other
 
@@ -70,9 +70,8 @@ plan_next : (next most : ℕ) (plan : Plan) → IsOfStore next most plan → Are
 plan_next next most plan is =
     let accepted = is.accepted in
     let cars = cars_in plan in
-    let ascend = root_names cars plan.roots accepted.names in
     next_cars nothing_met cars plan.roots
-    (λ (met : Met) none. next_roots met plan.roots (plan_roots next most plan is) is.names (subst (λ (name : Option (List ℕ)). NamesAscend name (map root_entry plan.roots)) (sym none) ascend))
+    (λ (met : Met) none. next_roots met plan.roots (plan_roots next most plan is) is.in_range.names (subst (λ (name : Option (List ℕ)). NamesAscend name (planned_roots plan)) (sym none) accepted.names))
     refl accepted.cars (none_met (images (map in_list cars))) accepted.differ accepted.trains
 
 -- ---- each page by itself

@@ -14,23 +14,29 @@ use Rattle.pm_image.specs.CarAnswers.{IsCarInRange}
 use Rattle.pm_image.specs.CarPages.{car_spelling, padded}
 use Rattle.pm_image.specs.CatalogPages.{catalog_spelling}
 use Rattle.pm_image.specs.Graphs.{Pages}
+use Rattle.pm_view.specs.View.{SpaceView}
+use Rattle.pm_copies.specs.Listed.{listed, root_entries}
 use Rattle.pm_copies.specs.Accepted.{IsAccepted}
 use Rattle.pm_law_graphs.specs.Apart.{AreOwn}
-use Rattle.pm_law_layout.specs.Plans.{CarInTrain, Plan, PlannedPage, cars_in, chain_of, digest_of, first_of, planned_cars, planned_entries, planned_list, planned_pages}
+use Rattle.pm_law_layout.specs.Plans.{CarInTrain, Plan, PlannedPage, cars_in, chain_of, digest_of, first_of, planned_cars, planned_entries, planned_list, planned_pages, planned_roots}
 use Rattle.pm_law_layout.specs.Cutting.{IsCut}
 
--- an object of the car has no more fields than this
+-- no object of the car has more fields than this
 abbrev pub HasFewFields : ℕ → KeptPage → Type 0
 HasFewFields most kept = AllByRecursion (λ (entry : ℕ × Slot). IsWithinLimits most entry.1) kept.image.slots
 
--- The plan is one of a store: no rule refuses its cars and roots under this next identity, no object has more fields
--- than this, each name is one, and the numbers are such as the types hold.
-pub record IsOfStore (next_id most : ℕ) (plan : Plan) : Type 0 where
-  pub accepted : IsAccepted (planned_list plan) (planned_entries plan) next_id
-  pub fields : AllByRecursion (HasFewFields most) (planned_cars plan)
+-- the names of a plan are names, and its numbers are such as the types hold
+pub record IsInRange (plan : Plan) : Type 0 where
   pub names : AllByRecursion (λ (root : List ℕ × Addr). IsName root.0) plan.roots
-  pub cars_in_range : AllByRecursion (λ (kept : KeptPage). IsCarInRange kept.image) (planned_cars plan)
-  pub trains_in_range : AllByRecursion (λ (one : CarInTrain). one.0 < 2 ^ 64) (cars_in plan)
+  pub cars : AllByRecursion (λ (kept : KeptPage). IsCarInRange kept.image) (planned_cars plan)
+  pub trains : AllByRecursion (λ (one : CarInTrain). one.0 < 2 ^ 64) (cars_in plan)
+
+-- The plan is one of a store: no rule refuses its cars and roots under this next identity, and no object has more
+-- fields than this.
+pub record IsOfStore (next_id most : ℕ) (plan : Plan) : Type 0 where
+  pub accepted : IsAccepted (planned_list plan) (planned_roots plan) next_id
+  pub fields : AllByRecursion (HasFewFields most) (planned_cars plan)
+  pub in_range : IsInRange plan
 
 -- the catalog of a plan lists its cars and roots, each page filled before the next
 abbrev pub IsListed : Plan → Type 0
@@ -65,3 +71,9 @@ pub record IsLaid (pages : Pages) (header : Header) (plan : Plan) : Type 0 where
   pub listed : IsListed plan
   pub held : HoldPlan pages plan
   pub header_of : IsHeaderOf plan header
+
+-- The plan is one of a space: its cars are those that a copy of the space lists, in their trains, each as it stands,
+-- and its roots are those of the space, ascending.
+pub record IsPlanOf (view : SpaceView) (plan : Plan) : Type 0 where
+  pub cars : planned_list plan ≡ listed view
+  pub roots : planned_roots plan ≡ root_entries view

@@ -63,9 +63,13 @@ car_entry one = Car one.1.image.number one.0 one.1.page one.1.digest
 abbrev pub root_entry : List ℕ × Addr → CatEntry
 root_entry root = Root root.0 root.1
 
+-- the entries of the roots of a plan
+abbrev pub planned_roots : Plan → List CatEntry
+planned_roots plan = map root_entry plan.roots
+
 -- the entries of a plan: one for each car, and then one for each root
 abbrev pub planned_entries : Plan → List CatEntry
-planned_entries plan = map car_entry (cars_in plan) ++ map root_entry plan.roots
+planned_entries plan = map car_entry (cars_in plan) ++ planned_roots plan
 
 -- the pages of a plan: those of the catalog, and those of the cars
 abbrev pub planned_pages : Plan → List ℕ

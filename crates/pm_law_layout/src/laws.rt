@@ -16,7 +16,7 @@ ghost use Rattle.pm_copies.specs.Listed.{copy_listed};
 ghost use Rattle.pm_copies.specs.Opened.{listed_graph};
 ghost use Rattle.pm_law_graphs.specs.Spelled.{Spells};
 ghost use Rattle.pm_law_layout.specs.Plans.{Plan, PlannedPage, chain_of, graph_of_plan};
-ghost use Rattle.pm_law_layout.specs.Plans.{planned_cars, planned_entries, planned_list, planned_pages};
+ghost use Rattle.pm_law_layout.specs.Plans.{planned_cars, planned_entries, planned_list, planned_pages, planned_roots};
 ghost use Rattle.pm_law_layout.specs.Cutting.{cut};
 ghost use Rattle.pm_law_layout.specs.Laid.{IsLaid, IsListed, IsOfStore};
 ghost use Rattle.pm_law_layout.specs.Writing.{MayBeWritten};
@@ -42,7 +42,7 @@ pub fn what_a_plan_lays_is_read_again()
     ensures listed { (plan : Plan) → IsListed plan → listed_graph (graph_of_plan plan) ≡ planned_list plan }
     // and is the copy that the plan's cars and roots are.
     ensures copy { (plan : Plan) (next : ℕ) → IsListed plan → copy_of next (graph_of_plan plan)
-        ≡ copy_listed (planned_list plan) (planned_entries plan) next }
+        ≡ copy_listed (planned_list plan) (planned_roots plan) next }
 {}
 
 /// A law of layout: what a plan of a store lays may be written, each car and each page of its catalog by itself.
