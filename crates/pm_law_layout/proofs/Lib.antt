@@ -7,3 +7,4 @@ pub mod Nothing
 pub mod Edges
 pub mod Written
 pub mod OfSpace
+pub mod Growing
