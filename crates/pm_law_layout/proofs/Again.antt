@@ -1,11 +1,11 @@
 -- The pages that hold a plan spell its graph.
-use Rattle.std.proofs.Common.{◌≡◌, ℕ, zero, suc, ◌+◌, ◌<◌, ◌≤◌, ◌^◌, Bool, true, nat_le, nat_lt, ◌&&◌, List, [], ◌∷◌, ◌++◌, length, map, replicate, Some, Ok, refl, sym, ap, subst, ◌∙◌, arith, lit≤}
+use Rattle.std.proofs.Common.{◌≡◌, ℕ, zero, suc, ◌<◌, ◌≤◌, ◌^◌, true, nat_le, nat_lt, ◌&&◌, List, [], ◌∷◌, ◌++◌, length, map, replicate, Ok, refl, sym, ap, subst, ◌∙◌, arith, lit≤}
 use Rattle.std.specs.List.{AllByRecursion}
 use Rattle.std.specs.FinSet as set
 use Rattle.std.proofs.lemmas.Bool.Decides.{nat_tests}
 use Rattle.sha2.specs.Sha256.{sha256}
 use Rattle.sha2.proofs.Facts256.{length-sha256}
-use Rattle.pm_types.specs.declared.limits.TheConstants.{FIELDS, PAGE_BYTES}
+use Rattle.pm_types.specs.declared.limits.TheConstants.{FIELDS}
 use Rattle.pm_types.specs.declared.object.Slot.{Slot}
 use Rattle.pm_layout.specs.declared.header.Header.{Header}
 use Rattle.pm_layout.specs.Headers.{most_fields}
@@ -17,7 +17,7 @@ use Rattle.pm_image.specs.declared.settled.KeptPage.{KeptPage}
 use Rattle.pm_image.specs.CarAnswers.{IsCarInRange}
 use Rattle.pm_image.specs.CarPages.{Numbers, padded}
 use Rattle.pm_image.specs.CatalogPages.{IsCatalogInRange, IsEntryInRange, catalog_spelling}
-use Rattle.pm_image.specs.Graphs.{Catalog, Pages, entries_of, graph_of, images_of, used_pages, with_identities}
+use Rattle.pm_image.specs.Graphs.{Pages, graph_of, images_of, with_identities}
 use Rattle.pm_image.specs.Leading.{CarLeads, RootLeads}
 use Rattle.pm_image.specs.Opening.{Current, current, is_placed, page_count}
 use Rattle.pm_image.specs.Stands.{opened, pages_of}
@@ -26,15 +26,15 @@ use Rattle.pm_copies.specs.Accepted.{HavePages}
 use Rattle.pm_law_copies.proofs.Pages.{have_pages}
 use Rattle.pm_law_graphs.specs.Apart.{AreOwn}
 use Rattle.pm_law_graphs.specs.Entries.{AreInOrder, listed_cars}
-use Rattle.pm_law_graphs.specs.Spelled.{IsCatalogSpelled, IsChain, Spells, identities_of, listed_as}
+use Rattle.pm_law_graphs.specs.Spelled.{IsCatalogSpelled, IsChain, Spells, identities_of}
 use Rattle.pm_law_graphs.proofs.Cars.{AreCarsRead, are_below, are_in_range, are_new, are_spelled}
 use Rattle.pm_law_graphs.proofs.Found.{graph_found, spelled_opened}
-use Rattle.pm_law_graphs.proofs.Lists.{all_back, all_follow, all_front}
+use Rattle.pm_law_graphs.proofs.Lists.{all_back, all_front}
 use Rattle.pm_law_graphs.proofs.Sets.{new_apart}
-use Rattle.pm_law_layout.specs.Plans.{CarInTrain, Plan, PlannedPage, car_entry, cars_in, chain_of, digest_of, first_of, graph_of_plan, in_list, planned_cars, planned_entries, planned_list, planned_roots}
+use Rattle.pm_law_layout.specs.Plans.{CarInTrain, Plan, PlannedPage, car_entry, cars_in, chain_of, digest_of, first_of, graph_of_plan, in_list, planned_cars, planned_list, planned_roots}
 use Rattle.pm_law_layout.specs.Cutting.{Fit, joined}
 use Rattle.pm_law_layout.specs.Laid.{HasFewFields, IsCarHeld, IsLaid, IsPageHeld}
-use Rattle.pm_law_layout.proofs.Planned.{chain_entries, kept_of, parts_of, places_of, plan_entries, plan_pages, same_images}
+use Rattle.pm_law_layout.proofs.Planned.{kept_of, parts_of, places_of, plan_entries, plan_pages, same_images}
 use Rattle.pm_law_layout.proofs.InOrder.{IsPlaceInRange, cars_listed, plan_ordered, plan_range}
 
 -- ---- the catalog

@@ -1,11 +1,11 @@
 -- A new store holds the plan of nothing.
-use Rattle.std.proofs.Common.{◌≡◌, ℕ, ◌+◌, ◌<◌, ◌≤◌, ◌==◌, Bool, true, false, List, [], ◌∷◌, Some, None, refl, arith, if◌then◌else◌}
+use Rattle.std.proofs.Common.{◌≡◌, ℕ, ◌+◌, ◌<◌, ◌≤◌, ◌==◌, Bool, true, false, [], ◌∷◌, refl, arith, if◌then◌else◌}
 use Rattle.pm_image.specs.Blank.{blank_catalog_page, blank_header}
 use Rattle.pm_image.specs.Graphs.{Pages}
 use Rattle.pm_copies.specs.Accepted.{IsAccepted}
 use Rattle.pm_law_graphs.specs.Apart.{AreApart}
 use Rattle.pm_law_layout.specs.Plans.{planned_roots, planned_list}
-use Rattle.pm_law_layout.specs.Laid.{HoldPlan, IsHeaderOf, IsLaid, IsListed, IsOfStore}
+use Rattle.pm_law_layout.specs.Laid.{IsLaid}
 use Rattle.pm_law_layout.specs.Examples.{nothing}
 
 nothing_accepted : IsAccepted (planned_list nothing) (planned_roots nothing) 1

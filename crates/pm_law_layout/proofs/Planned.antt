@@ -1,5 +1,5 @@
 -- What the graph of a plan lists: the plan's entries, cars and pages.
-use Rattle.std.proofs.Common.{◌≡◌, ℕ, List, [], ◌∷◌, ◌++◌, map, refl, sym, ap, ◌∙◌}
+use Rattle.std.proofs.Common.{◌≡◌, ℕ, List, [], ◌∷◌, ◌++◌, map, refl, ap, ◌∙◌}
 use Rattle.pm_types.specs.declared.address.Addr.{Addr}
 use Rattle.pm_model.specs.World.{Roots}
 use Rattle.pm_model.specs.Copying.{copied}

@@ -1,12 +1,12 @@
 -- Entries are cut by their sizes alone.
-use Rattle.std.proofs.Common.{◌≡◌, ℕ, zero, suc, ◌+◌, Bool, true, false, nat_le, List, [], ◌∷◌, ◌++◌, length, map, replicate, refl, sym, ap, ◌∙◌, arith, if◌then◌else◌}
+use Rattle.std.proofs.Common.{◌≡◌, ℕ, suc, ◌+◌, Bool, true, false, nat_le, List, [], ◌∷◌, ◌++◌, length, map, replicate, refl, sym, ap, ◌∙◌, arith, if◌then◌else◌}
 use Rattle.std.specs.List.{AllByRecursion}
 use Rattle.std.proofs.lemmas.List.{length-map, map-append}
 use Rattle.pm_types.specs.Names.{IsName}
 use Rattle.pm_types.specs.declared.address.Addr.{Addr}
 use Rattle.pm_types.specs.declared.limits.TheConstants.{PAGE_BYTES}
 use Rattle.pm_image.specs.declared.catalog.CatEntry.{CatEntry}
-use Rattle.pm_image.specs.CatalogPages.{catalog_used, entry_size}
+use Rattle.pm_image.specs.CatalogPages.{entry_size}
 use Rattle.pm_law_graphs.proofs.Lists.{all_both}
 use Rattle.pm_law_layout.specs.Plans.{CarInTrain, Plan, PlannedPage, car_entry, cars_in, planned_entries, root_entry}
 use Rattle.pm_law_layout.specs.Cutting.{FitsAlone, IsCut, OnePage, cut, cut_from, onto_first}

@@ -1,5 +1,5 @@
 -- The pages of a plan may be written, each by itself.
-use Rattle.std.proofs.Common.{◌≡◌, ℕ, zero, suc, ◌<◌, ◌≤◌, ◌==◌, Bool, true, false, not, ◌||◌, List, [], ◌∷◌, ◌++◌, map, Option, Some, None, refl, sym, ap, subst, ◌∙◌, arith}
+use Rattle.std.proofs.Common.{◌≡◌, ℕ, zero, suc, ◌<◌, ◌≤◌, ◌==◌, Bool, true, false, not, ◌||◌, List, [], ◌∷◌, ◌++◌, map, Option, None, refl, sym, ap, subst, ◌∙◌, arith}
 use Rattle.std.specs.List.{list_all, AllByRecursion}
 use Rattle.std.specs.Option.{is_none}
 use Rattle.std.specs.Ordering.{nat_cmp, eq_by_cmp}
@@ -7,9 +7,10 @@ use Rattle.std.specs.Cmp.{nat_cmp_total}
 use Rattle.std.specs.FinSet as set
 use Rattle.std.proofs.lemmas.Bool.Decides.{nat_tests}
 use Rattle.pm_types.specs.declared.limits.TheConstants.{FIELDS}
-use Rattle.pm_types.specs.declared.address.Addr.{Addr}
 use Rattle.pm_types.specs.Names.{IsName}
 use Rattle.pm_model.proofs.Unused.{tied_nat}
+use Rattle.pm_layout.specs.declared.header.Header.{Header}
+use Rattle.pm_layout.specs.Headers.{HasHeaderSpelling}
 use Rattle.pm_image.specs.declared.car.CarImage.{CarImage}
 use Rattle.pm_image.specs.declared.catalog.CatEntry.{CatEntry}
 use Rattle.pm_image.specs.declared.catalog.CatEntry.TheVariants.{Car, Root}
@@ -22,7 +23,7 @@ use Rattle.pm_copies.specs.Accepted.{Differ, IsAcceptedCar, NamesAscend, NeverFa
 use Rattle.pm_law_copies.proofs.Pages.{are_written}
 use Rattle.pm_law_layout.specs.Plans.{CarInTrain, Plan, PlannedPage, car_entry, cars_in, chain_of, digest_of, first_of, in_list, planned_cars, planned_entries, planned_list, planned_roots, root_entry}
 use Rattle.pm_law_layout.specs.Cutting.{Fit, OnePage, cut, joined}
-use Rattle.pm_law_layout.specs.Laid.{IsListed, IsOfStore}
+use Rattle.pm_law_layout.specs.Laid.{IsHeaderOf, IsListed, IsOfStore}
 use Rattle.pm_law_layout.specs.Writing.{MayBeWritten}
 use Rattle.pm_law_layout.proofs.Planned.{kept_of, parts_of, places_of}
 use Rattle.pm_law_layout.proofs.Cutting.{one_cut}
@@ -155,3 +156,11 @@ pub plan_catalog : (next most : ℕ) (plan : Plan) → IsOfStore next most plan 
     → AllByRecursion (λ (page : ℕ × CatalogPage). HasCatalogPage None nothing_met page.1) (chain_of plan.catalog)
 plan_catalog next most plan is listed some =
     chain_written plan.catalog (subst (AllByRecursion MayBeWritten) (sym (one_cut (planned_entries plan) (parts_of plan.catalog) listed)) (plan_parts next most plan is)) some
+
+-- ---- the header
+
+pub plan_header : (most : ℕ) (header : Header) (plan : Plan) → IsOfStore header.next most plan → IsHeaderOf plan header → HasHeaderSpelling header
+plan_header most header plan is heads =
+    let next = is.accepted.next in
+    let some = next.0 in
+    record { version = heads.version; some = omega (arith, some); last = next.1 }

@@ -5,6 +5,7 @@ ghost use Rattle.std.specs.List.{AllByRecursion};
 ghost use Rattle.std.specs.FinSet as set;
 ghost use Rattle.pm_types.specs.declared.limits.TheConstants.{FIELDS};
 ghost use Rattle.pm_layout.specs.declared.header.Header.{Header};
+ghost use Rattle.pm_layout.specs.Headers.{HasHeaderSpelling};
 ghost use Rattle.pm_image.specs.declared.catalog.CatalogPage.{CatalogPage};
 ghost use Rattle.pm_image.specs.declared.settled.KeptPage.{KeptPage};
 ghost use Rattle.pm_image.specs.CarPages.{HasCarPage, one_car};
@@ -18,7 +19,7 @@ ghost use Rattle.pm_law_graphs.specs.Spelled.{Spells};
 ghost use Rattle.pm_law_layout.specs.Plans.{Plan, PlannedPage, chain_of, graph_of_plan};
 ghost use Rattle.pm_law_layout.specs.Plans.{planned_cars, planned_entries, planned_list, planned_pages, planned_roots};
 ghost use Rattle.pm_law_layout.specs.Cutting.{cut};
-ghost use Rattle.pm_law_layout.specs.Laid.{IsLaid, IsListed, IsOfStore};
+ghost use Rattle.pm_law_layout.specs.Laid.{IsHeaderOf, IsLaid, IsListed, IsOfStore};
 ghost use Rattle.pm_law_layout.specs.Writing.{MayBeWritten};
 
 /// A law of layout: what a plan of cars and roots lays on the pages of a store is read again as that plan: its cars,
@@ -45,7 +46,8 @@ pub fn what_a_plan_lays_is_read_again()
         ≡ copy_listed (planned_list plan) (planned_roots plan) next }
 {}
 
-/// A law of layout: what a plan of a store lays may be written, each car and each page of its catalog by itself.
+/// A law of layout: what a plan of a store lays may be written, each car and each page of its catalog by itself, and
+/// its header.
 pub fn a_plans_pages_may_be_written()
     ensures cars { (next most : ℕ) (plan : Plan) → IsOfStore next most plan
         → AllByRecursion (λ (kept : KeptPage). HasCarPage (one_car FIELDS) set.empty kept.image) (planned_cars plan) }
@@ -57,4 +59,7 @@ pub fn a_plans_pages_may_be_written()
         → AllByRecursion (λ (page : ℕ). 0 < page) (map (λ (listed : PlannedPage). listed.page) plan.catalog)
         → AllByRecursion (λ (page : ℕ × CatalogPage). HasCatalogPage None nothing_met page.1)
         (chain_of plan.catalog) }
+    // The header has a spelling.
+    ensures header { (most : ℕ) (header : Header) (plan : Plan) → IsOfStore header.next most plan
+        → IsHeaderOf plan header → HasHeaderSpelling header }
 {}
