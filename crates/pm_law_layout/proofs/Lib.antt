@@ -1,0 +1,10 @@
+pub mod Cutting
+pub mod Sizes
+pub mod Planned
+pub mod InOrder
+pub mod Again
+pub mod Nothing
+pub mod Edges
+pub mod Written
+pub mod OfSpace
+pub mod Growing

@@ -1,0 +1,5 @@
+pub mod Plans
+pub mod Cutting
+pub mod Laid
+pub mod Examples
+pub mod Writing

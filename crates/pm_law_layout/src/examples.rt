@@ -1,0 +1,25 @@
+//! Plans and catalogs worked out by hand. Each function's contract is the example, and the function does nothing.
+
+ghost use Rattle.std.specs.Prelude.{◌≡◌, ◌<◌, [], ◌∷◌, ◌++◌, replicate};
+ghost use Rattle.pm_image.specs.Blank.{blank_catalog_page, blank_header};
+ghost use Rattle.pm_image.specs.Graphs.{Pages};
+ghost use Rattle.pm_law_layout.specs.Cutting.{cut};
+ghost use Rattle.pm_law_layout.specs.Examples.{a_car, a_root, nothing};
+ghost use Rattle.pm_law_layout.specs.Laid.{IsLaid};
+
+/// A page has 16,384 bytes, of which 46 stand before the entries. A car has 57, so 286 of them leave 36, which a root
+/// with a name of 22 bytes fills.
+pub fn examples_of_cutting()
+    // A catalog of nothing has one page.
+    ensures none { cut [] ≡ [] ∷ [] }
+    ensures cars { cut (replicate 286 a_car) ≡ replicate 286 a_car ∷ [] }
+    ensures more_cars { cut (replicate 286 a_car ++ a_car ∷ []) ≡ replicate 286 a_car ∷ (a_car ∷ []) ∷ [] }
+    ensures full { cut (replicate 286 a_car ++ a_root 22 ∷ []) ≡ (replicate 286 a_car ++ a_root 22 ∷ []) ∷ [] }
+    ensures over { cut (replicate 286 a_car ++ a_root 23 ∷ []) ≡ replicate 286 a_car ∷ (a_root 23 ∷ []) ∷ [] }
+{}
+
+/// The store that has just been made holds the plan of nothing, behind its header.
+pub fn a_new_store_holds_nothing()
+    ensures { (pages : Pages) → 2 < pages.count → pages.page 2 ≡ blank_catalog_page
+        → IsLaid pages blank_header nothing }
+{}
