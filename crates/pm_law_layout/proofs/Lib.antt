@@ -8,3 +8,4 @@ pub mod Edges
 pub mod Written
 pub mod OfSpace
 pub mod Growing
+pub mod FirstPlan

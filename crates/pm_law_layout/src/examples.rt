@@ -2,9 +2,10 @@
 
 ghost use Rattle.std.specs.Prelude.{◌≡◌, ◌<◌, [], ◌∷◌, ◌++◌, replicate};
 ghost use Rattle.pm_image.specs.Blank.{blank_catalog_page, blank_header};
+ghost use Rattle.pm_image.specs.First.{first_car_page, first_catalog_page, first_header};
 ghost use Rattle.pm_image.specs.Graphs.{Pages};
 ghost use Rattle.pm_law_layout.specs.Cutting.{cut};
-ghost use Rattle.pm_law_layout.specs.Examples.{a_car, a_root, nothing};
+ghost use Rattle.pm_law_layout.specs.Examples.{a_car, a_root, first_plan, nothing};
 ghost use Rattle.pm_law_layout.specs.Laid.{IsLaid};
 
 /// A page has 16,384 bytes, of which 46 stand before the entries. A car has 57, so 286 of them leave 36, which a root
@@ -22,4 +23,11 @@ pub fn examples_of_cutting()
 pub fn a_new_store_holds_nothing()
     ensures { (pages : Pages) → 2 < pages.count → pages.page 2 ≡ blank_catalog_page
         → IsLaid pages blank_header nothing }
+{}
+
+/// The store after its first checkpoint, of one object that one root names, holds the plan of that checkpoint: the
+/// car is on page 3 and the catalog on page 4.
+pub fn a_first_checkpoint_is_a_plan()
+    ensures { (pages : Pages) → 4 < pages.count → pages.page 3 ≡ first_car_page
+        → pages.page 4 ≡ first_catalog_page → IsLaid pages first_header first_plan }
 {}
