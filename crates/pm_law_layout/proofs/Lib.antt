@@ -9,3 +9,5 @@ pub mod Written
 pub mod OfSpace
 pub mod Growing
 pub mod FirstPlan
+pub mod MovedPlan
+pub mod Keeping

@@ -19,7 +19,7 @@ ghost use Rattle.pm_law_graphs.specs.Spelled.{Spells};
 ghost use Rattle.pm_law_layout.specs.Plans.{Plan, PlannedPage, chain_of, graph_of_plan};
 ghost use Rattle.pm_law_layout.specs.Plans.{planned_cars, planned_entries, planned_list, planned_pages, planned_roots};
 ghost use Rattle.pm_law_layout.specs.Cutting.{cut};
-ghost use Rattle.pm_law_layout.specs.Laid.{IsHeaderOf, IsLaid, IsListed, IsOfStore};
+ghost use Rattle.pm_law_layout.specs.Laid.{IsCarHeld, IsHeaderOf, IsLaid, IsListed, IsOfStore};
 ghost use Rattle.pm_law_layout.specs.Writing.{MayBeWritten};
 
 /// A law of layout: what a plan of cars and roots lays on the pages of a store is read again as that plan: its cars,
@@ -62,4 +62,13 @@ pub fn a_plans_pages_may_be_written()
     // The header has a spelling.
     ensures header { (most : ℕ) (header : Header) (plan : Plan) → IsOfStore header.next most plan
         → IsHeaderOf plan header → HasHeaderSpelling header }
+{}
+
+/// A law of kept pages: the page of a car that stands behind a header holds that car, so a plan of the next copy may
+/// have it; and it holds the car in each store in which it has the same bytes.
+pub fn a_kept_page_holds_its_car()
+    ensures now { (pages : Pages) (header : Header) (graph : Graph) → Spells pages header graph
+        → AllByRecursion (IsCarHeld pages) graph.cars }
+    ensures later { (before after : Pages) (kept : KeptPage) → IsCarHeld before kept
+        → after.page kept.page ≡ before.page kept.page → IsCarHeld after kept }
 {}
