@@ -11,7 +11,7 @@ use Rattle.pm_image.specs.Graphs.{Pages, slot_named}
 use Rattle.pm_copies.specs.Accepted.{IsAccepted}
 use Rattle.pm_law_graphs.specs.Apart.{AreApart}
 use Rattle.pm_law_layout.specs.Plans.{planned_list, planned_roots}
-use Rattle.pm_law_layout.specs.Laid.{HoldPlan, IsHeaderOf, IsInRange, IsLaid, IsListed}
+use Rattle.pm_law_layout.specs.Laid.{HoldPlan, IsPlanHeader, IsPlanInRange, IsLaidBehind, IsListed}
 use Rattle.pm_law_layout.specs.Examples.{first_plan}
 
 -- the object, and its address
@@ -64,7 +64,7 @@ two_pages number = by (4 == number) (3 == number) refl refl
     by false true four three = omega arith
     by false false four three = omega arith
 
-first_range : IsInRange first_plan
+first_range : IsPlanInRange first_plan
 first_range = record {
   names = (record { some = omega arith; short = omega arith; each = (refl, tt) }, tt);
   cars = (record { number = lit≤ tt; slots = ((omega arith, (tt, (tt, tt))), tt) }, tt);
@@ -82,11 +82,11 @@ first_held pages some car catalog = record {
   own_pages = record { within = ((omega arith, some), ((omega arith, omega (arith, some)), tt)); apart = two_pages };
 }
 
-first_heads : IsHeaderOf first_plan first_header
+first_heads : IsPlanHeader first_plan first_header
 unfolding first_catalog_page
 first_heads = record { version = refl; first = refl; digest = refl }
 
-pub holds_first : (pages : Pages) → 4 < pages.count → pages.page 3 ≡ first_car_page → pages.page 4 ≡ first_catalog_page → IsLaid pages first_header first_plan
+pub holds_first : (pages : Pages) → 4 < pages.count → pages.page 3 ≡ first_car_page → pages.page 4 ≡ first_catalog_page → IsLaidBehind pages first_header first_plan
 holds_first pages some car catalog = record {
   of_store = record { accepted = first_accepted; fields = (((omega arith, omega arith), tt), tt); in_range = first_range };
   listed = first_cut;

@@ -10,7 +10,7 @@ use Rattle.pm_copies.specs.Listed.{images}
 use Rattle.pm_copies.specs.Accepted.{IsAccepted, IsAcceptedCar}
 use Rattle.pm_law_copies.specs.Examples.{at, five, nine, object, seven}
 use Rattle.pm_law_layout.specs.Plans.{planned_list, planned_roots}
-use Rattle.pm_law_layout.specs.Laid.{IsInRange, IsOfStore}
+use Rattle.pm_law_layout.specs.Laid.{IsPlanInRange, IsStorePlan}
 use Rattle.pm_law_layout.specs.Examples.{moved_plan}
 
 -- the object at an address has this identity
@@ -110,7 +110,7 @@ moved_accepted = record {
   few = omega arith;
 }
 
-moved_range : IsInRange moved_plan
+moved_range : IsPlanInRange moved_plan
 moved_range = record {
   names = (record { some = omega arith; short = omega arith; each = (refl, tt) }, tt);
   cars = (
@@ -123,7 +123,7 @@ moved_range = record {
   trains = (lit≤ tt, (lit≤ tt, (lit≤ tt, tt)));
 }
 
-pub moved_of_store : IsOfStore 5 FIELDS moved_plan
+pub moved_of_store : IsStorePlan 5 FIELDS moved_plan
 moved_of_store = record {
   accepted = moved_accepted;
   fields = (
