@@ -31,9 +31,9 @@ use Rattle.pm_law_graphs.proofs.Cars.{AreCarsRead, are_below, are_in_range, are_
 use Rattle.pm_law_graphs.proofs.Found.{graph_found, spelled_opened}
 use Rattle.pm_law_graphs.proofs.Lists.{all_back, all_front}
 use Rattle.pm_law_graphs.proofs.Sets.{new_apart}
-use Rattle.pm_law_layout.specs.Plans.{CarInTrain, Plan, PlannedPage, car_entry, cars_in, chain_of, digest_of, first_of, graph_of_plan, in_list, planned_cars, planned_list, planned_roots}
+use Rattle.pm_law_layout.specs.Plans.{CarInTrain, CarPlan, PlannedPage, car_entry, cars_in, chain_of, digest_of, first_of, graph_of_plan, in_list, planned_cars, planned_list, planned_roots}
 use Rattle.pm_law_layout.specs.Cutting.{Fit, joined}
-use Rattle.pm_law_layout.specs.Laid.{HasFewFields, IsCarHeld, IsLaid, IsPageHeld}
+use Rattle.pm_law_layout.specs.Laid.{HasFewFields, IsCarHeld, IsLaidBehind, IsPageHeld}
 use Rattle.pm_law_layout.proofs.Planned.{kept_of, parts_of, places_of, plan_entries, plan_pages, same_images}
 use Rattle.pm_law_layout.proofs.InOrder.{IsPlaceInRange, cars_listed, plan_ordered, plan_range}
 
@@ -121,7 +121,7 @@ roots_lead : (images : List CarImage) (cars : List CarInTrain) (roots : List Cat
 roots_lead images [] roots lead = lead
 roots_lead images (car ∷ cars) roots lead = (tt, roots_lead images cars roots lead)
 
-pub laid_spells : (pages : Pages) (header : Header) (plan : Plan) → pages.count ≤ 2 ^ 64 → IsLaid pages header plan → Spells pages header (graph_of_plan plan)
+pub laid_spells : (pages : Pages) (header : Header) (plan : CarPlan) → pages.count ≤ 2 ^ 64 → IsLaidBehind pages header plan → Spells pages header (graph_of_plan plan)
 laid_spells pages header plan few laid =
     let most = most_fields header.version in
     let next = header.next in
@@ -156,14 +156,14 @@ laid_spells pages header plan few laid =
       };
     }
 
-laid_placed : (pages : Pages) (header : Header) (plan : Plan) → IsLaid pages header plan → is_placed pages.count header ≡ true
+laid_placed : (pages : Pages) (header : Header) (plan : CarPlan) → IsLaidBehind pages header plan → is_placed pages.count header ≡ true
 laid_placed pages header plan laid =
     let car_places : List ℕ = map (λ (kept : KeptPage). kept.page) (planned_cars plan) in
     first_placed pages.count header plan.catalog laid.listed.some (all_front (IsPlaced pages.count) (places_of plan.catalog) car_places laid.held.own_pages.within) laid.header_of.first
 
-pub laid_found : (pages : Pages) (header : Header) (plan : Plan) → pages.count ≤ 2 ^ 64 → IsLaid pages header plan → graph_of pages header ≡ Ok (graph_of_plan plan)
+pub laid_found : (pages : Pages) (header : Header) (plan : CarPlan) → pages.count ≤ 2 ^ 64 → IsLaidBehind pages header plan → graph_of pages header ≡ Ok (graph_of_plan plan)
 laid_found pages header plan few laid = graph_found pages header (graph_of_plan plan) few (laid_placed pages header plan laid) (laid_spells pages header plan few laid)
 
-pub laid_opened : (bytes : List ℕ) (now : Current) (plan : Plan) → page_count bytes ≤ 2 ^ 64 → current bytes ≡ Ok now → IsLaid (pages_of bytes) now.header plan
+pub laid_opened : (bytes : List ℕ) (now : Current) (plan : CarPlan) → page_count bytes ≤ 2 ^ 64 → current bytes ≡ Ok now → IsLaidBehind (pages_of bytes) now.header plan
     → opened bytes ≡ Ok (record { current = now; graph = graph_of_plan plan })
 laid_opened bytes now plan few is laid = spelled_opened bytes now (graph_of_plan plan) few is (laid_spells (pages_of bytes) now.header plan few laid)

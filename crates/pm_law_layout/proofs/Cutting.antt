@@ -7,7 +7,7 @@ use Rattle.pm_types.specs.declared.limits.TheConstants.{PAGE_BYTES}
 use Rattle.pm_image.specs.declared.catalog.CatEntry.{CatEntry}
 use Rattle.pm_image.specs.CatalogPages.{catalog_used, entry_size}
 use Rattle.pm_law_graphs.specs.Apart.{Follow}
-use Rattle.pm_law_layout.specs.Cutting.{Fit, FitsAlone, IsCut, IsFilled, OnePage, cut, cut_from, joined, onto_first}
+use Rattle.pm_law_layout.specs.Cutting.{Fit, FitsAlone, IsCutInto, IsFilled, OnePage, cut, cut_from, joined, onto_first}
 
 -- ---- sizes
 
@@ -92,7 +92,7 @@ next_pages page ((entry ∷ first) ∷ pages) fit filled =
     let fits = fit.0 in
     (omega (arith, here, full), omega (arith, there, fits), next_pages (entry ∷ first) pages fit.1 filled.1)
 
-cut_made : (entries : List CatEntry) (pages : List OnePage) → joined pages ≡ entries → ArePages 46 pages → IsCut entries pages
+cut_made : (entries : List CatEntry) (pages : List OnePage) → joined pages ≡ entries → ArePages 46 pages → IsCutInto entries pages
 cut_made entries [] whole are = absurd are
 cut_made entries (page ∷ pages) whole are =
     let rest = next_parts page pages are.1 in
@@ -100,14 +100,14 @@ cut_made entries (page ∷ pages) whole are =
     let fits = are.0 in
     record { whole = whole; fit = (omega (arith, used, fits), rest.0); filled = rest.1; some = omega arith }
 
-cut_pages : (entries : List CatEntry) (pages : List OnePage) → IsCut entries pages → ArePages 46 pages
+cut_pages : (entries : List CatEntry) (pages : List OnePage) → IsCutInto entries pages → ArePages 46 pages
 cut_pages entries [] is = let some = is.some in absurd (omega (arith, some))
 cut_pages entries (page ∷ pages) is =
     let used = used_sizes page in
     let fits = is.fit.0 in
     (omega (arith, used, fits), next_pages page pages is.fit.1 is.filled)
 
-pub is_cut : (entries : List CatEntry) → AllByRecursion FitsAlone entries → IsCut entries (cut entries)
+pub is_cut : (entries : List CatEntry) → AllByRecursion FitsAlone entries → IsCutInto entries (cut entries)
 is_cut entries alone = cut_made entries (cut entries) (joined_cut 46 entries) (pages_cut 46 entries (omega arith) alone)
 
 -- ---- in one way
@@ -147,5 +147,5 @@ same_cut (entry ∷ entries) used ((first ∷ page) ∷ pages) are whole =
     ∙ sym (cut_one used first entries true room)
     ∙ ap (λ (e : CatEntry). cut_from used (e ∷ entries)) same.0
 
-pub one_cut : (entries : List CatEntry) (pages : List OnePage) → IsCut entries pages → pages ≡ cut entries
+pub one_cut : (entries : List CatEntry) (pages : List OnePage) → IsCutInto entries pages → pages ≡ cut entries
 one_cut entries pages is = same_cut entries 46 pages (cut_pages entries pages is) is.whole

@@ -6,7 +6,7 @@ use Rattle.pm_image.specs.declared.catalog.CatEntry.{CatEntry}
 use Rattle.pm_image.specs.CatalogPages.{catalog_used, entry_size}
 use Rattle.pm_law_graphs.specs.Apart.{Follow, Neighbours}
 use Rattle.pm_law_graphs.proofs.Lists.{all_back, all_both, all_front}
-use Rattle.pm_law_layout.specs.Cutting.{Fit, FitsAlone, IsCut, IsFilled, OnePage, joined}
+use Rattle.pm_law_layout.specs.Cutting.{Fit, FitsAlone, IsCutInto, IsFilled, OnePage, joined}
 
 used_more : (page : OnePage) (entry : CatEntry) → catalog_used (page ++ entry ∷ []) ≡ catalog_used page + entry_size entry
 used_more [] entry = omega arith
@@ -45,11 +45,11 @@ all_filled : (pages : List OnePage) (last new : OnePage) → Neighbours IsFilled
 all_filled [] last new filled full = (full, tt)
 all_filled (page ∷ pages) last new filled full = last_filled page pages last new filled full
 
-pub cut_begins : IsCut [] ([] ∷ [])
+pub cut_begins : IsCutInto [] ([] ∷ [])
 cut_begins = record { whole = refl; fit = (omega arith, tt); filled = tt; some = omega arith }
 
-pub cut_room : (entries : List CatEntry) (pages : List OnePage) (last : OnePage) (entry : CatEntry) → IsCut entries (pages ++ last ∷ []) → catalog_used last + entry_size entry ≤ PAGE_BYTES
-    → IsCut (entries ++ entry ∷ []) (pages ++ (last ++ entry ∷ []) ∷ [])
+pub cut_room : (entries : List CatEntry) (pages : List OnePage) (last : OnePage) (entry : CatEntry) → IsCutInto entries (pages ++ last ∷ []) → catalog_used last + entry_size entry ≤ PAGE_BYTES
+    → IsCutInto (entries ++ entry ∷ []) (pages ++ (last ++ entry ∷ []) ∷ [])
 cut_room entries pages last entry is room =
     let used = used_more last entry in
     record {
@@ -59,8 +59,8 @@ cut_room entries pages last entry is room =
       some = some_page pages (last ++ entry ∷ []) [];
     }
 
-pub cut_full : (entries : List CatEntry) (pages : List OnePage) (last : OnePage) (entry : CatEntry) → IsCut entries (pages ++ last ∷ []) → FitsAlone entry → PAGE_BYTES < catalog_used last + entry_size entry
-    → IsCut (entries ++ entry ∷ []) (pages ++ last ∷ (entry ∷ []) ∷ [])
+pub cut_full : (entries : List CatEntry) (pages : List OnePage) (last : OnePage) (entry : CatEntry) → IsCutInto entries (pages ++ last ∷ []) → FitsAlone entry → PAGE_BYTES < catalog_used last + entry_size entry
+    → IsCutInto (entries ++ entry ∷ []) (pages ++ last ∷ (entry ∷ []) ∷ [])
 cut_full entries pages last entry is alone full =
     let fits = all_back Fit pages (last ∷ []) is.fit in
     record {

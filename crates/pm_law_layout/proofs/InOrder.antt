@@ -23,8 +23,8 @@ use Rattle.pm_law_graphs.specs.Apart.{AreApart, Follow, Neighbours, times}
 use Rattle.pm_law_graphs.specs.Entries.{AreInOrder, CarsComeFirst, ComesBefore, IsNoYounger, ListedCar, listed_addresses, listed_cars, listed_names, listed_numbers, listed_trains}
 use Rattle.pm_law_graphs.specs.Spelled.{listed_as}
 use Rattle.pm_law_graphs.proofs.Lists.{all_both}
-use Rattle.pm_law_layout.specs.Plans.{CarInTrain, Plan, car_entry, cars_in, in_list, planned_entries, root_entry}
-use Rattle.pm_law_layout.specs.Laid.{IsOfStore}
+use Rattle.pm_law_layout.specs.Plans.{CarInTrain, CarPlan, car_entry, cars_in, in_list, planned_entries, root_entry}
+use Rattle.pm_law_layout.specs.Laid.{IsStorePlan}
 use Rattle.pm_law_layout.proofs.Planned.{kept_of}
 
 -- a name with its address
@@ -168,12 +168,12 @@ have_cars : (roots : List Named) → AllByRecursion (λ (root : Named). IsFound 
 have_cars [] found = tt
 have_cars (root ∷ roots) found = (found.0.from_one, have_cars roots found.1)
 
-pub plan_roots : (next most : ℕ) (plan : Plan) → IsOfStore next most plan → AllByRecursion (λ (root : Named). IsFound root.1) plan.roots
+pub plan_roots : (next most : ℕ) (plan : CarPlan) → IsStorePlan next most plan → AllByRecursion (λ (root : Named). IsFound root.1) plan.roots
 plan_roots next most plan is =
     let cars = images (map in_list (cars_in plan)) in
     roots_found cars plan.roots (addressed cars is.accepted.cars (range_images (cars_in plan) is.in_range.cars)) is.accepted.roots
 
-pub plan_ordered : (next most : ℕ) (plan : Plan) → IsOfStore next most plan → AreInOrder (planned_entries plan)
+pub plan_ordered : (next most : ℕ) (plan : CarPlan) → IsStorePlan next most plan → AreInOrder (planned_entries plan)
 plan_ordered next most plan is =
     let cars = cars_in plan in
     let roots = plan.roots in
@@ -207,6 +207,6 @@ roots_in_range : (roots : List Named) → AllByRecursion (λ (root : Named). IsF
 roots_in_range [] found = tt
 roots_in_range (root ∷ roots) found = (found.0.address, roots_in_range roots found.1)
 
-pub plan_range : (next most : ℕ) (plan : Plan) → IsOfStore next most plan → AllByRecursion IsPlaceInRange (kept_of (cars_in plan)) → AllByRecursion IsEntryInRange (planned_entries plan)
+pub plan_range : (next most : ℕ) (plan : CarPlan) → IsStorePlan next most plan → AllByRecursion IsPlaceInRange (kept_of (cars_in plan)) → AllByRecursion IsEntryInRange (planned_entries plan)
 plan_range next most plan is places =
     all_both IsEntryInRange (map car_entry (cars_in plan)) (map root_entry plan.roots) (cars_in_range (cars_in plan) is.in_range.cars is.in_range.trains places) (roots_in_range plan.roots (plan_roots next most plan is))

@@ -8,3 +8,6 @@ pub mod Edges
 pub mod Written
 pub mod OfSpace
 pub mod Growing
+pub mod FirstPlan
+pub mod MovedPlan
+pub mod Keeping

@@ -5,7 +5,7 @@ use Rattle.pm_image.specs.Graphs.{Pages}
 use Rattle.pm_copies.specs.Accepted.{IsAccepted}
 use Rattle.pm_law_graphs.specs.Apart.{AreApart}
 use Rattle.pm_law_layout.specs.Plans.{planned_roots, planned_list}
-use Rattle.pm_law_layout.specs.Laid.{IsLaid}
+use Rattle.pm_law_layout.specs.Laid.{IsLaidBehind}
 use Rattle.pm_law_layout.specs.Examples.{nothing}
 
 nothing_accepted : IsAccepted (planned_list nothing) (planned_roots nothing) 1
@@ -29,7 +29,7 @@ one_page page number = by (page == number)
     by true = omega arith
     by false = omega arith
 
-pub holds_nothing : (pages : Pages) → 2 < pages.count → pages.page 2 ≡ blank_catalog_page → IsLaid pages blank_header nothing
+pub holds_nothing : (pages : Pages) → 2 < pages.count → pages.page 2 ≡ blank_catalog_page → IsLaidBehind pages blank_header nothing
 unfolding blank_catalog_page
 holds_nothing pages some is = record {
   of_store = record { accepted = nothing_accepted; fields = tt; in_range = record { names = tt; cars = tt; trains = tt } };

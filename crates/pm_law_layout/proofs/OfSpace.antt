@@ -17,8 +17,8 @@ use Rattle.pm_copies.specs.Accepted.{IsAccepted, IsAcceptedCar}
 use Rattle.pm_law_copies.proofs.Accepting.{accepted}
 use Rattle.pm_law_copies.proofs.CopyOf.{worlds_copy}
 use Rattle.pm_law_graphs.proofs.Lists.{all_follow}
-use Rattle.pm_law_layout.specs.Plans.{CarInTrain, Plan, cars_in, graph_of_plan, in_list, planned_list, planned_roots}
-use Rattle.pm_law_layout.specs.Laid.{HasFewFields, IsInRange, IsLaid, IsOfStore, IsPlanOf}
+use Rattle.pm_law_layout.specs.Plans.{CarInTrain, CarPlan, cars_in, graph_of_plan, in_list, planned_list, planned_roots}
+use Rattle.pm_law_layout.specs.Laid.{HasFewFields, IsPlanInRange, IsLaidBehind, IsStorePlan, IsSpacePlan}
 use Rattle.pm_law_layout.proofs.Planned.{kept_of, plan_copy}
 use Rattle.pm_law_layout.proofs.Again.{laid_opened}
 
@@ -27,7 +27,7 @@ few_fields [] are = tt
 few_fields (car ∷ cars) are =
     (all_follow (λ (entry : ℕ × Slot). HasSpelling FIELDS entry.1) (λ (entry : ℕ × Slot). IsWithinLimits FIELDS entry.1) car.1.image.slots (λ entry has. has.within) are.0.slots, few_fields cars are.1)
 
-pub space_of_store : (view : SpaceView) (plan : Plan) → HeapLaw view → IsPlanOf view plan → IsInRange plan → IsOfStore view.next FIELDS plan
+pub space_of_store : (view : SpaceView) (plan : CarPlan) → HeapLaw view → IsSpacePlan view plan → IsPlanInRange plan → IsStorePlan view.next FIELDS plan
 space_of_store view plan law is range =
     let of_view = accepted view law in
     let of_plan : IsAccepted (planned_list plan) (planned_roots plan) view.next =
@@ -35,8 +35,8 @@ space_of_store view plan law is range =
     (subst (λ (roots : List CatEntry). IsAccepted (listed view) roots view.next) (sym is.roots) of_view) in
     record { accepted = of_plan; fields = few_fields (cars_in plan) of_plan.cars; in_range = range }
 
-pub space_stands : (view : SpaceView) (world : World) (plan : Plan) (bytes : List ℕ) (now : Current) → HeapLaw view → Represents view world → IsPlanOf view plan → page_count bytes ≤ 2 ^ 64
-    → current bytes ≡ Ok now → now.header.next ≡ view.next → IsLaid (pages_of bytes) now.header plan → Stands bytes now.header.epoch (copy world)
+pub space_stands : (view : SpaceView) (world : World) (plan : CarPlan) (bytes : List ℕ) (now : Current) → HeapLaw view → Represents view world → IsSpacePlan view plan → page_count bytes ≤ 2 ^ 64
+    → current bytes ≡ Ok now → now.header.next ≡ view.next → IsLaidBehind (pages_of bytes) now.header plan → Stands bytes now.header.epoch (copy world)
 space_stands view world plan bytes now law represents is few current next laid = record {
   found = record { current = now; graph = graph_of_plan plan };
   is_found = laid_opened bytes now plan few current laid;

@@ -8,9 +8,9 @@ use Rattle.pm_types.specs.declared.limits.TheConstants.{PAGE_BYTES}
 use Rattle.pm_image.specs.declared.catalog.CatEntry.{CatEntry}
 use Rattle.pm_image.specs.CatalogPages.{entry_size}
 use Rattle.pm_law_graphs.proofs.Lists.{all_both}
-use Rattle.pm_law_layout.specs.Plans.{CarInTrain, Plan, PlannedPage, car_entry, cars_in, planned_entries, root_entry}
-use Rattle.pm_law_layout.specs.Cutting.{FitsAlone, IsCut, OnePage, cut, cut_from, onto_first}
-use Rattle.pm_law_layout.specs.Laid.{IsListed, IsOfStore}
+use Rattle.pm_law_layout.specs.Plans.{CarInTrain, CarPlan, PlannedPage, car_entry, cars_in, planned_entries, root_entry}
+use Rattle.pm_law_layout.specs.Cutting.{FitsAlone, IsCutInto, OnePage, cut, cut_from, onto_first}
+use Rattle.pm_law_layout.specs.Laid.{IsListed, IsStorePlan}
 use Rattle.pm_law_layout.proofs.Cutting.{is_cut, one_cut}
 
 -- how many entries each page has
@@ -64,7 +64,7 @@ root_sizes : (roots : List (List ℕ × Addr)) → map entry_size (map root_entr
 root_sizes [] = refl
 root_sizes (root ∷ roots) = ap (λ (sizes : List ℕ). (14 + length root.0) ∷ sizes) (root_sizes roots)
 
-pub planned_sizes : (plan : Plan) → map entry_size (planned_entries plan) ≡ replicate (length (cars_in plan)) 57 ++ map (λ (root : List ℕ × Addr). 14 + length root.0) plan.roots
+pub planned_sizes : (plan : CarPlan) → map entry_size (planned_entries plan) ≡ replicate (length (cars_in plan)) 57 ++ map (λ (root : List ℕ × Addr). 14 + length root.0) plan.roots
 planned_sizes plan =
     map-append entry_size (map car_entry (cars_in plan)) (map root_entry plan.roots)
     ∙ ap (λ (sizes : List ℕ). sizes ++ map entry_size (map root_entry plan.roots)) (car_sizes (cars_in plan))
@@ -74,7 +74,7 @@ size_of_name : (roots : List (List ℕ × Addr)) → map (λ (root : List ℕ ×
 size_of_name [] = refl
 size_of_name (root ∷ roots) = ap (λ (sizes : List ℕ). (14 + length root.0) ∷ sizes) (size_of_name roots)
 
-same_sizes : (first second : Plan) → length (cars_in first) ≡ length (cars_in second) → map (λ (root : List ℕ × Addr). length root.0) first.roots ≡ map (λ (root : List ℕ × Addr). length root.0) second.roots
+same_sizes : (first second : CarPlan) → length (cars_in first) ≡ length (cars_in second) → map (λ (root : List ℕ × Addr). length root.0) first.roots ≡ map (λ (root : List ℕ × Addr). length root.0) second.roots
     → map entry_size (planned_entries first) ≡ map entry_size (planned_entries second)
 same_sizes first second cars names =
     planned_sizes first
@@ -83,10 +83,10 @@ same_sizes first second cars names =
     ∙ sym (planned_sizes second)
 
 -- the pages of a catalog are as many as those that its entries are cut into
-catalog_count : (plan : Plan) → IsListed plan → length plan.catalog ≡ length (cut (planned_entries plan))
+catalog_count : (plan : CarPlan) → IsListed plan → length plan.catalog ≡ length (cut (planned_entries plan))
 catalog_count plan is = sym (length-map plan.catalog (λ (listed : PlannedPage). listed.entries)) ∙ ap length (one_cut (planned_entries plan) (map (λ (listed : PlannedPage). listed.entries) plan.catalog) is)
 
-pub same_count : (first second : Plan) → IsListed first → IsListed second → length (cars_in first) ≡ length (cars_in second) → map (λ (root : List ℕ × Addr). length root.0) first.roots ≡ map (λ (root : List ℕ × Addr). length root.0) second.roots
+pub same_count : (first second : CarPlan) → IsListed first → IsListed second → length (cars_in first) ≡ length (cars_in second) → map (λ (root : List ℕ × Addr). length root.0) first.roots ≡ map (λ (root : List ℕ × Addr). length root.0) second.roots
     → length first.catalog ≡ length second.catalog
 same_count first second one two cars names =
     catalog_count first one ∙ count_by_sizes (planned_entries first) (planned_entries second) (same_sizes first second cars names) ∙ sym (catalog_count second two)
@@ -101,6 +101,6 @@ roots_fit : (roots : List (List ℕ × Addr)) → AllByRecursion (λ (root : Lis
 roots_fit [] names = tt
 roots_fit (root ∷ roots) names = let short = names.0.short in (omega (arith, short), roots_fit roots names.1)
 
-pub planned_cut : (next most : ℕ) (plan : Plan) → IsOfStore next most plan → IsCut (planned_entries plan) (cut (planned_entries plan))
+pub planned_cut : (next most : ℕ) (plan : CarPlan) → IsStorePlan next most plan → IsCutInto (planned_entries plan) (cut (planned_entries plan))
 planned_cut next most plan of_store =
     is_cut (planned_entries plan) (all_both FitsAlone (map car_entry (cars_in plan)) (map root_entry plan.roots) (cars_fit (cars_in plan)) (roots_fit plan.roots of_store.in_range.names))

@@ -21,9 +21,9 @@ use Rattle.pm_image.specs.CatalogPages.{AreNext, HasCatalogPage, IsNextEntry, Me
 use Rattle.pm_copies.specs.Listed.{images}
 use Rattle.pm_copies.specs.Accepted.{Differ, IsAcceptedCar, NamesAscend, NeverFall}
 use Rattle.pm_law_copies.proofs.Pages.{are_written}
-use Rattle.pm_law_layout.specs.Plans.{CarInTrain, Plan, PlannedPage, car_entry, cars_in, chain_of, digest_of, first_of, in_list, planned_cars, planned_entries, planned_list, planned_roots, root_entry}
+use Rattle.pm_law_layout.specs.Plans.{CarInTrain, CarPlan, PlannedPage, car_entry, cars_in, chain_of, digest_of, first_of, in_list, planned_cars, planned_entries, planned_list, planned_roots, root_entry}
 use Rattle.pm_law_layout.specs.Cutting.{Fit, OnePage, cut, joined}
-use Rattle.pm_law_layout.specs.Laid.{IsHeaderOf, IsListed, IsOfStore}
+use Rattle.pm_law_layout.specs.Laid.{IsPlanHeader, IsListed, IsStorePlan}
 use Rattle.pm_law_layout.specs.Writing.{MayBeWritten}
 use Rattle.pm_law_layout.proofs.Planned.{kept_of, parts_of, places_of}
 use Rattle.pm_law_layout.proofs.Cutting.{one_cut}
@@ -36,7 +36,7 @@ cars_alone : (cars : List CarInTrain) → AllByRecursion (HasCarPage (one_car FI
 cars_alone [] all = tt
 cars_alone (car ∷ cars) all = (all.0, cars_alone cars all.1)
 
-pub plan_cars : (next most : ℕ) (plan : Plan) → IsOfStore next most plan → AllByRecursion (λ (kept : KeptPage). HasCarPage (one_car FIELDS) set.empty kept.image) (planned_cars plan)
+pub plan_cars : (next most : ℕ) (plan : CarPlan) → IsStorePlan next most plan → AllByRecursion (λ (kept : KeptPage). HasCarPage (one_car FIELDS) set.empty kept.image) (planned_cars plan)
 plan_cars next most plan is = cars_alone (cars_in plan) (are_written (planned_list plan) (planned_roots plan) next is.accepted)
 
 -- ---- entries, one after the other
@@ -67,7 +67,7 @@ next_cars met (car ∷ cars) roots rest none accepted others differ fall = (
   next_cars (meeting met (car_entry car)) cars roots rest none accepted.1 (others_more met.cars car.1.image.number (images (map in_list cars)) others.1 differ.0) differ.1 fall.1,
 )
 
-plan_next : (next most : ℕ) (plan : Plan) → IsOfStore next most plan → AreNext None nothing_met (planned_entries plan)
+plan_next : (next most : ℕ) (plan : CarPlan) → IsStorePlan next most plan → AreNext None nothing_met (planned_entries plan)
 plan_next next most plan is =
     let accepted = is.accepted in
     let cars = cars_in plan in
@@ -134,7 +134,7 @@ parts_written met (part ∷ parts) fit are = (
   parts_written (meeting_all met part) parts fit.1 (next_others met part (joined parts) are),
 )
 
-pub plan_parts : (next most : ℕ) (plan : Plan) → IsOfStore next most plan → AllByRecursion MayBeWritten (cut (planned_entries plan))
+pub plan_parts : (next most : ℕ) (plan : CarPlan) → IsStorePlan next most plan → AllByRecursion MayBeWritten (cut (planned_entries plan))
 plan_parts next most plan is =
     let made = planned_cut next most plan is in
     parts_written nothing_met (cut (planned_entries plan)) made.fit (subst (AreNext None nothing_met) (sym made.whole) (plan_next next most plan is))
@@ -152,14 +152,14 @@ chain_written : (catalog : List PlannedPage) → AllByRecursion MayBeWritten (pa
 chain_written [] may some = tt
 chain_written (first ∷ catalog) may some = (may.0 (first_of (chain_of catalog)) (digest_of (chain_of catalog)) (link_found catalog some.1), chain_written catalog may.1 some.1)
 
-pub plan_catalog : (next most : ℕ) (plan : Plan) → IsOfStore next most plan → IsListed plan → AllByRecursion (λ (page : ℕ). 0 < page) (places_of plan.catalog)
+pub plan_catalog : (next most : ℕ) (plan : CarPlan) → IsStorePlan next most plan → IsListed plan → AllByRecursion (λ (page : ℕ). 0 < page) (places_of plan.catalog)
     → AllByRecursion (λ (page : ℕ × CatalogPage). HasCatalogPage None nothing_met page.1) (chain_of plan.catalog)
 plan_catalog next most plan is listed some =
     chain_written plan.catalog (subst (AllByRecursion MayBeWritten) (sym (one_cut (planned_entries plan) (parts_of plan.catalog) listed)) (plan_parts next most plan is)) some
 
 -- ---- the header
 
-pub plan_header : (most : ℕ) (header : Header) (plan : Plan) → IsOfStore header.next most plan → IsHeaderOf plan header → HasHeaderSpelling header
+pub plan_header : (most : ℕ) (header : Header) (plan : CarPlan) → IsStorePlan header.next most plan → IsPlanHeader plan header → HasHeaderSpelling header
 plan_header most header plan is heads =
     let next = is.accepted.next in
     let some = next.0 in

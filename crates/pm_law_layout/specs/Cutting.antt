@@ -29,7 +29,7 @@ IsFilled page (entry ∷ entries) = PAGE_BYTES < catalog_used page + entry_size 
 
 -- The entries are cut into these pages: each of them stands once, in order; each page fits, and is filled before the
 -- next; and there is a page, also where there is no entry.
-pub record IsCut (entries : List CatEntry) (pages : List OnePage) : Type 0 where
+pub record IsCutInto (entries : List CatEntry) (pages : List OnePage) : Type 0 where
   pub whole : joined pages ≡ entries
   pub fit : AllByRecursion Fit pages
   pub filled : Neighbours IsFilled pages

@@ -24,7 +24,7 @@ pub record PlannedPage : Type 0 where
 
 -- A plan: the trains, the oldest first; the roots, each a name with its address; and the pages of the catalog, the
 -- first one first.
-pub record Plan : Type 0 where
+pub record CarPlan : Type 0 where
   pub trains : List PlannedTrain
   pub roots : List (List ℕ × Addr)
   pub catalog : List PlannedPage
@@ -40,11 +40,11 @@ abbrev pub cars_of_train : PlannedTrain → List CarInTrain
 cars_of_train train = map (λ (kept : KeptPage). (train.number, kept)) train.cars
 
 -- the cars of a plan, in the order of the trains
-abbrev pub cars_in : Plan → List CarInTrain
+abbrev pub cars_in : CarPlan → List CarInTrain
 cars_in plan = flat_map cars_of_train plan.trains
 
 -- with their pages
-abbrev pub planned_cars : Plan → List KeptPage
+abbrev pub planned_cars : CarPlan → List KeptPage
 planned_cars plan = map (λ (one : CarInTrain). one.1) (cars_in plan)
 
 -- a car as a copy lists it: with the number of its train, and without its page
@@ -52,7 +52,7 @@ abbrev pub in_list : CarInTrain → Listed
 in_list one = (one.0, one.1.image)
 
 -- the cars of a plan as a copy lists them
-abbrev pub planned_list : Plan → List Listed
+abbrev pub planned_list : CarPlan → List Listed
 planned_list plan = map in_list (cars_in plan)
 
 -- the entry of a car: its number, its train, its page and the digest of that page
@@ -64,15 +64,15 @@ abbrev pub root_entry : List ℕ × Addr → CatEntry
 root_entry root = Root root.0 root.1
 
 -- the entries of the roots of a plan
-abbrev pub planned_roots : Plan → List CatEntry
+abbrev pub planned_roots : CarPlan → List CatEntry
 planned_roots plan = map root_entry plan.roots
 
 -- the entries of a plan: one for each car, and then one for each root
-abbrev pub planned_entries : Plan → List CatEntry
+abbrev pub planned_entries : CarPlan → List CatEntry
 planned_entries plan = map car_entry (cars_in plan) ++ planned_roots plan
 
 -- the pages of a plan: those of the catalog, and those of the cars
-abbrev pub planned_pages : Plan → List ℕ
+abbrev pub planned_pages : CarPlan → List ℕ
 planned_pages plan =
     map (λ (listed : PlannedPage). listed.page) plan.catalog
     ++ map (λ (kept : KeptPage). kept.page) (planned_cars plan)
@@ -99,5 +99,5 @@ chain_of [] = []
 chain_of (listed ∷ others) = (listed.page, linked_to listed (chain_of others)) ∷ chain_of others
 
 -- the graph of a plan
-abbrev pub graph_of_plan : Plan → Graph
+abbrev pub graph_of_plan : CarPlan → Graph
 graph_of_plan plan = record { catalog = chain_of plan.catalog; cars = planned_cars plan }

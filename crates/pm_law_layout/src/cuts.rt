@@ -6,32 +6,32 @@ ghost use Rattle.pm_types.specs.declared.address.Addr.{Addr};
 ghost use Rattle.pm_types.specs.declared.limits.TheConstants.{PAGE_BYTES};
 ghost use Rattle.pm_image.specs.declared.catalog.CatEntry.{CatEntry};
 ghost use Rattle.pm_image.specs.CatalogPages.{catalog_used, entry_size};
-ghost use Rattle.pm_law_layout.specs.Plans.{Plan, cars_in, planned_entries};
-ghost use Rattle.pm_law_layout.specs.Cutting.{FitsAlone, IsCut, OnePage, cut};
-ghost use Rattle.pm_law_layout.specs.Laid.{IsListed, IsOfStore};
+ghost use Rattle.pm_law_layout.specs.Plans.{CarPlan, cars_in, planned_entries};
+ghost use Rattle.pm_law_layout.specs.Cutting.{FitsAlone, IsCutInto, OnePage, cut};
+ghost use Rattle.pm_law_layout.specs.Laid.{IsListed, IsStorePlan};
 
 /// A law of catalogs: entries of which each fits a page are cut into pages, each filled before the next, in one way
 /// alone; so a catalog of given entries has one number of pages.
 pub fn entries_are_cut_in_one_way()
     // They are cut as `cut` says,
-    ensures some { (entries : List CatEntry) → AllByRecursion FitsAlone entries → IsCut entries (cut entries) }
+    ensures some { (entries : List CatEntry) → AllByRecursion FitsAlone entries → IsCutInto entries (cut entries) }
     // and in no other way.
-    ensures one { (entries : List CatEntry) (pages : List OnePage) → IsCut entries pages → pages ≡ cut entries }
+    ensures one { (entries : List CatEntry) (pages : List OnePage) → IsCutInto entries pages → pages ≡ cut entries }
     // The entries of a plan that is one of a store may be cut.
-    ensures planned { (next most : ℕ) (plan : Plan) → IsOfStore next most plan
-        → IsCut (planned_entries plan) (cut (planned_entries plan)) }
+    ensures planned { (next most : ℕ) (plan : CarPlan) → IsStorePlan next most plan
+        → IsCutInto (planned_entries plan) (cut (planned_entries plan)) }
 {}
 
 /// A law of catalogs: entries are cut one after the other. The next one goes on the last page where it has room there,
 /// and on a page of its own where it has none; the pages before stay as they are.
 pub fn cutting_goes_on_at_the_last_page()
-    ensures begins { IsCut [] ([] ∷ []) }
+    ensures begins { IsCutInto [] ([] ∷ []) }
     ensures room { (entries : List CatEntry) (pages : List OnePage) (last : OnePage) (entry : CatEntry)
-        → IsCut entries (pages ++ last ∷ []) → catalog_used last + entry_size entry ≤ PAGE_BYTES
-        → IsCut (entries ++ entry ∷ []) (pages ++ (last ++ entry ∷ []) ∷ []) }
+        → IsCutInto entries (pages ++ last ∷ []) → catalog_used last + entry_size entry ≤ PAGE_BYTES
+        → IsCutInto (entries ++ entry ∷ []) (pages ++ (last ++ entry ∷ []) ∷ []) }
     ensures full { (entries : List CatEntry) (pages : List OnePage) (last : OnePage) (entry : CatEntry)
-        → IsCut entries (pages ++ last ∷ []) → FitsAlone entry → PAGE_BYTES < catalog_used last + entry_size entry
-        → IsCut (entries ++ entry ∷ []) (pages ++ last ∷ (entry ∷ []) ∷ []) }
+        → IsCutInto entries (pages ++ last ∷ []) → FitsAlone entry → PAGE_BYTES < catalog_used last + entry_size entry
+        → IsCutInto (entries ++ entry ∷ []) (pages ++ last ∷ (entry ∷ []) ∷ []) }
 {}
 
 /// A law of catalogs: how many entries each page has, and so how many pages there are, depends on the sizes of the
@@ -42,9 +42,9 @@ pub fn pages_are_cut_by_sizes()
         → map (λ (page : OnePage). length page) (cut first) ≡ map (λ (page : OnePage). length page) (cut second) }
     ensures count { (first second : List CatEntry) → map entry_size first ≡ map entry_size second
         → length (cut first) ≡ length (cut second) }
-    ensures planned { (plan : Plan) → map entry_size (planned_entries plan)
+    ensures planned { (plan : CarPlan) → map entry_size (planned_entries plan)
         ≡ replicate (length (cars_in plan)) 57 ++ map (λ (root : List ℕ × Addr). 14 + length root.0) plan.roots }
-    ensures plans { (first second : Plan) → IsListed first → IsListed second
+    ensures plans { (first second : CarPlan) → IsListed first → IsListed second
         → length (cars_in first) ≡ length (cars_in second)
         → map (λ (root : List ℕ × Addr). length root.0) first.roots
         ≡ map (λ (root : List ℕ × Addr). length root.0) second.roots

@@ -16,50 +16,59 @@ ghost use Rattle.pm_image.specs.Stands.{opened, pages_of};
 ghost use Rattle.pm_copies.specs.Listed.{copy_listed};
 ghost use Rattle.pm_copies.specs.Opened.{listed_graph};
 ghost use Rattle.pm_law_graphs.specs.Spelled.{Spells};
-ghost use Rattle.pm_law_layout.specs.Plans.{Plan, PlannedPage, chain_of, graph_of_plan};
+ghost use Rattle.pm_law_layout.specs.Plans.{CarPlan, PlannedPage, chain_of, graph_of_plan};
 ghost use Rattle.pm_law_layout.specs.Plans.{planned_cars, planned_entries, planned_list, planned_pages, planned_roots};
 ghost use Rattle.pm_law_layout.specs.Cutting.{cut};
-ghost use Rattle.pm_law_layout.specs.Laid.{IsHeaderOf, IsLaid, IsListed, IsOfStore};
+ghost use Rattle.pm_law_layout.specs.Laid.{IsCarHeld, IsPlanHeader, IsLaidBehind, IsListed, IsStorePlan};
 ghost use Rattle.pm_law_layout.specs.Writing.{MayBeWritten};
 
 /// A law of layout: what a plan of cars and roots lays on the pages of a store is read again as that plan: its cars,
 /// each as it is, in its train and on its page; its roots; and its catalog, page by page.
 pub fn what_a_plan_lays_is_read_again()
     // The pages spell the graph of the plan behind the header,
-    ensures spelled { (pages : Pages) (header : Header) (plan : Plan) → pages.count ≤ 2 ^ 64
-        → IsLaid pages header plan → Spells pages header (graph_of_plan plan) }
+    ensures spelled { (pages : Pages) (header : Header) (plan : CarPlan) → pages.count ≤ 2 ^ 64
+        → IsLaidBehind pages header plan → Spells pages header (graph_of_plan plan) }
     // and that graph is found there,
-    ensures found { (pages : Pages) (header : Header) (plan : Plan) → pages.count ≤ 2 ^ 64
-        → IsLaid pages header plan → graph_of pages header ≡ Ok (graph_of_plan plan) }
+    ensures found { (pages : Pages) (header : Header) (plan : CarPlan) → pages.count ≤ 2 ^ 64
+        → IsLaidBehind pages header plan → graph_of pages header ≡ Ok (graph_of_plan plan) }
     // so it is what bytes are opened with, where the header is their current one.
-    ensures opened { (bytes : List ℕ) (now : Current) (plan : Plan) → page_count bytes ≤ 2 ^ 64
-        → current bytes ≡ Ok now → IsLaid (pages_of bytes) now.header plan
+    ensures opened { (bytes : List ℕ) (now : Current) (plan : CarPlan) → page_count bytes ≤ 2 ^ 64
+        → current bytes ≡ Ok now → IsLaidBehind (pages_of bytes) now.header plan
         → opened bytes ≡ Ok (record { current = now; graph = graph_of_plan plan }) }
     // The graph stands on the pages of the plan,
-    ensures used { (plan : Plan) → used_pages (graph_of_plan plan) ≡ planned_pages plan }
+    ensures used { (plan : CarPlan) → used_pages (graph_of_plan plan) ≡ planned_pages plan }
     // it lists the plan's entries, and its cars in their trains,
-    ensures entries { (plan : Plan) → IsListed plan
+    ensures entries { (plan : CarPlan) → IsListed plan
         → entries_of (graph_of_plan plan).catalog ≡ planned_entries plan }
-    ensures listed { (plan : Plan) → IsListed plan → listed_graph (graph_of_plan plan) ≡ planned_list plan }
+    ensures listed { (plan : CarPlan) → IsListed plan → listed_graph (graph_of_plan plan) ≡ planned_list plan }
     // and is the copy that the plan's cars and roots are.
-    ensures copy { (plan : Plan) (next : ℕ) → IsListed plan → copy_of next (graph_of_plan plan)
+    ensures copy { (plan : CarPlan) (next : ℕ) → IsListed plan → copy_of next (graph_of_plan plan)
         ≡ copy_listed (planned_list plan) (planned_roots plan) next }
 {}
 
 /// A law of layout: what a plan of a store lays may be written, each car and each page of its catalog by itself, and
 /// its header.
 pub fn a_plans_pages_may_be_written()
-    ensures cars { (next most : ℕ) (plan : Plan) → IsOfStore next most plan
+    ensures cars { (next most : ℕ) (plan : CarPlan) → IsStorePlan next most plan
         → AllByRecursion (λ (kept : KeptPage). HasCarPage (one_car FIELDS) set.empty kept.image) (planned_cars plan) }
     // Before the pages of the catalog have numbers, what its entries are cut into may be written,
-    ensures parts { (next most : ℕ) (plan : Plan) → IsOfStore next most plan
+    ensures parts { (next most : ℕ) (plan : CarPlan) → IsStorePlan next most plan
         → AllByRecursion MayBeWritten (cut (planned_entries plan)) }
     // and with them each page, which names the next one with its digest, may be.
-    ensures catalog { (next most : ℕ) (plan : Plan) → IsOfStore next most plan → IsListed plan
+    ensures catalog { (next most : ℕ) (plan : CarPlan) → IsStorePlan next most plan → IsListed plan
         → AllByRecursion (λ (page : ℕ). 0 < page) (map (λ (listed : PlannedPage). listed.page) plan.catalog)
         → AllByRecursion (λ (page : ℕ × CatalogPage). HasCatalogPage None nothing_met page.1)
         (chain_of plan.catalog) }
     // The header has a spelling.
-    ensures header { (most : ℕ) (header : Header) (plan : Plan) → IsOfStore header.next most plan
-        → IsHeaderOf plan header → HasHeaderSpelling header }
+    ensures header { (most : ℕ) (header : Header) (plan : CarPlan) → IsStorePlan header.next most plan
+        → IsPlanHeader plan header → HasHeaderSpelling header }
+{}
+
+/// A law of kept pages: the page of a car that stands behind a header holds that car, so a plan of the next copy may
+/// have it; and it holds the car in each store in which it has the same bytes.
+pub fn a_kept_page_holds_its_car()
+    ensures now { (pages : Pages) (header : Header) (graph : Graph) → Spells pages header graph
+        → AllByRecursion (IsCarHeld pages) graph.cars }
+    ensures later { (before after : Pages) (kept : KeptPage) → IsCarHeld before kept
+        → after.page kept.page ≡ before.page kept.page → IsCarHeld after kept }
 {}

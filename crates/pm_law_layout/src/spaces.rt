@@ -9,17 +9,17 @@ ghost use Rattle.pm_image.specs.Stands.{Stands, pages_of};
 ghost use Rattle.pm_view.specs.View.{SpaceView};
 ghost use Rattle.pm_view.specs.Law.{HeapLaw};
 ghost use Rattle.pm_view.specs.Represents.{Represents};
-ghost use Rattle.pm_law_layout.specs.Plans.{Plan};
-ghost use Rattle.pm_law_layout.specs.Laid.{IsInRange, IsLaid, IsOfStore, IsPlanOf};
+ghost use Rattle.pm_law_layout.specs.Plans.{CarPlan};
+ghost use Rattle.pm_law_layout.specs.Laid.{IsPlanInRange, IsLaidBehind, IsStorePlan, IsSpacePlan};
 
 /// A law of spaces: where what a space lists is laid on the pages of a store, behind its current header, the store
 /// stands for the copy of the world that the space stands for.
 pub fn a_space_is_laid_as_its_copy()
     // A plan of a space is one of a store, by the heap law and by the ranges of the types.
-    ensures of_store { (view : SpaceView) (plan : Plan) → HeapLaw view → IsPlanOf view plan → IsInRange plan
-        → IsOfStore view.next FIELDS plan }
-    ensures stands { (view : SpaceView) (world : World) (plan : Plan) (bytes : List ℕ) (now : Current)
-        → HeapLaw view → Represents view world → IsPlanOf view plan → page_count bytes ≤ 2 ^ 64
-        → current bytes ≡ Ok now → now.header.next ≡ view.next → IsLaid (pages_of bytes) now.header plan
+    ensures of_store { (view : SpaceView) (plan : CarPlan) → HeapLaw view → IsSpacePlan view plan → IsPlanInRange plan
+        → IsStorePlan view.next FIELDS plan }
+    ensures stands { (view : SpaceView) (world : World) (plan : CarPlan) (bytes : List ℕ) (now : Current)
+        → HeapLaw view → Represents view world → IsSpacePlan view plan → page_count bytes ≤ 2 ^ 64
+        → current bytes ≡ Ok now → now.header.next ≡ view.next → IsLaidBehind (pages_of bytes) now.header plan
         → Stands bytes now.header.epoch (copy world) }
 {}
