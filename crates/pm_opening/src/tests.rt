@@ -215,7 +215,10 @@ fn a_store_of_two_trains(rt: HostRuntime) -> Result<(), Fail> {
     // The roots, and what is remembered of them and of the field of the other car.
     assert_eq!(rt; space.parts.roots.at(0), Some(Addr { car: 5, slot: 0 }));
     assert_eq!(rt; space.parts.roots.at(1), Some(Addr { car: 5, slot: 3 }));
-    assert_eq!(rt; remembered(&space, 5, 0), Some((3, Some(RefSource::Root(0)))));
+    assert_eq!(rt;
+        remembered(&space, 5, 0),
+        Some((3, Some(RefSource::Root(0))))
+    );
     assert_eq!(rt; remembered(&space, 2, 0), Some((0, None)));
     assert_eq!(rt; remembered(&space, 3, 7), None);
     assert_eq!(rt; space.parts.next, 6);
@@ -228,7 +231,13 @@ fn a_store_of_two_trains(rt: HostRuntime) -> Result<(), Fail> {
 #[test]
 fn a_car_of_a_great_number(rt: HostRuntime) -> Result<(), Fail> {
     let alloc = rt.alloc();
-    let bytes = one_car(alloc, 2, &FAR, &[0, 0, 1, 0, 0, 0, 0, 0], &[0, 0, 0xff, 0xff])?;
+    let bytes = one_car(
+        alloc,
+        2,
+        &FAR,
+        &[0, 0, 1, 0, 0, 0, 0, 0],
+        &[0, 0, 0xff, 0xff],
+    )?;
     let found = opened(alloc, bytes, Placement::new(|_: &[u64]| 0));
     assert!(rt; found.is_ok());
     let Ok((space, _)) = found else {
@@ -245,7 +254,13 @@ fn a_car_of_a_great_number(rt: HostRuntime) -> Result<(), Fail> {
 #[test]
 fn a_store_of_the_first_version(rt: HostRuntime) -> Result<(), Fail> {
     let alloc = rt.alloc();
-    let bytes = one_car(alloc, 1, &FAR, &[0, 0, 1, 0, 0, 0, 0, 0], &[0, 0, 0xff, 0xff])?;
+    let bytes = one_car(
+        alloc,
+        1,
+        &FAR,
+        &[0, 0, 1, 0, 0, 0, 0, 0],
+        &[0, 0, 0xff, 0xff],
+    )?;
     let found = opened(alloc, bytes, Placement::new(|_: &[u64]| 0));
     assert!(rt; found.is_ok());
     let Ok((space, _)) = found else {
