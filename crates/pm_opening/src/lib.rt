@@ -11,6 +11,8 @@ mod opened_trains;
 mod opening;
 mod parts;
 mod remembering;
+#[cfg(test)]
+mod tests;
 
 pub use building::build;
 pub use opening::open_space;
