@@ -20,7 +20,7 @@ use Rattle.pm_copies.specs.Listed.{images}
 use Rattle.pm_copies.specs.Accepted.{Differ, NamesAscend, IsAccepted, roots_in}
 use Rattle.pm_copies.specs.Accepted as accepted
 use Rattle.pm_copies.specs.Opened.{listed_in}
-use Rattle.pm_law_copies.proofs.CopyOf.{all_weaker}
+use Rattle.pm_law_copies.proofs.Lists.{all_weaker}
 use Rattle.pm_law_copies.proofs.FoundCars.{CarsRead}
 use Rattle.pm_law_copies.proofs.Identities.{not_old, free_named, apart_named}
 use Rattle.pm_reopen.specs.Reading.{Follow, AreRead, IsWhole, root_count}
@@ -90,7 +90,7 @@ whole_accepted count next catalog cars some last whole =
     record {
       next = (omega (arith, some), last);
       trains = read.fall;
-      cars = subst (AllByRecursion accepted.IsCar) same read.cars;
+      cars = subst (AllByRecursion accepted.IsAcceptedCar) same read.cars;
       differ = subst Differ same read.differ;
       given = subst (λ (cars : List CarImage). (a : Addr) (object : Object) → slot_named cars a ≡ Some (Live object) → object.id < next) same (λ a object there. (free_named next set.empty (images_of cars) a object read.free there).0);
       apart = subst (λ (cars : List CarImage). (a b : Addr) (o p : Object) → slot_named cars a ≡ Some (Live o) → slot_named cars b ≡ Some (Live p) → o.id ≡ p.id → a ≡ b) same (λ a b o p at_a at_b ids. apart_named next set.empty (images_of cars) a b o p read.free at_a at_b ids);

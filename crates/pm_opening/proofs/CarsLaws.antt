@@ -13,7 +13,7 @@ use Rattle.pm_cars.specs.Cars.{Car, new_car}
 use Rattle.pm_image.specs.declared.car.CarImage.{CarImage}
 use Rattle.pm_image.specs.declared.settled.KeptPage.{KeptPage}
 use Rattle.pm_image.specs.Graphs.{images_of}
-use Rattle.pm_copies.specs.Accepted.{IsCar, Differ}
+use Rattle.pm_copies.specs.Accepted.{IsAcceptedCar, Differ}
 use Rattle.pm_copies.specs.Opened.{has_object, opened_car, opened_entry, opened_cars}
 use Rattle.pm_law_copies.proofs.Naming.{car_named}
 use Rattle.pm_law_copies.proofs.Objects.{no_such_car}
@@ -93,14 +93,14 @@ differ_dropped [] (suc i) differ = tt
 differ_dropped (image ∷ images) zero differ = differ
 differ_dropped (image ∷ images) (suc i) differ = differ_dropped images i differ.1
 
-module _ (kept : List KeptPage) (are : AllByRecursion IsCar (images_of kept)) (differ : Differ (images_of kept)) (left : ℕ) (x : KeptPage) (some : 0 < left) (inside : left ≤ length kept) (is : x ≡ get_or kept (left - 1) x) where
+module _ (kept : List KeptPage) (are : AllByRecursion IsAcceptedCar (images_of kept)) (differ : Differ (images_of kept)) (left : ℕ) (x : KeptPage) (some : 0 < left) (inside : left ≤ length kept) (is : x ≡ get_or kept (left - 1) x) where
   here : images_of (drop (left - 1) kept) ≡ x.image ∷ images_of (drop left kept)
   here =
       let back : left - 1 + 1 ≡ left = omega arith in
       ap images_of (drop_here kept (left - 1) x (omega arith) is) ∙ ap (λ (k : ℕ). x.image ∷ images_of (drop k kept)) back
 
-  pub car_here : IsCar x.image
-  car_here = (subst (AllByRecursion IsCar) (sym (images_dropped kept (left - 1)) ∙ here) (all_dropped IsCar (images_of kept) (left - 1) are)).0
+  pub car_here : IsAcceptedCar x.image
+  car_here = (subst (AllByRecursion IsAcceptedCar) (sym (images_dropped kept (left - 1)) ∙ here) (all_dropped IsAcceptedCar (images_of kept) (left - 1) are)).0
 
   differ_here : Differ (x.image ∷ images_of (drop left kept))
   differ_here = subst Differ (sym (images_dropped kept (left - 1)) ∙ here) (differ_dropped (images_of kept) (left - 1) differ)

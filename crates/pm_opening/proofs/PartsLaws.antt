@@ -28,7 +28,7 @@ use Rattle.pm_view.specs.Sources.{outside, slot_in}
 use Rattle.pm_view.specs.View.{Cars, Registers, Sources, SpaceView}
 use Rattle.pm_view.specs.Reading.{stored}
 use Rattle.pm_copies.specs.Listed.{Listed, images}
-use Rattle.pm_copies.specs.Accepted.{IsCar, Differ, IsAccepted, roots_in}
+use Rattle.pm_copies.specs.Accepted.{IsAcceptedCar, Differ, IsAccepted, roots_in}
 use Rattle.pm_copies.specs.Opened.{IsOpened, listed_in, opened_cars, resolved_at, opened_root, opened_trains, unnumbered, kept_car, grouped, numbered}
 use Rattle.pm_law_copies.specs.Storing.{Stored, stores, remembering, stored_of}
 use Rattle.pm_law_copies.proofs.Lists.{or_else, nat_turned}
@@ -87,12 +87,12 @@ module _ (cars : Cars) where
       here None is others = others
       here (Some car) is others = (is, others)
 
-all_ascend : (cars : List CarImage) → AllByRecursion IsCar cars → AllByRecursion (λ (car : CarImage). Ascend 0 car.slots) cars
+all_ascend : (cars : List CarImage) → AllByRecursion IsAcceptedCar cars → AllByRecursion (λ (car : CarImage). Ascend 0 car.slots) cars
 all_ascend [] are = tt
 all_ascend (car ∷ cars) are = (are.0.ascend, all_ascend cars are.1)
 
 -- they list the cars that opening makes
-standing_are : (images : List CarImage) (roots : Bindings) → AllByRecursion IsCar images → Differ images → AreCars (opened_cars images) roots (standing_of (opened_cars images) images)
+standing_are : (images : List CarImage) (roots : Bindings) → AllByRecursion IsAcceptedCar images → Differ images → AreCars (opened_cars images) roots (standing_of (opened_cars images) images)
 standing_are images roots are differ = record {
   found = λ n. standing_found (opened_cars images) images n ∙ listed n (car_named images n) refl;
   each = each_standing (opened_cars images) images;
@@ -123,8 +123,8 @@ stored_is cars roots view same_cars same_roots none (Handle client register) = s
 stored_is cars roots view same_cars same_roots none (Field a i) = ap (λ (m : Cars). stores m roots (Field a i)) (sym same_cars)
 
 module _ (kept : List KeptPage) (es : List CatEntry) (next : ℕ) (paired : images (listed_in es (images_of kept)) ≡ images_of kept) (ok : IsAccepted (listed_in es (images_of kept)) es next) where
-  pub cars_ok : AllByRecursion IsCar (images_of kept)
-  cars_ok = subst (AllByRecursion IsCar) paired ok.cars
+  pub cars_ok : AllByRecursion IsAcceptedCar (images_of kept)
+  cars_ok = subst (AllByRecursion IsAcceptedCar) paired ok.cars
 
   pub differ_ok : Differ (images_of kept)
   differ_ok = subst Differ paired ok.differ
@@ -158,15 +158,17 @@ module _ (kept : List KeptPage) (es : List CatEntry) (next : ℕ) (paired : imag
       cars = cars_are ∙ ap opened_cars (sym paired);
       trains = trains_are;
       roots = roots_are ∙ (λ i. map (λ (root : List ℕ × Addr). (root.0, followed i root.1)) (roots_in es));
-      numbers = differ;
-      sets = λ car. ap is_some (told.sets car) ∙ mapped_some (get cars car) (remembering all car);
-      remembered = remembered;
-      queues = told.queues;
-      registers = no_registers;
-      anchor = no_anchor;
-      phase = refl;
-      next = refl;
-      completed = refl;
+      fresh = record {
+        numbers = differ;
+        sets = λ car. ap is_some (told.sets car) ∙ mapped_some (get cars car) (remembering all car);
+        remembered = remembered;
+        queues = told.queues;
+        registers = no_registers;
+        anchor = no_anchor;
+        phase = refl;
+        next = refl;
+        completed = refl;
+      };
     }
       where
         followed : ◌≡◌ {A = Addr → Addr} (resolved_by leads) (resolved_at (images (listed_in es (images_of kept))))

@@ -4,7 +4,7 @@ ghost use Rattle.std.specs.Prelude.{◌≡◌, ◌<◌, IfOk, OnOk, None};
 ghost use Rattle.std.specs.List.{AllByRecursion};
 ghost use Rattle.std.specs.FinMap as map;
 ghost use Rattle.pm_image.specs.Graphs.{images_of};
-ghost use Rattle.pm_copies.specs.Accepted.{IsCar, Differ};
+ghost use Rattle.pm_copies.specs.Accepted.{IsAcceptedCar, Differ};
 ghost use Rattle.pm_copies.specs.Opened.{has_object, opened_cars};
 ghost use Rattle.pm_space.specs.Shown.{cars_of};
 ghost use Rattle.pm_opening.specs.Leading.{lead_cars};
@@ -62,7 +62,7 @@ fn add_image(
     links: &mut LinkTable,
     image: &CarImage,
 ) -> Result<(), NoMemory>
-    requires car { IsCar image.now }
+    requires car { IsAcceptedCar image.now }
     requires is_new { map.get (cars_of table.old) image.now.number ≡ None }
     requires linked { AreLinked (cars_of table.old) links.old }
     ensures cars { OnOk result (cars_of table.new ≡ with_image leads.now (cars_of table.old) image.now) }
@@ -85,7 +85,7 @@ pub(crate) fn open_cars(
     cars: &[KeptPage],
 ) -> Result<(Table<Held>, LinkTable), NoMemory>
     requires leads { leads.now ≡ lead_cars cars.now }
-    requires cars { AllByRecursion IsCar (images_of cars.now) }
+    requires cars { AllByRecursion IsAcceptedCar (images_of cars.now) }
     requires differ { Differ (images_of cars.now) }
     ensures cars { IfOk result (λ made. cars_of made.0 ≡ opened_cars (images_of cars.now)) }
     ensures frozen { IfOk result (λ made. made.0.frozen ≡ None) }
