@@ -1,4 +1,4 @@
-ghost use Rattle.std.specs.Prelude.{◌≡◌, length, IfOk};
+ghost use Rattle.std.specs.Prelude.{◌≡◌, ◌⊎◌};
 
 use crate::open_space;
 use pm_cars::Look;
@@ -240,9 +240,10 @@ fn a_car_of_a_great_number(rt: HostRuntime) -> Result<(), Fail> {
     )?;
     let found = opened(alloc, bytes, Placement::new(|_: &[u64]| 0));
     assert!(rt; found.is_ok());
-    let Ok((space, _)) = found else {
+    let Ok((space, cars)) = found else {
         return Ok(());
     };
+    assert_eq!(rt; cars.as_slice().len(), 1);
     assert_eq!(rt; look(&space, 1 << 40, 65_535), Look::Live);
     assert_eq!(rt; next_slot(&space, 1 << 40), Some((65_536, 0)));
     assert_eq!(rt; ends(&space, 1), (Some(1 << 40), Some(1 << 40)));
@@ -263,9 +264,10 @@ fn a_store_of_the_first_version(rt: HostRuntime) -> Result<(), Fail> {
     )?;
     let found = opened(alloc, bytes, Placement::new(|_: &[u64]| 0));
     assert!(rt; found.is_ok());
-    let Ok((space, _)) = found else {
+    let Ok((space, cars)) = found else {
         return Ok(());
     };
+    assert_eq!(rt; cars.as_slice().len(), 1);
     let at = Addr {
         car: 1 << 40,
         slot: 65_535,
