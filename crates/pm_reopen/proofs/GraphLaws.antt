@@ -1,5 +1,5 @@
 -- A graph whose fields are null has no addresses but those of its roots.
-use Rattle.std.proofs.Common.{◌≡◌, ◌⊎◌, inl, inr, ℕ, ◌+◌, ◌≤◌, ◌==◌, lit≤, Bool, true, false, ◌&&◌, List, [], ◌∷◌, ◌++◌, length, Option, Some, None, is_none, is_some, Result, Ok, Err, refl, sym, ap, subst, ◌∙◌, if◌then◌else◌}
+use Rattle.std.proofs.Common.{◌≡◌, ℕ, ◌+◌, ◌≤◌, ◌==◌, lit≤, Bool, true, false, ◌&&◌, List, [], ◌∷◌, ◌++◌, length, Option, Some, None, is_none, is_some, Result, Ok, Err, refl, sym, ap, ◌∙◌, if◌then◌else◌}
 use Rattle.std.specs.List.{list_all, flat_map}
 use Rattle.std.specs.FinSet as set
 use Rattle.pm_types.specs.declared.limits.TheConstants.{FIELDS, OLD_FIELDS, OLD_VERSION}
@@ -15,7 +15,6 @@ use Rattle.pm_image.specs.declared.catalog.CatEntry.{CatEntry}
 use Rattle.pm_image.specs.declared.catalog.CatEntry.TheVariants.{Car, Root}
 use Rattle.pm_image.specs.declared.catalog.CatalogPage.{CatalogPage}
 use Rattle.pm_image.specs.declared.settled.KeptPage.{KeptPage}
-use Rattle.pm_base.specs.Results.{◌>>=◌}
 use Rattle.pm_image.specs.Graphs.{images_of, Pages as Store, Catalog, Graph, Site, slot_named, field_sites, record_sites, root_sites, sites_of, leads, linked, catalog_of, cars_from, entries_of, graph_of}
 use Rattle.pm_image.proofs.Results.{both_true}
 use Rattle.pm_base.proofs.Results.{bound}

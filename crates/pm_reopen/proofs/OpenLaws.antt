@@ -1,19 +1,15 @@
 -- What is read behind a header is what stands behind it.
-use Rattle.std.proofs.Common.{◌≡◌, ◌⊎◌, inl, inr, ⊎_elim, ◌++◌, ◌-◌, ◌*◌, ◌≤◌, ◌==◌, nat_lt, nat_le, ℕ, zero, suc, Bool, List, [], ◌∷◌, length, map, true, false, Option, Some, None, Result, Ok, Err, refl, sym, ap, subst, ◌∙◌, arith, if◌then◌else◌}
-use Rattle.std.specs.Prelude.{Contains, All, slice_index_or}
-use Rattle.std.specs.FinSet as set
+use Rattle.std.proofs.Common.{◌≡◌, ◌*◌, nat_lt, nat_le, ℕ, Bool, List, [], ◌∷◌, length, map, true, false, Option, Some, None, Result, Ok, Err, refl, sym, ap, subst, ◌∙◌, arith, if◌then◌else◌}
+use Rattle.std.specs.Prelude.{Contains, All}
 use Rattle.std.proofs.lemmas.List.Elements.{Contains-append_left, All-nil, All-cons}
-use Rattle.std.proofs.lemmas.Bool.{eqb-true}
 use Rattle.std.proofs.lemmas.Bool.Decides.{nat_tests}
 use Rattle.pm_types.specs.declared.limits.TheConstants.{PAGE_BYTES}
 use Rattle.pm_types.specs.declared.fault.OpenFault.{OpenFault}
 use Rattle.pm_types.specs.declared.fault.OpenFault.TheVariants.{Broken, NotAStore}
 use Rattle.pm_layout.specs.declared.header.HeaderFault.{HeaderFault}
-use Rattle.pm_layout.specs.Headers.{header_at, most_fields}
-use Rattle.pm_model.proofs.Members.{at_first, in_rest, in_none, first_or_rest}
+use Rattle.pm_layout.specs.Headers.{header_at}
 use Rattle.pm_base.specs.Counts.{Rose}
 use Rattle.pm_base.specs.Results.{◌>>=◌}
-use Rattle.pm_image.specs.CatalogPages.{Met, catalog_at, meeting_page}
 use Rattle.pm_image.specs.Opening.{Current, current, page_count, page_of, is_placed, sound_header, header_in, header_body_of, open_slot}
 use Rattle.pm_image.specs.Stands.{pages_of}
 use Rattle.pm_image.proofs.FrameLaws.{opened_as}
@@ -29,15 +25,13 @@ use Rattle.pm_reopen.specs.Reopening.{IsCurrent, IsReopenFault, IsReopenFaultOf,
 use Rattle.std.specs.List.{AllByRecursion}
 use Rattle.pm_layout.specs.declared.header.Header.{Header}
 use Rattle.pm_model.specs.World.{Copy}
-use Rattle.pm_image.specs.declared.catalog.CatEntry.{CatEntry}
 use Rattle.pm_image.specs.declared.settled.KeptPage.{KeptPage}
-use Rattle.pm_image.specs.Graphs.{images_of, Pages as Store, Graph, Catalog, undamaged, on_page, catalog_from, catalog_of, most_pages, entries_of, cars_from, linked, sites_of, graph_of, used_pages, heap_of, roots_of, copy_of}
-use Rattle.pm_model.specs.Copying.{copied}
+use Rattle.pm_image.specs.Graphs.{Pages as Store, Graph, Catalog, entries_of, graph_of, used_pages, copy_of}
 use Rattle.pm_image.proofs.Results.{both_true}
-use Rattle.pm_base.proofs.Results.{ok_same, bind_ok, bound, if_ok}
+use Rattle.pm_base.proofs.Results.{ok_same, bound, if_ok}
 use Rattle.std.specs.List.{list_all}
 use Rattle.pm_plain.specs.Plain.{is_plain_car}
-use Rattle.pm_reopen.specs.Building.{IsBuilt, has_slot, is_readable}
+use Rattle.pm_reopen.specs.Building.{IsBuilt, has_slot}
 use Rattle.pm_reopen.specs.declared.fault.ReadFault.{ReadFault}
 use Rattle.pm_reopen.specs.declared.fault.ReadFault.TheVariants.{Damaged as DamagedPage, Malformed as MalformedPage, Unheld, Failed, Memory}
 use Rattle.pm_reopen.specs.Reading.{Fails, Counts, CountsOrUnheld, IsNotHeld, IsThere, IsCar, IsWhole, IsRead, store_of, page_numbers}

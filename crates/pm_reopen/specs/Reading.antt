@@ -25,7 +25,7 @@ use Rattle.pm_image.specs.CarPages.{Numbers, HasCarPage, car_at, car_used}
 use Rattle.pm_image.specs.CarAnswers.{a_car}
 use Rattle.pm_image.specs.CatalogPages.{Met, is_next_name, catalog_at, catalog_used}
 use Rattle.pm_image.specs.Opening.{page_of}
-use Rattle.pm_image.specs.Graphs.{images_of, Pages as Store, Graph, Catalog, undamaged, on_page, catalog_of, entries_of, cars_from, with_identities, linked, sites_of, graph_of, used_pages, copy_of}
+use Rattle.pm_image.specs.Graphs.{images_of, Pages as Store, Graph, Catalog, undamaged, on_page, entries_of, with_identities, linked, sites_of, graph_of, used_pages, copy_of}
 use Rattle.pm_plain.specs.Plain.{is_plain}
 use Rattle.pm_shadow.specs.declared.pages.Pages.{Pages}
 use Rattle.pm_shadow.specs.Pages.{state, disk_of}

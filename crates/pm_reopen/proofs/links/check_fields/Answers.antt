@@ -1,7 +1,6 @@
-use Rattle.std.proofs.Common.{◌≡◌, ◌+◌, ◌*◌, ◌≤◌, ℕ, List, length, get_or, drop, Option, None, Ok, Err, refl, sym, ap, ◌∙◌, arith}
+use Rattle.std.proofs.Common.{get_or, None, sym, arith}
 use Rattle.std.proofs.lemmas.Result.{err_from_is_err_and}
 use Rattle.pm_image.specs.Graphs.{field_sites}
-use Rattle.pm_reopen.specs.declared.fault.Place.{Place}
 use Rattle.pm_reopen.proofs.Lists.{drop_got}
 use Rattle.pm_reopen.proofs.Walks.{walk_on, walk_stop, walk_done, field_at, field_size, field_step, field_none, led_place}
 use Rattle.pm_reopen.proofs.links.check_fields.Goals as goal

@@ -1,9 +1,9 @@
-use Rattle.std.proofs.Common.{◌≡◌, ◌++◌, ℕ, Err, sym, ap, subst, ◌∙◌}
+use Rattle.std.proofs.Common.{ℕ, sym, ap, ◌∙◌}
 use Rattle.std.specs.List.{flat_map}
 use Rattle.std.proofs.lemmas.Result.{err_from_is_err_and}
 use Rattle.pm_image.specs.declared.catalog.CatalogPage.{CatalogPage}
 use Rattle.pm_image.specs.declared.settled.KeptPage.{KeptPage}
-use Rattle.pm_image.specs.Graphs.{record_sites, root_sites, sites_of, linked}
+use Rattle.pm_image.specs.Graphs.{record_sites, root_sites, sites_of}
 use Rattle.pm_reopen.specs.Linking.{HeldCars, linked_by}
 use Rattle.pm_reopen.proofs.HeldLaws.{linked_same}
 use Rattle.pm_reopen.proofs.Walks.{both_linked, front_fails, led_place}

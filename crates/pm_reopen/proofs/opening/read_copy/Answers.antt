@@ -1,13 +1,12 @@
-use Rattle.std.proofs.Common.{◌≡◌, ◌≤◌, List, Err, sym, ap, subst, ◌∙◌}
+use Rattle.std.proofs.Common.{List, Err, ap, subst, ◌∙◌}
 use Rattle.std.proofs.lemmas.Result.{err_from_is_err_and}
-use Rattle.pm_types.specs.declared.limits.TheConstants.{ROOTS}
 use Rattle.pm_layout.specs.declared.header.Header.{Header}
 use Rattle.pm_image.specs.declared.settled.KeptPage.{KeptPage}
-use Rattle.pm_image.specs.Graphs.{Catalog, Graph, entries_of, graph_of}
+use Rattle.pm_image.specs.Graphs.{Catalog, entries_of, graph_of}
 use Rattle.pm_shadow.specs.Pages.{disk_of}
 use Rattle.pm_reopen.specs.declared.fault.ReadFault.{ReadFault}
 use Rattle.pm_reopen.specs.Building.{IsBuilt}
-use Rattle.pm_reopen.specs.Reading.{store_of, root_count}
+use Rattle.pm_reopen.specs.Reading.{store_of}
 use Rattle.pm_reopen.proofs.KnownLaws.{built_fits}
 use Rattle.pm_reopen.proofs.OpenLaws.{whole_read, unheld_fails, readable_fails, held_counts, loose_counts}
 use Rattle.pm_reopen.proofs.opening.read_copy.Goals as goal

@@ -1,7 +1,6 @@
-use Rattle.std.proofs.Common.{List, ℕ, Result, Err, sym, subst}
+use Rattle.std.proofs.Common.{Err, sym, subst}
 use Rattle.pm_types.specs.declared.fault.OpenFault.{OpenFault}
-use Rattle.pm_image.specs.declared.settled.KeptPage.{KeptPage}
-use Rattle.pm_image.specs.Graphs.{Catalog, graph_of}
+use Rattle.pm_image.specs.Graphs.{graph_of}
 use Rattle.pm_shadow.specs.Pages.{disk_of}
 use Rattle.pm_reopen.specs.Reading.{store_of}
 use Rattle.pm_reopen.specs.Reopening.{IsGraph, IsGraphFault}
