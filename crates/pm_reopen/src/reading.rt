@@ -186,7 +186,8 @@ fn read_listed<D: Disk>(
         → GoesOn result (behind cars.old.items (cars_from most next (store_of (state pages.old).count bytes) met.old (entries.now ++ rest)))
         (behind cars.new.items (cars_from most next (store_of (state pages.old).count bytes) met.new rest))) }
     ensures cars { OnOk result (AllByRecursion (IsCar (state pages.old).count next) cars.new.items) }
-    ensures reads { OnOk result ((begun : set.FinSet nat_cmp) (done : List CatEntry) → LeadsOn most next begun done cars.old.items met.old
+    ensures reads { OnOk result ((begun : set.FinSet nat_cmp) (done : List CatEntry)
+        → LeadsOn most next begun done cars.old.items met.old
         → LeadsOn most next begun (done ++ entries.now) cars.new.items met.new) }
     ensures looked { Looked pages.old pages.new }
     ensures counts { Counts (D.count (disk_of pages.old)) (D.count (disk_of pages.new)) result }
