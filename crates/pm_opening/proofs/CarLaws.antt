@@ -1,25 +1,23 @@
 -- What a car is once all its slots were opened.
-use Rattle.std.proofs.Common.{◌≡◌, ℕ, ◌+◌, ◌*◌, ◌<◌, ◌≤◌, ◌==◌, Bool, true, false, cond, List, [], ◌∷◌, length, map, drop, get_or, Option, Some, None, refl, sym, ap, subst, ◌∙◌, arith}
+use Rattle.std.proofs.Common.{◌≡◌, ℕ, ◌+◌, ◌*◌, ◌≤◌, true, false, cond, List, [], ◌∷◌, length, Option, Some, None, refl, sym, ap, ◌∙◌, arith}
 use Rattle.std.specs.Option.{option_map}
-use Rattle.std.specs.List.{flat_map}
 use Rattle.std.specs.Cmp.{nat_cmp_total}
 use Rattle.std.specs.Ordering.{nat_cmp, eq_by_cmp}
-use Rattle.std.specs.FinMap.{FinMap, get, insert, empty, get-insert, get-empty, get-from_entries, from_entries, same_map, nat_cmp-IsAntisymmetric}
+use Rattle.std.specs.FinMap.{get, get-insert, get-empty, get-from_entries, from_entries, same_map, nat_cmp-IsAntisymmetric}
 use Rattle.std.specs.FinMap.Entries.{find}
 use Rattle.std.proofs.lemmas.Bool.{eqb-true}
 use Rattle.std.proofs.lemmas.List.{length-map}
-use Rattle.pm_types.specs.declared.address.Addr.{Addr}
 use Rattle.pm_types.specs.declared.object.Object.{Object}
 use Rattle.pm_types.specs.declared.object.Slot.{Slot}
 use Rattle.pm_types.specs.declared.object.Slot.TheVariants.{Live, Moved}
-use Rattle.pm_cars.specs.Cars.{Car, Slots, object_room, slot_room, total, used, new_car}
+use Rattle.pm_cars.specs.Cars.{Car, object_room, slot_room, used, new_car}
 use Rattle.pm_cars.proofs.Kept.{kept_new}
 use Rattle.pm_image.specs.declared.car.CarImage.{CarImage}
 use Rattle.pm_image.specs.declared.settled.KeptPage.{KeptPage}
 use Rattle.pm_image.specs.CarPages.{Ascend, car_used}
 use Rattle.pm_image.specs.Graphs.{images_of, slot_in}
 use Rattle.pm_layout.specs.Spelling.{slot_size}
-use Rattle.pm_copies.specs.Opened.{opened_object, opened_slot, next_after, opened_car}
+use Rattle.pm_copies.specs.Opened.{opened_object, next_after, opened_car}
 use Rattle.pm_law_copies.proofs.Lists.{or_else, nat_turned}
 use Rattle.pm_law_copies.proofs.Objects.{slot_from}
 use Rattle.pm_law_copies.proofs.OpenedCars.{live_of, opened_slots, slot_opened}

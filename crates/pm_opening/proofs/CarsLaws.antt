@@ -1,5 +1,5 @@
 -- The cars of a space, once all were opened.
-use Rattle.std.proofs.Common.{◌≡◌, ℕ, zero, suc, ◌+◌, ◌-◌, ◌<◌, ◌≤◌, ◌==◌, Bool, true, false, cond, List, [], ◌∷◌, ◌++◌, length, map, drop, get_or, Option, Some, None, refl, sym, ap, subst, ◌∙◌, arith}
+use Rattle.std.proofs.Common.{◌≡◌, ℕ, zero, suc, ◌+◌, ◌-◌, ◌<◌, ◌≤◌, true, false, cond, List, [], ◌∷◌, ◌++◌, length, drop, get_or, Option, Some, None, refl, sym, ap, subst, ◌∙◌, arith}
 use Rattle.std.proofs.Math.ListN.{drop_of_length-le}
 use Rattle.std.specs.Option.{option_map}
 use Rattle.std.specs.List.{flat_map, AllByRecursion}
@@ -14,14 +14,12 @@ use Rattle.pm_image.specs.declared.car.CarImage.{CarImage}
 use Rattle.pm_image.specs.declared.settled.KeptPage.{KeptPage}
 use Rattle.pm_image.specs.Graphs.{images_of}
 use Rattle.pm_copies.specs.Accepted.{IsAcceptedCar, Differ}
-use Rattle.pm_copies.specs.Opened.{has_object, opened_car, opened_entry, opened_cars}
-use Rattle.pm_law_copies.proofs.Naming.{car_named}
+use Rattle.pm_copies.specs.Opened.{has_object, opened_car, opened_entry}
 use Rattle.pm_law_copies.proofs.Objects.{no_such_car}
 use Rattle.pm_law_copies.proofs.OpenedCars.{car_opened, cars_opened}
 use Rattle.pm_view.specs.View.{Cars, Sources}
 use Rattle.pm_snap.specs.Snapped.{Snapped}
 use Rattle.pm_space.specs.declared.held.Held.{Held}
-use Rattle.pm_space.specs.declared.links.Links.{Links}
 use Rattle.pm_space.specs.Linked.{Linked, set_of, queue_of, sets_of, queues_of}
 use Rattle.pm_space.specs.Shown.{car_of, cars_of}
 use Rattle.pm_reopen.proofs.Lists.{drop_here}

@@ -1,5 +1,5 @@
 -- Which cars are kept.
-use Rattle.std.proofs.Common.{◌≡◌, ℕ, ◌==◌, Bool, true, false, cond, List, [], ◌∷◌, ◌++◌, length, drop, refl, sym, ap, subst, ◌∙◌, arith}
+use Rattle.std.proofs.Common.{◌≡◌, ℕ, ◌==◌, true, false, cond, List, [], ◌∷◌, ◌++◌, refl}
 use Rattle.std.specs.List.{flat_map, AllByRecursion}
 use Rattle.pm_image.specs.declared.car.CarImage.{CarImage}
 use Rattle.pm_image.specs.declared.catalog.CatEntry.{CatEntry}
@@ -7,7 +7,6 @@ use Rattle.pm_image.specs.declared.catalog.CatEntry.TheVariants.{Car, Root}
 use Rattle.pm_copies.specs.Listed.{Listed, images}
 use Rattle.pm_copies.specs.Accepted.{Differ}
 use Rattle.pm_copies.specs.Opened.{has_object, kept_car, listed_in}
-use Rattle.pm_law_copies.proofs.Lists.{all_append}
 use Rattle.pm_opening.specs.Trains.{AreApart}
 
 -- where no car is left, none is listed

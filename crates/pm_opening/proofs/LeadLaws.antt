@@ -1,25 +1,19 @@
 -- Each address of cars and of a catalog leads to an object, where each leads where it may.
-use Rattle.std.proofs.Common.{◌≡◌, ℕ, ◌+◌, Bool, true, false, ◌==◌, List, [], ◌∷◌, ◌++◌, length, Option, Some, None, is_some, Result, Ok, Err, refl, sym, ap, subst, ◌∙◌, if◌then◌else◌}
-use Rattle.std.specs.Prelude.{IsSome, IfSome}
+use Rattle.std.proofs.Common.{◌≡◌, ℕ, ◌+◌, true, false, ◌==◌, List, [], ◌∷◌, ◌++◌, length, Option, Some, None, is_some, Ok, refl, if◌then◌else◌}
 use Rattle.std.specs.List.{flat_map, AllByRecursion}
-use Rattle.std.specs.FinSet as set
 use Rattle.pm_types.specs.declared.address.Addr.{Addr}
-use Rattle.pm_types.specs.declared.fault.OpenFault.{OpenFault}
 use Rattle.pm_types.specs.declared.fault.OpenFault.TheVariants.{Malformed}
 use Rattle.pm_types.specs.declared.object.Slot.{Slot}
 use Rattle.pm_types.specs.declared.object.Slot.TheVariants.{Live, Moved}
-use Rattle.pm_layout.specs.declared.header.Header.{Header}
-use Rattle.pm_layout.specs.Headers.{most_fields}
 use Rattle.pm_layout.specs.Spelling.{slot_size}
-use Rattle.pm_base.specs.Results.{◌>>=◌}
-use Rattle.pm_base.proofs.Results.{bind_ok, ok_same, wanted_ok}
+use Rattle.pm_base.proofs.Results.{wanted_ok}
 use Rattle.pm_image.specs.declared.car.CarImage.{CarImage}
 use Rattle.pm_image.specs.declared.catalog.CatEntry.{CatEntry}
 use Rattle.pm_image.specs.declared.catalog.CatEntry.TheVariants.{Car, Root}
 use Rattle.pm_image.specs.declared.catalog.CatalogPage.{CatalogPage}
 use Rattle.pm_image.specs.declared.settled.KeptPage.{KeptPage}
 use Rattle.pm_image.specs.Leading.{FieldLeads, SlotLeads, CarLeads, RootLeads}
-use Rattle.pm_image.specs.Graphs.{images_of, Pages, Catalog, Graph, Site, entries_of, catalog_of, cars_from, slot_in, slot_named, is_live, leads, linked, field_sites, slot_sites, record_sites, root_sites, sites_of, graph_of, identity_in, identity_through, resolved}
+use Rattle.pm_image.specs.Graphs.{images_of, Catalog, Site, entries_of, slot_in, slot_named, is_live, leads, linked, field_sites, slot_sites, record_sites, root_sites, sites_of, identity_in, identity_through, resolved}
 
 -- ---- each address of a list
 

@@ -14,7 +14,7 @@ use Rattle.pm_view.specs.Reading.{followed}
 use Rattle.pm_copies.specs.Opened.{resolved_at, opened_object}
 use Rattle.pm_reopen.proofs.Lists.{drop_here}
 use Rattle.pm_law_copies.proofs.Lists.{nat_turned}
-use Rattle.pm_opening.specs.Leading.{moved_to, SlotLeads, Leads, lead_slots, lead_cars, lead_of, lead_at, led_to, resolved_by}
+use Rattle.pm_opening.specs.Leading.{moved_to, SlotLeads, lead_slots, lead_cars, lead_of, lead_at, led_to, resolved_by}
 use Rattle.pm_opening.specs.Making.{followed_object}
 
 slot_found : (slots : List (ℕ × Slot)) (number : ℕ) → get (lead_slots slots) number ≡ option_map moved_to (slot_in slots number)

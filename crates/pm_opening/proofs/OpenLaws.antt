@@ -1,30 +1,28 @@
 -- What stands once a space was opened.
-use Rattle.std.proofs.Common.{◌≡◌, ℕ, ◌<◌, ◌≤◌, true, false, List, [], ◌∷◌, ◌++◌, map, Option, Some, None, Result, Ok, Err, refl, sym, ap, subst, ◌∙◌, arith}
-use Rattle.std.specs.Prelude.{All, Contains}
+use Rattle.std.proofs.Common.{◌≡◌, ℕ, List, [], ◌∷◌, map, Result, Ok, Err, refl, sym, ap, subst, ◌∙◌}
+use Rattle.std.specs.Prelude.{Contains}
 use Rattle.std.specs.List.{AllByRecursion}
 use Rattle.std.proofs.lemmas.List.Elements.{Contains-append_left}
 use Rattle.pm_types.specs.declared.fault.OpenFault.{OpenFault}
 use Rattle.pm_types.specs.declared.fault.OpenFault.TheVariants.{NotAStore, Version, Damaged, Malformed, Broken, Disk, Memory}
-use Rattle.pm_layout.specs.declared.header.Header.{Header}
 use Rattle.pm_base.specs.Results.{◌>>=◌}
 use Rattle.pm_base.proofs.Results.{bound}
-use Rattle.pm_image.specs.declared.catalog.CatalogPage.{CatalogPage}
 use Rattle.pm_image.specs.declared.settled.KeptPage.{KeptPage}
 use Rattle.pm_image.specs.Graphs.{Pages as Store, Catalog, Graph, graph_of, images_of, entries_of, used_pages}
-use Rattle.pm_image.specs.Opening.{Current, current, page_of}
-use Rattle.pm_image.specs.Stands.{Opened, pages_of, opened}
+use Rattle.pm_image.specs.Opening.{current, page_of}
+use Rattle.pm_image.specs.Stands.{pages_of, opened}
 use Rattle.pm_image.proofs.FrameLaws.{opened_as}
 use Rattle.pm_shadow.specs.declared.page_use.PageUse.{PageUse}
-use Rattle.pm_shadow.specs.State.{State, IsListable, attached, known_by}
-use Rattle.pm_shadow.specs.Copies.{AreUsed, KeepsGraph}
+use Rattle.pm_shadow.specs.State.{State, attached, known_by}
+use Rattle.pm_shadow.specs.Copies.{AreUsed}
 use Rattle.pm_shadow.specs.Uses.{IsListed}
 use Rattle.pm_shadow.proofs.CopyLemmas.{listed_graph}
 use Rattle.pm_view.specs.View.{SpaceView}
-use Rattle.pm_copies.specs.Opened.{IsOpened, IsOpenedStore, listed_in}
+use Rattle.pm_copies.specs.Opened.{IsOpened, listed_in}
 use Rattle.pm_reopen.specs.Reading.{IsThere, IsCar, IsWhole, store_of, page_numbers}
 use Rattle.pm_reopen.specs.Reopening.{IsCurrent, IsGraph}
 use Rattle.pm_reopen.proofs.Lists.{all_both}
-use Rattle.pm_reopen.proofs.OpenLaws.{not_known, listable}
+use Rattle.pm_reopen.proofs.OpenLaws.{listable}
 use Rattle.pm_opening.specs.Opening.{OpensStore, IsRefusedBy}
 
 cars_there : (count next : ℕ) (cars : List KeptPage) → AllByRecursion (IsCar count next) cars → AllByRecursion (IsThere count) (map (λ (kept : KeptPage). kept.page) cars)

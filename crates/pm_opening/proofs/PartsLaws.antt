@@ -1,10 +1,9 @@
 -- The parts that were made are a space that opening makes.
-use Rattle.std.proofs.Common.{◌≡◌, ℕ, ◌==◌, Bool, true, false, cond, List, [], ◌∷◌, ◌++◌, map, Option, Some, None, is_some, refl, sym, ap, subst, ◌∙◌, arith}
+use Rattle.std.proofs.Common.{◌≡◌, ℕ, ◌==◌, true, false, cond, List, [], ◌∷◌, ◌++◌, map, Option, Some, None, is_some, refl, sym, ap, subst, ◌∙◌}
 use Rattle.std.specs.Option.{option_map}
-use Rattle.std.specs.List.{flat_map, AllByRecursion}
-use Rattle.std.specs.Cmp.{nat_cmp_total}
-use Rattle.std.specs.Ordering.{nat_cmp, eq_by_cmp}
-use Rattle.std.specs.FinMap.{get, empty, get-empty, entries}
+use Rattle.std.specs.List.{AllByRecursion}
+use Rattle.std.specs.Ordering.{nat_cmp}
+use Rattle.std.specs.FinMap.{get, empty, get-empty}
 use Rattle.std.specs.FinMap.Entries.{find}
 use Rattle.std.proofs.lemmas.Bool.{eqb-true}
 use Rattle.std.proofs.lemmas.Option.{same_Some}
@@ -27,9 +26,9 @@ use Rattle.pm_view.specs.declared.phase.Phase.TheVariants.{Idle}
 use Rattle.pm_view.specs.Sources.{outside, slot_in}
 use Rattle.pm_view.specs.View.{Cars, Registers, Sources, SpaceView}
 use Rattle.pm_view.specs.Reading.{stored}
-use Rattle.pm_copies.specs.Listed.{Listed, images}
+use Rattle.pm_copies.specs.Listed.{images}
 use Rattle.pm_copies.specs.Accepted.{IsAcceptedCar, Differ, IsAccepted, roots_in}
-use Rattle.pm_copies.specs.Opened.{IsOpened, listed_in, opened_cars, resolved_at, opened_root, opened_trains, unnumbered, kept_car, grouped, numbered}
+use Rattle.pm_copies.specs.Opened.{IsOpened, listed_in, opened_cars, resolved_at, opened_trains}
 use Rattle.pm_law_copies.specs.Storing.{Stored, stores, remembering, stored_of}
 use Rattle.pm_law_copies.proofs.Lists.{or_else, nat_turned}
 use Rattle.pm_law_copies.proofs.Naming.{car_named}

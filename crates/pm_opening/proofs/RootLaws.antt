@@ -1,14 +1,14 @@
 -- Names that are bound in their order.
-use Rattle.std.proofs.Common.{◌≡◌, ℕ, ◌+◌, ◌<◌, ◌≤◌, Bool, true, false, cond, List, [], ◌∷◌, ◌++◌, length, map, drop, get_or, Option, Some, None, refl, sym, ap, subst, ◌∙◌, arith, append_assoc}
-use Rattle.std.specs.List.{flat_map, AllByRecursion}
+use Rattle.std.proofs.Common.{◌≡◌, ℕ, ◌+◌, ◌≤◌, true, List, [], ◌∷◌, ◌++◌, length, map, Option, Some, None, refl, sym, ap, subst, ◌∙◌, arith, append_assoc}
+use Rattle.std.specs.List.{AllByRecursion}
 use Rattle.std.specs.declared.cmp.Ordering.{Ordering}
 use Rattle.std.specs.declared.cmp.Ordering.TheVariants.{Less, Equal, Greater}
 use Rattle.std.specs.Ordering.{is_lt, ordering_reverse}
-use Rattle.std.specs.FinMap.{get, insert, empty, entries, len, entries-insert, len-entries, len-empty}
+use Rattle.std.specs.FinMap.{insert, empty, entries, len, entries-insert, len-entries, len-empty}
 use Rattle.std.specs.FinMap.Entries.{put, by_order}
 use Rattle.std.proofs.lemmas.List.{length-map, length-append}
 use Rattle.pm_types.specs.Orders.{name_cmp}
-use Rattle.pm_types.proofs.Orders.{names_total, names_antisymmetric}
+use Rattle.pm_types.proofs.Orders.{names_total}
 use Rattle.pm_types.specs.declared.address.Addr.{Addr}
 use Rattle.pm_roots.specs.Bindings.{Bindings}
 use Rattle.pm_image.specs.declared.catalog.CatEntry.{CatEntry}

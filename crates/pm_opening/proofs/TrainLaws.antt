@@ -1,5 +1,5 @@
 -- The trains once all cars are in.
-use Rattle.std.proofs.Common.{◌≡◌, ℕ, suc, ◌+◌, ◌<◌, ◌≤◌, ◌==◌, Bool, true, false, cond, List, [], ◌∷◌, ◌++◌, length, Option, Some, None, IsSome, IsSomeAnd, is_some, refl, sym, ap, subst, ◌∙◌, arith, drop, append_assoc, if◌then◌else◌}
+use Rattle.std.proofs.Common.{◌≡◌, ℕ, suc, ◌+◌, ◌<◌, ◌≤◌, ◌==◌, Bool, true, false, List, [], ◌∷◌, ◌++◌, length, Option, Some, None, IsSome, IsSomeAnd, is_some, refl, sym, ap, subst, ◌∙◌, arith, drop, append_assoc, if◌then◌else◌}
 use Rattle.std.proofs.Math.ListN.{drop_of_length-le}
 use Rattle.std.specs.List.{AllByRecursion}
 use Rattle.std.specs.Option.{option_map}
@@ -12,7 +12,7 @@ use Rattle.pm_trains.specs.Changes.{opened}
 use Rattle.pm_trains.proofs.Order.{differ, agree}
 use Rattle.pm_copies.specs.Opened.{before, grouped, numbered}
 use Rattle.pm_law_copies.proofs.Lists.{all_append}
-use Rattle.pm_opening.specs.Trains.{goes_on, with_kept, closed, with_all_kept, AreApart, AreNew}
+use Rattle.pm_opening.specs.Trains.{goes_on, with_kept, closed, with_all_kept, AreNew}
 
 -- ---- the trains of a list of cars, seen from a train that stands before them
 

@@ -1,5 +1,5 @@
 -- What stands once a space was opened, and why none was.
-use Rattle.std.specs.Prelude.{◌≡◌, ℕ, List, None, Ok, Err}
+use Rattle.std.specs.Prelude.{◌≡◌, ℕ, List, None, Err}
 use Rattle.pm_types.specs.declared.fault.OpenFault.{OpenFault}
 use Rattle.pm_types.specs.declared.fault.OpenFault.TheVariants.{NotAStore, Version, Damaged, Malformed, Broken, Disk, Memory}
 use Rattle.pm_image.specs.declared.settled.KeptPage.{KeptPage}

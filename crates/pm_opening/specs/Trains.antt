@@ -9,9 +9,11 @@ abbrev pub goes_on : Option ℕ → ℕ → Bool
 goes_on None train = true
 goes_on (Some last) train = last == train
 
--- the trains with one car more, given with the number of its train, behind one of this train: it goes into the youngest, or a new one
+-- the trains with one car more, given with the number of its train, behind one of this train: it goes into the youngest,
+-- or a new one
 abbrev pub with_kept : Option ℕ → ℕ × ℕ → Trains → Trains
-with_kept last kept t = if goes_on last kept.0 then record t { trains = appended (youngest t.trains) kept.1 t.trains } else opened t kept.1
+with_kept last kept t =
+    if goes_on last kept.0 then record t { trains = appended (youngest t.trains) kept.1 t.trains } else opened t kept.1
 
 -- the trains once all cars are in: where one is, an open train without a car follows
 abbrev pub closed : Option ℕ → Trains → Trains

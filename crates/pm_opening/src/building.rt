@@ -18,10 +18,10 @@ use std::alloc::Global;
 /// The space that opening makes of what a catalog lists: its entries, the cars of those that list one, in their order,
 /// and the next identity. No rule of opening refuses them.
 ///
-/// Every address is followed through at most one Moved slot, what had moved is Gone, and cars without an object go; cars
-/// and slots keep their numbers. Trains are numbered from 1, and an open one without a car follows. Each car remembers
-/// just the sources outside it that name a slot of it. The space has this chooser, and its cars are not frozen. Time and
-/// memory grow with the entries, slots and fields, times the logarithm of their number.
+/// Every address is followed through at most one Moved slot, what had moved is Gone, and cars without an object go;
+/// cars and slots keep their numbers. Trains are numbered from 1, and an open one without a car follows. Each car
+/// remembers just the sources outside it that name a slot of it. The space has this chooser, and its cars are not
+/// frozen. Time and memory grow with the entries, slots and fields, times the logarithm of their number.
 ///
 /// # Errors
 ///
@@ -35,7 +35,8 @@ pub fn build<F: Drop>(
 ) -> Result<Space<F>, NoMemory>
     requires paired { images (listed_in entries.now (images_of cars.now)) ≡ images_of cars.now }
     requires accepted { IsAccepted (listed_in entries.now (images_of cars.now)) entries.now next }
-    ensures view { IfOk result (λ space. IsOpened (listed_in entries.now (images_of cars.now)) entries.now next (view space.parts)) }
+    ensures view { IfOk result (λ space. IsOpened (listed_in entries.now (images_of cars.now)) entries.now next
+        (view space.parts)) }
     ensures frozen { IfOk result (λ space. space.parts.cars.frozen ≡ None) }
     ensures place { IfOk result (λ space. space.parts.place ≡ place) }
 {

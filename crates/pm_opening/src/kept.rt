@@ -29,7 +29,8 @@ fn keep_entry(
     cars: &[KeptPage],
     place: usize,
 ) -> Result<usize, NoMemory>
-    ensures { IfOk result (λ next. (others : List CatEntry) → kept.new.items ++ flat_map kept_car (listed_in others (images_of (drop next cars.now)))
+    ensures { IfOk result (λ next. (others : List CatEntry) → kept.new.items
+        ++ flat_map kept_car (listed_in others (images_of (drop next cars.now)))
         ≡ kept.old.items ++ flat_map kept_car (listed_in (entry.now ∷ others) (images_of (drop place cars.now)))) }
 {
     let CatEntry::Car { train, .. } = entry else {

@@ -41,7 +41,8 @@ fn bind_entry(
 ) -> Result<(), NoMemory>
     requires behind { AreBeforeAll roots.old (root_in entry.now) }
     requires few { len roots.old + length (root_in entry.now) ≤ ROOTS }
-    ensures { OnOk result (bound_roots roots.new ≡ bound_roots roots.old ++ map (followed_root leads.now) (root_in entry.now)) }
+    ensures { OnOk result (bound_roots roots.new
+        ≡ bound_roots roots.old ++ map (followed_root leads.now) (root_in entry.now)) }
 {
     match entry {
         CatEntry::Car { .. } => Ok(()),

@@ -35,7 +35,8 @@ fn build_graph<F: Drop>(
 ) -> Result<(Space<F>, Vec<u64>), NoMemory>
     requires paired { images (listed_in (entries_of chain) (images_of cars.now)) ≡ images_of cars.now }
     requires accepted { IsAccepted (listed_in (entries_of chain) (images_of cars.now)) (entries_of chain) next }
-    ensures view { IfOk result (λ made. IsOpened (listed_in (entries_of chain) (images_of cars.now)) (entries_of chain) next (view made.0.parts)) }
+    ensures view { IfOk result (λ made. IsOpened (listed_in (entries_of chain) (images_of cars.now)) (entries_of chain) next
+        (view made.0.parts)) }
     ensures unfrozen { IfOk result (λ made. IsUnfrozen made.0.parts place) }
     ensures pages { IfOk result (λ made. made.1.items ≡ used_pages (record { catalog = chain; cars = cars.now })) }
 {
@@ -60,19 +61,21 @@ fn is_there(page: u64, count: u64) -> bool
 /// # Errors
 ///
 /// `Damaged` and `Malformed` where a page behind the header is at fault, as `read_graph` says: the first rule that
-/// fails; `Disk` where the disk failed, with its counts of failed calls before and after; and `Memory`. The pages are as
-/// they were then.
+/// fails; `Disk` where the disk failed, with its counts of failed calls before and after; and `Memory`. The pages are
+/// as they were then.
 pub fn open_space<D: Disk, F: Drop>(
     alloc: Global,
     pages: &mut Pages<D>,
     place: Placement<F>,
 ) -> Result<(Space<F>, Settled), OpenFault>
-    requires attached { state pages.old ≡ attached (state pages.old).slot (state pages.old).header (state pages.old).count (state pages.old).closed }
+    requires attached { state pages.old ≡ attached (state pages.old).slot (state pages.old).header
+        (state pages.old).count (state pages.old).closed }
     requires spelled { HasHeaderSpelling (state pages.old).header }
     requires current { IfTold (D.contents (disk_of pages.old)) (λ bytes. IsCurrent (state pages.old) bytes) }
-    // The space is what opening makes of the bytes of the disk, the cars are as their pages spell them, and their pages and
-    // those of the catalog are known.
-    ensures opened { IfOk result (λ made. IfTold (D.contents (disk_of pages.new)) (λ bytes. OpensStore (state pages.new) bytes (view made.0.parts) made.1)) }
+    // The space is what opening makes of the bytes of the disk, the cars are as their pages spell them, and the pages of
+    // these and of the catalog are known.
+    ensures opened { IfOk result (λ made. IfTold (D.contents (disk_of pages.new)) (λ bytes.
+        OpensStore (state pages.new) bytes (view made.0.parts) made.1)) }
     ensures unfrozen { IfOk result (λ made. IsUnfrozen made.0.parts place) }
     ensures state { OnOk result (state pages.new ≡ known_by (state pages.old) (state pages.new).uses) }
     ensures idle { OnOk result (IsIdle (state pages.new)) }

@@ -33,7 +33,8 @@ pub(crate) fn open_parts<F: Drop>(
 ) -> Result<Parts<F>, NoMemory>
     requires paired { images (listed_in entries.now (images_of cars.now)) ≡ images_of cars.now }
     requires accepted { IsAccepted (listed_in entries.now (images_of cars.now)) entries.now next }
-    ensures view { IfOk result (λ parts. IsOpened (listed_in entries.now (images_of cars.now)) entries.now next (view parts)) }
+    ensures view { IfOk result (λ parts. IsOpened (listed_in entries.now (images_of cars.now)) entries.now next
+        (view parts)) }
     ensures frozen { IfOk result (λ parts. parts.cars.frozen ≡ None) }
     ensures place { IfOk result (λ parts. parts.place ≡ place) }
 {

@@ -107,7 +107,8 @@ fn tell_car(links: &mut LinkTable, number: u64, car: &Car) -> Result<(), NoMemor
 
 // This is the car of the number in the table, if one stands.
 fn tell_number(links: &mut LinkTable, table: &Table<Held>, number: u64) -> Result<(), NoMemory>
-    ensures { OnOk result (Adds links.old links.new (flat_map car_sources (entry_of number (map.get (cars_of table.now) number)))) }
+    ensures { OnOk result (Adds links.old links.new
+        (flat_map car_sources (entry_of number (map.get (cars_of table.now) number)))) }
 {
     let Some(held) = table.get(number) else {
         return Ok(());
@@ -118,7 +119,8 @@ fn tell_number(links: &mut LinkTable, table: &Table<Held>, number: u64) -> Resul
 
 // These are the cars in the table, as they are listed.
 fn tell_cars(links: &mut LinkTable, table: &Table<Held>, cars: &[KeptPage]) -> Result<(), NoMemory>
-    ensures { OnOk result (Adds links.old links.new (flat_map car_sources (standing_of (cars_of table.now) (images_of cars.now)))) }
+    ensures { OnOk result (Adds links.old links.new
+        (flat_map car_sources (standing_of (cars_of table.now) (images_of cars.now)))) }
 {
     let mut left = cars.len();
     while left > 0 {
@@ -149,7 +151,8 @@ pub(crate) fn remember(
     cars: &[KeptPage],
     roots: &Roots,
 ) -> Result<(), NoMemory>
-    ensures { OnOk result (Adds links.old links.new (stored_of (standing_of (cars_of table.now) (images_of cars.now)) roots.now)) }
+    ensures { OnOk result (Adds links.old links.new
+        (stored_of (standing_of (cars_of table.now) (images_of cars.now)) roots.now)) }
 {
     tell_roots(links, roots)?;
     tell_cars(links, table, cars)?;

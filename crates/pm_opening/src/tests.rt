@@ -39,8 +39,8 @@ fn list_car(listed: &mut Vec<u8>, numbers: &[u8; 25], page: &[u8]) -> Result<(),
     Ok(())
 }
 
-// A store of the old or the new version, under the next identity 6, of a catalog page that lists this and of the pages of
-// cars.
+// A store of the old or the new version, under the next identity 6, of a catalog page that lists this and of the pages
+// of cars.
 fn store(
     alloc: Global,
     version: u32,
@@ -71,7 +71,8 @@ fn store(
     Ok(bytes)
 }
 
-// Car 5: in slot 0 object 1, whose field names slot 1 of car 2, and in slot 3 object 2, whose field names slot 0 of car 5.
+// Car 5: in slot 0 object 1, whose field names slot 1 of car 2, and in slot 3 object 2, whose field names slot 0 of
+// car 5.
 const CYCLE: [u8; 72] = [
     0x50, 0x43, 0x41, 0x52, 0, 0, 0, 0, 0, 0, 0, 5, 0, 2, // the head
     0, 0, 0, 0, 1, 0, 0, 0, 0, 0, 0, 0, 1, 0, 1, 0, 0, 0, 0, 0, 0, 0, 0, 0, 2, 0, 0, 0, 1, // slot 0
@@ -84,8 +85,8 @@ const EMPTY: [u8; 31] = [
     0, 0, 0, 7, 2, 0, 0, 0, 0, 0, 0, 0, 5, 0, 0, 0, 3, // slot 7
 ];
 
-// Car 2: in slot 0 object 3, whose fields name slot 2 of car 2 and slot 3 of car 5; slot 1, which moved to slot 3 of car 5;
-// and in slot 2 object 4, whose field names slot 0 of car 2.
+// Car 2: in slot 0 object 3, whose fields name slot 2 of car 2 and slot 3 of car 5; slot 1, which moved to slot 3 of
+// car 5; and in slot 2 object 4, whose field names slot 0 of car 2.
 const LEFT: [u8; 101] = [
     0x50, 0x43, 0x41, 0x52, 0, 0, 0, 0, 0, 0, 0, 2, 0, 3, // the head
     0, 0, 0, 0, 1, 0, 0, 0, 0, 0, 0, 0, 3, 0, 2, 0, 0, 0, 0, 0, 0, 0, 0, 0, 2, 0, 0, 0, 2, 0, 0, 0,

@@ -1,6 +1,5 @@
-use Rattle.std.proofs.Common.{◌+◌, ◌≤◌, ap, arith, ◌≡◌}
-use Rattle.std.specs.FinMap.{values, empty}
-use Rattle.pm_cars.specs.Cars.{used, total, slot_room, new_car}
+use Rattle.std.proofs.Common.{ap, arith}
+use Rattle.pm_cars.specs.Cars.{used}
 use Rattle.pm_image.specs.CarPages.{car_used}
 use Rattle.pm_opening.proofs.CarLaws.{new_used}
 use Rattle.pm_opening.proofs.opened_car.open_car.Goals as goal

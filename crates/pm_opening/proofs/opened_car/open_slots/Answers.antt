@@ -1,4 +1,4 @@
-use Rattle.std.proofs.Common.{◌+◌, ◌≤◌, ap, arith, drop, ◌≡◌}
+use Rattle.std.proofs.Common.{◌+◌, ap, arith, drop}
 use Rattle.pm_image.specs.CarPages.{car_used}
 use Rattle.pm_reopen.proofs.Lists.{drop_here}
 use Rattle.pm_opening.proofs.CarLaws.{room_of_slot, head_used}

@@ -1,9 +1,8 @@
-use Rattle.std.proofs.Common.{◌≡◌, None, sym, ap, subst, ◌∙◌, ℕ}
+use Rattle.std.proofs.Common.{sym, ap, subst, ◌∙◌, ℕ}
 use Rattle.std.specs.FinMap.{get, insert}
 use Rattle.pm_view.specs.View.{Cars}
 use Rattle.pm_snap.specs.Snapped.{Snapped}
 use Rattle.pm_space.specs.declared.held.Held.{Held}
-use Rattle.pm_space.specs.Linked.{sets_of, queues_of}
 use Rattle.pm_space.specs.Shown.{cars_of}
 use Rattle.pm_opening.specs.Cars.{AreLinked}
 use Rattle.pm_opening.proofs.CarsLaws.{not_held, not_linked, held_more, linked_more}

@@ -1,7 +1,6 @@
-use Rattle.std.proofs.Common.{◌≡◌, ◌<◌, Bool, cond, None, sym, ap, subst, ◌∙◌, ℕ}
+use Rattle.std.proofs.Common.{◌<◌, Bool, cond, sym, ap, subst, ◌∙◌, ℕ}
 use Rattle.std.specs.FinMap.{get, insert}
 use Rattle.pm_cars.specs.Cars.{Car, new_car}
-use Rattle.pm_view.specs.View.{Cars}
 use Rattle.pm_space.specs.Shown.{cars_of}
 use Rattle.pm_copies.specs.Opened.{has_object}
 use Rattle.pm_opening.specs.Making.{with_slots}

@@ -1,6 +1,5 @@
-use Rattle.std.proofs.Common.{◌≡◌, ◌+◌, ◌-◌, ◌≤◌, refl, sym, ap, subst, ◌∙◌, arith, length, get_or}
+use Rattle.std.proofs.Common.{◌-◌, ap, ◌∙◌, arith, get_or}
 use Rattle.pm_image.specs.declared.settled.KeptPage.{KeptPage}
-use Rattle.pm_view.specs.View.{Cars}
 use Rattle.pm_opening.proofs.CarsLaws.{none_linked, none_opened, car_here, new_here, more_here}
 use Rattle.pm_opening.proofs.opened_cars.open_cars.Goals as goal
 

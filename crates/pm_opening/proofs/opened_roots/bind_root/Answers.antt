@@ -1,6 +1,5 @@
-use Rattle.std.proofs.Common.{◌≡◌, ◌∷◌, ◌++◌, [], ℕ, List, ap, sym, ◌∙◌}
+use Rattle.std.proofs.Common.{ap, ◌∙◌}
 use Rattle.std.specs.FinMap.{insert}
-use Rattle.pm_types.specs.declared.address.Addr.{Addr}
 use Rattle.pm_opening.specs.Roots.{bound_roots}
 use Rattle.pm_opening.proofs.RootLaws.{bound_last}
 use Rattle.pm_opening.proofs.opened_roots.bind_root.Goals as goal

@@ -1,4 +1,4 @@
-use Rattle.std.proofs.Common.{◌≡◌, ◌+◌, ℕ, List, [], Some, drop, get_or, ap, sym, subst, ◌∙◌, arith}
+use Rattle.std.proofs.Common.{◌+◌, ℕ, List, Some, drop, get_or, ap, sym, subst, ◌∙◌}
 use Rattle.pm_trains.specs.Trains.{Trains}
 use Rattle.pm_reopen.proofs.Lists.{drop_got}
 use Rattle.pm_opening.specs.Trains.{with_all_kept, AreApart, AreNew}

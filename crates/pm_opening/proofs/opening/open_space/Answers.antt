@@ -6,14 +6,14 @@ use Rattle.pm_image.specs.declared.settled.KeptPage.{KeptPage}
 use Rattle.pm_image.specs.Graphs.{images_of, entries_of, used_pages}
 use Rattle.pm_shadow.specs.State.{State, IsListable, known_by}
 use Rattle.pm_shadow.specs.Copies.{AreUsed}
-use Rattle.pm_shadow.specs.Pages.{state, disk_of}
+use Rattle.pm_shadow.specs.Pages.{state}
 use Rattle.pm_shadow.proofs.CopyLemmas.{listed_idle}
 use Rattle.pm_copies.specs.Listed.{images}
 use Rattle.pm_copies.specs.Accepted.{IsAccepted}
 use Rattle.pm_copies.specs.Opened.{IsOpened, listed_in}
 use Rattle.pm_space.specs.Shown.{view}
 use Rattle.pm_reopen.specs.Reading.{IsThere}
-use Rattle.pm_reopen.proofs.OpenLaws.{listable, not_known, first_there}
+use Rattle.pm_reopen.proofs.OpenLaws.{listable, first_there}
 use Rattle.pm_opening.specs.Opening.{OpensStore}
 use Rattle.pm_opening.proofs.AcceptedLaws.{whole_paired, whole_accepted}
 use Rattle.pm_opening.proofs.OpenLaws.{used_there, used_first, used_are, store_opened, refused_by}

@@ -1,8 +1,6 @@
-use Rattle.std.proofs.Common.{◌≡◌, ◌++◌, [], List, ℕ, refl, sym, ap, subst, ◌∙◌}
-use Rattle.std.specs.List.{flat_map}
+use Rattle.std.proofs.Common.{[], List, ℕ, sym, ap, subst, ◌∙◌}
 use Rattle.pm_image.specs.Graphs.{images_of}
-use Rattle.pm_copies.specs.Opened.{listed_in, kept_car, grouped, numbered}
-use Rattle.pm_trains.specs.Trains.{Trains}
+use Rattle.pm_copies.specs.Opened.{listed_in, grouped, numbered}
 use Rattle.pm_space.specs.Shown.{cars_of}
 use Rattle.pm_opening.specs.Trains.{AreApart}
 use Rattle.pm_opening.proofs.KeptLaws.{kept_apart}

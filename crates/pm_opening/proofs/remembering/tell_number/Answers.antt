@@ -1,4 +1,3 @@
-use Rattle.std.proofs.Common.{sym, ◌∙◌}
 use Rattle.pm_opening.proofs.TellingLaws.{standing_some, standing_none}
 use Rattle.pm_opening.proofs.remembering.tell_number.Goals as goal
 

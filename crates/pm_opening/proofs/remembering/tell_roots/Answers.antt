@@ -1,7 +1,6 @@
-use Rattle.std.proofs.Common.{◌≡◌, ◌∷◌, [], ◌+◌, ◌-◌, ◌<◌, ◌≤◌, List, length, drop, map, sym, ap, subst, ◌∙◌, arith}
+use Rattle.std.proofs.Common.{◌∷◌, [], List, drop, map, sym, ap, subst, arith}
 use Rattle.std.specs.FinMap.{entries, len-entries}
 use Rattle.std.proofs.Math.ListN.{drop_of_length-le}
-use Rattle.pm_types.specs.declared.address.Addr.{Addr}
 use Rattle.pm_types.specs.declared.source.RefSource.TheVariants.{Root}
 use Rattle.pm_law_copies.specs.Storing.{Stored, root_source}
 use Rattle.pm_opening.specs.Remembering.{Adds}
