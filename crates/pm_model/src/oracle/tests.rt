@@ -180,7 +180,7 @@ static FIELDS: [(u32, Ask, Told); 28] = [
     (0, Ask::Close, Told::Done),
     (0, Ask::Id(3), Told::NoHandle),
     (1, Ask::Id(3), Told::Ident(2)),
-    (1, Ask::New(4, 65, b""), Told::TooLarge),
+    (1, Ask::New(4, 256, b""), Told::TooLarge),
     (1, Ask::Id(4), Told::NoHandle),
     (1, Ask::Unroot(b"zz"), Told::NoRoot),
     (1, Ask::Root(b"zz", 3), Told::Done),
