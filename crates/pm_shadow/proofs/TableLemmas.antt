@@ -41,6 +41,13 @@ claimed_in_list uses page is =
           let free : use_of uses page ≡ Free = ap (λ (b : Bool). if b then Current else get_or uses (page - 2) Free) (le-ltb page 2 low) ∙ get_or_past uses (page - 2) Free past in absurd (cc (is, free))
     ]
 
+-- where no page is used none was claimed
+pub none_claimed : (uses : ℕ → PageUse) (page : ℕ) → uses ≡ use_of [] → 2 ≤ page → uses page ≡ Claimed → ⊥
+none_claimed uses page unused low is =
+    let free : use_of [] page ≡ Free = ap (λ (b : Bool). if b then Current else get_or [] (page - 2) Free) (le-ltb page 2 low) ∙ get_or_past [] (page - 2) Free (omega arith) in
+    let claimed : use_of [] page ≡ Claimed = ap (λ (u : ℕ → PageUse). u page) (sym unused) ∙ is in
+    cc (free, claimed)
+
 -- ---- the free pages
 
 -- the first of the free pages is that of place i, and what is left once it was claimed

@@ -1,5 +1,6 @@
 //! The pages of a store, of which a copy uses some, and the next copy others.
 ghost use Rattle.std.specs.Prelude.{◌≡◌, ◌+◌, ◌*◌, ◌-◌, ◌^◌, ◌<◌, ◌≤◌, ℕ, List, [], Some, false, length};
+ghost use Rattle.pm_layout.specs.Headers.{HasHeaderSpelling};
 ghost use Rattle.pm_shadow.specs.Uses.{use_of};
 ghost use Rattle.pm_shadow.specs.Images.{IsSound};
 
@@ -35,6 +36,10 @@ pub struct Pages<D: Disk> {
     failed: bool,
     ghost is_slot: { slot < 2 },
     ghost few: { count < 2 ^ 50 },
+    ghost spelled: { HasHeaderSpelling header },
+    ghost within: { settled ≤ count },
+    // pages come only once those of the current copy are known
+    ghost begun: { known ≡ false → settled ≡ count },
     // where the pages of the current copy are not known, no page is used
     ghost unused: { known ≡ false → use_of table.uses.items ≡ use_of [] },
     ghost sound: { failed ≡ false → (bytes : List ℕ) → D.contents disk ≡ Some bytes
@@ -93,6 +98,7 @@ impl<D: Disk> Pages<D> {
     fn found(alloc: Global, disk: D, found: Found) -> Pages<D>
         requires slot { found.slot < 2 }
         requires count { found.count < 2 ^ 50 }
+        requires spelled { HasHeaderSpelling found.header }
         requires sound { (bytes : List ℕ) → D.contents disk ≡ Some bytes → IsFoundIn bytes (D.image disk) found }
         ensures disk { disk_of result ≡ disk }
         ensures state { state result ≡ attached found.slot found.header found.count found.closed }
@@ -124,6 +130,13 @@ impl<D: Disk> Pages<D> {
         self.disk.faults()
     }
 
+    /// The page on which the current header stands: 0 or 1.
+    pub fn slot(&self) -> u64
+        ensures { result ≡ (state self.now).slot }
+    {
+        self.slot
+    }
+
     /// The current header.
     pub fn header(&self) -> &Header
         ensures { result.now ≡ (state self.now).header }
@@ -136,6 +149,13 @@ impl<D: Disk> Pages<D> {
         ensures { result ≡ (state self.now).count }
     {
         self.count
+    }
+
+    /// Whether the pages of the current copy are known.
+    pub fn is_known(&self) -> bool
+        ensures { result ≡ (state self.now).known }
+    {
+        self.known
     }
 
     /// Lists the pages that the current copy uses, which are known from then on. They are exactly these: those of
@@ -230,6 +250,14 @@ impl<D: Disk> Pages<D> {
     /// the current copy's pages, as they stand on the disk.
     pub fn keep_the_current_copy(&self)
         ensures { (state self.now).failed ≡ false → IfTold (D.contents (disk_of self.now)) (λ bytes. IsSound (state self.now) bytes (D.image (disk_of self.now))) }
+    {}
+
+    /// A law of the pages at any time: the current header is one that can be spelled, and no page went since it became
+    /// current; until the pages of its copy are known, none has come either.
+    pub fn keep_their_header(&self)
+        ensures spelled { HasHeaderSpelling (state self.now).header }
+        ensures within { (state self.now).settled ≤ (state self.now).count }
+        ensures begun { (state self.now).known ≡ false → (state self.now).settled ≡ (state self.now).count }
     {}
 
     /// Closes the gate of the slot that the next header goes to. Where it is closed already no call of

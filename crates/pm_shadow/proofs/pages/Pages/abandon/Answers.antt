@@ -13,6 +13,9 @@ invariant_of-self g c =
     record {
       is_slot = it.is_slot;
       few = it.few;
+      spelled = it.spelled;
+      within = it.within;
+      begun = it.begun;
       unused = λ unknown. c.abandon.ensures ∙ none_abandoned (state it).uses (it.unused unknown);
       sound = λ fine bytes told.
           subst (λ (u : ℕ → PageUse). IsSound (with_uses (state it) u) bytes (g.D.Disk.image it.disk)) (sym c.abandon.ensures)

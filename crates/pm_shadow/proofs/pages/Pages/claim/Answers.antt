@@ -11,6 +11,9 @@ invariant_of-self g c =
     record {
       is_slot = it.is_slot;
       few = it.few;
+      spelled = it.spelled;
+      within = it.within;
+      begun = λ unknown. (let known = c.requires in absurd (cc (known, unknown)));
       unused = λ unknown. (let known = c.requires in absurd (cc (known, unknown)));
       sound = λ fine bytes told. sound_either (state it) c.claim.result (use_of c.claim.new.self.uses.items) bytes (g.D.Disk.image it.disk) c.claim.ensures.claimed c.claim.ensures.err (it.sound fine bytes told);
     }

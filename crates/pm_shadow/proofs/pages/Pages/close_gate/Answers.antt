@@ -37,6 +37,9 @@ invariant_of-self g c =
     record {
       is_slot = it.is_slot;
       few = it.few;
+      spelled = it.spelled;
+      within = it.within;
+      begun = it.begun;
       unused = it.unused;
       sound = λ fine. sound_after (state it) c.gate_place.result 1 (g.D.Disk.contents it.disk) (g.D.Disk.contents now) (g.D.Disk.image it.disk) (g.D.Disk.image now) (it.sound fine)
           (cut (state it) c.gate_place.result it.is_slot c.if-self.false c.gate_place.ensures) c.write_and_sync.ensures.images c.in_err-write_and_sync.ensures.torn (g.met.D.Disk.contents_stay now);
@@ -56,6 +59,9 @@ invariant_of-self-2 g c =
     record {
       is_slot = it.is_slot;
       few = it.few;
+      spelled = it.spelled;
+      within = it.within;
+      begun = it.begun;
       unused = it.unused;
       sound = λ fine bytes told.
           let sound = sound_after (state it) c.gate_place.result 1 (g.D.Disk.contents it.disk) (g.D.Disk.contents now) (g.D.Disk.image it.disk) (g.D.Disk.image now) (it.sound fine)

@@ -13,6 +13,9 @@ invariant_of-self g c =
     record {
       is_slot = it.is_slot;
       few = it.few;
+      spelled = it.spelled;
+      within = it.within;
+      begun = λ unknown. absurd (cc);
       unused = λ unknown. absurd (cc);
       sound = λ fine bytes told. sound_listed (state it) (use_of c.in_ok-table.table.uses.items) bytes (g.D.Disk.image it.disk) c.requires.unknown (it.unused c.requires.unknown) (it.sound fine bytes told);
     }

@@ -1,4 +1,4 @@
-use Rattle.std.proofs.Common.{ℕ, ap, sym, subst}
+use Rattle.std.proofs.Common.{ℕ, ap, refl, sym, subst, arith}
 use Rattle.pm_shadow.specs.declared.page_use.PageUse.{PageUse}
 use Rattle.pm_shadow.specs.State.{attached, with_uses}
 use Rattle.pm_shadow.specs.Images.{IsSound}
@@ -11,6 +11,9 @@ invariant_of-result g c =
     record {
       is_slot = c.requires.slot;
       few = c.requires.count;
+      spelled = c.requires.spelled;
+      within = omega arith;
+      begun = λ unknown. refl;
       unused = λ unknown. c.new.ensures;
       sound = λ fine bytes told.
           subst (λ (u : ℕ → PageUse). IsSound (with_uses (attached found.slot found.header found.count found.closed) u) bytes (g.D.Disk.image c.args.disk)) (sym c.new.ensures)

@@ -18,6 +18,9 @@ invariant_of-self g c =
     record {
       is_slot = it.is_slot;
       few = it.few;
+      spelled = it.spelled;
+      within = it.within;
+      begun = λ unknown. (let known = c.requires.known in absurd (cc (known, unknown)));
       unused = λ unknown. (let known = c.requires.known in absurd (cc (known, unknown)));
       sound = λ fine bytes told.
           subst (λ (u : ℕ → PageUse). IsSound (with_uses (state it) u) bytes (g.D.Disk.image it.disk)) (sym c.keep.ensures)

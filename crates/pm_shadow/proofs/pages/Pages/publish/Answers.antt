@@ -1,4 +1,4 @@
-use Rattle.std.proofs.Common.{◌≡◌, ◌⊎◌, List, ℕ, [], ◌∷◌, Some, ◌∙◌, sym, subst, arith}
+use Rattle.std.proofs.Common.{◌≡◌, ◌⊎◌, List, ℕ, [], ◌∷◌, Some, ◌∙◌, refl, sym, subst, arith}
 use Rattle.std.specs.Prelude.{option_map}
 use Rattle.pm_disk.specs.Writes.{written}
 use Rattle.pm_disk.specs.Ordered.{IsInOrder}
@@ -32,6 +32,9 @@ invariant_of-self-2 g c =
     record {
       is_slot = omega arith;
       few = it.few;
+      spelled = c.requires.spelled;
+      within = omega arith;
+      begun = λ unknown. refl;
       unused = λ unknown. absurd (cc);
       sound = λ fine bytes told.
           let o = other it.slot in

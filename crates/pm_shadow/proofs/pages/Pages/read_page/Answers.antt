@@ -15,6 +15,9 @@ invariant_of-self g c =
     record {
       is_slot = it.is_slot;
       few = it.few;
+      spelled = it.spelled;
+      within = it.within;
+      begun = it.begun;
       unused = it.unused;
       sound = λ fine. sound_still (state it) (g.D.Disk.contents it.disk) (g.D.Disk.contents c.read_at.new.self) (g.D.Disk.image it.disk) (g.D.Disk.image c.read_at.new.self) (it.sound fine) e.contents e.images.no_more;
     }

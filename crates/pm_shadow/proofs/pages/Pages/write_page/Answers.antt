@@ -5,7 +5,7 @@ use Rattle.pm_shadow.specs.State.{State}
 use Rattle.pm_shadow.specs.declared.page_use.PageUse.TheVariants.{Claimed}
 use Rattle.pm_shadow.specs.Images.{Holds, place_of}
 use Rattle.pm_shadow.specs.Pages.{state}
-use Rattle.pm_shadow.proofs.TableLemmas.{claimed_from_2, claimed_in_list}
+use Rattle.pm_shadow.proofs.TableLemmas.{claimed_from_2, claimed_in_list, none_claimed}
 use Rattle.pm_shadow.proofs.RunLemmas.{told_before}
 use Rattle.pm_shadow.proofs.HoldLemmas.{page_cut}
 use Rattle.pm_shadow.proofs.PageLemmas.{page_made}
@@ -25,6 +25,9 @@ invariant_of-self g c =
     record {
       is_slot = it.is_slot;
       few = it.few;
+      spelled = it.spelled;
+      within = it.within;
+      begun = it.begun;
       unused = it.unused;
       sound = λ fine. sound_after (state it) (place_of c.args.page) (length c.args.bytes.now) (g.D.Disk.contents it.disk) (g.D.Disk.contents c.write_at.new.self) (g.D.Disk.image it.disk) (g.D.Disk.image c.write_at.new.self) (it.sound fine)
           (cut (state it) c.args.page (length c.args.bytes.now) it.is_slot low c.requires.claimed c.requires.len)
@@ -49,6 +52,9 @@ invariant_of-self-2 g c =
     record {
       is_slot = it.is_slot;
       few = let few = it.few in let list = it.table.few in omega (arith, c.max-self.ensures);
+      spelled = it.spelled;
+      within = let within = it.within in omega (arith, c.max-self.ensures, within);
+      begun = λ unknown. absurd (none_claimed (state it).uses c.args.page (it.unused unknown) low c.requires.claimed);
       unused = it.unused;
       sound = λ fine bytes told.
           let sound = sound_after (state it) (place_of c.args.page) (length c.args.bytes.now) (g.D.Disk.contents it.disk) (g.D.Disk.contents now) (g.D.Disk.image it.disk) (g.D.Disk.image now) (it.sound fine)
