@@ -1,11 +1,12 @@
-pub mod LeadingLaws
+pub mod Ends
 pub mod CarLaws
 pub mod TrainLaws
-pub mod CarsLaws
-pub mod RootLaws
+pub mod LinkLaws
+pub mod NameLaws
 pub mod TellingLaws
-pub mod KeptLaws
-pub mod PartsLaws
+pub mod BuiltLaws
+pub mod LeadingLaws
+pub mod ListLaws
 pub mod LeadLaws
 pub mod AcceptedLaws
 pub mod OpenLaws

@@ -7,9 +7,7 @@ use Rattle.std.specs.Ordering.{nat_cmp, eq_by_cmp}
 use Rattle.std.specs.FinMap.{get, insert, empty, get-insert, from_entries}
 use Rattle.std.proofs.lemmas.Bool.{eqb-true}
 use Rattle.std.specs.List.{slice_get}
-use Rattle.std.proofs.lemmas.List.{append-nil}
 use Rattle.std.proofs.lemmas.Option.{slice_get_within, get_or_from_slice_get}
-use Rattle.pm_base.proofs.Mapped.{get-mapped}
 use Rattle.pm_types.specs.declared.address.Addr.{Addr}
 use Rattle.pm_types.specs.declared.source.RefSource.{RefSource}
 use Rattle.pm_types.specs.declared.source.Change.{Change}
@@ -20,14 +18,11 @@ use Rattle.pm_trains.proofs.Order.{agree}
 use Rattle.pm_view.specs.Sources.{outside}
 use Rattle.pm_view.specs.View.{Cars, Sources, Sets, Queues}
 use Rattle.pm_view.specs.Barrier.{told, pushed}
-use Rattle.pm_law_copies.specs.Storing.{Stored, car_sources, pick, remembering}
-use Rattle.pm_snap.specs.Snapped.{Snapped}
+use Rattle.pm_law_copies.specs.Storing.{Stored, pick, remembering}
 use Rattle.pm_reopen.proofs.Lists.{drop_here}
-use Rattle.pm_space.specs.declared.held.Held.{Held}
-use Rattle.pm_space.specs.Shown.{car_of, cars_of}
 use Rattle.pm_law_copies.proofs.Lists.{nat_turned}
 use Rattle.pm_space.specs.Linked.{Linked, sets_of, queues_of, waiting, with_front, without_front}
-use Rattle.pm_opening.specs.Remembering.{Remember, Adds, entry_of}
+use Rattle.pm_opening.specs.Remembering.{Remember, Adds}
 
 -- ---- several sources after others
 
@@ -152,18 +147,6 @@ all_small [] fits = tt
 all_small (e ∷ es) fits =
     let sum = sum_by-cons slot_room e.1 (map (λ (e : ℕ × Slot). e.1) es) in
     (omega (arith, sum, fits), all_small es (omega (arith, sum, fits)))
-
--- ---- the cars of a table
-
-pub standing_some : (table : Snapped Held) (n : ℕ) (held : Held) (old new : Linked) → Some held ≡ get table.current n → Adds old new (car_sources (n, car_of held)) → Adds old new (flat_map car_sources (entry_of n (get (cars_of table) n)))
-standing_some table n held old new is adds =
-    let stands : get (cars_of table) n ≡ Some (car_of held) = get-mapped nat_cmp car_of table.current n ∙ ap (option_map car_of) (sym is) in
-    subst (Adds old new) (sym (append-nil (car_sources (n, car_of held))) ∙ ap (λ (o : Option Car). flat_map car_sources (entry_of n o)) (sym stands)) adds
-
-pub standing_none : (table : Snapped Held) (n : ℕ) (links : Linked) → None ≡ get table.current n → Adds links links (flat_map car_sources (entry_of n (get (cars_of table) n)))
-standing_none table n links is =
-    let gone : get (cars_of table) n ≡ None = get-mapped nat_cmp car_of table.current n ∙ ap (option_map car_of) (sym is) in
-    subst (Adds links links) (ap (λ (o : Option Car). flat_map car_sources (entry_of n o)) (sym gone)) (added_none links)
 
 -- ---- roots from the end
 

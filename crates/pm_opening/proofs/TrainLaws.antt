@@ -1,5 +1,5 @@
 -- The trains once all cars are in.
-use Rattle.std.proofs.Common.{◌≡◌, ℕ, suc, ◌+◌, ◌<◌, ◌≤◌, ◌==◌, Bool, true, false, List, [], ◌∷◌, ◌++◌, length, Option, Some, None, IsSome, IsSomeAnd, is_some, refl, sym, ap, subst, ◌∙◌, arith, drop, append_assoc, if◌then◌else◌}
+use Rattle.std.proofs.Common.{◌≡◌, ℕ, suc, ◌+◌, ◌<◌, ◌≤◌, ◌==◌, Bool, true, false, List, [], ◌∷◌, ◌++◌, length, Option, Some, None, IsSome, IsSomeAnd, is_some, refl, sym, ap, subst, ◌∙◌, arith, drop, map, append_assoc, if◌then◌else◌}
 use Rattle.std.proofs.Math.ListN.{drop_of_length-le}
 use Rattle.std.specs.List.{AllByRecursion}
 use Rattle.std.specs.Option.{option_map}
@@ -11,8 +11,11 @@ use Rattle.pm_trains.specs.Trains.{Train, Trains, cars_at, HasCar, train_of, you
 use Rattle.pm_trains.specs.Changes.{opened}
 use Rattle.pm_trains.proofs.Order.{differ, agree}
 use Rattle.pm_copies.specs.Opened.{before, grouped, numbered}
-use Rattle.pm_law_copies.proofs.Lists.{all_append}
-use Rattle.pm_opening.specs.Trains.{goes_on, with_kept, closed, with_all_kept, AreNew}
+use Rattle.pm_law_copies.proofs.Lists.{all_append, all_mapped}
+use Rattle.pm_cars.specs.Cars.{CarAndSpare}
+use Rattle.pm_copies.specs.Built.{Placed, place_of, CarsDiffer}
+use Rattle.pm_opening.specs.Lists.{placed_of}
+use Rattle.pm_opening.specs.Trains.{goes_on, with_kept, closed, with_all_kept, AreApart, AreNew}
 
 -- ---- the trains of a list of cars, seen from a train that stands before them
 
@@ -134,5 +137,15 @@ opened_has t car =
     let found : cars_at (opened t car).trains m ≡ option_map (λ cars. cars ++ car ∷ []) (cars_at (rotated t.trains) m) = cars_changed m m (λ cars. cars ++ car ∷ []) (rotated t.trains) ∙ chosen (m == m) _ _ (itself m) in
     subst (HasCar (opened t car).trains) (sym last) (subst (λ (o : Option (List ℕ)). IsSomeAnd o (λ cars. 0 < length cars)) (sym found) (some_behind (cars_at (rotated t.trains) m) car (there m t.trains)))
 
-pub walked_to_end : (kept : List (ℕ × ℕ)) (i : ℕ) (last : Option ℕ) (t : Trains) → length kept ≤ i → with_all_kept last (drop i kept) t ≡ closed last t
-walked_to_end kept i last t past = ap (λ (left : List (ℕ × ℕ)). with_all_kept last left t) (drop_of_length-le kept past)
+-- ---- the trains of cars that a space is built of
+
+-- the number of each car's train with its own
+abbrev pub places : List (ℕ × CarAndSpare) → List (ℕ × ℕ)
+places cars = map place_of (map placed_of cars)
+
+pub places_apart : (placed : List Placed) → CarsDiffer placed → AreApart (map place_of placed)
+places_apart [] differ = tt
+places_apart (one ∷ placed) differ = (all_mapped (λ (other : ℕ × ℕ). (other.1 == one.1.number) ≡ false) place_of placed differ.0, places_apart placed differ.1)
+
+pub walked_to_end : (cars : List (ℕ × CarAndSpare)) (i : ℕ) (last : Option ℕ) (t : Trains) → length cars ≤ i → with_all_kept last (places (drop i cars)) t ≡ closed last t
+walked_to_end cars i last t past = ap (λ (left : List (ℕ × CarAndSpare)). with_all_kept last (places left) t) (drop_of_length-le cars past)

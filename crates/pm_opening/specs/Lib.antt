@@ -1,7 +1,9 @@
+pub mod Lists
+pub mod Linking
+pub mod Naming
+pub mod Trains
+pub mod Remembering
 pub mod Leading
 pub mod Making
-pub mod Trains
-pub mod Cars
-pub mod Roots
-pub mod Remembering
+pub mod Listing
 pub mod Opening

@@ -1,26 +1,40 @@
 -- What stands once a space was opened, and why none was.
-use Rattle.std.specs.Prelude.{◌≡◌, ℕ, List, None, Err}
+use Rattle.std.specs.Prelude.{◌≡◌, ℕ, List, None, Err, true, false}
 use Rattle.pm_types.specs.declared.fault.OpenFault.{OpenFault}
 use Rattle.pm_types.specs.declared.fault.OpenFault.TheVariants.{NotAStore, Version, Damaged, Malformed, Broken, Disk, Memory}
 use Rattle.pm_image.specs.declared.settled.KeptPage.{KeptPage}
+use Rattle.pm_image.specs.Opening.{page_count}
+use Rattle.pm_image.specs.Graphs.{Graph}
 use Rattle.pm_image.specs.Stands.{opened}
-use Rattle.pm_shadow.specs.State.{State}
+use Rattle.pm_shadow.specs.State.{State, known_by, IsIdle}
 use Rattle.pm_shadow.specs.Copies.{KeepsGraph}
 use Rattle.pm_view.specs.View.{SpaceView}
 use Rattle.pm_copies.specs.Opened.{IsOpenedStore}
 use Rattle.pm_space.specs.declared.parts.Parts.{Parts}
 
+-- where the pages of the current copy are known, they are those of a graph that stands behind the header
+abbrev pub AreKnownRight : State → List ℕ → Type 0
+AreKnownRight pages bytes = pages.known ≡ true → (graph : Graph) × KeepsGraph pages bytes graph
+
 -- The space is what opening makes of the bytes, the cars are those that they list, each as its page spells it, and the
--- pages that these and the catalog stand on are the current copy's, and no others.
-pub record OpensStore (pages : State) (bytes : List ℕ) (view : SpaceView) (cars : List KeptPage) : Type 0 where
+-- pages that these and the catalog stand on are the current copy's, and no others: these were not known before, or were
+-- known right.
+pub record OpensStore (old new : State) (bytes : List ℕ) (view : SpaceView) (cars : List KeptPage) : Type 0 where
   pub store : IsOpenedStore bytes view
   pub cars_are : cars ≡ store.found.graph.cars
-  pub keeps : KeepsGraph pages bytes store.found.graph
+  pub keeps : AreKnownRight old bytes → KeepsGraph new bytes store.found.graph
 
 -- no cars are frozen, and the chooser is this one
 pub record IsUnfrozen {F : Type 0} (parts : Parts F) (chooser : F) : Type 0 where
   pub frozen : parts.cars.frozen ≡ None
   pub place : parts.place ≡ chooser
+
+-- Pages that were known are as they were, with all that is claimed or kept. Others are known now, and nothing is claimed
+-- or kept.
+pub record KnowsPages (old new : State) : Type 0 where
+  pub again : old.known ≡ true → new ≡ old
+  pub first : old.known ≡ false → new ≡ known_by old new.uses
+  pub idle : old.known ≡ false → IsIdle new
 
 -- these bytes are refused where the fault says so: it is the first rule that fails
 abbrev pub IsRefusedBy : List ℕ → OpenFault → Type 0
@@ -31,3 +45,20 @@ IsRefusedBy bytes (Malformed page at) = opened bytes ≡ Err (Malformed page at)
 IsRefusedBy bytes Broken = ⊥
 IsRefusedBy bytes (Disk before after) = Unit {0}
 IsRefusedBy bytes Memory = Unit {0}
+
+-- the disk failed, or memory ran out
+abbrev pub IsNoRefusal : OpenFault → Type 0
+IsNoRefusal NotAStore = ⊥
+IsNoRefusal (Version version) = ⊥
+IsNoRefusal (Damaged page kept found) = ⊥
+IsNoRefusal (Malformed page at) = ⊥
+IsNoRefusal Broken = ⊥
+IsNoRefusal (Disk before after) = Unit {0}
+IsNoRefusal Memory = Unit {0}
+
+-- Why no space was opened of these pages, whose disk holds these bytes.
+pub record IsUnopened (pages : State) (bytes : List ℕ) (fault : OpenFault) : Type 0 where
+  -- the bytes are refused, where the disk has the pages that are counted, as it does unless a write failed
+  pub refused : pages.count ≡ page_count bytes → IsRefusedBy bytes fault
+  -- and a copy whose pages are there is not
+  pub kept : (graph : Graph) → KeepsGraph pages bytes graph → IsNoRefusal fault

@@ -1,9 +1,6 @@
 -- The remembered sets of a space while sources are told to them one after another, the last one first.
-use Rattle.std.specs.Prelude.{◌≡◌, ℕ, List, [], ◌∷◌, ◌++◌, Option, Some, None, option_map}
-use Rattle.std.specs.List.{flat_map}
+use Rattle.std.specs.Prelude.{◌≡◌, ℕ, List, [], ◌++◌, option_map}
 use Rattle.std.specs.FinMap.{get}
-use Rattle.pm_cars.specs.Cars.{Car}
-use Rattle.pm_image.specs.declared.car.CarImage.{CarImage}
 use Rattle.pm_view.specs.View.{Cars}
 use Rattle.pm_law_copies.specs.Storing.{Stored, remembering}
 use Rattle.pm_space.specs.Linked.{Linked, sets_of, queues_of}
@@ -17,12 +14,3 @@ pub record Remember (cars : Cars) (links : Linked) (stored : List Stored) : Type
 -- whatever was remembered, these sources are remembered beside it
 abbrev pub Adds : Linked → Linked → List Stored → Type 0
 Adds old new more = (cars : Cars) (stored : List Stored) → Remember cars old stored → Remember cars new (more ++ stored)
-
--- a car with its number, where it stands
-abbrev pub entry_of : ℕ → Option Car → List (ℕ × Car)
-entry_of number None = []
-entry_of number (Some car) = (number, car) ∷ []
-
--- those of the listed cars that stand, each with its number
-abbrev pub standing_of : Cars → List CarImage → List (ℕ × Car)
-standing_of cars images = flat_map (λ (image : CarImage). entry_of image.number (get cars image.number)) images

@@ -1,18 +1,22 @@
-//! Making a space of what the bytes of a store list.
+//! Building a space of cars and roots, and opening a store as a space.
 #![tactic(auto)]
 
 mod building;
-mod kept;
 mod leading;
+mod linking;
+mod listed;
+mod lists;
+mod naming;
 mod opened_car;
 mod opened_cars;
 mod opened_roots;
-mod opened_trains;
 mod opening;
-mod parts;
 mod remembering;
 #[cfg(test)]
 mod tests;
+mod trains;
 
 pub use building::build;
+pub use listed::build_listed;
+pub use lists::{CarList, RootList};
 pub use opening::open_space;

@@ -1,61 +1,60 @@
-//! Making the parts of a space of what a store lists.
+//! The table of the cars of a space, and what they have beside them.
 
-ghost use Rattle.std.specs.Prelude.{◌≡◌, None, IfOk};
-ghost use Rattle.pm_image.specs.Graphs.{images_of};
-ghost use Rattle.pm_copies.specs.Listed.{images};
-ghost use Rattle.pm_copies.specs.Accepted.{IsAccepted};
-ghost use Rattle.pm_copies.specs.Opened.{IsOpened, listed_in};
-ghost use Rattle.pm_space.specs.Shown.{view};
+ghost use Rattle.std.specs.Prelude.{◌≡◌, ◌<◌, map, IfOk, OnOk, None};
+ghost use Rattle.std.specs.List.{AllByRecursion};
+ghost use Rattle.std.specs.FinMap as finite;
+ghost use Rattle.pm_copies.specs.Built.{Placed, IsFull, CarsDiffer, built_cars};
+ghost use Rattle.pm_space.specs.Shown.{cars_of};
+ghost use Rattle.pm_opening.specs.Lists.{placed_of};
+ghost use Rattle.pm_opening.specs.Linking.{AreLinked};
 
-use crate::kept::keep_cars;
-use crate::leading::lead_cars;
-use crate::opened_cars::open_cars;
-use crate::opened_roots::open_roots;
-use crate::opened_trains::open_trains;
-use crate::remembering::remember;
-use pm_guard::Guard;
-use pm_handles::Handles;
-use pm_image::{CatEntry, KeptPage};
-use pm_place::Placement;
-use pm_space::Parts;
+use crate::CarList;
+use pm_cars::Car;
+use pm_snap::Table;
+use pm_space::{Held, LinkTable};
 use pm_types::NoMemory;
-use pm_view::Phase;
 use std::alloc::Global;
 
-/// The parts of the space that opening makes of the cars and roots that entries list, each car in its order, under this
-/// next identity.
-pub(crate) fn open_parts<F: Drop>(
-    alloc: Global,
-    place: Placement<F>,
-    entries: &[CatEntry],
-    cars: &[KeptPage],
-    next: u64,
-) -> Result<Parts<F>, NoMemory>
-    requires paired { images (listed_in entries.now (images_of cars.now)) ≡ images_of cars.now }
-    requires accepted { IsAccepted (listed_in entries.now (images_of cars.now)) entries.now next }
-    ensures view { IfOk result (λ parts. IsOpened (listed_in entries.now (images_of cars.now)) entries.now next
-        (view parts)) }
-    ensures frozen { IfOk result (λ parts. parts.cars.frozen ≡ None) }
-    ensures place { IfOk result (λ parts. parts.place ≡ place) }
+/// An empty remembered set and an empty queue for each of these cars.
+pub(crate) fn link_cars(alloc: Global, cars: &[(u64, Car)]) -> Result<LinkTable, NoMemory>
+    requires differ { CarsDiffer (map placed_of cars.now) }
+    ensures { IfOk result (AreLinked (built_cars (map placed_of cars.now))) }
 {
-    let leads = lead_cars(alloc, cars)?;
-    let (table, mut links) = open_cars(alloc, &leads, cars)?;
-    let roots = open_roots(alloc, &leads, entries)?;
-    roots.sound();
-    remember(&mut links, &table, cars, &roots)?;
-    let kept = keep_cars(alloc, entries, cars)?;
-    let trains = open_trains(alloc, kept.as_slice())?;
-    let handles = Handles::new(alloc)?;
-    Ok(Parts {
-        cars: table,
-        links,
-        trains,
-        roots,
-        handles,
-        place,
-        guard: Guard::new(),
-        phase: Phase::Idle,
-        next,
-        completed: 0,
-    })
+    let mut links = LinkTable::new(alloc);
+    let mut left = cars.len();
+    while left > 0 {
+        left -= 1;
+        links.add(alloc, cars[left].1.number(), 0)?;
+    }
+    Ok(links)
+}
+
+// Puts a car beside the others, under its number.
+fn put_car(table: &mut Table<Held>, car: Car) -> Result<(), NoMemory>
+    requires from_one { 0 < car.car.number }
+    requires is_new { finite.get (cars_of table.old) car.car.number ≡ None }
+    ensures cars { OnOk result (cars_of table.new ≡ finite.insert (cars_of table.old) car.car.number car.car) }
+    ensures frozen { OnOk result (table.new.frozen ≡ table.old.frozen) }
+{
+    let number = car.number();
+    let added = table.add_at(number, Held { car });
+    let Ok(()) = added else {
+        return Err(NoMemory);
+    };
+    Ok(())
+}
+
+/// The table of these cars, each under its number.
+pub(crate) fn put_cars(alloc: Global, cars: CarList) -> Result<Table<Held>, NoMemory>
+    requires full { AllByRecursion (λ (one : Placed). IsFull one.1) cars }
+    requires differ { CarsDiffer cars }
+    ensures cars { IfOk result (λ table. cars_of table ≡ built_cars cars) }
+    ensures frozen { IfOk result (λ table. table.frozen ≡ None) }
+{
+    let mut table = Table::new(alloc);
+    let mut left = cars.into_vec();
+    while let Some((_, car)) = left.pop() {
+        put_car(&mut table, car)?;
+    }
+    Ok(table)
 }

@@ -1,26 +1,45 @@
-//! Making the cars of a space of what their pages list.
+//! The cars that a catalog lists, as they are opened, with their trains numbered from 1.
 
-ghost use Rattle.std.specs.Prelude.{◌≡◌, ◌<◌, IfOk, OnOk, None};
+ghost use Rattle.std.specs.Prelude.{◌≡◌, [], ◌∷◌, List, None, drop, map, IfOk, OnOk};
 ghost use Rattle.std.specs.List.{AllByRecursion};
-ghost use Rattle.std.specs.FinMap as map;
+ghost use Rattle.pm_image.specs.declared.catalog.CatEntry.{CatEntry};
 ghost use Rattle.pm_image.specs.Graphs.{images_of};
-ghost use Rattle.pm_copies.specs.Accepted.{IsAcceptedCar, Differ};
-ghost use Rattle.pm_copies.specs.Opened.{has_object, opened_cars};
-ghost use Rattle.pm_space.specs.Shown.{cars_of};
-ghost use Rattle.pm_opening.specs.Leading.{lead_cars};
-ghost use Rattle.pm_opening.specs.Cars.{with_image, AreLinked};
+ghost use Rattle.pm_copies.specs.Listed.{Listed};
+ghost use Rattle.pm_copies.specs.Accepted.{IsAcceptedCar};
+ghost use Rattle.pm_copies.specs.Opened.{has_object, listed_in};
+ghost use Rattle.pm_opening.specs.Lists.{placed_of};
+ghost use Rattle.pm_opening.specs.Listing.{number_after, listed_on};
 
+use crate::CarList;
 use crate::leading::Leads;
 use crate::opened_car::open_car;
 use pm_cars::Car;
-use pm_image::{CarImage, KeptPage};
-use pm_snap::Table;
-use pm_space::{Held, LinkTable};
+use pm_image::{CarImage, CatEntry, KeptPage};
 use pm_types::{NoMemory, Slot};
 use std::alloc::Global;
 
-/// Whether one of the slots has an object.
-pub(crate) fn has_object(slots: &[(u32, Slot)]) -> bool
+/// The train of the car that was opened last.
+#[derive(Clone, Copy)]
+struct LastTrain {
+    /// Its number, as it is listed.
+    listed: u64,
+    /// Its number from then on.
+    number: u64,
+}
+
+/// The cars that were opened so far.
+#[derive(Drop)]
+struct OpenedCars {
+    /// The cars that have an object, each after the number of its train.
+    cars: Vec<(u64, Car)>,
+    /// The train of the last of these.
+    last: Option<LastTrain>,
+    /// How many cars were looked at.
+    place: usize,
+}
+
+// Whether one of the slots has an object.
+fn has_object(slots: &[(u32, Slot)]) -> bool
     ensures { result ≡ has_object slots.now }
 {
     for listed in slots {
@@ -31,72 +50,95 @@ pub(crate) fn has_object(slots: &[(u32, Slot)]) -> bool
     false
 }
 
-// Puts a car with its links beside the others.
-fn add_car(
-    alloc: Global,
-    table: &mut Table<Held>,
-    links: &mut LinkTable,
-    car: Car,
-) -> Result<(), NoMemory>
-    requires from_one { 0 < car.car.number }
-    requires is_new { map.get (cars_of table.old) car.car.number ≡ None }
-    requires linked { AreLinked (cars_of table.old) links.old }
-    ensures cars { OnOk result (cars_of table.new ≡ map.insert (cars_of table.old) car.car.number car.car) }
-    ensures frozen { OnOk result (table.new.frozen ≡ table.old.frozen) }
-    ensures linked { OnOk result (AreLinked (cars_of table.new) links.new) }
+// The number of a train that is listed behind another one, or first.
+fn number_after(last: Option<LastTrain>, train: u64) -> Result<u64, NoMemory>
+    ensures { IfOk result (λ number. number ≡ number_after last train) }
 {
-    let number = car.number();
-    links.add(alloc, number, 0)?;
-    let added = table.add_at(number, Held { car });
-    let Ok(()) = added else {
-        return Err(NoMemory);
+    let Some(last) = last else {
+        return Ok(1);
     };
-    Ok(())
+    if last.listed == train {
+        return Ok(last.number);
+    }
+    match last.number.checked_add(1) {
+        Some(number) => Ok(number),
+        // No list is so long.
+        None => Err(NoMemory),
+    }
 }
 
-// Opens a car beside the others, if it has an object.
-fn add_image(
+// Opens a car of this train behind the others, if it has an object.
+fn open_image(
     alloc: Global,
     leads: &Leads,
-    table: &mut Table<Held>,
-    links: &mut LinkTable,
+    opened: &mut OpenedCars,
+    train: u64,
     image: &CarImage,
 ) -> Result<(), NoMemory>
     requires car { IsAcceptedCar image.now }
-    requires is_new { map.get (cars_of table.old) image.now.number ≡ None }
-    requires linked { AreLinked (cars_of table.old) links.old }
-    ensures cars { OnOk result (cars_of table.new ≡ with_image leads.now (cars_of table.old) image.now) }
-    ensures frozen { OnOk result (table.new.frozen ≡ table.old.frozen) }
-    ensures linked { OnOk result (AreLinked (cars_of table.new) links.new) }
+    ensures cars { OnOk result ((others : List Listed)
+        → listed_on leads.now (map placed_of opened.new.cars.items) opened.new.last others
+        ≡ listed_on leads.now (map placed_of opened.old.cars.items) opened.old.last ((train, image.now) ∷ others)) }
+    ensures place { OnOk result (opened.new.place ≡ opened.old.place) }
 {
     if !has_object(image.slots.as_slice()) {
         return Ok(());
     }
+    let number = number_after(opened.last, train)?;
     let car = open_car(alloc, leads, image)?;
-    add_car(alloc, table, links, car)?;
+    opened.cars.push((number, car))?;
+    opened.last = Some(LastTrain {
+        listed: train,
+        number,
+    });
     Ok(())
 }
 
-/// The cars that opening makes of those that are listed, each with an empty remembered set and an empty queue: the
-/// addresses of all are followed through these maps.
+// Opens the car that an entry lists, which is the next one, behind the others.
+fn open_entry(
+    alloc: Global,
+    leads: &Leads,
+    opened: &mut OpenedCars,
+    entry: &CatEntry,
+    cars: &[KeptPage],
+) -> Result<(), NoMemory>
+    requires cars { AllByRecursion IsAcceptedCar (images_of cars.now) }
+    ensures { OnOk result ((others : List CatEntry)
+        → listed_on leads.now (map placed_of opened.new.cars.items) opened.new.last
+        (listed_in others (images_of (drop opened.new.place cars.now)))
+        ≡ listed_on leads.now (map placed_of opened.old.cars.items) opened.old.last
+        (listed_in (entry.now ∷ others) (images_of (drop opened.old.place cars.now)))) }
+{
+    let CatEntry::Car { train, .. } = entry else {
+        return Ok(());
+    };
+    if opened.place >= cars.len() {
+        return Ok(());
+    }
+    open_image(alloc, leads, opened, *train, &cars[opened.place].image)?;
+    opened.place += 1;
+    Ok(())
+}
+
+/// The cars that entries list and that have an object, in their order: the addresses of all are followed through these
+/// maps. Their trains are numbered from 1.
 pub(crate) fn open_cars(
     alloc: Global,
     leads: &Leads,
+    entries: &[CatEntry],
     cars: &[KeptPage],
-) -> Result<(Table<Held>, LinkTable), NoMemory>
-    requires leads { leads.now ≡ lead_cars cars.now }
+) -> Result<CarList, NoMemory>
     requires cars { AllByRecursion IsAcceptedCar (images_of cars.now) }
-    requires differ { Differ (images_of cars.now) }
-    ensures cars { IfOk result (λ made. cars_of made.0 ≡ opened_cars (images_of cars.now)) }
-    ensures frozen { IfOk result (λ made. made.0.frozen ≡ None) }
-    ensures linked { IfOk result (λ made. AreLinked (cars_of made.0) made.1) }
+    ensures { IfOk result (λ list. list
+        ≡ listed_on leads.now [] None (listed_in entries.now (images_of cars.now))) }
 {
-    let mut table = Table::new(alloc);
-    let mut links = LinkTable::new(alloc);
-    let mut left = cars.len();
-    while left > 0 {
-        left -= 1;
-        add_image(alloc, leads, &mut table, &mut links, &cars[left].image)?;
+    let mut opened = OpenedCars {
+        cars: Vec::new(alloc),
+        last: None,
+        place: 0,
+    };
+    for entry in entries {
+        open_entry(alloc, leads, &mut opened, entry, cars)?;
     }
-    Ok((table, links))
+    Ok(CarList::from_vec(opened.cars))
 }

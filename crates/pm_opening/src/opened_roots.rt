@@ -1,68 +1,42 @@
-//! Binding the roots that a catalog lists.
+//! The roots that a catalog lists, with their addresses followed.
 
-ghost use Rattle.std.specs.Prelude.{◌≡◌, ◌+◌, ◌<◌, ◌≤◌, ◌++◌, ◌∷◌, [], map, length, IfOk, OnOk, None};
-ghost use Rattle.std.specs.FinMap.{len};
-ghost use Rattle.pm_types.specs.declared.limits.TheConstants.{ROOTS};
-ghost use Rattle.pm_copies.specs.Accepted.{NamesAscend, root_in, roots_in};
-ghost use Rattle.pm_opening.specs.Leading.{resolved_by};
-ghost use Rattle.pm_opening.specs.Roots.{followed_root, bound_roots, AreBefore, AreBeforeAll};
+ghost use Rattle.std.specs.Prelude.{◌≡◌, ◌++◌, map, IfOk, OnOk};
+ghost use Rattle.pm_copies.specs.Accepted.{root_in, roots_in};
+ghost use Rattle.pm_opening.specs.Listing.{followed_root};
 
+use crate::RootList;
 use crate::leading::Leads;
 use pm_image::CatEntry;
-use pm_roots::{BindFault, Roots};
 use pm_types::{Addr, Name, NoMemory};
 use std::alloc::Global;
 
-// Binds a name, which comes behind all that are bound, to where its address leads.
-fn bind_root(
+// Lists the root that an entry lists, if it lists one, with where its address leads.
+fn open_root(
     alloc: Global,
     leads: &Leads,
-    roots: &mut Roots,
-    name: &Name,
-    at: Addr,
-) -> Result<(), NoMemory>
-    requires behind { AreBefore roots.old name.now }
-    requires few { len roots.old < ROOTS }
-    ensures { OnOk result (bound_roots roots.new ≡ bound_roots roots.old ++ (name.now, resolved_by leads.now at) ∷ []) }
-{
-    match roots.bind(name.copy(alloc)?, leads.resolve(at)) {
-        Ok(_) => Ok(()),
-        Err(BindFault::TooMany) => unreachable!(),
-        Err(BindFault::Memory) => Err(NoMemory),
-    }
-}
-
-// Binds the root that an entry lists, if it lists one.
-fn bind_entry(
-    alloc: Global,
-    leads: &Leads,
-    roots: &mut Roots,
+    roots: &mut Vec<(Name, Addr)>,
     entry: &CatEntry,
 ) -> Result<(), NoMemory>
-    requires behind { AreBeforeAll roots.old (root_in entry.now) }
-    requires few { len roots.old + length (root_in entry.now) ≤ ROOTS }
-    ensures { OnOk result (bound_roots roots.new
-        ≡ bound_roots roots.old ++ map (followed_root leads.now) (root_in entry.now)) }
+    ensures { OnOk result (roots.new.items ≡ roots.old.items ++ map (followed_root leads.now) (root_in entry.now)) }
 {
-    match entry {
-        CatEntry::Car { .. } => Ok(()),
-        CatEntry::Root { name, at } => bind_root(alloc, leads, roots, name, *at),
-    }
+    let CatEntry::Root { name, at } = entry else {
+        return Ok(());
+    };
+    roots.push((name.copy(alloc)?, leads.resolve(*at)))?;
+    Ok(())
 }
 
-/// The roots that entries list, each bound to where its address leads.
+/// The roots that entries list, each with where its address leads.
 pub(crate) fn open_roots(
     alloc: Global,
     leads: &Leads,
     entries: &[CatEntry],
-) -> Result<Roots, NoMemory>
-    requires ascend { NamesAscend None entries.now }
-    requires few { length (roots_in entries.now) ≤ ROOTS }
-    ensures { IfOk result (λ roots. bound_roots roots ≡ map (followed_root leads.now) (roots_in entries.now)) }
+) -> Result<RootList, NoMemory>
+    ensures { IfOk result (λ roots. roots ≡ map (followed_root leads.now) (roots_in entries.now)) }
 {
-    let mut roots = Roots::new(alloc);
+    let mut roots = Vec::new(alloc);
     for entry in entries {
-        bind_entry(alloc, leads, &mut roots, entry)?;
+        open_root(alloc, leads, &mut roots, entry)?;
     }
-    Ok(roots)
+    Ok(RootList::from_vec(roots))
 }

@@ -1,21 +1,22 @@
 //! Opening a store as a space.
 
-ghost use Rattle.std.specs.Prelude.{◌≡◌, true, Contains, All, None, IfOk, IfErr, OnOk, OnErr};
+ghost use Rattle.std.specs.Prelude.{◌≡◌, true, false, Contains, All, None, IfOk, IfErr, OnOk, OnErr, MatchResult};
 ghost use Rattle.pm_disk.specs.Disk.{IfTold};
-ghost use Rattle.pm_layout.specs.Headers.{HasHeaderSpelling};
 ghost use Rattle.pm_image.specs.Graphs.{images_of, entries_of, used_pages};
 ghost use Rattle.pm_copies.specs.Listed.{images};
 ghost use Rattle.pm_copies.specs.Accepted.{IsAccepted};
 ghost use Rattle.pm_copies.specs.Opened.{IsOpened, listed_in};
-ghost use Rattle.pm_shadow.specs.State.{attached, known_by, IsIdle};
+ghost use Rattle.pm_shadow.specs.State.{IsListable};
+ghost use Rattle.pm_shadow.specs.Uses.{IsListed};
+ghost use Rattle.pm_shadow.specs.Copies.{AreUsed};
 ghost use Rattle.pm_shadow.specs.Runs.{OnlyLooks};
 ghost use Rattle.pm_shadow.specs.Pages.{state, disk_of};
 ghost use Rattle.pm_space.specs.Shown.{view};
 ghost use Rattle.pm_reopen.specs.Reading.{IsThere};
-ghost use Rattle.pm_reopen.specs.Reopening.{IsCurrent, IsGraphFault};
-ghost use Rattle.pm_opening.specs.Opening.{OpensStore, IsUnfrozen, IsRefusedBy};
+ghost use Rattle.pm_reopen.specs.Reopening.{IsGraphFault};
+ghost use Rattle.pm_opening.specs.Opening.{OpensStore, IsUnfrozen, KnowsPages, IsUnopened};
 
-use crate::building::build;
+use crate::build_listed;
 use pm_disk::Disk;
 use pm_image::{KeptPage, Settled};
 use pm_place::Placement;
@@ -42,7 +43,7 @@ fn build_graph<F: Drop>(
 {
     let (numbers, entries) = flatten(alloc, chain)?;
     let used = with_cars(numbers, cars)?;
-    let space = build(alloc, place, entries.as_slice(), cars, next)?;
+    let space = build_listed(alloc, place, entries.as_slice(), cars, next)?;
     Ok((space, used))
 }
 
@@ -54,52 +55,70 @@ fn is_there(page: u64, count: u64) -> bool
     2 <= page && page < count
 }
 
-/// Opens the copy behind the current header of a store that was just attached as a space with this chooser. Its catalog
-/// and its cars are read, each page once, and the pages that they stand on are known from then on. With the space come
-/// the cars, each as its page spells it. Nothing is written, and no page is claimed.
+// These are the pages that the current copy stands on. They are known from then on; where they were, nothing is done.
+fn know_pages<D: Disk>(alloc: Global, pages: &mut Pages<D>, used: &[u64]) -> Result<(), NoMemory>
+    requires there { (state pages.old).known ≡ false → All (IsListable (state pages.old)) used.now }
+    requires first { Contains used.now (state pages.old).header.first }
+    requires used { IfTold (D.contents (disk_of pages.old)) (λ bytes. AreUsed (state pages.old) bytes used.now) }
+    ensures state { OnOk result (KnowsPages (state pages.old) (state pages.new)) }
+    ensures listed { OnOk result ((state pages.old).known ≡ false → IsListed used.now (state pages.new).uses) }
+    ensures state_err { OnErr result (state pages.new ≡ state pages.old) }
+    ensures still { disk_of pages.new ≡ disk_of pages.old }
+{
+    if pages.is_known() {
+        return Ok(());
+    }
+    pages.commit_list(alloc, used)?;
+    Ok(())
+}
+
+/// Opens the copy behind the current header of a store as a space with this chooser. Its catalog and its cars are read,
+/// each page once, and with the space come the cars, each as its page spells it. The pages that they stand on are known
+/// from then on. Pages that are known already stay as they are, also those that are claimed or kept for a next copy.
+/// Nothing is written, and no page is claimed. No publish of these pages has failed.
 ///
 /// # Errors
 ///
-/// `Damaged` and `Malformed` where a page behind the header is at fault, as `read_graph` says: the first rule that
-/// fails; `Disk` where the disk failed, with its counts of failed calls before and after; and `Memory`. The pages are
-/// as they were then.
+/// `Damaged` and `Malformed` where the header or a page behind it is at fault: the first rule that fails; `Disk` where
+/// the disk failed, with its counts of failed calls before and after; and `Memory`. The pages are as they were then.
 pub fn open_space<D: Disk, F: Drop>(
     alloc: Global,
     pages: &mut Pages<D>,
     place: Placement<F>,
 ) -> Result<(Space<F>, Settled), OpenFault>
-    requires attached { state pages.old ≡ attached (state pages.old).slot (state pages.old).header
-        (state pages.old).count (state pages.old).closed }
-    requires spelled { HasHeaderSpelling (state pages.old).header }
-    requires current { IfTold (D.contents (disk_of pages.old)) (λ bytes. IsCurrent (state pages.old) bytes) }
+    requires { (state pages.old).failed ≡ false }
     // The space is what opening makes of the bytes of the disk, the cars are as their pages spell them, and the pages of
     // these and of the catalog are known.
     ensures opened { IfOk result (λ made. IfTold (D.contents (disk_of pages.new)) (λ bytes.
-        OpensStore (state pages.new) bytes (view made.0.parts) made.1)) }
+        OpensStore (state pages.old) (state pages.new) bytes (view made.0.parts) made.1)) }
     ensures unfrozen { IfOk result (λ made. IsUnfrozen made.0.parts place) }
-    ensures state { OnOk result (state pages.new ≡ known_by (state pages.old) (state pages.new).uses) }
-    ensures idle { OnOk result (IsIdle (state pages.new)) }
-    ensures state_err { OnErr result (state pages.new ≡ state pages.old) }
+    ensures state { MatchResult result (λ made. KnowsPages (state pages.old) (state pages.new))
+        (λ fault. state pages.new ≡ state pages.old) }
     // Why none was opened.
-    ensures fault { IfErr result (λ fault. IfTold (D.contents (disk_of pages.old)) (λ bytes. IsRefusedBy bytes fault)) }
+    ensures fault { IfErr result (λ fault. IfTold (D.contents (disk_of pages.old)) (λ bytes.
+        IsUnopened (state pages.old) bytes fault)) }
     ensures cause { IfErr result (IsGraphFault (D.count (disk_of pages.old)) (D.count (disk_of pages.new))) }
     ensures count { OnOk result (D.count (disk_of pages.new) ≡ D.count (disk_of pages.old)) }
     ensures looks { OnlyLooks D.contents D.image D.moment D.since (disk_of pages.old) (disk_of pages.new) }
     // Not even a sync, and no read past the end of what the disk told.
     ensures made { D.made (disk_of pages.new) ≡ D.made (disk_of pages.old) }
 {
-    if !is_there(pages.header().first, pages.page_count()) {
-        // No store comes so far: the header was found with a page that is there.
-        return Err(OpenFault::Malformed { page: 0, at: 24 });
+    pages.keep_their_header();
+    pages.keep_the_current_copy();
+    let header = *pages.header();
+    if !is_there(header.first, pages.page_count()) {
+        return Err(OpenFault::Malformed {
+            page: pages.slot(),
+            at: 24,
+        });
     }
-    let next = pages.header().next;
     let (chain, cars) = read_graph(alloc, pages)?;
-    let built = build_graph(alloc, place, chain, cars.as_slice(), next);
+    let built = build_graph(alloc, place, chain, cars.as_slice(), header.next);
     let Ok((space, used)) = built else {
         return Err(OpenFault::Memory);
     };
-    let listed = pages.commit_list(alloc, used.as_slice());
-    let Ok(()) = listed else {
+    let known = know_pages(alloc, pages, used.as_slice());
+    let Ok(()) = known else {
         return Err(OpenFault::Memory);
     };
     Ok((space, cars))

@@ -2,21 +2,17 @@
 
 ghost use Rattle.std.specs.Prelude.{◌≡◌, ◌≤◌, ◌<◌, ◌^◌, ℕ, [], ◌∷◌, map, length, OnOk};
 ghost use Rattle.std.specs.List.{flat_map, AllByRecursion};
-ghost use Rattle.std.specs.FinMap as map;
 ghost use Rattle.std.specs.FinMap.{entries};
 ghost use Rattle.pm_types.specs.declared.object.Slot.{Slot};
 ghost use Rattle.pm_cars.specs.Cars.{slot_room};
-ghost use Rattle.pm_image.specs.Graphs.{images_of};
 ghost use Rattle.pm_view.specs.Sources.{outside};
 ghost use Rattle.pm_law_copies.specs.Storing.{field_sources, slot_sources, car_sources, root_source, stored_of};
-ghost use Rattle.pm_space.specs.Shown.{cars_of};
-ghost use Rattle.pm_opening.specs.Remembering.{Adds, entry_of, standing_of};
+ghost use Rattle.pm_opening.specs.Lists.{placed_of, rows};
+ghost use Rattle.pm_opening.specs.Remembering.{Adds};
 
 use pm_cars::Car;
-use pm_image::KeptPage;
 use pm_roots::Roots;
-use pm_snap::Table;
-use pm_space::{Held, LinkTable};
+use pm_space::LinkTable;
 use pm_types::{Addr, Change, NoMemory, RefSource, Slot};
 
 // The source lies outside the car.
@@ -97,35 +93,22 @@ fn tell_slots(links: &mut LinkTable, car: u64, slots: &[(u32, Slot)]) -> Result<
     Ok(())
 }
 
-// This is the car of the number.
-fn tell_car(links: &mut LinkTable, number: u64, car: &Car) -> Result<(), NoMemory>
-    ensures { OnOk result (Adds links.old links.new (car_sources (number, car.now.car))) }
+// This is a car.
+fn tell_car(links: &mut LinkTable, car: &Car) -> Result<(), NoMemory>
+    ensures { OnOk result (Adds links.old links.new (car_sources (car.now.car.number, car.now.car))) }
 {
     car.sound();
-    tell_slots(links, number, car.slots())
+    tell_slots(links, car.number(), car.slots())
 }
 
-// This is the car of the number in the table, if one stands.
-fn tell_number(links: &mut LinkTable, table: &Table<Held>, number: u64) -> Result<(), NoMemory>
-    ensures { OnOk result (Adds links.old links.new
-        (flat_map car_sources (entry_of number (map.get (cars_of table.now) number)))) }
-{
-    let Some(held) = table.get(number) else {
-        return Ok(());
-    };
-    tell_car(links, number, &held.car)?;
-    Ok(())
-}
-
-// These are the cars in the table, as they are listed.
-fn tell_cars(links: &mut LinkTable, table: &Table<Held>, cars: &[KeptPage]) -> Result<(), NoMemory>
-    ensures { OnOk result (Adds links.old links.new
-        (flat_map car_sources (standing_of (cars_of table.now) (images_of cars.now)))) }
+// These are the cars.
+fn tell_cars(links: &mut LinkTable, cars: &[(u64, Car)]) -> Result<(), NoMemory>
+    ensures { OnOk result (Adds links.old links.new (flat_map car_sources (rows (map placed_of cars.now)))) }
 {
     let mut left = cars.len();
     while left > 0 {
         left -= 1;
-        tell_number(links, table, cars[left].image.number)?;
+        tell_car(links, &cars[left].1)?;
     }
     Ok(())
 }
@@ -143,18 +126,15 @@ fn tell_roots(links: &mut LinkTable, roots: &Roots) -> Result<(), NoMemory>
     Ok(())
 }
 
-/// Tells each car which roots, and which fields of the cars in the table, as they are listed, lie outside it and name a
-/// slot of it.
+/// Tells each car which roots, and which fields of these cars, lie outside it and name a slot of it.
 pub(crate) fn remember(
     links: &mut LinkTable,
-    table: &Table<Held>,
-    cars: &[KeptPage],
+    cars: &[(u64, Car)],
     roots: &Roots,
 ) -> Result<(), NoMemory>
-    ensures { OnOk result (Adds links.old links.new
-        (stored_of (standing_of (cars_of table.now) (images_of cars.now)) roots.now)) }
+    ensures { OnOk result (Adds links.old links.new (stored_of (rows (map placed_of cars.now)) roots.now)) }
 {
     tell_roots(links, roots)?;
-    tell_cars(links, table, cars)?;
+    tell_cars(links, cars)?;
     Ok(())
 }

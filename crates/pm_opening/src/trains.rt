@@ -1,10 +1,12 @@
-//! Putting the cars that are kept into trains.
+//! Putting cars into trains.
 
-ghost use Rattle.std.specs.Prelude.{◌≡◌, ◌<◌, ◌^◌, IsTrue, IsSome, IfOk, OnOk, None};
+ghost use Rattle.std.specs.Prelude.{◌≡◌, ◌<◌, ◌^◌, IsTrue, IsSome, IfOk, OnOk, None, map};
 ghost use Rattle.pm_trains.specs.Trains.{HasCar, train_of, youngest};
-ghost use Rattle.pm_copies.specs.Opened.{grouped, numbered};
-ghost use Rattle.pm_opening.specs.Trains.{goes_on, with_kept, closed, AreApart, AreNew};
+ghost use Rattle.pm_copies.specs.Built.{CarsDiffer, built_trains};
+ghost use Rattle.pm_opening.specs.Lists.{placed_of};
+ghost use Rattle.pm_opening.specs.Trains.{goes_on, with_kept, closed};
 
+use pm_cars::Car;
 use pm_trains::{Trains, a_new_train_is_the_youngest, an_appended_car_is_the_last};
 use pm_types::NoMemory;
 use std::alloc::Global;
@@ -72,16 +74,16 @@ fn close(alloc: Global, trains: &mut Trains, last: Option<u64>) -> Result<(), No
     Ok(())
 }
 
-/// The trains of these cars, each given after the number of its train: they are numbered from 1 in their order, and an
-/// open train without a car follows.
-pub(crate) fn open_trains(alloc: Global, kept: &[(u64, u64)]) -> Result<Trains, NoMemory>
-    requires { AreApart kept.now }
-    ensures { IfOk result (λ trains. trains ≡ record { trains = numbered 1 (grouped kept.now); births = 0 }) }
+/// The trains of these cars: cars of one number that stand side by side are in one train, the trains are numbered from 1
+/// in their order, and an open train without a car follows.
+pub(crate) fn make_trains(alloc: Global, cars: &[(u64, Car)]) -> Result<Trains, NoMemory>
+    requires { CarsDiffer (map placed_of cars.now) }
+    ensures { IfOk result (λ trains. trains ≡ built_trains (map placed_of cars.now)) }
 {
     let mut trains = Trains::new(alloc)?;
     let mut last = None;
-    for one in kept {
-        put_car(alloc, &mut trains, last, one.0, one.1)?;
+    for one in cars {
+        put_car(alloc, &mut trains, last, one.0, one.1.number())?;
         last = Some(one.0);
     }
     close(alloc, &mut trains, last)?;

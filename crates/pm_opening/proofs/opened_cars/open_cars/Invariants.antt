@@ -1,19 +1,12 @@
-use Rattle.std.proofs.Common.{◌≡◌, ◌≤◌, None, length, drop}
-use Rattle.std.specs.List.{flat_map}
-use Rattle.std.specs.FinMap.{from_entries}
+use Rattle.std.proofs.Common.{◌≡◌, [], None, map, drop}
 use Rattle.pm_image.specs.Graphs.{images_of}
-use Rattle.pm_copies.specs.Opened.{opened_entry}
-use Rattle.pm_space.specs.Shown.{cars_of}
-use Rattle.pm_opening.specs.Cars.{AreLinked}
+use Rattle.pm_copies.specs.Opened.{listed_in}
+use Rattle.pm_opening.specs.Lists.{placed_of}
+use Rattle.pm_opening.specs.Listing.{listed_on}
 use Rattle.pm_opening.proofs.opened_cars.open_cars.Given as goal
 
-abbrev pub invariant-loop-left : goal.invariant-loop-left
-invariant-loop-left l = record {
-  so_far : cars_of l.table ≡ from_entries (flat_map (opened_entry (images_of l.cars)) (images_of (drop l.left l.cars)));
-  frozen : l.table.frozen ≡ None;
-  linked : AreLinked (cars_of l.table) l.links;
-  inside : l.left ≤ length l.cars;
+abbrev pub invariant-loop-entry : goal.invariant-loop-entry
+invariant-loop-entry l = record {
+  so_far : listed_on l.leads (map placed_of l.opened.cars.items) l.opened.last (listed_in (drop l.entry-index l.entries) (images_of (drop l.opened.place l.cars)))
+      ≡ listed_on l.leads [] None (listed_in l.entries (images_of l.cars));
 }
-
-abbrev pub decreases-loop-left : goal.decreases-loop-left
-decreases-loop-left l = l.left

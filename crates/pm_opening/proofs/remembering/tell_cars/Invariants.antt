@@ -1,14 +1,13 @@
-use Rattle.std.proofs.Common.{◌≤◌, length, drop}
+use Rattle.std.proofs.Common.{◌≤◌, length, drop, map}
 use Rattle.std.specs.List.{flat_map}
-use Rattle.pm_image.specs.Graphs.{images_of}
 use Rattle.pm_law_copies.specs.Storing.{car_sources}
-use Rattle.pm_space.specs.Shown.{cars_of}
-use Rattle.pm_opening.specs.Remembering.{Adds, standing_of}
+use Rattle.pm_opening.specs.Lists.{placed_of, rows}
+use Rattle.pm_opening.specs.Remembering.{Adds}
 use Rattle.pm_opening.proofs.remembering.tell_cars.Given as goal
 
 abbrev pub invariant-loop-left : goal.invariant-loop-left
 invariant-loop-left l = record {
-  so_far : Adds l.initial.links l.links (flat_map car_sources (standing_of (cars_of l.table) (images_of (drop l.left l.cars))));
+  so_far : Adds l.initial.links l.links (flat_map car_sources (rows (map placed_of (drop l.left l.cars))));
   inside : l.left ≤ length l.cars;
 }
 
