@@ -1,5 +1,5 @@
 -- What opening lists for a space to be built of.
-use Rattle.std.proofs.Common.{◌≡◌, ℕ, zero, suc, ◌+◌, ◌<◌, ◌==◌, Bool, true, false, cond, List, [], ◌∷◌, ◌++◌, length, map, drop, get_or, Option, Some, None, refl, sym, ap, subst, ◌∙◌, append_assoc, if◌then◌else◌}
+use Rattle.std.proofs.Common.{◌≡◌, ℕ, zero, suc, ◌+◌, ◌<◌, ◌==◌, true, false, cond, List, [], ◌∷◌, ◌++◌, length, map, drop, get_or, Option, Some, None, refl, sym, ap, subst, ◌∙◌, append_assoc, if◌then◌else◌}
 use Rattle.std.specs.List.{flat_map, AllByRecursion}
 use Rattle.std.proofs.lemmas.List.{append-nil}
 use Rattle.pm_types.specs.declared.address.Addr.{Addr}
@@ -10,8 +10,8 @@ use Rattle.pm_image.specs.declared.catalog.CatEntry.TheVariants as kinds
 use Rattle.pm_image.specs.declared.settled.KeptPage.{KeptPage}
 use Rattle.pm_image.specs.Graphs.{images_of}
 use Rattle.pm_copies.specs.Listed.{Listed, images}
-use Rattle.pm_copies.specs.Accepted.{IsAcceptedCar, IsAccepted, root_in, roots_in}
-use Rattle.pm_copies.specs.Opened.{has_object, opened_car, listed_in, resolved_at}
+use Rattle.pm_copies.specs.Accepted.{IsAcceptedCar, root_in, roots_in}
+use Rattle.pm_copies.specs.Opened.{has_object, listed_in, resolved_at}
 use Rattle.pm_copies.specs.Built.{Placed, opened_placed, renumbered, renumbered_on, opening_cars, opening_roots}
 use Rattle.pm_reopen.proofs.Lists.{drop_here}
 use Rattle.pm_opening.specs.declared.opened_cars.LastTrain.{LastTrain}

@@ -1,5 +1,5 @@
 -- What stands once a space was opened.
-use Rattle.std.proofs.Common.{◌≡◌, ℕ, ◌<◌, ◌≤◌, Bool, true, false, List, [], ◌∷◌, map, Result, Ok, Err, refl, sym, ap, subst, ◌∙◌, arith, nat_lt, nat_le, ◌&&◌, if◌then◌else◌}
+use Rattle.std.proofs.Common.{◌≡◌, ℕ, ◌≤◌, Bool, true, false, List, [], ◌∷◌, map, Result, Ok, Err, refl, sym, ap, subst, ◌∙◌, arith, nat_lt, nat_le, ◌&&◌, if◌then◌else◌}
 use Rattle.std.specs.Prelude.{All, Contains}
 use Rattle.std.specs.List.{AllByRecursion}
 use Rattle.std.proofs.lemmas.List.Elements.{Contains-append_left, All-nil, All-cons, All-contains}
@@ -13,17 +13,16 @@ use Rattle.pm_image.specs.Graphs.{Pages as Store, Catalog, Graph, graph_of, imag
 use Rattle.pm_image.specs.Opening.{Current, current, page_count, header_in, sound_header, is_placed}
 use Rattle.pm_image.specs.Stands.{pages_of, opened}
 use Rattle.pm_image.proofs.FrameLaws.{graph_too, opened_as}
-use Rattle.pm_shadow.specs.declared.page_use.PageUse.{PageUse}
 use Rattle.pm_shadow.specs.State.{State, IsListable, known_by}
 use Rattle.pm_shadow.specs.Images.{Heads, IsSound}
 use Rattle.pm_shadow.specs.Copies.{AreUsed, KeepsGraph}
 use Rattle.pm_shadow.specs.Uses.{IsListed}
 use Rattle.pm_shadow.proofs.AttachLemmas.{heads_current, current_long}
-use Rattle.pm_shadow.proofs.CopyLemmas.{listed_graph, listed_idle}
+use Rattle.pm_shadow.proofs.CopyLemmas.{listed_graph}
 use Rattle.pm_view.specs.View.{SpaceView}
 use Rattle.pm_copies.specs.Opened.{IsOpened, listed_in}
 use Rattle.pm_reopen.specs.Reading.{IsThere, IsCar, IsWhole, store_of, page_numbers}
-use Rattle.pm_reopen.specs.Reopening.{IsCurrent, IsGraph}
+use Rattle.pm_reopen.specs.Reopening.{IsGraph}
 use Rattle.pm_reopen.proofs.Lists.{all_both}
 use Rattle.pm_opening.specs.Opening.{AreKnownRight, OpensStore, KnowsPages, IsRefusedBy, IsNoRefusal, IsUnopened}
 

@@ -1,7 +1,7 @@
-use Rattle.std.proofs.Common.{◌-◌, [], ap, sym, ◌∙◌, arith, get_or, ℕ}
+use Rattle.std.proofs.Common.{◌-◌, [], ap, ◌∙◌, arith, get_or, ℕ}
 use Rattle.std.specs.FinMap.{get, insert, empty}
 use Rattle.pm_cars.specs.Cars.{CarAndSpare}
-use Rattle.pm_space.specs.Linked.{Linked, sets_of, queues_of}
+use Rattle.pm_space.specs.Linked.{sets_of, queues_of}
 use Rattle.pm_opening.proofs.LinkLaws.{linked_none, link_new, link_more}
 use Rattle.pm_opening.proofs.linking.link_cars.Goals as goal
 

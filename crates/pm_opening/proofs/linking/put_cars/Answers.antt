@@ -1,4 +1,4 @@
-use Rattle.std.proofs.Common.{◌≡◌, rules}
+use Rattle.std.proofs.Common.{rules}
 use Rattle.pm_opening.proofs.LinkLaws.{none_put, put_full, put_new, put_more, all_put}
 use Rattle.pm_opening.proofs.linking.put_cars.Goals as goal
 

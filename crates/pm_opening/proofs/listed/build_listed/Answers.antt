@@ -1,8 +1,8 @@
-use Rattle.std.proofs.Common.{◌≡◌, ℕ, List, None, sym, ap, subst, ◌∙◌}
+use Rattle.std.proofs.Common.{ℕ, List, None, sym, subst, ◌∙◌}
 use Rattle.pm_types.specs.declared.address.Addr.{Addr}
 use Rattle.pm_image.specs.Graphs.{images_of}
 use Rattle.pm_copies.specs.Opened.{listed_in}
-use Rattle.pm_copies.specs.Built.{Placed, MayBuild, IsBuiltOf, opening_cars, opening_roots}
+use Rattle.pm_copies.specs.Built.{Placed, MayBuild, IsBuiltOf, opening_cars}
 use Rattle.pm_space.specs.Shown.{view}
 use Rattle.pm_opening.specs.Lists.{NamesDiffer}
 use Rattle.pm_opening.proofs.ListLaws.{cars_listed, roots_listed}

@@ -1,5 +1,5 @@
 use Rattle.std.proofs.Common.{ℕ, ◌+◌, ◌≤◌, sym, ap, subst, ◌∙◌}
-use Rattle.std.specs.FinMap.{insert, len, nat_cmp-IsAntisymmetric}
+use Rattle.std.specs.FinMap.{len}
 use Rattle.pm_base.proofs.Mapped.{mapped-insert}
 use Rattle.pm_types.specs.Orders.{name_cmp}
 use Rattle.pm_types.proofs.Orders.{names_total, names_antisymmetric}

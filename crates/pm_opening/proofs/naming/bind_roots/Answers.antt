@@ -1,10 +1,9 @@
-use Rattle.std.proofs.Common.{◌≡◌, [], ◌∙◌, List, ℕ, ap, subst, sym, arith, length}
+use Rattle.std.proofs.Common.{◌≡◌, [], ◌∙◌, ℕ, ap, sym, arith, length}
 use Rattle.std.specs.Vec.Iter.{into_iter_items}
 use Rattle.std.specs.FinMap.{empty, len, len-empty}
 use Rattle.pm_base.proofs.Mapped.{mapped-empty}
 use Rattle.pm_types.specs.declared.address.Addr.{Addr}
 use Rattle.pm_types.specs.Orders.{name_cmp}
-use Rattle.pm_roots.specs.Bindings.{Bindings}
 use Rattle.pm_opening.specs.Naming.{addresses, with_named}
 use Rattle.pm_opening.proofs.Ends.{none_long}
 use Rattle.pm_opening.proofs.NameLaws.{all_named}

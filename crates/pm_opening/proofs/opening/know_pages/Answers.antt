@@ -1,4 +1,3 @@
-use Rattle.std.proofs.Common.{refl, sym, ◌∙◌, ap}
 use Rattle.pm_shadow.specs.Pages.{state}
 use Rattle.pm_shadow.proofs.CopyLemmas.{listed_idle}
 use Rattle.pm_opening.proofs.opening.know_pages.Goals as goal

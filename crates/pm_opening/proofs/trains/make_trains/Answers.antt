@@ -1,4 +1,4 @@
-use Rattle.std.proofs.Common.{◌≡◌, ◌+◌, ℕ, List, Some, None, drop, map, refl, ap, sym, subst, ◌∙◌}
+use Rattle.std.proofs.Common.{◌+◌, ℕ, List, Some, None, drop, map, ap, sym, subst, ◌∙◌}
 use Rattle.pm_trains.specs.Trains.{Trains, train_of}
 use Rattle.pm_reopen.proofs.Lists.{drop_here}
 use Rattle.pm_opening.specs.Lists.{placed_of}
