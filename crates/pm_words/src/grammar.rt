@@ -4,12 +4,12 @@ use pm_types::NoMemory;
 use std::alloc::Global;
 
 // A value that has to be given.
-fn value(alloc: Global, name: &'static str) -> Arg<'static> {
+fn value<'a>(alloc: Global, name: &'a str) -> Arg<'a> {
     Arg::new(alloc, name).required(true)
 }
 
 // The commands and their values.
-fn grammar(alloc: Global) -> Result<Command<'static>, NoMemory> {
+fn grammar<'a>(alloc: Global) -> Result<Command<'a>, NoMemory> {
     let init = Command::new(alloc, "init").arg(value(alloc, "FILE"))?;
     let run = Command::new(alloc, "run")
         .arg(value(alloc, "FILE"))?

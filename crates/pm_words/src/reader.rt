@@ -15,17 +15,29 @@ fn is_file(word: &str) -> bool
     }
 }
 
-// The number that a word is in decimal digits, without a sign or a leading zero.
+// Whether a word is this number in decimal digits, without a sign or a leading zero.
+fn is_spelled(word: &str, number: u32) -> bool
+    ensures yes { result ≡ true → word.now ≡ decimal number }
+    ensures no { result ≡ false → word.now ≡ decimal number → ⊥ }
+{
+    let mut buffer = Buffer::new();
+    buffer.format(number) == word
+}
+
+// The seed that a word is.
 fn seed(word: &str) -> Option<u32>
     ensures some { IfSome result (IsSeed word.now) }
     ensures none { IfNone result ((seed : ℕ) → IsSeed word.now seed → ⊥) }
 {
-    let number = word.parse::<u32>().ok()?;
-    let mut buffer = Buffer::new();
-    if buffer.format(number) == word {
-        Some(number)
-    } else {
-        None
+    match word.parse::<u32>() {
+        Ok(number) => {
+            if is_spelled(word, number) {
+                Some(number)
+            } else {
+                None
+            }
+        }
+        Err(_) => None,
     }
 }
 

@@ -14,7 +14,10 @@ fn is_withheld(words: &[&str]) -> bool {
         [first, ..] => *first == "help",
         [] => false,
     };
-    is_help || words.iter().any(|word| word.is_empty() || word.as_bytes()[0] == b'-')
+    is_help
+        || words
+            .iter()
+            .any(|word| word.is_empty() || word.as_bytes()[0] == b'-')
 }
 
 /// The command of these words, or none where they are no command's.
@@ -22,10 +25,9 @@ pub fn read_words(alloc: Global, words: &[&str]) -> Result<Option<Command>, NoMe
     ensures some { IfOk result (λ read. IfSome read (Spells (map (λ word. word.now) words.now))) }
     ensures none { IfOk result (λ read. IfNone read (SpellsNothing (map (λ word. word.now) words.now))) }
 {
-    let command = command_of(words);
-    if is_withheld(words) {
-        return Ok(command);
+    // What `clap` answers of other words is not needed: the reader finds the same, and is proved to.
+    if !is_withheld(words) {
+        is_taken(alloc, words)?;
     }
-    is_taken(alloc, words)?;
-    Ok(command)
+    Ok(command_of(words))
 }
