@@ -1,0 +1,10 @@
+use Rattle.std.proofs.Common.{◌≡◌, take}
+use Rattle.std.specs.List.{sum_by}
+use Rattle.pm_space.specs.Counted.{capped}
+use Rattle.pm_space.specs.Shown.{view}
+use Rattle.pm_inspect.specs.Report.{live_of_train}
+use Rattle.pm_inspect.proofs.counting.live_total.Given as goal
+
+-- the objects of the trains so far
+abbrev pub invariant-loop-place : goal.invariant-loop-place
+invariant-loop-place g l = l.sum ≡ capped (sum_by (live_of_train (view l.parts)) (take l.place l.parts.trains.trains))

@@ -1,0 +1,5 @@
+pub mod Texts
+pub mod Drawn
+pub mod Short
+pub mod Counts
+pub mod Turns

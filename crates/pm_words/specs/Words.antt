@@ -1,0 +1,70 @@
+-- The words of the command line.
+use Rattle.std.specs.Prelude.{◌≡◌, ℕ, ◌^◌, ◌<◌, ◌≤◌, List, [], ◌∷◌, codes, decimal}
+use Rattle.pm_words.specs.declared.command.Command.{Command}
+use Rattle.pm_words.specs.declared.command.Command.TheVariants.{Init, Run, Inspect, Make, Trial}
+use Rattle.pm_words.specs.declared.command.TheConstants.{MOST_TURNS}
+
+-- a file's name: it is not empty, and does not begin with a dash, which is 45
+pub record IsFile (word : List ℕ) : Type 0 where
+  pub first : ℕ
+  pub rest : List ℕ
+  pub is_word : word ≡ first ∷ rest
+  pub no_dash : first ≡ 45 → ⊥
+
+-- the word is this seed in decimal digits, without a sign or a leading zero
+pub record IsSeed (word : List ℕ) (seed : ℕ) : Type 0 where
+  pub small : seed < 2 ^ 32
+  pub spelled : word ≡ decimal seed
+
+-- the word is this number of turns, spelled so
+pub record IsTurns (word : List ℕ) (turns : ℕ) : Type 0 where
+  pub few : turns ≤ MOST_TURNS
+  pub spelled : word ≡ decimal turns
+
+-- `init FILE`
+pub record AreInit (words : List (List ℕ)) : Type 0 where
+  pub file : List ℕ
+  pub is_file : IsFile file
+  pub are : words ≡ codes "init" ∷ file ∷ []
+
+-- `run FILE serial`
+pub record AreRun (words : List (List ℕ)) : Type 0 where
+  pub file : List ℕ
+  pub is_file : IsFile file
+  pub are : words ≡ codes "run" ∷ file ∷ codes "serial" ∷ []
+
+-- `inspect FILE`
+pub record AreInspect (words : List (List ℕ)) : Type 0 where
+  pub file : List ℕ
+  pub is_file : IsFile file
+  pub are : words ≡ codes "inspect" ∷ file ∷ []
+
+-- `make SEED N`
+pub record AreMake (words : List (List ℕ)) (seed turns : ℕ) : Type 0 where
+  pub first : List ℕ
+  pub second : List ℕ
+  pub is_seed : IsSeed first seed
+  pub is_turns : IsTurns second turns
+  pub are : words ≡ codes "make" ∷ first ∷ second ∷ []
+
+-- `trial FILE SEED N`
+pub record AreTrial (words : List (List ℕ)) (seed turns : ℕ) : Type 0 where
+  pub file : List ℕ
+  pub first : List ℕ
+  pub second : List ℕ
+  pub is_file : IsFile file
+  pub is_seed : IsSeed first seed
+  pub is_turns : IsTurns second turns
+  pub are : words ≡ codes "trial" ∷ file ∷ first ∷ second ∷ []
+
+-- these are the words of this command
+abbrev pub Spells : List (List ℕ) → Command → Type 0
+Spells words Init = AreInit words
+Spells words Run = AreRun words
+Spells words Inspect = AreInspect words
+Spells words (Make seed turns) = AreMake words seed turns
+Spells words (Trial seed turns) = AreTrial words seed turns
+
+-- these are the words of no command
+abbrev pub SpellsNothing : List (List ℕ) → Type 0
+SpellsNothing words = (command : Command) → Spells words command → ⊥

@@ -1,0 +1,27 @@
+/// The most turns of a script that is made.
+pub const MOST_TURNS: u32 = 16_000;
+
+/// What the words of the command line ask for.
+#[derive(Clone, Copy, Debug, PartialEq, Eq)]
+pub enum Command {
+    /// `init FILE`: make an empty store.
+    Init,
+    /// `run FILE serial`: run the script on the source, in the order of its lines.
+    Run,
+    /// `inspect FILE`: write the report of a store.
+    Inspect,
+    /// `make SEED N`: write the script of this seed and this many turns.
+    Make {
+        /// The seed.
+        seed: u32,
+        /// The number of turns, at most 16,000.
+        turns: u32,
+    },
+    /// `trial FILE SEED N`: run that script on a store.
+    Trial {
+        /// The seed.
+        seed: u32,
+        /// The number of turns, at most 16,000.
+        turns: u32,
+    },
+}

@@ -1,0 +1,9 @@
+//! A law of the words of the command line. The function's contract is the law, and the function does nothing.
+ghost use Rattle.std.specs.Prelude.{◌≡◌, List, ℕ};
+ghost use Rattle.pm_words.specs.declared.command.Command.{Command as Asked};
+ghost use Rattle.pm_words.specs.Words.{Spells};
+
+/// A law of words: they are those of one command at most.
+pub fn words_spell_one_command()
+    ensures { (words : List (List ℕ)) (one other : Asked) → Spells words one → Spells words other → one ≡ other }
+{}

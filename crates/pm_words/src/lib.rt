@@ -1,0 +1,14 @@
+//! The words of the command line, read with `clap`. Which words are those of a command stands in `specs/Words.antt`.
+#![tactic(auto)]
+
+mod command;
+mod grammar;
+mod laws;
+mod reader;
+#[cfg(test)]
+mod tests;
+mod words;
+
+pub use command::{Command, MOST_TURNS};
+pub use laws::words_spell_one_command;
+pub use words::read_words;
