@@ -1,0 +1,5 @@
+pub mod Seen
+pub mod Kept
+pub mod KeptOnce
+pub mod Shown
+pub mod Answers

@@ -1,0 +1,9 @@
+//! Saving copies of a space page by page while its clients go on.
+#![tactic(auto)]
+
+mod fault;
+mod place;
+mod saver;
+
+pub use fault::SaveFault;
+pub use saver::Saver;
