@@ -3,3 +3,5 @@ pub mod Kept
 pub mod KeptOnce
 pub mod Shown
 pub mod Answers
+pub mod Planned
+pub mod Counted

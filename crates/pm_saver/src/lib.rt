@@ -1,8 +1,14 @@
 //! Saving copies of a space page by page while its clients go on.
 #![tactic(auto)]
 
+mod beginning;
+mod counter;
+mod counting;
 mod fault;
+mod naming;
 mod place;
+mod placing;
+mod planning;
 mod saver;
 
 pub use fault::SaveFault;
