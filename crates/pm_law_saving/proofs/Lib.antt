@@ -1,0 +1,6 @@
+pub mod Members
+pub mod Staying
+pub mod Giving
+pub mod Counting
+pub mod Standing
+pub mod Publishing
