@@ -4,3 +4,4 @@ pub mod Giving
 pub mod Counting
 pub mod Standing
 pub mod Publishing
+pub mod Next

@@ -1,32 +1,17 @@
-use Rattle.std.proofs.Common.{rules, ◌≡◌, ◌<◌, ◌≤◌, ◌+◌, ◌↔◌, ℕ, List, length, Option, Some, None, ◌-◌, ◌*◌, ◌/◌, ◌%◌, Bool, true, false, nat_eq, nat_lt, [], ◌∷◌, ◌++◌, slice_index_or, slice_set, bit_and, bit_or, Fits, w8, w32, w64, Bor, MutBor}
-use Rattle.pm_disk.specs.Disk.{IfTold}
-use Rattle.pm_image.specs.Opening.{page_count}
-use Rattle.pm_shadow.specs.State.{State}
-use Rattle.pm_shadow.specs.Images.{Holds}
-use Rattle.pm_view.specs.View.{Cars}
-use Rattle.pm_image.specs.declared.settled.KeptPage.{KeptPage}
-use Rattle.pm_saving.specs.Progress.{Progress, Saving}
-use Rattle.pm_saving.specs.Paging.{NextPage, left, next_page, with_page, written_on}
-use Rattle.pm_saving.specs.Beginning.{IsInProgress}
-use Rattle.pm_saving.specs.Tied.{GoesOn, IsTied, MayWrite, WritesNext}
+use Rattle.pm_law_saving.proofs.Next.{all_left, next_goes, next_left, next_none}
 use Rattle.pm_law_saving.proofs.writing.pages_of_a_copy_are_written_in_order.Goals as goal
 
--- src/writing.rt:16:1
 pub returns-clause-none : goal.returns-clause-none
-returns-clause-none c = ?
+returns-clause-none c = next_none
 
--- src/writing.rt:16:1
 pub returns-clause-left : goal.returns-clause-left
-returns-clause-left c = ?
+returns-clause-left c = next_left
 
--- src/writing.rt:16:1
 pub returns-clause-may : goal.returns-clause-may
 returns-clause-may c = ?
 
--- src/writing.rt:16:1
 pub returns-clause-goes_on : goal.returns-clause-goes_on
-returns-clause-goes_on c = ?
+returns-clause-goes_on c = next_goes
 
--- src/writing.rt:16:1
 pub returns-clause-all : goal.returns-clause-all
-returns-clause-all c = ?
+returns-clause-all c = all_left

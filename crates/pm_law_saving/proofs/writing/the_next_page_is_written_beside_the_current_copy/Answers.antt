@@ -8,7 +8,7 @@ use Rattle.pm_image.specs.declared.settled.KeptPage.{KeptPage}
 use Rattle.pm_saving.specs.Progress.{Progress, Saving}
 use Rattle.pm_saving.specs.Paging.{NextPage, left, next_page, with_page, written_on}
 use Rattle.pm_saving.specs.Beginning.{IsInProgress}
-use Rattle.pm_saving.specs.Tied.{GoesOn, IsTied, MayWrite, WritesNext}
+use Rattle.pm_saving.specs.Tied.{GoesOn, HasPage, IsTied, WritesNext}
 use Rattle.pm_law_saving.proofs.writing.the_next_page_is_written_beside_the_current_copy.Goals as goal
 
 -- src/writing.rt:37:1
