@@ -5,3 +5,4 @@ pub mod Counting
 pub mod Standing
 pub mod Publishing
 pub mod Next
+pub mod Planned
