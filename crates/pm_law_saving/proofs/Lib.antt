@@ -6,3 +6,6 @@ pub mod Standing
 pub mod Publishing
 pub mod Next
 pub mod Planned
+pub mod Growing
+pub mod Keeping
+pub mod Written
