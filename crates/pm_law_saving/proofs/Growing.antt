@@ -54,7 +54,7 @@ more_before back old new put more = record {
 
 -- ---- a car was written
 
-abbrev written_cars : List PlacedCar → List Put
+abbrev pub written_cars : List PlacedCar → List Put
 written_cars cars = flat_map (λ (one : PlacedCar). car_put one.place) cars
 
 abbrev kept_cars : List PlacedCar → List ℕ
@@ -98,10 +98,10 @@ pub record IsOneMore (progress now : Progress) (put : Put) : Type 0 where
   pub kept : now.kept ≡ true
 
 -- the pages of the catalog that were written
-abbrev written_parts : List PlannedPage → List Put
+abbrev pub written_parts : List PlannedPage → List Put
 written_parts catalog = map part_put (chain_of catalog)
 
-no_parts : (parts : List ℕ) (cut : List OnePage) → parts ≡ [] → written_parts (paired parts cut) ≡ []
+pub no_parts : (parts : List ℕ) (cut : List OnePage) → parts ≡ [] → written_parts (paired parts cut) ≡ []
 no_parts parts cut none = ap (λ (parts : List ℕ). written_parts (paired parts cut)) none
 
 car_more : (settled : List KeptPage) (cars : Cars) (progress : Progress) (page : ℕ) (one : PlacedCar) → IsInProgress settled cars progress → first_unwritten progress.cars ≡ Some one

@@ -9,3 +9,4 @@ pub mod Planned
 pub mod Growing
 pub mod Keeping
 pub mod Written
+pub mod Begun
