@@ -29,7 +29,7 @@ pub record HasOneMore (old new : List Put) (put : Put) : Type 0 where
   pub of : (one : Put) → Contains new one → (put ≡ one) ⊎ Contains old one
   pub times : (number : ℕ) → times number (places new) ≡ once (put.0 == number) + times number (places old)
 
-times_both : (number : ℕ) (xs ys : List Put) → times number (places (xs ++ ys)) ≡ times number (places xs) + times number (places ys)
+pub times_both : (number : ℕ) (xs ys : List Put) → times number (places (xs ++ ys)) ≡ times number (places xs) + times number (places ys)
 times_both number [] ys = omega arith
 times_both number (x ∷ xs) ys = let rest = times_both number xs ys in omega (arith, rest)
 
@@ -57,7 +57,7 @@ more_before back old new put more = record {
 abbrev pub written_cars : List PlacedCar → List Put
 written_cars cars = flat_map (λ (one : PlacedCar). car_put one.place) cars
 
-abbrev kept_cars : List PlacedCar → List ℕ
+abbrev pub kept_cars : List PlacedCar → List ℕ
 kept_cars cars = flat_map (λ (one : PlacedCar). clean_page one.place) cars
 
 none_put : (place : Place) → is_unwritten place ≡ true → car_put place ≡ []

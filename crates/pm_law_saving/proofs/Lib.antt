@@ -10,3 +10,4 @@ pub mod Growing
 pub mod Keeping
 pub mod Written
 pub mod Begun
+pub mod Whole

@@ -59,6 +59,17 @@ on_page : (b : Bool) (n : ℕ) → once b + n ≡ 0 → b ≡ false
 on_page true n is = absurd (omega (arith, is))
 on_page false n is = refl
 
+-- each with its page
+pub cars_paged : (placed : List PlacedCar) → map (λ (one : CarInTrain). one.1) (flat_map cars_of_train (flat_map planned placed)) ≡ flat_map (λ (one : PlacedCar). page_in one.place) placed
+cars_paged [] = refl
+cars_paged (one ∷ placed) = by one.place (cars_paged placed)
+  where
+    by : (place : Place) → map (λ (one : CarInTrain). one.1) (flat_map cars_of_train (flat_map planned placed)) ≡ flat_map (λ (one : PlacedCar). page_in one.place) placed
+        → map (λ (one : CarInTrain). one.1) (flat_map cars_of_train (planned_at one.train place ++ flat_map planned placed)) ≡ page_in place ++ flat_map (λ (one : PlacedCar). page_in one.place) placed
+    by (Clean kept) rest = ap (λ (pages : List KeptPage). kept ∷ pages) rest
+    by Unwritten rest = rest
+    by (Written kept) rest = ap (λ (pages : List KeptPage). kept ∷ pages) rest
+
 module _ (settled : List KeptPage) (cars : Cars) where
   abbrev Stand : List PlacedCar → Type 0
   Stand placed = AllByRecursion (λ (one : PlacedCar). StandsAs settled (image_of cars one) one.place) placed
@@ -71,16 +82,6 @@ module _ (settled : List KeptPage) (cars : Cars) where
       let rest = cars_same placed stand.1 (omega (arith, none)) in
       ap (λ (pages : List KeptPage). map listed_in_plan (flat_map cars_of_train (map (λ (kept : KeptPage). record { number = one.train; cars = kept ∷ [] }) pages ++ flat_map planned placed))) here.1
       ∙ (λ i. (one.train, here.2 i) ∷ rest i)
-
-  pub cars_paged : (placed : List PlacedCar) → map (λ (one : CarInTrain). one.1) (flat_map cars_of_train (flat_map planned placed)) ≡ flat_map (λ (one : PlacedCar). page_in one.place) placed
-  cars_paged [] = refl
-  cars_paged (one ∷ placed) = by one.place (cars_paged placed)
-    where
-      by : (place : Place) → map (λ (one : CarInTrain). one.1) (flat_map cars_of_train (flat_map planned placed)) ≡ flat_map (λ (one : PlacedCar). page_in one.place) placed
-          → map (λ (one : CarInTrain). one.1) (flat_map cars_of_train (planned_at one.train place ++ flat_map planned placed)) ≡ page_in place ++ flat_map (λ (one : PlacedCar). page_in one.place) placed
-      by (Clean kept) rest = ap (λ (pages : List KeptPage). kept ∷ pages) rest
-      by Unwritten rest = rest
-      by (Written kept) rest = ap (λ (pages : List KeptPage). kept ∷ pages) rest
 
   -- and their entries have the size of those before pages were known
   sizes_same : (placed : List PlacedCar) (roots : List CatEntry) → Stand placed → unwritten placed ≡ 0
