@@ -1,5 +1,5 @@
 -- A copy of a space begins beside the settled one.
-use Rattle.std.proofs.Common.{◌≡◌, ◌⊎◌, inl, inr, ⊎_elim, ◌↔◌, ℕ, zero, suc, ◌+◌, ◌<◌, ◌≤◌, ◌^◌, ◌==◌, Bool, true, false, nat_le, nat_lt, ◌&&◌, List, [], ◌∷◌, ◌++◌, length, drop, map, Contains, Option, Some, None, Ok, refl, sym, ap, subst, ◌∙◌, arith, if◌then◌else◌}
+use Rattle.std.proofs.Common.{◌≡◌, ◌⊎◌, inl, inr, ⊎_elim, ◌↔◌, ℕ, ◌<◌, ◌≤◌, ◌^◌, ◌==◌, Bool, true, false, nat_le, nat_lt, ◌&&◌, List, [], ◌∷◌, ◌++◌, length, drop, map, Contains, Option, Some, None, refl, sym, ap, subst, ◌∙◌, arith, if◌then◌else◌}
 use Rattle.std.specs.List.{AllByRecursion, flat_map}
 use Rattle.std.specs.FinMap.{entries, get}
 use Rattle.std.proofs.lemmas.Bool.Decides.{nat_tests}
@@ -13,7 +13,7 @@ use Rattle.pm_image.specs.declared.car.CarImage.{CarImage}
 use Rattle.pm_image.specs.declared.catalog.CatEntry.{CatEntry}
 use Rattle.pm_image.specs.declared.settled.KeptPage.{KeptPage}
 use Rattle.pm_image.specs.CarAnswers.{AreBytes}
-use Rattle.pm_image.specs.Graphs.{Graph, entries_of}
+use Rattle.pm_image.specs.Graphs.{Graph}
 use Rattle.pm_image.specs.Opening.{is_placed, page_count}
 use Rattle.pm_image.specs.Stands.{pages_of}
 use Rattle.pm_shadow.specs.declared.page_use.PageUse.TheVariants.{Claimed, Kept}
@@ -27,17 +27,16 @@ use Rattle.pm_copies.specs.Accepted.{IsAccepted}
 use Rattle.pm_copies.specs.Opened.{unnumbered}
 use Rattle.pm_law_copies.proofs.Accepting.{accepted}
 use Rattle.pm_law_graphs.specs.Apart.{AreApart, times}
-use Rattle.pm_law_graphs.specs.Entries.{ListedCar, listed_cars, listed_numbers}
+use Rattle.pm_law_graphs.specs.Entries.{ListedCar}
 use Rattle.pm_law_graphs.specs.Spelled.{Spells, listed_as}
 use Rattle.pm_law_graphs.proofs.Found.{bytes_whole, graph_spelled}
 use Rattle.pm_law_graphs.proofs.Lists.{all_both}
 use Rattle.pm_law_graphs.proofs.Sets.{once}
 use Rattle.pm_law_layout.specs.Plans.{root_entry}
-use Rattle.pm_saving.specs.Progress.{Place, Clean, Unwritten, Written, PlacedCar, Progress, Saving, catalog_left, catalog_of, copy_of, image_of, in_list, list_of, parts_of, roots_of, slots_of}
+use Rattle.pm_saving.specs.Progress.{Place, Clean, Unwritten, Written, PlacedCar, Progress, Saving, catalog_left, copy_of, image_of, in_list, list_of, parts_of, roots_of, slots_of}
 use Rattle.pm_saving.specs.Paging.{Put, car_put, clean_pages, kept_pages, puts_of}
 use Rattle.pm_saving.specs.Beginning.{ArePlaced, Begins, IsCarNumbered, IsInProgress, IsPlacedAs, StandsAs, settled_at}
 use Rattle.pm_saving.specs.Tied.{AreItsPages, AreSettled, IsBegun, IsPut, IsTied}
-use Rattle.pm_law_saving.proofs.Members.{stands_in}
 use Rattle.pm_law_saving.proofs.Growing.{no_parts, places, written_cars}
 
 -- ---- the settled cars of a copy have numbers of their own

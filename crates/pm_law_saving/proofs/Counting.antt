@@ -1,9 +1,9 @@
 -- How many pages a catalog has, and how many are left.
-use Rattle.std.proofs.Common.{◌≡◌, ℕ, ◌+◌, ◌-◌, ◌<◌, ◌≤◌, Bool, true, false, nat_le, List, [], ◌∷◌, ◌++◌, length, map, refl, sym, ap, ◌∙◌, arith, if◌then◌else◌}
+use Rattle.std.proofs.Common.{◌≡◌, ℕ, ◌+◌, ◌<◌, Bool, true, false, nat_le, List, [], ◌∷◌, ◌++◌, length, map, arith, if◌then◌else◌}
 use Rattle.pm_types.specs.declared.limits.TheConstants.{PAGE_BYTES}
 use Rattle.pm_image.specs.declared.catalog.CatEntry.{CatEntry}
 use Rattle.pm_image.specs.CatalogPages.{entry_size}
-use Rattle.pm_law_layout.specs.Cutting.{OnePage, cut, cut_from, onto_first}
+use Rattle.pm_law_layout.specs.Cutting.{OnePage, cut_from, onto_first}
 use Rattle.pm_saving.specs.Progress.{Progress, catalog_left, catalog_len, draft_entry, roots_of}
 use Rattle.pm_saving.specs.Paging.{left, unwritten}
 use Rattle.pm_saving.specs.Beginning.{AreLast}

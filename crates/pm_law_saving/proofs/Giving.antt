@@ -1,5 +1,5 @@
 -- A store that was just opened, a copy that is given up, and the gate of the next header.
-use Rattle.std.proofs.Common.{◌≡◌, ℕ, ◌<◌, ◌≤◌, true, false, List, Option, Some, None, refl, sym, ap, subst, ◌∙◌}
+use Rattle.std.proofs.Common.{◌≡◌, ℕ, ◌<◌, ◌≤◌, true, false, List, Option, Some, None, refl, ◌∙◌}
 use Rattle.std.specs.List.{AllByRecursion}
 use Rattle.pm_disk.specs.Disk.{IfTold}
 use Rattle.pm_image.specs.Opening.{page_of}
@@ -11,7 +11,6 @@ use Rattle.pm_shadow.proofs.CopyLemmas.{abandoned_idle, abandoned_keeps}
 use Rattle.pm_view.specs.View.{Cars}
 use Rattle.pm_law_graphs.proofs.Lists.{all_follow}
 use Rattle.pm_saving.specs.Progress.{Saving}
-use Rattle.pm_saving.specs.Paging.{Put}
 use Rattle.pm_saving.specs.Tied.{AreSettled, IsOnPage, IsPut, IsTied, all_puts}
 use Rattle.pm_law_saving.proofs.Staying.{held_settled, idle_pages, still_on_pages, still_settled}
 

@@ -1,19 +1,17 @@
 -- What one page more of a copy changes of its pages.
-use Rattle.std.proofs.Common.{◌≡◌, ◌⊎◌, inl, inr, ⊎_elim, ℕ, zero, suc, ◌+◌, ◌-◌, ◌<◌, ◌≤◌, ◌==◌, Bool, true, false, List, [], ◌∷◌, ◌++◌, length, drop, map, Contains, Option, Some, None, refl, sym, ap, subst, ◌∙◌, arith, if◌then◌else◌}
+use Rattle.std.proofs.Common.{◌≡◌, ◌⊎◌, inl, inr, ⊎_elim, ℕ, zero, suc, ◌+◌, ◌<◌, ◌==◌, Bool, true, false, List, [], ◌∷◌, ◌++◌, length, drop, map, Contains, Some, refl, sym, ap, subst, ◌∙◌, arith, if◌then◌else◌}
 use Rattle.std.specs.Prelude.{slice_index_or}
-use Rattle.std.specs.List.{AllByRecursion, flat_map}
+use Rattle.std.specs.List.{flat_map}
 use Rattle.std.proofs.lemmas.List.{at_drop_more, nil_from_length}
 use Rattle.std.proofs.lemmas.List.Elements.{Contains-append_cases, Contains-append_left, Contains-append_right}
 use Rattle.pm_model.proofs.Members.{first_or_rest}
-use Rattle.pm_image.specs.declared.car.CarImage.{CarImage}
-use Rattle.pm_image.specs.declared.catalog.CatalogPage.{CatalogPage}
 use Rattle.pm_image.specs.declared.settled.KeptPage.{KeptPage}
 use Rattle.pm_view.specs.View.{Cars}
 use Rattle.pm_law_graphs.specs.Apart.{times}
 use Rattle.pm_law_graphs.proofs.Sets.{once}
 use Rattle.pm_law_layout.specs.Plans.{PlannedPage, chain_of}
 use Rattle.pm_law_layout.specs.Cutting.{OnePage}
-use Rattle.pm_saving.specs.Progress.{Place, Clean, Unwritten, Written, PlacedCar, Progress, catalog_left, catalog_len, catalog_of, image_of, paired, parts_of}
+use Rattle.pm_saving.specs.Progress.{Place, Clean, Unwritten, Written, PlacedCar, Progress, catalog_left, catalog_of, image_of, paired, parts_of}
 use Rattle.pm_saving.specs.Paging.{CarPage, NextPage, PartPage, Put, car_put, car_text, clean_page, clean_pages, first_unwritten, is_unwritten, kept_on, next_page, place_first, puts_of, text_of, unwritten, with_page}
 use Rattle.pm_saving.specs.Beginning.{IsInProgress}
 use Rattle.pm_law_saving.proofs.Standing.{part_put}

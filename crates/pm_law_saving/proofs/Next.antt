@@ -1,8 +1,8 @@
 -- Which page of a copy comes next, and what is left once it was written.
-use Rattle.std.proofs.Common.{◌≡◌, ◌⊎◌, inl, inr, ⊎_elim, ◌↔◌, ℕ, zero, suc, ◌+◌, ◌-◌, ◌<◌, ◌≤◌, Bool, true, false, List, [], ◌∷◌, ◌++◌, length, map, Contains, Option, Some, None, refl, sym, ap, subst, ◌∙◌, arith, if◌then◌else◌}
+use Rattle.std.proofs.Common.{◌≡◌, ◌⊎◌, inl, inr, ⊎_elim, ◌↔◌, ℕ, zero, suc, ◌+◌, Bool, true, false, List, [], ◌∷◌, ◌++◌, length, map, Contains, Option, Some, None, refl, sym, ap, subst, ◌∙◌, arith, if◌then◌else◌}
 use Rattle.std.specs.Prelude.{slice_index_or}
 use Rattle.std.specs.List.{AllByRecursion}
-use Rattle.std.proofs.lemmas.Option.{same_Some, none-some}
+use Rattle.std.proofs.lemmas.Option.{same_Some}
 use Rattle.pm_model.proofs.Members.{at_first, in_rest}
 use Rattle.pm_image.specs.declared.car.CarImage.{CarImage}
 use Rattle.pm_image.specs.declared.catalog.CatEntry.{CatEntry}
@@ -12,9 +12,9 @@ use Rattle.pm_copies.specs.Listed.{Listed, copy_listed}
 use Rattle.pm_copies.specs.Accepted.{IsAccepted}
 use Rattle.pm_law_graphs.proofs.Sets.{once}
 use Rattle.pm_law_layout.specs.Cutting.{OnePage, cut}
-use Rattle.pm_saving.specs.Progress.{Place, Clean, Unwritten, Written, PlacedCar, Progress, catalog_left, catalog_len, copy_of, draft_entry, image_of, in_list, list_of, parts_of, roots_of}
+use Rattle.pm_saving.specs.Progress.{Written, PlacedCar, Progress, catalog_left, catalog_len, draft_entry, image_of, in_list, parts_of, roots_of}
 use Rattle.pm_saving.specs.Paging.{CarPage, NextPage, PartPage, first_unwritten, is_unwritten, kept_on, left, next_after, next_page, part_before, place_first, unwritten, with_next, with_page, written_on}
-use Rattle.pm_saving.specs.Beginning.{AreLast, IsCarNumbered, IsInProgress, StandsAs}
+use Rattle.pm_saving.specs.Beginning.{IsCarNumbered, IsInProgress, StandsAs}
 use Rattle.pm_saving.specs.Tied.{GoesOn}
 use Rattle.pm_law_saving.proofs.Members.{of_member}
 

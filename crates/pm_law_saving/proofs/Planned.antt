@@ -1,12 +1,12 @@
 -- The plan of a copy once each of its cars stands on a page.
-use Rattle.std.proofs.Common.{◌≡◌, ◌⊎◌, inl, inr, ⊎_elim, ℕ, zero, suc, ◌+◌, ◌-◌, ◌<◌, ◌≤◌, ◌^◌, Bool, true, false, ◌==◌, ◌||◌, nat_le, List, [], ◌∷◌, ◌++◌, length, map, Contains, Option, Some, None, refl, sym, ap, subst, ◌∙◌, arith, lit≤}
+use Rattle.std.proofs.Common.{◌≡◌, ⊎_elim, ℕ, ◌+◌, ◌<◌, ◌^◌, Bool, true, false, ◌==◌, ◌||◌, nat_le, List, [], ◌∷◌, ◌++◌, length, map, Option, Some, None, refl, sym, ap, subst, ◌∙◌, arith}
 use Rattle.std.specs.Prelude.{IfSome, IsSome, slice_index_or}
 use Rattle.std.specs.List.{AllByRecursion, flat_map}
 use Rattle.std.specs.FinSet as set
 use Rattle.std.proofs.lemmas.Bool.{leb-false}
 use Rattle.std.proofs.lemmas.List.Elements.{Contains-get_or}
 use Rattle.pm_types.specs.declared.address.Addr.{Addr}
-use Rattle.pm_types.specs.declared.limits.TheConstants.{FIELDS, LAST_ID}
+use Rattle.pm_types.specs.declared.limits.TheConstants.{FIELDS}
 use Rattle.pm_types.specs.declared.object.Slot.{Slot}
 use Rattle.pm_types.specs.declared.object.Slot.TheVariants.{Live, Moved}
 use Rattle.pm_layout.specs.Spelling.{HasSpelling, IsAddress, IsInRange, IsWithinLimits}
@@ -16,7 +16,7 @@ use Rattle.pm_image.specs.declared.settled.KeptPage.{KeptPage}
 use Rattle.pm_image.specs.CarAnswers.{IsCarInRange}
 use Rattle.pm_image.specs.CarPages.{AreFree, Ascend, HasCarPage, Numbers, is_taken, one_car}
 use Rattle.pm_image.specs.CatalogPages.{entry_size}
-use Rattle.pm_image.specs.Graphs.{identity_in, identity_through, resolved, slot_named}
+use Rattle.pm_image.specs.Graphs.{identity_in, identity_through, slot_named}
 use Rattle.pm_image.specs.Leading.{CarLeads, FieldLeads, SlotLeads}
 use Rattle.pm_view.specs.View.{Cars}
 use Rattle.pm_copies.specs.Listed.{Listed, images}
@@ -25,15 +25,14 @@ use Rattle.pm_law_copies.proofs.Naming.{all_in_cars, all_named, slot_lies}
 use Rattle.pm_law_copies.proofs.Pages.{are_written}
 use Rattle.pm_law_graphs.proofs.Lists.{all_follow}
 use Rattle.pm_law_graphs.proofs.Sets.{once}
-use Rattle.pm_law_layout.specs.Plans.{CarInTrain, CarPlan, PlannedTrain, car_entry, cars_in, cars_of_train, in_list as listed_in_plan, planned_cars, planned_entries, planned_list, planned_roots}
-use Rattle.pm_law_layout.specs.Cutting.{OnePage, cut}
-use Rattle.pm_law_layout.specs.Laid.{HasFewFields, IsPlanInRange, IsStorePlan}
+use Rattle.pm_law_layout.specs.Plans.{CarInTrain, PlannedTrain, car_entry, cars_in, cars_of_train, in_list as listed_in_plan, planned_entries, planned_list}
+use Rattle.pm_law_layout.specs.Laid.{HasFewFields, IsStorePlan}
 use Rattle.pm_law_layout.specs.Writing.{MayBeWritten}
 use Rattle.pm_law_layout.proofs.Planned.{kept_of}
 use Rattle.pm_law_layout.proofs.Sizes.{count_by_sizes}
 use Rattle.pm_law_layout.proofs.Written.{plan_parts}
-use Rattle.pm_saving.specs.Progress.{Place, Clean, Unwritten, Written, PlacedCar, Progress, car_pages, cars_plan, catalog_len, draft_entry, image_of, in_list, list_of, page_in, parts_of, planned, roots_of}
-use Rattle.pm_saving.specs.Paging.{CarPage, NextPage, PartPage, is_unwritten, kept_on, next_page, unwritten}
+use Rattle.pm_saving.specs.Progress.{Place, Clean, Unwritten, Written, PlacedCar, Progress, cars_plan, catalog_len, draft_entry, image_of, in_list, list_of, page_in, parts_of, planned, roots_of}
+use Rattle.pm_saving.specs.Paging.{NextPage, is_unwritten, next_page, unwritten}
 use Rattle.pm_saving.specs.Beginning.{IsCarNumbered, IsInProgress, StandsAs}
 use Rattle.pm_saving.specs.Tied.{HasPage}
 use Rattle.pm_law_saving.proofs.Members.{all_map, of_member}

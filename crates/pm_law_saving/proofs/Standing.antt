@@ -1,5 +1,5 @@
 -- On which pages the cars of a copy stand once nothing of it is left.
-use Rattle.std.proofs.Common.{◌≡◌, ◌⊎◌, inl, inr, ℕ, ◌<◌, ◌≤◌, Bool, true, false, List, [], ◌∷◌, ◌++◌, map, Contains, Option, Some, None, refl, sym, ap, subst, ◌∙◌, if◌then◌else◌}
+use Rattle.std.proofs.Common.{◌≡◌, ℕ, ◌<◌, ◌≤◌, Bool, true, List, [], map, Contains, Option, Some, sym, ap, subst, if◌then◌else◌}
 use Rattle.std.specs.List.{AllByRecursion, flat_map}
 use Rattle.std.proofs.lemmas.List.Elements.{Contains-append_left}
 use Rattle.pm_model.proofs.Members.{at_first, in_none}
@@ -8,7 +8,6 @@ use Rattle.pm_image.specs.declared.catalog.CatalogPage.{CatalogPage}
 use Rattle.pm_image.specs.declared.settled.KeptPage.{KeptPage}
 use Rattle.pm_image.specs.CarPages.{padded}
 use Rattle.pm_image.specs.CatalogPages.{catalog_spelling}
-use Rattle.pm_shadow.specs.declared.page_use.PageUse.{PageUse}
 use Rattle.pm_shadow.specs.declared.page_use.PageUse.TheVariants.{Claimed, Kept}
 use Rattle.pm_shadow.specs.Uses.{is_next}
 use Rattle.pm_shadow.specs.State.{State}
@@ -19,7 +18,7 @@ use Rattle.pm_saving.specs.Paging.{Put, car_put, car_text, clean_page, clean_pag
 use Rattle.pm_saving.specs.Beginning.{IsInProgress, StandsAs}
 use Rattle.pm_saving.specs.Tied.{AreItsPages, IsBegun, IsOnPage, IsPut, IsTied}
 use Rattle.pm_law_saving.proofs.Members.{from_flat, in_flat, of_member, only_member}
-use Rattle.pm_law_saving.proofs.Counting.{IsAllWritten, all_written}
+use Rattle.pm_law_saving.proofs.Counting.{all_written}
 
 -- what holds of a saver in which this copy is in progress
 pub record IsUnderWay (saving : Saving) (cars : Cars) (s : State) (contents : Option (List ℕ)) (progress : Progress) : Type 0 where

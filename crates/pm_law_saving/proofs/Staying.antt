@@ -1,9 +1,7 @@
 -- What stays while pages are claimed, kept, written and given up.
-use Rattle.std.proofs.Common.{◌≡◌, ℕ, ◌≤◌, true, false, List, Option, None, refl, sym, ap, subst, ◌∙◌, arith}
+use Rattle.std.proofs.Common.{◌≡◌, ℕ, true, List, Option, None, ap, ◌∙◌, arith}
 use Rattle.std.specs.List.{AllByRecursion}
-use Rattle.pm_disk.specs.Disk.{IfTold}
 use Rattle.pm_image.specs.declared.settled.KeptPage.{KeptPage}
-use Rattle.pm_shadow.specs.declared.page_use.PageUse.TheVariants.{Claimed, Kept}
 use Rattle.pm_shadow.specs.Uses.{is_next}
 use Rattle.pm_shadow.specs.State.{State, IsIdle}
 use Rattle.pm_shadow.specs.Images.{Holds}

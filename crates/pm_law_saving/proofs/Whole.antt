@@ -1,8 +1,8 @@
 -- Once nothing of a copy is left, its pages hold it behind its header.
-use Rattle.std.proofs.Common.{◌≡◌, ◌⊎◌, inl, inr, ⊎_elim, ℕ, zero, suc, ◌+◌, ◌-◌, ◌<◌, ◌≤◌, ◌^◌, ◌==◌, Bool, true, false, List, [], ◌∷◌, ◌++◌, length, drop, map, Contains, Option, Some, None, Ok, refl, sym, ap, subst, ◌∙◌, arith, if◌then◌else◌}
+use Rattle.std.proofs.Common.{◌≡◌, ◌⊎◌, inl, inr, ⊎_elim, ℕ, zero, suc, ◌+◌, ◌<◌, ◌≤◌, ◌^◌, ◌==◌, Bool, true, false, List, [], ◌∷◌, ◌++◌, length, drop, map, Contains, Option, Some, refl, sym, ap, subst, ◌∙◌, arith, if◌then◌else◌}
 use Rattle.std.specs.List.{AllByRecursion, flat_map}
 use Rattle.std.proofs.lemmas.Bool.Decides.{nat_tests}
-use Rattle.std.proofs.lemmas.List.Elements.{Contains-append_cases, Contains-append_left, Contains-append_right}
+use Rattle.std.proofs.lemmas.List.Elements.{Contains-append_cases, Contains-append_right}
 use Rattle.sha2.specs.Sha256.{sha256}
 use Rattle.pm_types.specs.declared.limits.TheConstants.{FIELDS}
 use Rattle.pm_model.proofs.Members.{at_first, first_or_rest, in_none}
@@ -11,35 +11,34 @@ use Rattle.pm_image.specs.declared.car.CarImage.{CarImage}
 use Rattle.pm_image.specs.declared.catalog.CatalogPage.{CatalogPage}
 use Rattle.pm_image.specs.declared.settled.KeptPage.{KeptPage}
 use Rattle.pm_image.specs.CarAnswers.{AreBytes}
-use Rattle.pm_image.specs.Graphs.{Graph, used_pages}
-use Rattle.pm_image.specs.Opening.{page_count, page_of}
+use Rattle.pm_image.specs.Opening.{page_count}
 use Rattle.pm_image.specs.Stands.{pages_of}
 use Rattle.pm_shadow.specs.declared.page_use.PageUse.{PageUse}
 use Rattle.pm_shadow.specs.declared.page_use.PageUse.TheVariants.{Free, Current, Claimed, Kept}
 use Rattle.pm_shadow.specs.Uses.{is_next}
 use Rattle.pm_shadow.specs.State.{State}
-use Rattle.pm_shadow.specs.Copies.{IsNext, KeepsGraph}
+use Rattle.pm_shadow.specs.Copies.{IsNext}
 use Rattle.pm_shadow.proofs.UsedLemmas.{graph_first}
 use Rattle.pm_view.specs.View.{Cars}
 use Rattle.pm_copies.specs.Listed.{Listed, copy_listed, images}
 use Rattle.pm_copies.specs.Accepted.{Differ}
-use Rattle.pm_law_graphs.specs.Apart.{AreApart, AreOwn, times}
+use Rattle.pm_law_graphs.specs.Apart.{AreApart, times}
 use Rattle.pm_law_graphs.proofs.Lists.{all_back}
 use Rattle.pm_law_graphs.proofs.Sets.{once, times_append}
-use Rattle.pm_law_layout.specs.Plans.{CarPlan, PlannedPage, chain_of, graph_of_plan, planned_cars, planned_entries, planned_list, planned_pages}
+use Rattle.pm_law_layout.specs.Plans.{PlannedPage, chain_of, graph_of_plan, planned_cars, planned_entries, planned_list, planned_pages}
 use Rattle.pm_law_layout.specs.Cutting.{IsCutInto, OnePage}
 use Rattle.pm_law_layout.specs.Laid.{IsCarHeld, IsLaidBehind, IsListed, IsPageHeld, IsStorePlan}
 use Rattle.pm_law_layout.proofs.Again.{laid_found}
 use Rattle.pm_law_layout.proofs.Keeping.{cars_held}
 use Rattle.pm_law_layout.proofs.Planned.{plan_copy, plan_pages}
 use Rattle.pm_law_layout.proofs.Sizes.{planned_cut}
-use Rattle.pm_saving.specs.Progress.{Place, Clean, Unwritten, Written, PlacedCar, Progress, Saving, car_pages, catalog_left, catalog_of, image_of, in_list, list_of, page_in, paired, parts_of, plan_of, roots_of}
+use Rattle.pm_saving.specs.Progress.{Place, Clean, Unwritten, Written, PlacedCar, Progress, Saving, car_pages, catalog_of, image_of, in_list, list_of, page_in, paired, parts_of, plan_of, roots_of}
 use Rattle.pm_saving.specs.Paging.{Put, car_put, car_text, clean_page, clean_pages, header_of, kept_pages, left, puts_of}
-use Rattle.pm_saving.specs.Beginning.{IsInProgress, StandsAs}
+use Rattle.pm_saving.specs.Beginning.{StandsAs}
 use Rattle.pm_saving.specs.Tied.{AreSettled, IsPut, IsTied, IsWhole}
 use Rattle.pm_law_saving.proofs.Members.{all_map, apart_more, by_members, from_flat, from_map, in_map, is_member, of_member, only_member, stands_in}
 use Rattle.pm_law_saving.proofs.Counting.{IsAllWritten, all_written}
-use Rattle.pm_law_saving.proofs.Standing.{IsUnderWay, car_page_next, clean_kept, part_put, under_way, written_put}
+use Rattle.pm_law_saving.proofs.Standing.{IsUnderWay, car_page_next, part_put, under_way, written_put}
 use Rattle.pm_law_saving.proofs.Planned.{cars_paged, cars_same, copy_of_store, parts_count}
 use Rattle.pm_law_saving.proofs.Growing.{kept_cars, places, times_both, written_cars, written_parts}
 use Rattle.pm_law_saving.proofs.Begun.{keeps_spelled}

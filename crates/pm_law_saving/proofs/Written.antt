@@ -1,5 +1,5 @@
 -- What holds between calls holds again once the next page was written.
-use Rattle.std.proofs.Common.{◌≡◌, ◌⊎◌, inl, inr, ⊎_elim, ℕ, ◌+◌, ◌-◌, ◌*◌, ◌/◌, ◌<◌, ◌≤◌, ◌==◌, max, Bool, true, false, List, [], ◌∷◌, length, take, drop, map, Contains, Option, Some, None, refl, sym, ap, subst, ◌∙◌, arith, length-take, length-drop, if◌then◌else◌}
+use Rattle.std.proofs.Common.{◌≡◌, ◌⊎◌, inl, inr, ⊎_elim, ℕ, ◌+◌, ◌*◌, ◌<◌, ◌≤◌, ◌==◌, max, Bool, true, false, List, [], length, drop, Contains, Option, Some, sym, ap, subst, ◌∙◌, arith, length-take, length-drop, if◌then◌else◌}
 use Rattle.std.specs.Prelude.{option_map}
 use Rattle.std.specs.List.{AllByRecursion}
 use Rattle.std.proofs.lemmas.Bool.Decides.{nat_tests}
@@ -11,7 +11,6 @@ use Rattle.pm_layout.specs.declared.header.Header.{Header}
 use Rattle.pm_image.specs.declared.car.CarImage.{CarImage}
 use Rattle.pm_image.specs.declared.settled.KeptPage.{KeptPage}
 use Rattle.pm_image.specs.Opening.{page_count, page_of}
-use Rattle.pm_shadow.specs.declared.page_use.PageUse.{PageUse}
 use Rattle.pm_shadow.specs.declared.page_use.PageUse.TheVariants.{Free, Claimed, Kept}
 use Rattle.pm_shadow.specs.State.{State, keeps, with_claimed, with_page as with_page_there}
 use Rattle.pm_shadow.specs.Images.{Holds, place_of}

@@ -32,7 +32,7 @@ pub fn a_gate_is_closed_beside_the_copy()
     ensures { (saving : Saving) (frozen : Option Cars) (s : State) (was now : Option (List ℕ))
         → IsTied saving frozen s was
         → IfTold now (λ after. (before : List ℕ) × (was ≡ Some before) × Holds s before after
-            × ((page : ℕ) → 2 ≤ page → page < s.count → page_of after page ≡ page_of before page))
+        × ((page : ℕ) → 2 ≤ page → page < s.count → page_of after page ≡ page_of before page))
         → IsTied saving frozen (with_closed s) now }
 {}
 
@@ -55,7 +55,7 @@ pub fn a_published_copy_is_the_settled_one()
     ensures tied { (saving : Saving) (cars : Cars) (s : State) (was now : Option (List ℕ)) (progress : Progress)
         → IsTied saving (Some cars) s was → saving.progress ≡ Some progress → left progress ≡ 0
         → IfTold now (λ after. (before : List ℕ) × (was ≡ Some before) × IsWhole s before cars progress
-            × Renews s (header_of progress) before after)
+        × Renews s (header_of progress) before after)
         → IsTied (record { settled = car_pages progress; progress = None }) None (published s (header_of progress)) now }
 {}
 
