@@ -1,10 +1,11 @@
 -- What stays while pages are claimed, kept, written and given up.
-use Rattle.std.proofs.Common.{◌≡◌, ℕ, true, List, Option, None, ap, ◌∙◌, arith}
+use Rattle.std.proofs.Common.{◌≡◌, ℕ, true, false, List, Option, None, ap, subst, ◌∙◌, arith}
 use Rattle.std.specs.List.{AllByRecursion}
 use Rattle.pm_image.specs.declared.settled.KeptPage.{KeptPage}
+use Rattle.pm_image.specs.Opening.{is_open}
 use Rattle.pm_shadow.specs.Uses.{is_next}
-use Rattle.pm_shadow.specs.State.{State, IsIdle}
-use Rattle.pm_shadow.specs.Images.{Holds}
+use Rattle.pm_shadow.specs.State.{State, IsIdle, other}
+use Rattle.pm_shadow.specs.Images.{Heads, Holds}
 use Rattle.pm_shadow.specs.Copies.{KeepsSamePages}
 use Rattle.pm_shadow.proofs.CopyLemmas.{held_keeps, keeps_still}
 use Rattle.pm_law_graphs.proofs.Lists.{all_follow}
@@ -30,4 +31,13 @@ idle_pages s contents idle = record {
   read = tt;
   kept = λ page is. let here : is_next (s.uses page) ≡ true = ap is_next is in let none = idle page in absurd (cc (here, none));
   are_kept = tt;
+}
+
+-- what holds the current copy as one state knows it does so as the other does
+pub held_same : (s t : State) (bytes image : List ℕ) → KeepsSamePages s t → t.closed ≡ s.closed → Holds t bytes image → Holds s bytes image
+held_same s t bytes image same closed held = record {
+  heads = subst (λ (slot : ℕ). Heads image slot s.header) same.slot (subst (Heads image t.slot) same.header held.heads);
+  shut = λ is. subst (λ (slot : ℕ). is_open image (other slot) ≡ false) same.slot (held.shut (closed ∙ is));
+  outdone = λ is. held.outdone (closed ∙ is) ∙ same.slot;
+  pages = λ page kept low there. held.pages page (same.kept page ∙ kept) low (let settled = same.settled in omega (arith, settled, there));
 }
