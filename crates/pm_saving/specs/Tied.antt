@@ -39,8 +39,9 @@ pub record IsOnPage (s : State) (kept : KeptPage) : Type 0 where
   pub from_2 : 2 ≤ kept.page
   pub keeps : keeps s kept.page ≡ true
 
--- a page that was written is there, and reads as it was written
+-- a page that was written is there, behind the headers' two, and reads as it was written
 pub record IsPut (s : State) (contents : Option (List ℕ)) (put : Put) : Type 0 where
+  pub from_2 : 2 ≤ put.0
   pub there : put.0 < s.count
   pub whole : length put.1 ≡ PAGE_BYTES
   pub reads : IfTold contents (λ bytes. page_of bytes put.0 ≡ put.1)
@@ -73,8 +74,8 @@ IsBegun settled (Some progress) None epoch = ⊥
 IsBegun settled (Some progress) (Some cars) epoch = IsInProgress settled cars progress × (epoch < progress.number)
 
 -- What holds between calls, of any disk: no publish has failed, the pages of the current copy are known, the store has as
--- many pages as then or more, the settled cars are that copy's, each on a page of it; the pages of the next copy are those of the copy in progress; and that copy was
--- begun from this space.
+-- many pages as then or more, the settled cars are that copy's, each on a page of it; the pages of the next copy are
+-- those of the copy in progress; and that copy was begun from this space.
 pub record IsTied (saving : Saving) (frozen : Option Cars) (s : State) (contents : Option (List ℕ)) : Type 0 where
   pub sound : s.failed ≡ false
   pub known : s.known ≡ true
@@ -91,8 +92,8 @@ abbrev pub with_all_kept : List ℕ → State → State
 with_all_kept [] s = s
 with_all_kept (page ∷ pages) s = with_all_kept pages (with_kept s page)
 
--- The next page of the copy was written here: on the lowest page that was free, by one write. The pages of the clean
--- cars are kept from then on. One page less is left, and nothing else changed.
+-- The next page of the copy was written here: on the lowest page that was free, by one write of a whole page. The pages
+-- of the clean cars are kept from then on. One page less is left, and nothing else changed.
 pub record WritesNext (old new : Saving) (cars : Cars) (s t : State) (was now : Option (List ℕ)) (page : ℕ) : Type 0 where
   pub progress : Progress
   pub is_progress : old.progress ≡ Some progress
@@ -100,19 +101,15 @@ pub record WritesNext (old new : Saving) (cars : Cars) (s t : State) (was now : 
   pub is_next : next_page cars progress ≡ Some next
   pub saving : new ≡ record old { progress = Some (with_page page progress next) }
   pub lowest : IsLowestFree s.uses page
+  pub whole : length (text_of progress next) ≡ PAGE_BYTES
   pub state : t ≡ with_page_there (with_claimed (with_all_kept (newly_kept progress) s) page) page
   pub contents : now ≡ option_map (written (place_of page) (text_of progress next)) was
   pub left : left_of new.progress + 1 ≡ left_of old.progress
 
--- A page may be written: a car has a page by itself, and entries have one behind which each page may be named as the next;
--- its text fills one page.
+-- A page may be written: a car has a page by itself, and entries have one behind which each page may be named as the next.
 abbrev pub HasPage : NextPage → Type 0
 HasPage (CarPage image) = HasCarPage (one_car FIELDS) set.empty image
 HasPage (PartPage entries) = MayBeWritten entries
-
-pub record MayWrite (progress : Progress) (next : NextPage) : Type 0 where
-  pub has : HasPage next
-  pub whole : length (text_of progress next) ≡ PAGE_BYTES
 
 -- The copy is whole on the pages that were claimed or kept, behind its header: the graph that is found there has its
 -- cars, each on the page where it stands, and is the copy.
