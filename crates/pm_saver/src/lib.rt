@@ -1,0 +1,15 @@
+//! Saving copies of a space page by page while its clients go on.
+#![tactic(auto)]
+
+mod beginning;
+mod counter;
+mod counting;
+mod fault;
+mod naming;
+mod place;
+mod placing;
+mod planning;
+mod saver;
+
+pub use fault::SaveFault;
+pub use saver::Saver;

@@ -1,0 +1,105 @@
+//! Which cars and roots a copy lists that begins.
+
+ghost use Rattle.std.specs.Prelude.{◌≡◌, ◌++◌, List, Some, IsSome, IsSomeAnd, IfOk, OnOk};
+ghost use Rattle.std.specs.List.{flat_map};
+ghost use Rattle.std.specs.FinMap as map;
+ghost use Rattle.pm_trains.specs.Trains.{cars_at, train_of};
+ghost use Rattle.pm_view.specs.Reading.{aside_in};
+ghost use Rattle.pm_copies.specs.Listed.{Listed, listed, listed_car};
+ghost use Rattle.pm_space.specs.Shown.{view};
+ghost use Rattle.pm_saver.specs.Planned.{IsIndex, IsPlanned, AreItsRoots};
+
+use crate::place::PlacedCar;
+use crate::placing::{index_of, place_of};
+use pm_image::KeptPage;
+use pm_space::Parts;
+use pm_trains::{Trains, a_car_is_found_where_it_stands};
+use pm_types::{Addr, Name, NoMemory};
+use pm_view::Phase;
+use std::alloc::Global;
+use std::collections::BTreeMap;
+
+/// Whether a car that is in this train is set aside.
+fn is_aside(trains: &Trains, phase: Phase, train: u64, car: u64) -> bool
+    requires { train_of trains.now.trains car ≡ Some train }
+    ensures { result ≡ aside_in phase trains.now.trains car }
+{
+    match phase {
+        Phase::Idle | Phase::Draining(_) | Phase::Moving(_) => false,
+        Phase::Sweeping(from) => from == car,
+        Phase::Doomed(doomed) => {
+            trains.sound();
+            a_car_is_found_where_it_stands();
+            train == doomed
+        }
+    }
+}
+
+/// Puts a car that is in this train behind those of the list, unless it is set aside.
+fn plan_car<F: Drop>(
+    parts: &Parts<F>,
+    settled: &[KeptPage],
+    index: &BTreeMap<u64, usize>,
+    train: u64,
+    number: u64,
+    cars: &mut Vec<PlacedCar>,
+) -> Result<(), NoMemory>
+    requires index { IsIndex settled.now index.now }
+    requires train { train_of parts.now.trains.trains number ≡ Some train }
+    ensures { OnOk result ((list : List Listed) → IsPlanned settled.now list cars.old.items → IsPlanned settled.now (list ++ listed_car (view parts.now) train number) cars.new.items) }
+{
+    if is_aside(&parts.trains, parts.phase, train, number) {
+        return Ok(());
+    }
+    match parts.cars.get(number) {
+        Some(held) => {
+            let place = place_of(settled, index, number, &held.car);
+            cars.push(PlacedCar {
+                train,
+                number,
+                place,
+            })?;
+            Ok(())
+        }
+        None => Ok(()),
+    }
+}
+
+/// Puts the cars of this train that are not set aside behind those of the list.
+fn plan_train<F: Drop>(
+    parts: &Parts<F>,
+    settled: &[KeptPage],
+    index: &BTreeMap<u64, usize>,
+    train: u64,
+    cars: &mut Vec<PlacedCar>,
+) -> Result<(), NoMemory>
+    requires index { IsIndex settled.now index.now }
+    requires train { IsSome (cars_at parts.now.trains.trains train) }
+    ensures { OnOk result (IsSomeAnd (cars_at parts.now.trains.trains train) (λ numbers. (list : List Listed) → IsPlanned settled.now list cars.old.items → IsPlanned settled.now (list ++ flat_map (listed_car (view parts.now) train) numbers) cars.new.items)) }
+{
+    parts.trains.sound();
+    a_car_is_found_where_it_stands();
+    let numbers = parts.trains.cars(train);
+    for number in numbers {
+        plan_car(parts, settled, index, train, *number, cars)?;
+    }
+    Ok(())
+}
+
+/// The cars that a copy of the space lists: those of each train that are not set aside, the oldest train first.
+pub(crate) fn plan_cars<F: Drop>(
+    alloc: Global,
+    parts: &Parts<F>,
+    settled: &[KeptPage],
+) -> Result<Vec<PlacedCar>, NoMemory>
+    ensures { IfOk result (λ cars. IsPlanned settled.now (listed (view parts.now)) cars.items) }
+{
+    parts.trains.sound();
+    let index = index_of(alloc, settled)?;
+    let mut cars = Vec::new(alloc);
+    for place in 0..parts.trains.len() {
+        let train = parts.trains.nth(place);
+        plan_train(parts, settled, &index, train, &mut cars)?;
+    }
+    Ok(cars)
+}

@@ -1,0 +1,4 @@
+pub mod Progress
+pub mod Paging
+pub mod Beginning
+pub mod Tied
