@@ -1,13 +1,12 @@
 -- What the calls of an engine do.
-use Rattle.std.specs.Prelude.{◌≡◌, ◌⊎◌, ℕ, ◌+◌, List, [], ◌∷◌, ◌++◌, Option, Some, None}
+use Rattle.std.specs.Prelude.{◌≡◌, ℕ, ◌+◌, [], ◌∷◌, ◌++◌, Option, Some, None}
 use Rattle.pm_types.specs.declared.command.Cmd.{Cmd}
-use Rattle.pm_types.specs.declared.entry.Entry.{Entry}
 use Rattle.pm_types.specs.declared.reply.Reply.{Reply}
 use Rattle.pm_types.specs.declared.fault.EngineFault.{EngineFault}
 use Rattle.pm_types.specs.declared.fault.EngineFault.TheVariants.{Memory, Disk, Reopen}
 use Rattle.pm_base.specs.Counts.{ShowsRise}
 use Rattle.pm_model.specs.Answer.{answer}
-use Rattle.pm_saving.specs.Progress.{Progress, Saving}
+use Rattle.pm_saving.specs.Progress.{Progress}
 use Rattle.pm_saving.specs.Tied.{GoesOn}
 use Rattle.pm_serving.specs.Serving.{Serving, KeepsOpening, world}
 

@@ -1,5 +1,5 @@
 -- What a crash may leave of the disk of an engine.
-use Rattle.std.specs.Prelude.{◌≡◌, ◌⊎◌, ℕ, ◌≤◌, List, Contains, Option, Some, None, IsSome}
+use Rattle.std.specs.Prelude.{◌≡◌, ◌⊎◌, ℕ, ◌≤◌, List, Contains, Option, Some, IsSome}
 use Rattle.pm_types.specs.declared.entry.Entry.{Entry}
 use Rattle.pm_disk.specs.Disk.{IfTold}
 use Rattle.pm_model.specs.World.{World, Copy}
@@ -29,11 +29,18 @@ IsLast it image = IsSettled (world it) image ⊎ (IsSome it.stopped × IsInProgr
 abbrev pub IsOfRun : Serving → List ℕ → Type 0
 IsOfRun it image = IsOfChain (opening it) it.journal image ⊎ (IsSome it.stopped × IsInProgress (world it) image)
 
--- What a crash may leave: now the last acknowledged copy, and at any moment since the opening one that was acknowledged;
--- where a call answered that the disk failed, the copy in progress too. Of a disk that tells nothing nothing is said.
-pub record KeepsImages {D : Type 0} (contents : D → Option (List ℕ)) (image : D → List ℕ → Type 0) (since : D → ℕ → List ℕ → Type 0) (clock : ℕ) (it : Serving) (disk : D) : Type 0 where
-  pub now : IfTold (contents disk) (λ bytes. (left : List ℕ) → image disk left → IsLast it left)
-  pub ever : IfTold (contents disk) (λ bytes. (left : List ℕ) → since disk clock left → IsOfRun it left)
+-- the disk tells its contents
+abbrev pub IsTold : Option (List ℕ) → Type 0
+IsTold contents = (bytes : List ℕ) × (contents ≡ Some bytes)
+
+-- What a crash may leave, where the disk told its contents when it was opened: now the last acknowledged copy, and at any
+-- moment since the opening one that was acknowledged; where a call answered that the disk failed, the copy in progress too.
+-- It tells its contents still, and its clock has not gone back. Of a disk that tells nothing nothing is said.
+pub record KeepsImages {D : Type 0} (contents : D → Option (List ℕ)) (image : D → List ℕ → Type 0) (moment : D → ℕ) (since : D → ℕ → List ℕ → Type 0) (opened : D) (it : Serving) (disk : D) : Type 0 where
+  pub later : moment opened ≤ moment disk
+  pub told : IsTold (contents opened) → IsTold (contents disk)
+  pub now : IsTold (contents opened) → (left : List ℕ) → image disk left → IsLast it left
+  pub ever : IsTold (contents opened) → (left : List ℕ) → since disk (moment opened) left → IsOfRun it left
 
 -- While no call has answered that the disk failed: saver, frozen cars and pages fit one another, the current header has
 -- the number of the copy that has settled, and that copy stands behind it.
