@@ -1,0 +1,204 @@
+-- After each command the engine serves the next world.
+use Rattle.std.proofs.Common.{◌≡◌, ◌<◌, ◌≤◌, ℕ, ◌+◌, Bool, true, false, if◌then◌else◌, List, [], ◌∷◌, ◌++◌, Option, Some, None, option_map, refl, sym, ap, subst, ◌∙◌, arith, nat_lt}
+use Rattle.std.proofs.lemmas.Bool.Decides.{nat_tests}
+use Rattle.std.specs.FinMap.{get}
+
+use Rattle.pm_types.specs.declared.limits.TheConstants.{LAST_COPY}
+use Rattle.pm_types.specs.declared.command.Cmd.{Cmd}
+use Rattle.pm_types.specs.declared.command.Cmd.TheVariants.{Save, Settle, Unsave, Watch, New, Load, Store, Clear, Show, Put, Copy, IdOf, Forget, Bind, Unbind, Find, Close, Swap}
+use Rattle.pm_types.specs.declared.entry.Entry.{Entry}
+use Rattle.pm_types.specs.declared.reply.Reply.{Reply}
+use Rattle.pm_types.specs.declared.reply.Reply.TheVariants.{Begun, Busy, SavesSpent, Saved, Idle, Dropped}
+use Rattle.pm_model.specs.Heap.{Object}
+use Rattle.pm_model.specs.World.{World, begin, beginning, settling, dropping}
+use Rattle.pm_model.specs.Closed.{IsClosed}
+use Rattle.pm_model.specs.Copying.{copy}
+use Rattle.pm_model.specs.Answer.{answer, answer_save, answer_settle, answer_unsave, refused}
+use Rattle.pm_model.specs.Frames.{saves}
+use Rattle.pm_model.specs.Journal.{IsLegal, after}
+use Rattle.pm_model.proofs.AnswerLaws.{leaves_saving}
+use Rattle.pm_model.proofs.ChainLaws.{after_more, legal_more}
+use Rattle.pm_model.proofs.ClosedLaws.{closed_after}
+use Rattle.pm_view.specs.View.{SpaceView}
+use Rattle.pm_view.specs.Law.{HeapLaw}
+use Rattle.pm_view.specs.Commands.{is_act}
+use Rattle.pm_view.specs.Represents.{Represents}
+use Rattle.pm_copies.specs.Listed.{copy_in}
+use Rattle.pm_law_copies.proofs.CopyOf.{worlds_copy}
+use Rattle.pm_saving.specs.Progress.{Progress, Saving, copy_of}
+use Rattle.pm_serving.specs.Serving.{IsServed, Serving, frozen_cars, in_progress, numbered_copy, opening, world}
+use Rattle.pm_serving.specs.Events.{Appends, Serves}
+
+-- no object of a closed world has the next identity
+none_next : (next : ℕ) (found : Option Object) → ((object : Object) → found ≡ Some object → next < next) → found ≡ None
+none_next next None below = refl
+none_next next (Some object) below = let less = below object refl in absurd (omega (arith, less))
+
+pub fresh : (it : Serving) → IsServed it → get (world it).heap (world it).next ≡ None
+fresh it served =
+    let closed = closed_after (opening it) it.journal served.closed in
+    none_next (world it).next (get (world it).heap (world it).next) (λ object is. (closed.graph.given (world it).next object is).1)
+
+module _ (client : ℕ) (cmd : Cmd) (old new : Serving) (reply : Reply) (served : IsServed old) (appends : Appends client cmd old new reply) where
+  same_opening : opening new ≡ opening old
+  same_opening = (λ i. begin (appends.opening.number i) (copy_in (appends.opening.opened i)))
+
+  -- the world after the command
+  pub next_world : world new ≡ (answer (world old) client cmd).1
+  next_world =
+      ap (λ (start : World). after start new.journal) same_opening
+      ∙ ap (after (opening old)) appends.journal
+      ∙ after_more (opening old) old.journal (record { client = client; cmd = cmd; reply = reply })
+
+  pub goes_on : reply ≡ (answer (world old) client cmd).0 → Represents new.view (answer (world old) client cmd).1
+      → (answer (world old) client cmd).1.saving ≡ in_progress new → IsServed new
+  goes_on is represents saving = record {
+    closed = subst IsClosed (sym same_opening) served.closed;
+    legal = subst (λ (start : World). IsLegal start new.journal) (sym same_opening)
+        (subst (IsLegal (opening old)) (sym appends.journal) (legal_more (opening old) old.journal (record { client = client; cmd = cmd; reply = reply }) served.legal is));
+    represents = subst (Represents new.view) (sym next_world) represents;
+    saving = ap (λ (w : World). w.saving) next_world ∙ saving;
+  }
+
+-- a command on the space saves nothing
+acts : (cmd : Cmd) → is_act cmd ≡ true → saves cmd ≡ false
+acts Save is = cc is
+acts Settle is = cc is
+acts Unsave is = cc is
+acts Watch is = refl
+acts (New reg count bytes) is = refl
+acts (Load to reg index) is = refl
+acts (Store reg index value) is = refl
+acts (Clear reg index) is = refl
+acts (Show reg) is = refl
+acts (Put reg at bytes) is = refl
+acts (Copy to reg) is = refl
+acts (IdOf reg) is = refl
+acts (Forget reg) is = refl
+acts (Bind name reg) is = refl
+acts (Unbind name) is = refl
+acts (Find to name) is = refl
+acts Close is = refl
+acts (Swap reg index old value) is = refl
+
+same_progress : (old new : Serving) → new.frozen ≡ old.frozen → new.saving ≡ old.saving → in_progress old ≡ in_progress new
+same_progress old new frozen saving = (λ i. option_map (numbered_copy (sym frozen i)) ((sym saving i).progress))
+
+pub acted : (client : ℕ) (cmd : Cmd) (old new : Serving) (reply : Reply) → IsServed old → is_act cmd ≡ true → Appends client cmd old new reply
+    → reply ≡ (answer (world old) client cmd).0 → Represents new.view (answer (world old) client cmd).1 → new.frozen ≡ old.frozen → new.saving ≡ old.saving → IsServed new
+acted client cmd old new reply served act appends is represents frozen saving =
+    goes_on client cmd old new reply served appends is represents
+    (leaves_saving (world old) client cmd (acts cmd act) ∙ served.saving ∙ same_progress old new frozen saving)
+
+-- where a command answers so, and its world is the one before
+module _ (client : ℕ) (cmd : Cmd) (old new : Serving) (reply : Reply) (served : IsServed old) (appends : Appends client cmd old new reply) (says : answer (world old) client cmd ≡ refused (world old) reply) where
+  pub refuses : new.view ≡ old.view → new.frozen ≡ old.frozen → new.saving ≡ old.saving → Serves client cmd old new reply × IsServed new
+  refuses view frozen saving =
+      let is : reply ≡ (answer (world old) client cmd).0 = sym (ap (λ (a : Reply × World). a.0) says) in
+      let same : (answer (world old) client cmd).1 ≡ world old = ap (λ (a : Reply × World). a.1) says in
+      (
+        record { appends = appends; reply_is = is },
+        goes_on client cmd old new reply served appends is
+        (subst (Represents new.view) (sym same) (subst (λ (v : SpaceView). Represents v (world old)) (sym view) served.represents))
+        (ap (λ (w : World). w.saving) same ∙ served.saving ∙ same_progress old new frozen saving),
+      )
+
+-- what is in progress in the world
+saving_is : (it : Serving) (progress : Option Progress) → IsServed it → it.saving.progress ≡ progress → (world it).saving ≡ option_map (numbered_copy it.frozen) progress
+saving_is it progress served is = served.saving ∙ ap (option_map (numbered_copy it.frozen)) is
+
+pub busy : (client : ℕ) (old new : Serving) (begun : Progress) → IsServed old → old.saving.progress ≡ Some begun → Appends client Save old new (Busy begun.number) → new.view ≡ old.view
+    → new.frozen ≡ old.frozen → new.saving ≡ old.saving → Serves client Save old new (Busy begun.number) × IsServed new
+unfolding answer
+busy client old new begun served is appends =
+    refuses client Save old new (Busy begun.number) served appends (ap (answer_save (world old)) (saving_is old (Some begun) served is))
+
+spent_says : (w : World) → w.settled ≡ LAST_COPY → answer_save w None ≡ refused w SavesSpent
+spent_says w is = ap (λ (less : Bool). if less then (Begun (w.settled + 1), beginning w (w.settled + 1) (copy w)) else refused w SavesSpent) (ap (λ (n : ℕ). nat_lt n LAST_COPY) is)
+
+pub spent : (client : ℕ) (old new : Serving) → IsServed old → old.saving.progress ≡ None → (world old).settled ≡ LAST_COPY → Appends client Save old new SavesSpent → new.view ≡ old.view
+    → new.frozen ≡ old.frozen → new.saving ≡ old.saving → Serves client Save old new SavesSpent × IsServed new
+unfolding answer
+spent client old new served none last appends =
+    refuses client Save old new SavesSpent served appends (ap (answer_save (world old)) (saving_is old None served none) ∙ spent_says (world old) last)
+
+pub idle : (client : ℕ) (old new : Serving) → IsServed old → old.saving.progress ≡ None → Appends client Settle old new Idle → new.view ≡ old.view → new.frozen ≡ old.frozen
+    → new.saving ≡ old.saving → Serves client Settle old new Idle × IsServed new
+unfolding answer
+idle client old new served none appends =
+    refuses client Settle old new Idle served appends (ap (answer_settle (world old)) (saving_is old None served none))
+
+pub undropped : (client : ℕ) (old new : Serving) → IsServed old → old.saving.progress ≡ None → Appends client Unsave old new Idle → new.view ≡ old.view → new.frozen ≡ old.frozen
+    → new.saving ≡ old.saving → Serves client Unsave old new Idle × IsServed new
+unfolding answer
+undropped client old new served none appends =
+    refuses client Unsave old new Idle served appends (ap (answer_unsave (world old)) (saving_is old None served none))
+
+-- a space stands for a world also once what is saved of it is another
+saved_apart : (view : SpaceView) (w v : World) → v.heap ≡ w.heap → v.roots ≡ w.roots → v.registers ≡ w.registers → v.next ≡ w.next → Represents view w → Represents view v
+saved_apart view w v heap roots registers next represents =
+    subst (Represents view) (λ i. record v { heap = sym heap i; roots = sym roots i; registers = sym registers i; next = sym next i }) (again view w v represents)
+    where
+      again : (view : SpaceView) (w v : World) → Represents view w → Represents view (record v { heap = w.heap; roots = w.roots; registers = w.registers; next = w.next })
+      again view w v represents = record {
+        roots = represents.roots;
+        registers = represents.registers;
+        next = represents.next;
+        objects = represents.objects;
+        reached = represents.reached;
+        leftover = λ a object aside is none.
+            let gone = represents.leftover a object aside is none in
+            record { name = gone.name; register = gone.register; field = gone.field };
+      }
+
+below : (n : ℕ) → n < LAST_COPY → nat_lt n LAST_COPY ≡ true
+below n less = grind (arith, nat_tests, less)
+
+begun_says : (w : World) → w.settled < LAST_COPY → answer_save w None ≡ (Begun (w.settled + 1), beginning w (w.settled + 1) (copy w))
+begun_says w less = ap (λ (b : Bool). if b then (Begun (w.settled + 1), beginning w (w.settled + 1) (copy w)) else refused w SavesSpent) (below w.settled less)
+
+-- where a command answers so, and the world after it is the one before with another copy in progress or settled
+module _ (client : ℕ) (cmd : Cmd) (old new : Serving) (reply : Reply) (served : IsServed old) (appends : Appends client cmd old new reply) (next : World) (says : answer (world old) client cmd ≡ (reply, next)) where
+  pub moves : new.view ≡ old.view → next.saving ≡ in_progress new → next.heap ≡ (world old).heap → next.roots ≡ (world old).roots → next.registers ≡ (world old).registers → next.next ≡ (world old).next
+      → Serves client cmd old new reply × IsServed new
+  moves view saving heap roots registers next_id =
+      let is : reply ≡ (answer (world old) client cmd).0 = sym (ap (λ (a : Reply × World). a.0) says) in
+      let same : (answer (world old) client cmd).1 ≡ next = ap (λ (a : Reply × World). a.1) says in
+      (
+        record { appends = appends; reply_is = is },
+        goes_on client cmd old new reply served appends is
+        (subst (Represents new.view) (sym same) (saved_apart new.view (world old) next heap roots registers next_id (subst (λ (v : SpaceView). Represents v (world old)) (sym view) served.represents)))
+        (ap (λ (w : World). w.saving) same ∙ saving),
+      )
+
+pub begins : (client : ℕ) (old new : Serving) (begun : Progress) → IsServed old → HeapLaw old.view → old.saving.progress ≡ None → (world old).settled < LAST_COPY → begun.number ≡ (world old).settled + 1
+    → Appends client Save old new (Begun begun.number) → new.view ≡ old.view → new.saving.progress ≡ Some begun → copy_of (frozen_cars new.frozen) begun ≡ copy_in old.view
+    → Serves client Save old new (Begun begun.number) × IsServed new
+unfolding answer
+begins client old new begun served law none less number appends view is copied =
+    let w = world old in
+    let next = beginning w (w.settled + 1) (copy w) in
+    let says : answer w client Save ≡ (Begun begun.number, next) =
+    ap (answer_save w) (saving_is old None served none) ∙ begun_says w less ∙ ap (λ (n : ℕ). (Begun n, next)) (sym number) in
+    let same : (w.settled + 1, copy w) ≡ numbered_copy new.frozen begun =
+    (λ i. (sym number i, (worlds_copy old.view law w served.represents ∙ sym copied) i)) in
+    moves client Save old new (Begun begun.number) served appends next says view (ap Some same ∙ sym (ap (option_map (numbered_copy new.frozen)) is)) refl refl refl refl
+
+pub settles : (client : ℕ) (old new : Serving) (begun : Progress) → IsServed old → old.saving.progress ≡ Some begun → Appends client Settle old new (Saved begun.number) → new.view ≡ old.view
+    → new.saving.progress ≡ None → Serves client Settle old new (Saved begun.number) × IsServed new × ((world new).settled ≡ begun.number) × ((world new).settled_copy ≡ copy_of (frozen_cars old.frozen) begun)
+unfolding answer
+settles client old new begun served is appends view none =
+    let w = world old in
+    let next = settling w begun.number (copy_of (frozen_cars old.frozen) begun) in
+    let says : answer w client Settle ≡ (Saved begun.number, next) = ap (answer_settle w) (saving_is old (Some begun) served is) in
+    let both = moves client Settle old new (Saved begun.number) served appends next says view (sym (ap (option_map (numbered_copy new.frozen)) none)) refl refl refl refl in
+    let goes : world new ≡ next = next_world client Settle old new (Saved begun.number) served appends ∙ ap (λ (a : Reply × World). a.1) says in
+    (both.0, both.1, ap (λ (v : World). v.settled) goes, ap (λ (v : World). v.settled_copy) goes)
+
+pub drops : (client : ℕ) (old new : Serving) (begun : Progress) → IsServed old → old.saving.progress ≡ Some begun → Appends client Unsave old new (Dropped begun.number) → new.view ≡ old.view
+    → new.saving.progress ≡ None → Serves client Unsave old new (Dropped begun.number) × IsServed new
+unfolding answer
+drops client old new begun served is appends view none =
+    let w = world old in
+    let says : answer w client Unsave ≡ (Dropped begun.number, dropping w) = ap (answer_unsave w) (saving_is old (Some begun) served is) in
+    moves client Unsave old new (Dropped begun.number) served appends (dropping w) says view (sym (ap (option_map (numbered_copy new.frozen)) none)) refl refl refl refl

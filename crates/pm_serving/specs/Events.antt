@@ -1,0 +1,59 @@
+-- What the calls of an engine do.
+use Rattle.std.specs.Prelude.{◌≡◌, ℕ, ◌+◌, [], ◌∷◌, ◌++◌, Option, Some, None}
+use Rattle.pm_types.specs.declared.command.Cmd.{Cmd}
+use Rattle.pm_types.specs.declared.reply.Reply.{Reply}
+use Rattle.pm_types.specs.declared.fault.EngineFault.{EngineFault}
+use Rattle.pm_types.specs.declared.fault.EngineFault.TheVariants.{Memory, Disk, Reopen}
+use Rattle.pm_base.specs.Counts.{ShowsRise}
+use Rattle.pm_model.specs.Answer.{answer}
+use Rattle.pm_saving.specs.Progress.{Progress}
+use Rattle.pm_saving.specs.Tied.{GoesOn}
+use Rattle.pm_serving.specs.Serving.{Serving, KeepsOpening, world}
+
+-- A command's entry, with this reply, was put at the journal's end, and one event more was made. The opening stays.
+pub record Appends (client : ℕ) (cmd : Cmd) (old new : Serving) (reply : Reply) : Type 0 where
+  pub opening : KeepsOpening old new
+  pub journal : new.journal ≡ old.journal ++ record { client = client; cmd = cmd; reply = reply } ∷ []
+  pub events : new.events ≡ old.events + 1
+  pub stopped : new.stopped ≡ old.stopped
+
+-- A command was answered: the reply is the world's, and its entry is at the journal's end.
+pub record Serves (client : ℕ) (cmd : Cmd) (old new : Serving) (reply : Reply) : Type 0 where
+  pub appends : Appends client cmd old new reply
+  pub reply_is : reply ≡ (answer (world old) client cmd).0
+
+-- A page was written or none was left: journal, space and copies stay, and one event more was made.
+pub record Flushes (old new : Serving) : Type 0 where
+  pub opening : KeepsOpening old new
+  pub view : new.view ≡ old.view
+  pub frozen : new.frozen ≡ old.frozen
+  pub settled : new.saving.settled ≡ old.saving.settled
+  pub journal : new.journal ≡ old.journal
+  pub events : new.events ≡ old.events + 1
+  pub stopped : new.stopped ≡ old.stopped
+
+-- the copy in progress is the same, of which more pages may have been written
+abbrev pub StaysBegun : Option Progress → Option Progress → Type 0
+StaysBegun None None = Unit {0}
+StaysBegun None (Some after) = ⊥
+StaysBegun (Some before) None = ⊥
+StaysBegun (Some before) (Some after) = GoesOn before after
+
+-- Nothing was answered: journal, space and copies stay, and no event was made. More pages of the copy in progress may have
+-- been written.
+pub record ServesNothing (old new : Serving) : Type 0 where
+  pub opening : KeepsOpening old new
+  pub view : new.view ≡ old.view
+  pub frozen : new.frozen ≡ old.frozen
+  pub settled : new.saving.settled ≡ old.saving.settled
+  pub progress : StaysBegun old.saving.progress new.saving.progress
+  pub journal : new.journal ≡ old.journal
+  pub events : new.events ≡ old.events
+
+-- What a fault says. Memory: no call has answered that the disk failed. Disk: its count of failed calls rose in this call,
+-- as told, and from now on the engine is stopped. Reopen: the engine was stopped before, with this count, and nothing
+-- changed at all.
+abbrev pub FailsAs : Serving → Serving → ℕ → ℕ → EngineFault → Type 0
+FailsAs old new before after Memory = ServesNothing old new × (old.stopped ≡ None) × (new.stopped ≡ None) × (after ≡ before)
+FailsAs old new before after (Disk b a) = ServesNothing old new × (old.stopped ≡ None) × (new.stopped ≡ Some after) × ShowsRise b a before after
+FailsAs old new before after (Reopen count) = (new ≡ old) × (old.stopped ≡ Some count) × (after ≡ before)

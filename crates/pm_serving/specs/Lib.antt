@@ -1,0 +1,3 @@
+pub mod Serving
+pub mod Images
+pub mod Events

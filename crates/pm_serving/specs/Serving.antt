@@ -1,0 +1,71 @@
+-- What contracts see of an engine, beside its disk.
+use Rattle.std.specs.Prelude.{◌≡◌, ℕ, List, [], Option, Some, None, option_map}
+use Rattle.std.specs.FinMap.{empty}
+use Rattle.pm_types.specs.declared.entry.Entry.{Entry}
+use Rattle.pm_model.specs.World.{World, Copy, begin}
+use Rattle.pm_model.specs.Closed.{IsClosed}
+use Rattle.pm_model.specs.Journal.{IsLegal, after}
+use Rattle.pm_view.specs.View.{Cars, SpaceView}
+use Rattle.pm_view.specs.Represents.{Represents}
+use Rattle.pm_copies.specs.Listed.{copy_in}
+use Rattle.pm_saving.specs.Progress.{Progress, Saving, copy_of}
+
+-- An engine: the number of the copy that was opened, and the space as it was opened; the space now, and its cars as they
+-- were frozen, if they are; the saver; the journal; how many events were made; and, where a call answered that the disk
+-- failed, the disk's count of failed calls then.
+pub record Serving : Type 0 where
+  pub number : ℕ
+  pub opened : SpaceView
+  pub view : SpaceView
+  pub frozen : Option Cars
+  pub saving : Saving
+  pub journal : List Entry
+  pub events : ℕ
+  pub stopped : Option ℕ
+
+-- the world as it was opened
+abbrev pub opening : Serving → World
+opening it = begin it.number (copy_in it.opened)
+
+-- the world now
+abbrev pub world : Serving → World
+world it = after (opening it) it.journal
+
+-- the cars of the copy in progress, none where none is
+abbrev pub frozen_cars : Option Cars → Cars
+frozen_cars None = empty
+frozen_cars (Some cars) = cars
+
+-- a copy in progress with its number
+abbrev pub numbered_copy : Option Cars → Progress → ℕ × Copy
+numbered_copy frozen progress = (progress.number, copy_of (frozen_cars frozen) progress)
+
+-- the copy in progress, if there is one
+abbrev pub in_progress : Serving → Option (ℕ × Copy)
+in_progress it = option_map (numbered_copy it.frozen) it.saving.progress
+
+-- What holds of an engine at every moment: in the world that was opened whatever is named is an object, the journal is
+-- legal from it, the space stands for the world at the journal's end, and the copy in progress is that of this world.
+pub record IsServed (it : Serving) : Type 0 where
+  pub closed : IsClosed (opening it)
+  pub legal : IsLegal (opening it) it.journal
+  pub represents : Represents it.view (world it)
+  pub saving : (world it).saving ≡ in_progress it
+
+-- the opening stays
+pub record KeepsOpening (old new : Serving) : Type 0 where
+  pub number : new.number ≡ old.number
+  pub opened : new.opened ≡ old.opened
+
+-- the engine of a space that was just opened, with a copy of this number
+abbrev pub just_opened : ℕ → SpaceView → Saving → Serving
+just_opened number view saving = record {
+  number = number;
+  opened = view;
+  view = view;
+  frozen = None;
+  saving = saving;
+  journal = [];
+  events = 0;
+  stopped = None;
+}
