@@ -2,7 +2,7 @@
 use Rattle.std.proofs.Common.{◌≡◌, ℕ, ◌≤◌, Bool, true, false, List, [], ◌∷◌, map, Result, Ok, Err, refl, sym, ap, subst, ◌∙◌, arith, nat_lt, nat_le, ◌&&◌, if◌then◌else◌}
 use Rattle.std.specs.Prelude.{All, Contains}
 use Rattle.std.specs.List.{AllByRecursion}
-use Rattle.std.proofs.lemmas.List.Elements.{Contains-append_left, All-nil, All-cons, All-contains}
+use Rattle.std.proofs.lemmas.List.Elements.{Contains-append_left, Contains-append_right, All-nil, All-cons, All-contains}
 use Rattle.pm_types.specs.declared.fault.OpenFault.{OpenFault}
 use Rattle.pm_types.specs.declared.fault.OpenFault.TheVariants.{NotAStore, Version, Damaged, Malformed, Broken, Disk, Memory}
 use Rattle.pm_layout.specs.declared.header.Header.{Header}
@@ -13,6 +13,8 @@ use Rattle.pm_image.specs.Graphs.{Pages as Store, Catalog, Graph, graph_of, imag
 use Rattle.pm_image.specs.Opening.{Current, current, page_count, header_in, sound_header, is_placed}
 use Rattle.pm_image.specs.Stands.{pages_of, opened}
 use Rattle.pm_image.proofs.FrameLaws.{graph_too, opened_as}
+use Rattle.pm_shadow.specs.declared.page_use.PageUse.{PageUse}
+use Rattle.pm_shadow.specs.declared.page_use.PageUse.TheVariants.{Current as CurrentPage}
 use Rattle.pm_shadow.specs.State.{State, IsListable, known_by}
 use Rattle.pm_shadow.specs.Images.{Heads, IsSound}
 use Rattle.pm_shadow.specs.Copies.{AreUsed, KeepsGraph}
@@ -193,3 +195,20 @@ module _ (s : State) (bytes : List ℕ) (images : List ℕ → Type 0) (sound : 
 -- memory ran out
 pub memory_unopened : (s : State) (bytes : List ℕ) → IsUnopened s bytes Memory
 memory_unopened s bytes = record { refused = λ counted. tt; kept = λ graph keeps. tt }
+
+-- ---- the pages of the cars
+
+on_each : (P : ℕ → Type 0) (cars : List KeptPage) → ((page : ℕ) → Contains (map (λ (kept : KeptPage). kept.page) cars) page → P page) → AllByRecursion (λ (kept : KeptPage). P kept.page) cars
+on_each P [] at = tt
+on_each P (kept ∷ cars) at = (
+  at kept.page (Contains-append_left (kept.page ∷ []) (map (λ (kept : KeptPage). kept.page) cars) kept.page (0, omega arith, refl)),
+  on_each P cars (λ page within. at page (Contains-append_right (kept.page ∷ []) (map (λ (kept : KeptPage). kept.page) cars) page within)),
+)
+
+-- each car stands on a page that is the current copy's, once the pages were listed
+pub cars_known : (catalog : Catalog) (cars : List KeptPage) (used : List ℕ) → used ≡ used_pages (record { catalog = catalog; cars = cars }) → (s : State) (uses : ℕ → PageUse) → All (IsListable s) used → IsListed used uses
+    → AllByRecursion (λ (kept : KeptPage). (2 ≤ kept.page) × (uses kept.page ≡ CurrentPage)) cars
+cars_known catalog cars used is s uses all listed =
+    on_each (λ (page : ℕ). (2 ≤ page) × (uses page ≡ CurrentPage)) cars (λ page within.
+    let there = subst (λ (ps : List ℕ). Contains ps page) (sym is) (Contains-append_right (page_numbers catalog) (map (λ (kept : KeptPage). kept.page) cars) page within) in
+    ((All-contains (IsListable s) used page all there).from_2, listed.listed page there))

@@ -1,16 +1,22 @@
 -- What stands once a space was opened, and why none was.
-use Rattle.std.specs.Prelude.{◌≡◌, ℕ, List, None, Err, true, false}
+use Rattle.std.specs.Prelude.{◌≡◌, ◌≤◌, ℕ, List, None, Err, true, false}
+use Rattle.std.specs.List.{AllByRecursion}
 use Rattle.pm_types.specs.declared.fault.OpenFault.{OpenFault}
 use Rattle.pm_types.specs.declared.fault.OpenFault.TheVariants.{NotAStore, Version, Damaged, Malformed, Broken, Disk, Memory}
 use Rattle.pm_image.specs.declared.settled.KeptPage.{KeptPage}
 use Rattle.pm_image.specs.Opening.{page_count}
-use Rattle.pm_image.specs.Graphs.{Graph}
+use Rattle.pm_image.specs.declared.catalog.CatEntry.{CatEntry}
+use Rattle.pm_image.specs.Graphs.{Graph, images_of}
 use Rattle.pm_image.specs.Stands.{opened}
+use Rattle.pm_shadow.specs.declared.page_use.PageUse.TheVariants.{Current}
 use Rattle.pm_shadow.specs.State.{State, known_by, IsIdle}
 use Rattle.pm_shadow.specs.Copies.{KeepsGraph}
 use Rattle.pm_view.specs.View.{SpaceView}
-use Rattle.pm_copies.specs.Opened.{IsOpenedStore}
+use Rattle.pm_copies.specs.Listed.{images}
+use Rattle.pm_copies.specs.Accepted.{IsAccepted}
+use Rattle.pm_copies.specs.Opened.{IsOpened, IsOpenedStore, listed_in}
 use Rattle.pm_space.specs.declared.parts.Parts.{Parts}
+use Rattle.pm_space.specs.Shown.{view}
 
 -- where the pages of the current copy are known, they are those of a graph that stands behind the header
 abbrev pub AreKnownRight : State → List ℕ → Type 0
@@ -28,6 +34,17 @@ pub record OpensStore (old new : State) (bytes : List ℕ) (view : SpaceView) (c
 pub record IsUnfrozen {F : Type 0} (parts : Parts F) (chooser : F) : Type 0 where
   pub frozen : parts.cars.frozen ≡ None
   pub place : parts.place ≡ chooser
+
+-- Of any disk: no cars are frozen, and the chooser is this one. The space is what opening makes of entries and cars that
+-- no rule refuses, and the cars are these. Where the pages were not known, each of these cars stands on one that is the
+-- current copy's now.
+pub record MakesSpace {F : Type 0} (old new : State) (parts : Parts F) (chooser : F) (cars : List KeptPage) : Type 0 where
+  pub unfrozen : IsUnfrozen parts chooser
+  pub entries : List CatEntry
+  pub paired : images (listed_in entries (images_of cars)) ≡ images_of cars
+  pub accepted : IsAccepted (listed_in entries (images_of cars)) entries old.header.next
+  pub opened : IsOpened (listed_in entries (images_of cars)) entries old.header.next (view parts)
+  pub on_pages : old.known ≡ false → AllByRecursion (λ (kept : KeptPage). (2 ≤ kept.page) × (new.uses kept.page ≡ Current)) cars
 
 -- Pages that were known are as they were, with all that is claimed or kept. Others are known now, and nothing is claimed
 -- or kept.

@@ -14,7 +14,7 @@ ghost use Rattle.pm_shadow.specs.Pages.{state, disk_of};
 ghost use Rattle.pm_space.specs.Shown.{view};
 ghost use Rattle.pm_reopen.specs.Reading.{IsThere};
 ghost use Rattle.pm_reopen.specs.Reopening.{IsGraphFault};
-ghost use Rattle.pm_opening.specs.Opening.{OpensStore, IsUnfrozen, KnowsPages, IsUnopened};
+ghost use Rattle.pm_opening.specs.Opening.{OpensStore, MakesSpace, IsUnfrozen, KnowsPages, IsUnopened};
 
 use crate::build_listed;
 use pm_disk::Disk;
@@ -91,7 +91,8 @@ pub fn open_space<D: Disk, F: Drop>(
     // these and of the catalog are known.
     ensures opened { IfOk result (λ made. IfTold (D.contents (disk_of pages.new)) (λ bytes.
         OpensStore (state pages.old) (state pages.new) bytes (view made.0.parts) made.1)) }
-    ensures unfrozen { IfOk result (λ made. IsUnfrozen made.0.parts place) }
+    // Of any disk, the space is what opening makes of cars that no rule refuses, which are these.
+    ensures made_of { IfOk result (λ made. MakesSpace (state pages.old) (state pages.new) made.0.parts place made.1) }
     ensures state { MatchResult result (λ made. KnowsPages (state pages.old) (state pages.new))
         (λ fault. state pages.new ≡ state pages.old) }
     // Why none was opened.

@@ -14,7 +14,7 @@ use Rattle.pm_space.specs.Shown.{view}
 use Rattle.pm_reopen.specs.Reading.{IsThere}
 use Rattle.pm_opening.specs.Opening.{KnowsPages}
 use Rattle.pm_opening.proofs.AcceptedLaws.{whole_paired, whole_accepted}
-use Rattle.pm_opening.proofs.OpenLaws.{used_listable, used_first, used_are, store_opened, graph_unopened, header_unopened}
+use Rattle.pm_opening.proofs.OpenLaws.{cars_known, used_listable, used_first, used_are, store_opened, graph_unopened, header_unopened}
 use Rattle.pm_opening.proofs.opening.open_space.Goals as goal
 
 pub returns-then-not-is_there-clause-fault : goal.returns-then-not-is_there-clause-fault
@@ -100,3 +100,26 @@ returns-clause-opened g c bytes told =
     chain cars used is c.in_ok-chain.ensures.whole (c.in_ok-chain.ensures.graph bytes before)
     new there c.keep_their_header.ensures.begun (subst (λ (t : State). KnowsPages t new) looked.same c.in-Ok-known.ensures.state)
     (λ unknown. c.in-Ok-known.ensures.listed (ap (λ (t : State). t.known) looked.same ∙ unknown)) (view c.in-Ok.space.parts) made
+
+pub returns-clause-made_of : goal.returns-clause-made_of
+returns-clause-made_of g c =
+    let s = state c.args.pages.now in
+    let chain = c.in_ok-chain.chain in
+    let cars = c.in_ok-chain.cars in
+    let used = c.as_slice-2.result.now in
+    let new = state c.know_pages-known.new.pages in
+    let is = c.as_slice-2.ensures.value ∙ c.in-Ok.ensures.pages ∙ ap (λ (ks : List KeptPage). used_pages (record { catalog = chain; cars = ks })) c.as_slice.ensures in
+    let looked = c.in_ok-chain.ensures.looked in
+    let spelled = c.keep_their_header.ensures.spelled in
+    record {
+      unfrozen = c.in-Ok.ensures.unfrozen;
+      entries = entries_of chain;
+      paired = whole_paired s.count s.header.next chain cars c.in_ok-chain.ensures.whole;
+      accepted = whole_accepted s.count s.header.next chain cars spelled.some spelled.last c.in_ok-chain.ensures.whole;
+      opened = subst (λ (h : Header). IsOpened (listed_in (entries_of chain) (images_of cars)) (entries_of chain) h.next (view c.in-Ok.space.parts)) c.header-header.ensures
+          (subst (λ (ks : List KeptPage). IsOpened (listed_in (entries_of chain) (images_of ks)) (entries_of chain) c.header-header.result.now.next (view c.in-Ok.space.parts)) c.as_slice.ensures c.in-Ok.ensures.view);
+      on_pages = λ unknown.
+          let begun = c.keep_their_header.ensures.begun unknown in
+          cars_known chain cars used is s new.uses (used_listable s.count s.header.next chain cars used is s begun c.in_ok-chain.ensures.whole)
+          (c.in-Ok-known.ensures.listed (ap (λ (t : State). t.known) looked.same ∙ unknown));
+    }
