@@ -1,9 +1,9 @@
 -- The report of a store: the text of what is seen of its space, and of the number of its last settled copy.
-use Rattle.std.specs.Prelude.{ℕ, List, [], ◌∷◌, ◌++◌, length, codes, decimal, Option, Some, None}
+use Rattle.std.specs.Prelude.{◌≡◌, ℕ, List, [], ◌∷◌, ◌++◌, length, codes, decimal, Option, Some, None, IsSomeAnd}
 use Rattle.std.specs.List.{flat_map, sum_by}
 use Rattle.std.specs.FinMap.{get, len}
 use Rattle.pm_cars.specs.Cars.{Car, used, live_count, moved_count}
-use Rattle.pm_trains.specs.Trains.{Train}
+use Rattle.pm_trains.specs.Trains.{Train, cars_at}
 use Rattle.pm_view.specs.View.{SpaceView}
 use Rattle.pm_view.specs.Candidates.{set_of, queue_of}
 use Rattle.pm_view.specs.Counts.{live_in}
@@ -13,7 +13,8 @@ use Rattle.pm_space.specs.Counted.{capped}
 abbrev pub line : List ℕ → List ℕ → List ℕ
 line word columns = word ++ flat_map (λ column. 32 ∷ decimal column) columns ++ codes "\n"
 
--- `store EPOCH NEXT ROOTS`: the number of the last settled copy, the identity of the next object, and how many names are bound
+-- `store EPOCH NEXT ROOTS`: the number of the last settled copy, the identity of the next object, and how many names
+-- are bound
 abbrev pub store_line : ℕ → SpaceView → List ℕ
 store_line epoch view = line (codes "store") (epoch ∷ view.next ∷ len view.roots ∷ [])
 
@@ -40,9 +41,13 @@ train_text view train = train_line train ++ flat_map (car_line view) train.cars
 abbrev pub car_count : SpaceView → ℕ
 car_count view = sum_by (λ train. length train.cars) view.trains.trains
 
--- how many slots of their cars have an object: the sum of that column
+-- how many slots of these cars have an object: the sum of that column
+abbrev pub live_in_cars : SpaceView → List ℕ → ℕ
+live_in_cars view cars = sum_by (λ number. live_in (get view.cars number)) cars
+
+-- the same of a train, and of all
 abbrev pub live_of_train : SpaceView → Train → ℕ
-live_of_train view train = sum_by (λ number. live_in (get view.cars number)) train.cars
+live_of_train view train = live_in_cars view train.cars
 
 abbrev pub live_total : SpaceView → ℕ
 live_total view = sum_by (live_of_train view) view.trains.trains
@@ -51,6 +56,19 @@ live_total view = sum_by (live_of_train view) view.trains.trains
 abbrev pub total_line : SpaceView → List ℕ
 total_line view = line (codes "total") (length view.trains.trains ∷ capped (car_count view) ∷ capped (live_total view) ∷ [])
 
--- the report: the store, each train with its cars, the oldest train first, and what they are together
+-- each train with its cars, the oldest train first
+abbrev pub trains_text : SpaceView → List ℕ
+trains_text view = flat_map (train_text view) view.trains.trains
+
+-- the report: the store, each train, and what they are together
 abbrev pub report_text : SpaceView → ℕ → List ℕ
-report_text view epoch = store_line epoch view ++ flat_map (train_text view) view.trains.trains ++ total_line view
+report_text view epoch = store_line epoch view ++ trains_text view ++ total_line view
+
+-- the text of the train of this number, which stands, was put behind a text
+abbrev pub EndsWithTrain : SpaceView → ℕ → List ℕ → List ℕ → Type 0
+EndsWithTrain view number old new =
+    IsSomeAnd (cars_at view.trains.trains number) (λ cars. new ≡ old ++ train_text view (record { number = number; cars = cars }))
+
+-- so many slots of the cars of the train of this number, which stands, have an object
+abbrev pub CountsLive : SpaceView → ℕ → ℕ → Type 0
+CountsLive view number count = IsSomeAnd (cars_at view.trains.trains number) (λ cars. count ≡ capped (live_in_cars view cars))

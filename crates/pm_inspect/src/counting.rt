@@ -6,7 +6,7 @@ ghost use Rattle.pm_view.specs.Candidates.{set_of, queue_of};
 ghost use Rattle.pm_view.specs.Counts.{live_in};
 ghost use Rattle.pm_space.specs.Counted.{capped};
 ghost use Rattle.pm_space.specs.Shown.{view};
-ghost use Rattle.pm_inspect.specs.Report.{car_count, live_total};
+ghost use Rattle.pm_inspect.specs.Report.{car_count, live_in_cars, live_total, CountsLive};
 
 use pm_space::Parts;
 
@@ -42,7 +42,7 @@ fn live_in_car<F>(parts: &Parts<F>, car: u64) -> u64
 
 // How many slots of these cars have an object.
 fn live_in_cars<F>(parts: &Parts<F>, cars: &[u64]) -> u64
-    ensures { result ≡ capped (sum_by (λ number. live_in (get (view parts.now).cars number)) cars.now) }
+    ensures { result ≡ capped (live_in_cars (view parts.now) cars.now) }
 {
     let mut sum = 0u64;
     for car in cars {
@@ -54,7 +54,7 @@ fn live_in_cars<F>(parts: &Parts<F>, cars: &[u64]) -> u64
 // How many slots of a train's cars have an object.
 fn live_in_train<F>(parts: &Parts<F>, train: u64) -> u64
     requires { IsSome (cars_at parts.now.trains.trains train) }
-    ensures { IsSomeAnd (cars_at parts.now.trains.trains train) (λ cars. result ≡ capped (sum_by (λ number. live_in (get (view parts.now).cars number)) cars)) }
+    ensures { CountsLive (view parts.now) train result }
 {
     live_in_cars(parts, parts.trains.cars(train))
 }

@@ -2,7 +2,8 @@ ghost use Rattle.std.specs.Prelude.{◌≡◌, ◌++◌, IfOk, OnOk, Some, IsSom
 ghost use Rattle.std.specs.List.{flat_map};
 ghost use Rattle.pm_trains.specs.Trains.{cars_at};
 ghost use Rattle.pm_space.specs.Shown.{view};
-ghost use Rattle.pm_inspect.specs.Report.{store_line, line_of_car, car_line, train_text, total_line, report_text};
+ghost use Rattle.pm_inspect.specs.Report.{store_line, line_of_car, car_line, trains_text, total_line, report_text};
+ghost use Rattle.pm_inspect.specs.Report.{EndsWithTrain};
 
 use crate::counting::{car_count, live_total, queued, remembered};
 use crate::lines::append_line;
@@ -60,7 +61,7 @@ fn append_cars<F>(out: &mut Vec<u8>, parts: &Parts<F>, cars: &[u64]) -> Result<(
 // Appends the line of a train, and those of its cars.
 fn append_train<F>(out: &mut Vec<u8>, parts: &Parts<F>, train: u64) -> Result<(), NoMemory>
     requires { IsSome (cars_at parts.now.trains.trains train) }
-    ensures { IsSomeAnd (cars_at parts.now.trains.trains train) (λ cars. OnOk result (out.new.items ≡ out.old.items ++ train_text (view parts.now) (record { number = train; cars = cars }))) }
+    ensures { OnOk result (EndsWithTrain (view parts.now) train out.old.items out.new.items) }
 {
     let cars = parts.trains.cars(train);
     let columns = [train, cars.len() as u64];
@@ -70,7 +71,7 @@ fn append_train<F>(out: &mut Vec<u8>, parts: &Parts<F>, train: u64) -> Result<()
 
 // Appends the lines of all trains, the oldest first.
 fn append_trains<F>(out: &mut Vec<u8>, parts: &Parts<F>) -> Result<(), NoMemory>
-    ensures { OnOk result (out.new.items ≡ out.old.items ++ flat_map (train_text (view parts.now)) parts.now.trains.trains) }
+    ensures { OnOk result (out.new.items ≡ out.old.items ++ trains_text (view parts.now)) }
 {
     parts.trains.sound();
     for place in 0..parts.trains.len() {

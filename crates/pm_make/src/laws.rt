@@ -1,9 +1,10 @@
 //! Laws and examples of the generator. Each function's contract is the law, and the function does nothing.
-ghost use Rattle.std.specs.Prelude.{◌≡◌, ◌≤◌, ◌<◌, ◌^◌, ℕ, codes, length};
+ghost use Rattle.std.specs.Prelude.{◌≡◌, ◌≤◌, ◌<◌, ◌^◌, ℕ, length};
 ghost use Rattle.pm_grammar.specs.Script.{IsScript};
 ghost use Rattle.pm_make.specs.declared.making.TheConstants.{MOST_TURNS};
 ghost use Rattle.pm_make.specs.Drawing.{after};
 ghost use Rattle.pm_make.specs.Made.{made_lines, made_text};
+ghost use Rattle.pm_make.specs.Example.{one_turn};
 
 use pm_grammar::spelled_lines_are_read_again;
 
@@ -27,5 +28,5 @@ pub fn the_first_draws_from_seed_one()
 
 /// An example: the script of one turn from seed 1.
 pub fn one_turn_from_seed_one()
-    ensures { made_text 1 1 ≡ codes "0 new 1 4 1c59\n0 store 1 3 25\n! gc 3\n0 save\n0 settle\n0 watch\n0 close\n! gc 1000\n" }
+    ensures { made_text 1 1 ≡ one_turn }
 {}
