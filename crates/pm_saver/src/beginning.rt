@@ -16,8 +16,8 @@ use pm_space::{Parts, Space};
 use pm_types::NoMemory;
 use std::alloc::Global;
 
-/// A copy of the space under this number, of which nothing was written. It has room for the pages of its catalog, and for
-/// its cars once it is settled.
+/// A copy of the space under this number, of which nothing was written. It has room for the pages of its catalog, and
+/// for its cars once it is settled.
 fn plan<F: Drop>(
     alloc: Global,
     settled: &[KeptPage],
@@ -55,9 +55,9 @@ impl Saver {
     ghost use Rattle.pm_saver.specs.Shown.{saving, frozen_of, frozen_cars};
     ghost use Rattle.pm_saving.specs.Tied.{IsTied};
 
-    /// Begins a copy of the space, under this number: its cars are frozen, each car of the list is clean where the settled
-    /// car of its number has the same content, and its roots and its next identity are taken over. It compares each car
-    /// once, and makes no call of the disk. After want of memory all is as it was.
+    /// Begins a copy of the space, under this number: its cars are frozen, each car of the list is clean where the
+    /// settled car of its number has the same content, and its roots and its next identity are taken over. It compares
+    /// each car once, and makes no call of the disk. After want of memory all is as it was.
     pub fn begin<F: Drop>(
         &mut self,
         alloc: Global,
