@@ -3,7 +3,7 @@ use Rattle.std.specs.Prelude.{◌≡◌, ℕ, List, [], ◌∷◌, ◌++◌, len
 use Rattle.pm_types.specs.declared.address.Addr.{Addr}
 use Rattle.pm_image.specs.declared.catalog.CatEntry.{CatEntry}
 use Rattle.pm_image.specs.declared.catalog.CatEntry.TheVariants.{Car}
-use Rattle.pm_image.specs.CatalogPages.{catalog_used}
+use Rattle.pm_image.specs.CatalogPages.{catalog_used, entry_size}
 use Rattle.pm_law_layout.specs.Plans.{root_entry}
 use Rattle.pm_law_layout.specs.Cutting.{OnePage, IsCutInto}
 use Rattle.pm_saver.specs.declared.place.PlacedCar.{PlacedCar}
@@ -39,3 +39,12 @@ pub record IsRoomy (met : List CatEntry) (entry : CatEntry) (it : Counter) : Typ
   pub counts : it.counts.items ≡ lengths pages
   pub count : it.count ≡ length last
   pub used : it.used ≡ catalog_used last
+
+-- These entries more were met.
+abbrev pub CountsOn : List CatEntry → Counter → Counter → Type 0
+CountsOn more old new = (met : List CatEntry) → IsCounted met old → IsCounted (met ++ more) new
+
+-- There is room for the next entry, if it has so many bytes.
+abbrev pub MakesRoom : ℕ → Counter → Counter → Type 0
+MakesRoom size old new =
+    (met : List CatEntry) (entry : CatEntry) → size ≡ entry_size entry → IsCounted met old → IsRoomy met entry new

@@ -1,5 +1,5 @@
 -- The cars and roots of a copy that begins.
-use Rattle.std.specs.Prelude.{◌≡◌, ℕ, suc, ◌==◌, false, List, [], ◌∷◌, map, Option, Some, None, option_map, if◌then◌else◌}
+use Rattle.std.specs.Prelude.{◌≡◌, ℕ, suc, ◌==◌, false, List, [], ◌∷◌, ◌++◌, map, Option, Some, None, option_map, if◌then◌else◌}
 use Rattle.std.specs.List.{AllByRecursion}
 use Rattle.std.specs.Ordering.{nat_cmp}
 use Rattle.std.specs.FinMap.{entries}
@@ -36,6 +36,10 @@ pub record IsPlanned (settled : List KeptPage) (list : List Listed) (cars : List
   pub placed : ArePlaced settled list (map (car_seen settled) cars)
   pub within : AllByRecursion (λ (one : PlacedCar). IsWithin settled one.place) cars
   pub numbered : AllByRecursion IsCarNumbered (map (car_seen settled) cars)
+
+-- these cars of the list were put behind those before
+abbrev pub PlansOn : List KeptPage → List Listed → List PlacedCar → List PlacedCar → Type 0
+PlansOn settled more old new = (list : List Listed) → IsPlanned settled list old → IsPlanned settled (list ++ more) new
 
 -- these are the roots of a space, each a name with its address, ascending
 pub record AreItsRoots (view : SpaceView) (roots : List (List ℕ × Addr)) : Type 0 where

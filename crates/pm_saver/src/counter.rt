@@ -29,7 +29,7 @@ impl Counter {
     ghost use Rattle.pm_image.specs.CatalogPages.{entry_size};
     ghost use Rattle.pm_law_layout.specs.Plans.{root_entry};
     ghost use Rattle.pm_law_layout.specs.Cutting.{cut};
-    ghost use Rattle.pm_saver.specs.Counted.{IsCounted, IsRoomy, drafted, lengths};
+    ghost use Rattle.pm_saver.specs.Counted.{IsCounted, CountsOn, MakesRoom, drafted, lengths};
 
     /// No entry was met.
     pub(crate) fn new(alloc: Global) -> Counter
@@ -58,7 +58,7 @@ impl Counter {
     /// Where the page that is being filled has no room for so many bytes more, the next one is begun.
     fn make_room(&mut self, size: usize) -> Result<(), NoMemory>
         requires { size ≤ 78 }
-        ensures roomy { OnOk result ((met : List CatEntry) (entry : CatEntry) → size ≡ entry_size entry → IsCounted met self.old → IsRoomy met entry self.new) }
+        ensures roomy { OnOk result (MakesRoom size self.old self.new) }
         ensures room { OnOk result (self.new.used + size ≤ PAGE_BYTES) }
     {
         cutting_goes_on_at_the_last_page();
@@ -68,11 +68,12 @@ impl Counter {
         Ok(())
     }
 
-    /// An entry of so many bytes is met: it goes on the page that is being filled, or on the next one where it has no room.
+    /// An entry of so many bytes is met: it goes on the page that is being filled, or on the next one where it has no
+    /// room.
     fn put(&mut self, size: usize) -> Result<(), NoMemory>
         requires some { 1 ≤ size }
         requires few { size ≤ 78 }
-        ensures { OnOk result ((met : List CatEntry) (entry : CatEntry) → size ≡ entry_size entry → IsCounted met self.old → IsCounted (met ++ entry ∷ []) self.new) }
+        ensures { OnOk result ((entry : CatEntry) → size ≡ entry_size entry → CountsOn (entry ∷ []) self.old self.new) }
     {
         self.make_room(size)?;
         self.count += 1;
@@ -82,7 +83,7 @@ impl Counter {
 
     /// The entries of these cars are met.
     pub(crate) fn put_cars(&mut self, cars: &[PlacedCar]) -> Result<(), NoMemory>
-        ensures { OnOk result ((met : List CatEntry) → IsCounted met self.old → IsCounted (met ++ map drafted cars.now) self.new) }
+        ensures { OnOk result (CountsOn (map drafted cars.now) self.old self.new) }
     {
         for _car in cars {
             self.put(CAR_BYTES)?;
@@ -92,7 +93,7 @@ impl Counter {
 
     /// The entries of these roots are met.
     pub(crate) fn put_roots(&mut self, roots: &[(Name, Addr)]) -> Result<(), NoMemory>
-        ensures { OnOk result ((met : List CatEntry) → IsCounted met self.old → IsCounted (met ++ map root_entry roots.now) self.new) }
+        ensures { OnOk result (CountsOn (map root_entry roots.now) self.old self.new) }
     {
         for (name, _) in roots {
             self.put(ROOT_BYTES + name.as_slice().len())?;
@@ -102,7 +103,8 @@ impl Counter {
 
     /// How many entries each page has, once all were met.
     pub(crate) fn end(self) -> Result<Vec<usize>, NoMemory>
-        ensures { IfOk result (λ counts. (met : List CatEntry) → IsCounted met self → counts.items ≡ lengths (cut met)) }
+        ensures { IfOk result (λ counts. (met : List CatEntry) → IsCounted met self
+            → counts.items ≡ lengths (cut met)) }
     {
         entries_are_cut_in_one_way();
         let Counter { counts, count, .. } = self;

@@ -18,7 +18,8 @@ use std::collections::BTreeMap;
 
 /// The number has this place, unless it has one.
 fn note(index: &mut BTreeMap<u64, usize>, number: u64, place: usize) -> Result<(), NoMemory>
-    ensures { OnOk result ((other : ℕ) → tree.get nat_cmp index.new other ≡ first_of (tree.get nat_cmp index.old other) (if number == other then Some place else None)) }
+    ensures { OnOk result ((other : ℕ) → tree.get nat_cmp index.new other
+        ≡ first_of (tree.get nat_cmp index.old other) (if number == other then Some place else None)) }
 {
     if !index.contains_key(&number) {
         index.insert(number, place)?;
@@ -49,7 +50,8 @@ pub(crate) fn place_of(
     car: &Car,
 ) -> Place
     requires { IsIndex settled.now index.now }
-    ensures placed { IsPlacedAs settled.now (record { number = number; slots = entries car.now.car.slots }) (place_seen settled.now result) }
+    ensures placed { IsPlacedAs settled.now (record { number = number; slots = entries car.now.car.slots })
+        (place_seen settled.now result) }
     ensures within { IsWithin settled.now result }
 {
     match index.get(&number) {

@@ -1,20 +1,19 @@
 //! Which cars and roots a copy lists that begins.
 
-ghost use Rattle.std.specs.Prelude.{◌≡◌, ◌++◌, List, Some, IsSome, IsSomeAnd, IfOk, OnOk};
+ghost use Rattle.std.specs.Prelude.{◌≡◌, Some, IsSome, IsSomeAnd, IfOk, OnOk};
 ghost use Rattle.std.specs.List.{flat_map};
-ghost use Rattle.std.specs.FinMap as map;
 ghost use Rattle.pm_trains.specs.Trains.{cars_at, train_of};
 ghost use Rattle.pm_view.specs.Reading.{aside_in};
-ghost use Rattle.pm_copies.specs.Listed.{Listed, listed, listed_car};
+ghost use Rattle.pm_copies.specs.Listed.{listed, listed_car};
 ghost use Rattle.pm_space.specs.Shown.{view};
-ghost use Rattle.pm_saver.specs.Planned.{IsIndex, IsPlanned, AreItsRoots};
+ghost use Rattle.pm_saver.specs.Planned.{IsIndex, IsPlanned, PlansOn};
 
 use crate::place::PlacedCar;
 use crate::placing::{index_of, place_of};
 use pm_image::KeptPage;
 use pm_space::Parts;
 use pm_trains::{Trains, a_car_is_found_where_it_stands};
-use pm_types::{Addr, Name, NoMemory};
+use pm_types::NoMemory;
 use pm_view::Phase;
 use std::alloc::Global;
 use std::collections::BTreeMap;
@@ -46,7 +45,8 @@ fn plan_car<F: Drop>(
 ) -> Result<(), NoMemory>
     requires index { IsIndex settled.now index.now }
     requires train { train_of parts.now.trains.trains number ≡ Some train }
-    ensures { OnOk result ((list : List Listed) → IsPlanned settled.now list cars.old.items → IsPlanned settled.now (list ++ listed_car (view parts.now) train number) cars.new.items) }
+    ensures { OnOk result (PlansOn settled.now (listed_car (view parts.now) train number)
+        cars.old.items cars.new.items) }
 {
     if is_aside(&parts.trains, parts.phase, train, number) {
         return Ok(());
@@ -75,7 +75,9 @@ fn plan_train<F: Drop>(
 ) -> Result<(), NoMemory>
     requires index { IsIndex settled.now index.now }
     requires train { IsSome (cars_at parts.now.trains.trains train) }
-    ensures { OnOk result (IsSomeAnd (cars_at parts.now.trains.trains train) (λ numbers. (list : List Listed) → IsPlanned settled.now list cars.old.items → IsPlanned settled.now (list ++ flat_map (listed_car (view parts.now) train) numbers) cars.new.items)) }
+    ensures { OnOk result (IsSomeAnd (cars_at parts.now.trains.trains train)
+        (λ numbers. PlansOn settled.now (flat_map (listed_car (view parts.now) train) numbers)
+        cars.old.items cars.new.items)) }
 {
     parts.trains.sound();
     a_car_is_found_where_it_stands();

@@ -1,4 +1,4 @@
-use Rattle.std.proofs.Common.{◌≡◌, ◌≤◌, ◌∙◌, ap, refl, arith, length, map, rules}
+use Rattle.std.proofs.Common.{◌≡◌, ◌≤◌, ◌∙◌, refl, length, rules}
 use Rattle.std.specs.Prelude.{vec_capacity}
 use Rattle.pm_law_layout.specs.Cutting.{cut}
 use Rattle.pm_saver.specs.Counted.{drafted_entries, lengths}

@@ -16,7 +16,7 @@ loop-place-preserved c =
     let root : List ℕ × Addr = (c.in_ok-name.name, found.2) in
     record {
       roots = c.in_ok-push.ensures.items ∙ ap (λ (rs : List (List ℕ × Addr)). rs ++ root ∷ []) c.loop-place.invariant.roots
-        ∙ roots_more es c.loop-place.place (found.0.now, (found.1, found.2)) root c.nth.ensures (ap (λ (name : List ℕ). (name, found.2)) c.in_ok-name.ensures);
+          ∙ roots_more es c.loop-place.place (found.0.now, (found.1, found.2)) root c.nth.ensures (ap (λ (name : List ℕ). (name, found.2)) c.in_ok-name.ensures);
       names = subst (AllByRecursion (λ (root : List ℕ × Addr). IsName root.0)) (sym c.in_ok-push.ensures.items) (all_behind (λ (root : List ℕ × Addr). IsName root.0) c.loop-place.copied.items root c.loop-place.invariant.names c.as_slice-bytes.ensures.named);
     }
 

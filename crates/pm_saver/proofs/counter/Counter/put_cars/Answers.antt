@@ -9,4 +9,4 @@ loop-car-preserved c met had =
     let cars = c.args.cars.now in
     let i = c.loop-car._car-index in
     subst (λ (es : List CatEntry). IsCounted es c.put.new.self) (entries_more drafted met cars i c._car-item.result c.loop-car-test.true c._car-item.is)
-    (c.in_ok-put.ensures (met ++ map drafted (take i cars)) (drafted c._car-item.result) refl (c.loop-car.invariant met had))
+    (c.in_ok-put.ensures (drafted c._car-item.result) refl (met ++ map drafted (take i cars)) (c.loop-car.invariant met had))

@@ -11,4 +11,4 @@ loop-name-preserved c met had =
     let i = c.loop-name.name-index in
     let root = c.loop-name-item.result in
     subst (λ (es : List CatEntry). IsCounted es c.put.new.self) (entries_more root_entry met roots i root c.loop-name-test.true c.loop-name-item.is)
-    (c.in_ok-put.ensures (met ++ map root_entry (take i roots)) (root_entry root) (ap (λ (bytes : List ℕ). 14 + length bytes) c.as_slice.ensures.bytes) (c.loop-name.invariant met had))
+    (c.in_ok-put.ensures (root_entry root) (ap (λ (bytes : List ℕ). 14 + length bytes) c.as_slice.ensures.bytes) (met ++ map root_entry (take i roots)) (c.loop-name.invariant met had))
