@@ -2,6 +2,8 @@
 #![tactic(auto)]
 
 mod beginning;
+#[cfg(test)]
+mod beginning_tests;
 mod counter;
 mod counting;
 mod fault;
