@@ -3,3 +3,6 @@ pub mod Kept
 pub mod KeptOnce
 pub mod Shown
 pub mod Answers
+pub mod Frozen
+pub mod Entries
+pub mod Next

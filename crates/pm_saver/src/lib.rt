@@ -1,7 +1,10 @@
 //! Saving copies of a space page by page while its clients go on.
 #![tactic(auto)]
 
+mod copying;
 mod fault;
+mod listing;
+mod next;
 mod place;
 mod saver;
 

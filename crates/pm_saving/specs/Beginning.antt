@@ -1,5 +1,5 @@
 -- What is in progress once a copy of a space was begun.
-use Rattle.std.specs.Prelude.{◌≡◌, ℕ, ◌==◌, ◌<◌, ◌≤◌, ◌^◌, false, List, [], ◌∷◌, Contains, length, map, Option, Some, None, if◌then◌else◌}
+use Rattle.std.specs.Prelude.{◌≡◌, ℕ, ◌==◌, ◌<◌, ◌≤◌, ◌^◌, true, false, List, [], ◌∷◌, Contains, length, map, Option, Some, None, if◌then◌else◌}
 use Rattle.std.specs.List.{AllByRecursion}
 use Rattle.std.specs.FinMap.{entries}
 use Rattle.pm_types.specs.Names.{IsName}
@@ -58,10 +58,12 @@ StandsAs settled image (Clean kept) = Contains settled kept × (kept.image ≡ i
 StandsAs settled image Unwritten = Unit {0}
 StandsAs settled image (Written kept) = kept ≡ kept_on kept.page image
 
--- No more pages of the catalog were written than it has, and none before each car stands on a page.
+-- No more pages of the catalog were written than it has, and none before each car stands on a page and the pages of the
+-- clean ones are kept.
 pub record AreLast (progress : Progress) : Type 0 where
   pub few : length progress.parts ≤ catalog_len progress
   pub placed : 0 < length progress.parts → unwritten progress.cars ≡ 0
+  pub kept : 0 < length progress.parts → progress.kept ≡ true
 
 -- What holds of a copy in progress whose cars were frozen so: no rule refuses what it lists, its numbers are such as the
 -- types hold, its names are names, each car that stands on a page does so as it was frozen, and the

@@ -39,8 +39,9 @@ pub record IsOnPage (s : State) (kept : KeptPage) : Type 0 where
   pub from_2 : 2 ≤ kept.page
   pub keeps : keeps s kept.page ≡ true
 
--- a page that was written is there, and reads as it was written
+-- a page that was written is there, behind the headers' two, and reads as it was written
 pub record IsPut (s : State) (contents : Option (List ℕ)) (put : Put) : Type 0 where
+  pub from_2 : 2 ≤ put.0
   pub there : put.0 < s.count
   pub whole : length put.1 ≡ PAGE_BYTES
   pub reads : IfTold contents (λ bytes. page_of bytes put.0 ≡ put.1)
@@ -73,8 +74,8 @@ IsBegun settled (Some progress) None epoch = ⊥
 IsBegun settled (Some progress) (Some cars) epoch = IsInProgress settled cars progress × (epoch < progress.number)
 
 -- What holds between calls, of any disk: no publish has failed, the pages of the current copy are known, the store has as
--- many pages as then or more, the settled cars are that copy's, each on a page of it; the pages of the next copy are those of the copy in progress; and that copy was
--- begun from this space.
+-- many pages as then or more, the settled cars are that copy's, each on a page of it; the pages of the next copy are
+-- those of the copy in progress; and that copy was begun from this space.
 pub record IsTied (saving : Saving) (frozen : Option Cars) (s : State) (contents : Option (List ℕ)) : Type 0 where
   pub sound : s.failed ≡ false
   pub known : s.known ≡ true

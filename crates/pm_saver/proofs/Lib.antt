@@ -1,0 +1,5 @@
+mod Slices
+mod Between
+mod Frozen
+mod Parts
+mod Placed
