@@ -1,6 +1,9 @@
 -- Which entries come on which page of the catalog.
 use Rattle.std.proofs.Common.{◌≡◌, ℕ, zero, suc, ◌+◌, ◌-◌, ◌<◌, ◌≤◌, Bool, true, false, nat_le, List, [], ◌∷◌, ◌++◌, length, map, get_or, take, drop, sum, reverse, Option, Some, None, unwrap_or, refl, sym, ap, ◌∙◌, subst, arith, if◌then◌else◌, slice_index_or}
 use Rattle.std.specs.List.{AllByRecursion, flat_map, slice_get, slice_range}
+use Rattle.std.specs.Prelude.{◌==◌, ◌||◌, not}
+use Rattle.std.specs.List.{list_all}
+use Rattle.std.proofs.lemmas.Bool.Decides.{nat_tests}
 use Rattle.std.proofs.Math.Seq.{drop-append-add}
 use Rattle.std.proofs.lemmas.List.{length-map, length-append, length-drop, map-append, take_at, take_more, same_from_push, take_all, drop_more, get_or-map, reverse-append, length-reverse}
 use Rattle.std.proofs.lemmas.List.Sums.{sum_by-cons, sum_by_push, sum_by-take-le}
@@ -8,8 +11,11 @@ use Rattle.pm_types.specs.declared.address.Addr.{Addr}
 use Rattle.pm_types.specs.declared.limits.TheConstants.{PAGE_BYTES}
 use Rattle.pm_image.specs.declared.catalog.CatEntry.{CatEntry}
 use Rattle.pm_image.specs.declared.settled.KeptPage.{KeptPage}
-use Rattle.pm_image.specs.CatalogPages.{entry_size}
-use Rattle.pm_law_layout.specs.Plans.{CarInTrain, PlannedTrain, car_entry, cars_in, cars_of_train, chain_of, first_of, planned_entries}
+use Rattle.pm_image.specs.declared.catalog.CatalogPage.{CatalogPage}
+use Rattle.pm_image.specs.CatalogPages.{HasCatalogPage, entry_size, has_next_digest, nothing_met}
+use Rattle.pm_law_graphs.proofs.Lists.{all_both}
+use Rattle.pm_saving.specs.Tied.{MayWrite}
+use Rattle.pm_law_layout.specs.Plans.{CarInTrain, PlannedTrain, car_entry, cars_in, cars_of_train, chain_of, digest_of, first_of, planned_entries}
 use Rattle.pm_law_layout.specs.Cutting.{OnePage, cut, cut_from, joined, onto_first}
 use Rattle.pm_law_layout.proofs.Sizes.{lengths, lengths_by_sizes, count_by_sizes}
 use Rattle.pm_saving.specs.Progress.{Place, Clean, Unwritten, Written, PlacedCar, Progress, cars_plan, catalog_left, catalog_len, catalog_of, draft_entry, paired, parts_of, planned, roots_of}
@@ -218,3 +224,31 @@ first_written progress written last placed few are is =
     let turned : length progress.parts ≡ length written = ap (λ (parts : List ℕ). length parts) are ∙ length-reverse written in
     first_of_written written last (drop (catalog_left progress) (parts_of progress)) (omega (arith, len, turned)) is
     ∙ ap (λ (parts : List ℕ). first_of (chain_of (paired parts (drop (catalog_left progress) (parts_of progress))))) (sym are)
+
+-- ---- a page names the next one with its digest, and none with zeros
+
+all_reverse : {A : Type 0} (P : A → Type 0) (xs : List A) → AllByRecursion P xs → AllByRecursion P (reverse xs)
+all_reverse P [] all = tt
+all_reverse P (x ∷ xs) all = subst (AllByRecursion P) (sym (reverse-append (x ∷ []) xs)) (all_both P (reverse xs) (x ∷ []) (all_reverse P xs all.1) (all.0, tt))
+
+names_next : (page : ℕ) (digest : List ℕ) → 0 < page → has_next_digest page digest ≡ true
+names_next page digest some =
+    let other : (page == 0) ≡ false = grind (arith, nat_tests) in
+    ap (λ (b : Bool). not b || list_all (λ (byte : ℕ). byte == 0) digest) other
+
+paired_fits : (pages : List ℕ) (parts : List OnePage) → AllByRecursion (λ (page : ℕ). 0 < page) pages → has_next_digest (first_of (chain_of (paired pages parts))) (digest_of (chain_of (paired pages parts))) ≡ true
+paired_fits [] parts some = refl
+paired_fits (page ∷ pages) [] some = refl
+paired_fits (page ∷ pages) (entries ∷ parts) some = names_next page (digest_of (chain_of (paired (page ∷ pages) (entries ∷ parts)))) some.0
+
+pub digest_fits : (written : List ℕ) (parts : List OnePage) (next : ℕ) (digest : List ℕ) → AllByRecursion (λ (page : ℕ). 0 < page) written
+    → next ≡ first_of (chain_of (paired (reverse written) parts)) → digest ≡ digest_of (chain_of (paired (reverse written) parts)) → has_next_digest next digest ≡ true
+digest_fits written parts next digest some first is =
+    ap (λ (next : ℕ). has_next_digest next digest) first ∙ ap (λ (digest : List ℕ). has_next_digest (first_of (chain_of (paired (reverse written) parts))) digest) is
+    ∙ paired_fits (reverse written) parts (all_reverse (λ (page : ℕ). 0 < page) written some)
+
+-- such a page may be written
+pub page_fits : (progress : Progress) (page : CatalogPage) (entries : OnePage) → MayWrite progress (PartPage entries) → page.entries ≡ entries → has_next_digest page.next page.digest ≡ true → HasCatalogPage None nothing_met page
+page_fits progress page entries may is fits =
+    let same : record { next = page.next; digest = page.digest; entries = entries } ≡ page = ap (λ (entries : OnePage). record { next = page.next; digest = page.digest; entries = entries }) (sym is) in
+    subst (HasCatalogPage None nothing_met) same (may.has page.next page.digest fits)

@@ -1,5 +1,5 @@
 -- A stretch of two lists, one behind the other.
-use Rattle.std.proofs.Common.{◌≡◌, ℕ, zero, suc, ◌+◌, ◌-◌, ◌<◌, ◌≤◌, min, Option, Some, None, List, [], ◌∷◌, ◌++◌, length, map, take, drop, refl, sym, ap, ◌∙◌, subst, arith}
+use Rattle.std.proofs.Common.{◌≡◌, ℕ, zero, suc, ◌+◌, ◌-◌, ◌<◌, ◌≤◌, min, Option, Some, None, List, [], ◌∷◌, ◌++◌, length, map, get_or, take, drop, refl, sym, ap, ◌∙◌, subst, arith}
 use Rattle.std.specs.List.{slice_get, slice_range}
 use Rattle.std.proofs.lemmas.List.{take-map, drop-map, length-drop, take_min, drop_min, drop_all, nil_from_length}
 
@@ -60,6 +60,16 @@ module _ {A : Type 0} where
   before_end [] i x is = absurd cc
   before_end (y ∷ ys) zero x is = omega arith
   before_end (y ∷ ys) (suc i) x is = let rest = before_end ys i x is in omega (arith, rest)
+
+  pub got : (xs : List A) (i : ℕ) (x : A) → i < length xs → x ≡ get_or xs i x → slice_get xs i ≡ Some x
+  got [] i x low is = absurd (omega (arith, low))
+  got (y ∷ ys) zero x low is = ap (λ (y : A). Some y) (sym is)
+  got (y ∷ ys) (suc i) x low is = got ys i x (omega (arith, low)) is
+
+  pub got_none : (xs : List A) (i : ℕ) → length xs ≤ i → slice_get xs i ≡ None
+  got_none [] i past = refl
+  got_none (y ∷ ys) zero past = absurd (omega (arith, past))
+  got_none (y ∷ ys) (suc i) past = got_none ys i (omega (arith, past))
 
   -- the last one
   pub last_split : (xs : List A) (x : A) → slice_get xs (length xs - 1) ≡ Some x → xs ≡ take (length xs - 1) xs ++ x ∷ []
