@@ -3,3 +3,5 @@ mod Between
 mod Frozen
 mod Parts
 mod Placed
+mod NotedCar
+mod NotedPart

@@ -66,6 +66,11 @@ module _ {A : Type 0} where
   got (y ∷ ys) zero x low is = ap (λ (y : A). Some y) (sym is)
   got (y ∷ ys) (suc i) x low is = got ys i x (omega (arith, low)) is
 
+  pub there : (xs : List A) (i : ℕ) → i < length xs → (x : A) × (slice_get xs i ≡ Some x)
+  there [] i low = absurd (omega (arith, low))
+  there (y ∷ ys) zero low = (y, refl)
+  there (y ∷ ys) (suc i) low = there ys i (omega (arith, low))
+
   pub got_none : (xs : List A) (i : ℕ) → length xs ≤ i → slice_get xs i ≡ None
   got_none [] i past = refl
   got_none (y ∷ ys) zero past = absurd (omega (arith, past))

@@ -6,3 +6,4 @@ pub mod Answers
 pub mod Frozen
 pub mod Entries
 pub mod Next
+pub mod Noted

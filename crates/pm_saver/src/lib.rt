@@ -5,6 +5,7 @@ mod copying;
 mod fault;
 mod listing;
 mod next;
+mod noting;
 mod place;
 mod saver;
 
