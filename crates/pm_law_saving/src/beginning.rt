@@ -1,9 +1,11 @@
 //! How a copy begins. Each function's contract is a law, and the function does nothing.
 
-ghost use Rattle.std.specs.Prelude.{◌≡◌, ◌<◌, ◌^◌, ◌↔◌, ℕ, List, Option, Contains, Some, None, true, false};
+ghost use Rattle.std.specs.Prelude.{◌≡◌, ◌<◌, ◌≤◌, ◌^◌, ◌↔◌, ℕ, List, Option, Contains, Some, None, true, false};
 ghost use Rattle.std.specs.List.{AllByRecursion};
 ghost use Rattle.pm_types.specs.Names.{IsName};
 ghost use Rattle.pm_types.specs.declared.address.Addr.{Addr};
+ghost use Rattle.pm_image.specs.CarAnswers.{AreBytes};
+ghost use Rattle.pm_image.specs.Opening.{page_count};
 ghost use Rattle.pm_image.specs.declared.car.CarImage.{CarImage};
 ghost use Rattle.pm_image.specs.declared.settled.KeptPage.{KeptPage};
 ghost use Rattle.pm_shadow.specs.State.{State, IsIdle};
@@ -28,13 +30,13 @@ pub fn a_copy_begins_beside_the_settled_one()
         → s.header.epoch < number → IsTied old None s contents → IsTied new (Some view.cars) s contents }
     // A car is clean exactly where some page of the current copy has its content.
     ensures clean { (settled : List KeptPage) (s : State) (bytes : List ℕ) (image : CarImage) (place : Place)
-        → AreSettled settled s bytes → IsPlacedAs settled image place
+        → AreBytes bytes → s.settled ≤ page_count bytes → AreSettled settled s bytes → IsPlacedAs settled image place
         → (place ≡ Unwritten) ↔ ((kept : KeptPage) → Contains settled kept → kept.image ≡ image → ⊥) }
 {}
 
 /// A law of saving: a store that was just opened has the cars of its copy settled, and no copy in progress.
 pub fn a_store_begins_with_its_settled_copy()
     ensures { (settled : List KeptPage) (s : State) (contents : Option (List ℕ)) → s.failed ≡ false → s.known ≡ true
-        → IsIdle s → AllByRecursion (IsOnPage s) settled → IfTold contents (AreSettled settled s)
+        → s.settled ≤ s.count → IsIdle s → AllByRecursion (IsOnPage s) settled → IfTold contents (AreSettled settled s)
         → IsTied (record { settled = settled; progress = None }) None s contents }
 {}

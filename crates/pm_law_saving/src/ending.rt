@@ -4,6 +4,7 @@ ghost use Rattle.std.specs.Prelude.{◌≡◌, ◌<◌, ◌≤◌, ◌^◌, ℕ,
 ghost use Rattle.pm_disk.specs.Disk.{IfTold};
 ghost use Rattle.pm_model.specs.World.{Copy};
 ghost use Rattle.pm_layout.specs.Headers.{HasHeaderSpelling};
+ghost use Rattle.pm_image.specs.CarAnswers.{AreBytes};
 ghost use Rattle.pm_image.specs.Opening.{page_count, page_of};
 ghost use Rattle.pm_image.specs.Stands.{Stands};
 ghost use Rattle.pm_shadow.specs.State.{State, abandoned_in, published, with_closed};
@@ -19,11 +20,11 @@ pub fn a_whole_copy_may_be_published()
     ensures header { (saving : Saving) (cars : Cars) (s : State) (contents : Option (List ℕ)) (progress : Progress)
         → IsTied saving (Some cars) s contents → saving.progress ≡ Some progress → left progress ≡ 0
         → HasHeaderSpelling (header_of progress) × (s.header.epoch < progress.number) }
-    // The pages hold the copy, on just those that were claimed or kept, where they are no more than numbers of eight bytes
-    // count.
+    // The pages hold the copy, on just those that were claimed or kept, where they are pages of bytes, and no more than
+    // numbers of eight bytes count.
     ensures whole { (saving : Saving) (cars : Cars) (s : State) (bytes : List ℕ) (progress : Progress)
         → IsTied saving (Some cars) s (Some bytes) → saving.progress ≡ Some progress → left progress ≡ 0
-        → s.count ≤ page_count bytes → page_count bytes ≤ 2 ^ 64 → IsWhole s bytes cars progress }
+        → AreBytes bytes → s.count ≤ page_count bytes → page_count bytes ≤ 2 ^ 64 → IsWhole s bytes cars progress }
 {}
 
 /// A law of saving: the gate of the next header is closed beside the copy in progress.
@@ -31,7 +32,7 @@ pub fn a_gate_is_closed_beside_the_copy()
     ensures { (saving : Saving) (frozen : Option Cars) (s : State) (was now : Option (List ℕ))
         → IsTied saving frozen s was
         → IfTold now (λ after. (before : List ℕ) × (was ≡ Some before) × Holds s before after
-            × ((page : ℕ) → 2 ≤ page → page < s.count → page_of after page ≡ page_of before page))
+        × ((page : ℕ) → 2 ≤ page → page < s.count → page_of after page ≡ page_of before page))
         → IsTied saving frozen (with_closed s) now }
 {}
 
@@ -54,7 +55,7 @@ pub fn a_published_copy_is_the_settled_one()
     ensures tied { (saving : Saving) (cars : Cars) (s : State) (was now : Option (List ℕ)) (progress : Progress)
         → IsTied saving (Some cars) s was → saving.progress ≡ Some progress → left progress ≡ 0
         → IfTold now (λ after. (before : List ℕ) × (was ≡ Some before) × IsWhole s before cars progress
-            × Renews s (header_of progress) before after)
+        × Renews s (header_of progress) before after)
         → IsTied (record { settled = car_pages progress; progress = None }) None (published s (header_of progress)) now }
 {}
 

@@ -11,4 +11,6 @@ pub use ending::{
     a_copy_is_given_up, a_gate_is_closed_beside_the_copy, a_published_copy_is_the_settled_one,
     a_whole_copy_may_be_published,
 };
-pub use writing::{pages_of_a_copy_are_written_in_order, the_next_page_is_written_beside_the_current_copy};
+pub use writing::{
+    pages_of_a_copy_are_written_in_order, the_next_page_is_written_beside_the_current_copy,
+};

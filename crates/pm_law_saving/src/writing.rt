@@ -10,7 +10,7 @@ ghost use Rattle.pm_image.specs.declared.settled.KeptPage.{KeptPage};
 ghost use Rattle.pm_saving.specs.Progress.{Progress, Saving};
 ghost use Rattle.pm_saving.specs.Paging.{NextPage, left, next_page, with_page, written_on};
 ghost use Rattle.pm_saving.specs.Beginning.{IsInProgress};
-ghost use Rattle.pm_saving.specs.Tied.{GoesOn, IsTied, MayWrite, WritesNext};
+ghost use Rattle.pm_saving.specs.Tied.{GoesOn, HasPage, IsTied, WritesNext};
 
 /// A law of saving: the pages of a copy are written in order, and each of them once.
 pub fn pages_of_a_copy_are_written_in_order()
@@ -23,7 +23,7 @@ pub fn pages_of_a_copy_are_written_in_order()
         → left (with_page page progress next) + 1 ≡ left progress }
     // it may be written,
     ensures may { (settled : List KeptPage) (cars : Cars) (progress : Progress) (next : NextPage)
-        → IsInProgress settled cars progress → next_page cars progress ≡ Some next → MayWrite progress next }
+        → IsInProgress settled cars progress → next_page cars progress ≡ Some next → HasPage next }
     // and the copy goes on.
     ensures goes_on { (settled : List KeptPage) (cars : Cars) (progress : Progress) (next : NextPage) (page : ℕ)
         → IsInProgress settled cars progress → next_page cars progress ≡ Some next

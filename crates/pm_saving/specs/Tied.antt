@@ -92,8 +92,8 @@ abbrev pub with_all_kept : List ℕ → State → State
 with_all_kept [] s = s
 with_all_kept (page ∷ pages) s = with_all_kept pages (with_kept s page)
 
--- The next page of the copy was written here: on the lowest page that was free, by one write. The pages of the clean
--- cars are kept from then on. One page less is left, and nothing else changed.
+-- The next page of the copy was written here: on the lowest page that was free, by one write of a whole page. The pages
+-- of the clean cars are kept from then on. One page less is left, and nothing else changed.
 pub record WritesNext (old new : Saving) (cars : Cars) (s t : State) (was now : Option (List ℕ)) (page : ℕ) : Type 0 where
   pub progress : Progress
   pub is_progress : old.progress ≡ Some progress
@@ -101,19 +101,15 @@ pub record WritesNext (old new : Saving) (cars : Cars) (s t : State) (was now : 
   pub is_next : next_page cars progress ≡ Some next
   pub saving : new ≡ record old { progress = Some (with_page page progress next) }
   pub lowest : IsLowestFree s.uses page
+  pub whole : length (text_of progress next) ≡ PAGE_BYTES
   pub state : t ≡ with_page_there (with_claimed (with_all_kept (newly_kept progress) s) page) page
   pub contents : now ≡ option_map (written (place_of page) (text_of progress next)) was
   pub left : left_of new.progress + 1 ≡ left_of old.progress
 
--- A page may be written: a car has a page by itself, and entries have one behind which each page may be named as the next;
--- its text fills one page.
+-- A page may be written: a car has a page by itself, and entries have one behind which each page may be named as the next.
 abbrev pub HasPage : NextPage → Type 0
 HasPage (CarPage image) = HasCarPage (one_car FIELDS) set.empty image
 HasPage (PartPage entries) = MayBeWritten entries
-
-pub record MayWrite (progress : Progress) (next : NextPage) : Type 0 where
-  pub has : HasPage next
-  pub whole : length (text_of progress next) ≡ PAGE_BYTES
 
 -- The copy is whole on the pages that were claimed or kept, behind its header: the graph that is found there has its
 -- cars, each on the page where it stands, and is the copy.

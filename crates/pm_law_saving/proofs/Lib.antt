@@ -1,0 +1,13 @@
+pub mod Members
+pub mod Staying
+pub mod Giving
+pub mod Counting
+pub mod Standing
+pub mod Publishing
+pub mod Next
+pub mod Planned
+pub mod Growing
+pub mod Keeping
+pub mod Written
+pub mod Begun
+pub mod Whole
