@@ -5,3 +5,4 @@ mod Parts
 mod Placed
 mod NotedCar
 mod NotedPart
+mod Keeping

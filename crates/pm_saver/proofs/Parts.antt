@@ -14,7 +14,7 @@ use Rattle.pm_image.specs.declared.settled.KeptPage.{KeptPage}
 use Rattle.pm_image.specs.declared.catalog.CatalogPage.{CatalogPage}
 use Rattle.pm_image.specs.CatalogPages.{HasCatalogPage, entry_size, has_next_digest, nothing_met}
 use Rattle.pm_law_graphs.proofs.Lists.{all_both}
-use Rattle.pm_saving.specs.Tied.{MayWrite}
+use Rattle.pm_saving.specs.Tied.{HasPage}
 use Rattle.pm_law_layout.specs.Plans.{CarInTrain, PlannedTrain, car_entry, cars_in, cars_of_train, chain_of, digest_of, first_of, planned_entries}
 use Rattle.pm_law_layout.specs.Cutting.{OnePage, cut, cut_from, joined, onto_first}
 use Rattle.pm_law_layout.proofs.Sizes.{lengths, lengths_by_sizes, count_by_sizes}
@@ -248,7 +248,7 @@ digest_fits written parts next digest some first is =
     ∙ paired_fits (reverse written) parts (all_reverse (λ (page : ℕ). 0 < page) written some)
 
 -- such a page may be written
-pub page_fits : (progress : Progress) (page : CatalogPage) (entries : OnePage) → MayWrite progress (PartPage entries) → page.entries ≡ entries → has_next_digest page.next page.digest ≡ true → HasCatalogPage None nothing_met page
-page_fits progress page entries may is fits =
+pub page_fits : (page : CatalogPage) (entries : OnePage) → HasPage (PartPage entries) → page.entries ≡ entries → has_next_digest page.next page.digest ≡ true → HasCatalogPage None nothing_met page
+page_fits page entries may is fits =
     let same : record { next = page.next; digest = page.digest; entries = entries } ≡ page = ap (λ (entries : OnePage). record { next = page.next; digest = page.digest; entries = entries }) (sym is) in
-    subst (HasCatalogPage None nothing_met) same (may.has page.next page.digest fits)
+    subst (HasCatalogPage None nothing_met) same (may page.next page.digest fits)

@@ -7,3 +7,4 @@ pub mod Frozen
 pub mod Entries
 pub mod Next
 pub mod Noted
+pub mod Putting

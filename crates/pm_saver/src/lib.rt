@@ -7,6 +7,7 @@ mod listing;
 mod next;
 mod noting;
 mod place;
+mod putting;
 mod saver;
 
 pub use fault::SaveFault;

@@ -12,7 +12,7 @@ ghost use Rattle.pm_image.specs.declared.car.CarImage.{CarImage};
 ghost use Rattle.pm_law_layout.specs.Plans.{chain_of, first_of};
 ghost use Rattle.pm_saving.specs.Progress.{Progress, catalog_left, catalog_of};
 ghost use Rattle.pm_saving.specs.Paging.{NextPage as SeenPage, car_text, next_page, part_before, text_of};
-ghost use Rattle.pm_saving.specs.Tied.{MayWrite};
+ghost use Rattle.pm_saving.specs.Tied.{HasPage};
 ghost use Rattle.pm_saver.specs.Seen.{progress_seen};
 ghost use Rattle.pm_saver.specs.Frozen.{frozen_image, frozen_in};
 ghost use Rattle.pm_saver.specs.Kept.{IsKept, IsPlaced, is_open};
@@ -125,7 +125,7 @@ fn part_page(
 ) -> Result<Option<Ready>, NoMemory>
     requires kept { IsKept settled.now it.now }
     requires placed { AllByRecursion IsPlaced it.now.cars.items }
-    requires may { IfSome (part_before (catalog_left (progress_seen settled.now it.now)) (progress_seen settled.now it.now)) (MayWrite (progress_seen settled.now it.now)) }
+    requires may { IfSome (part_before (catalog_left (progress_seen settled.now it.now)) (progress_seen settled.now it.now)) HasPage }
     ensures next { IfOk result (λ page. part_before (catalog_left (progress_seen settled.now it.now)) (progress_seen settled.now it.now) ≡ option_map (λ (page : Ready). next_seen page.next) page) }
     ensures spelled { IfOk result (λ page. IfSome page (Spells (progress_seen settled.now it.now))) }
 {
@@ -152,7 +152,7 @@ pub(crate) fn ready_next(
 ) -> Result<Option<Ready>, NoMemory>
     requires kept { IsKept settled.now it.now }
     requires found { IsFound it.now }
-    requires may { IfSome (next_page (frozen_in cars.now) (progress_seen settled.now it.now)) (MayWrite (progress_seen settled.now it.now)) }
+    requires may { IfSome (next_page (frozen_in cars.now) (progress_seen settled.now it.now)) HasPage }
     ensures next { IfOk result (λ page. next_page (frozen_in cars.now) (progress_seen settled.now it.now) ≡ option_map (λ (page : Ready). next_seen page.next) page) }
     ensures spelled { IfOk result (λ page. IfSome page (Spells (progress_seen settled.now it.now))) }
 {

@@ -10,7 +10,7 @@ use Rattle.pm_image.specs.CatalogPages.{HasCatalogPage, has_next_digest, nothing
 use Rattle.pm_law_layout.specs.Plans.{chain_of, first_of, root_entry}
 use Rattle.pm_saving.specs.Progress.{catalog_left, catalog_of, parts_of}
 use Rattle.pm_saving.specs.Paging.{NextPage, PartPage, part_before}
-use Rattle.pm_saving.specs.Tied.{MayWrite}
+use Rattle.pm_saving.specs.Tied.{HasPage}
 use Rattle.pm_saver.specs.declared.place.InProgress.{InProgress}
 use Rattle.pm_saver.specs.Seen.{car_seen, progress_seen}
 use Rattle.pm_saver.specs.Entries.{entries_in, entry_of}
@@ -60,13 +60,13 @@ write_catalog-requires c =
     let next = part settled it c.in-Some.count.now c.deref.result.now c.requires.kept c.requires.placed c.in-Some.ensures.value c.deref.ensures.value in
     let same : c.total-to.result ≡ sum it.counts.items = c.total-to.ensures ∙ ap sum c.deref-2.ensures.value in
     let entries = c.linked-page.ensures.entries ∙ c.in_ok-entries.ensures in
-    let may : MayWrite progress (PartPage (slice_range (entries_in progress) (sum it.counts.items - c.in-Some.count.now) (sum it.counts.items))) = subst (λ (next : Option NextPage). IfSome next (MayWrite progress)) next.part c.requires.may in
+    let may : HasPage (PartPage (slice_range (entries_in progress) (sum it.counts.items - c.in-Some.count.now) (sum it.counts.items))) = subst (λ (next : Option NextPage). IfSome next HasPage) next.part c.requires.may in
     let is : c.linked-page.result.entries ≡ slice_range (entries_in progress) (sum it.counts.items - c.in-Some.count.now) (sum it.counts.items) =
     entries ∙ ap (λ (to : ℕ). slice_range (entries_in progress) (to - c.in-Some.count.now) to) same in
     let digest = c.linked-page.ensures.digest ∙ c.requires.kept.digest in
     let first = c.linked-page.ensures.next settled c.requires.kept c.requires.placed in
     let page = c.linked-page.result in
-    page_fits progress page (slice_range (entries_in progress) (sum it.counts.items - c.in-Some.count.now) (sum it.counts.items)) may is
+    page_fits page (slice_range (entries_in progress) (sum it.counts.items - c.in-Some.count.now) (sum it.counts.items)) may is
     (digest_fits it.parts.items (drop (catalog_left progress) (parts_of progress)) page.next page.digest c.requires.kept.pages first digest)
 
 pub returns-clause-next : goal.returns-clause-next

@@ -8,7 +8,7 @@ use Rattle.pm_saving.specs.Progress as seen
 use Rattle.pm_saving.specs.Progress.{catalog_left, image_of}
 use Rattle.pm_saving.specs.Paging.{NextPage as SeenPage}
 use Rattle.pm_saving.specs.Paging.{CarPage, first_unwritten, next_after, next_page, part_before}
-use Rattle.pm_saving.specs.Tied.{MayWrite}
+use Rattle.pm_saving.specs.Tied.{HasPage}
 use Rattle.pm_saver.specs.declared.place.PlacedCar.{PlacedCar}
 use Rattle.pm_saver.specs.declared.place.InProgress.{InProgress}
 use Rattle.pm_saver.specs.declared.next.Ready.{Ready}
@@ -44,8 +44,8 @@ car_page-requires c =
     let lookup = c.in-Some.ensures.lookup in
     let low = lookup.3.0 in
     let next = car_next settled (frozen_in c.args.cars.now) it c.deref.result.now one c.requires.kept c.requires.found low lookup.1 c.deref.ensures.value in
-    let may : MayWrite (progress_seen settled it) (CarPage (frozen_image c.args.cars.now one.number)) = subst (λ (next : Option SeenPage). IfSome next (MayWrite (progress_seen settled it))) next c.requires.may in
-    may.has
+    let may : HasPage (CarPage (frozen_image c.args.cars.now one.number)) = subst (λ (next : Option SeenPage). IfSome next HasPage) next c.requires.may in
+    may
 
 pub returns-in_ok-car_page-in-Some-clause-next : goal.returns-in_ok-car_page-in-Some-clause-next
 returns-in_ok-car_page-in-Some-clause-next c =
@@ -60,7 +60,7 @@ part_page-requires-clause-placed c = let l = c.in-None.ensures.lookup in let r =
 pub part_page-requires-clause-may : goal.part_page-requires-clause-may
 part_page-requires-clause-may c =
     let next = (no_car c.args.settled.now (frozen_in c.args.cars.now) c.args.it.now c.deref.result.now c.requires.kept c.requires.found (search rules) c.deref.ensures.value).1 in
-    subst (λ (next : Option SeenPage). IfSome next (MayWrite (progress_seen c.args.settled.now c.args.it.now))) next c.requires.may
+    subst (λ (next : Option SeenPage). IfSome next HasPage) next c.requires.may
 
 pub returns-in-None-clause-next : goal.returns-in-None-clause-next
 returns-in-None-clause-next c =
