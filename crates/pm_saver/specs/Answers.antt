@@ -3,7 +3,7 @@ use Rattle.std.specs.Prelude.{◌≡◌, ℕ, List, Option, Some, Result, MatchR
 use Rattle.pm_base.specs.Counts.{Rose}
 use Rattle.pm_types.specs.declared.event.Flushed.{Flushed}
 use Rattle.pm_types.specs.declared.event.Flushed.TheVariants.{Wrote, AllFlushed}
-use Rattle.pm_disk.specs.Disk.{LeavesOnly}
+use Rattle.pm_disk.specs.Disk.{IfTold, LeavesOnly}
 use Rattle.pm_disk.specs.Made.{Made, with_write}
 use Rattle.pm_model.specs.World.{Copy}
 use Rattle.pm_image.specs.Stands.{Stands}
@@ -62,3 +62,7 @@ Spares contents moment since s old new =
 -- the disk tells its contents still
 abbrev pub TellsOn : Option (List ℕ) → Option (List ℕ) → Type 0
 TellsOn was now = (bytes : List ℕ) → was ≡ Some bytes → (after : List ℕ) × (now ≡ Some after)
+
+-- the copy that stood behind the current header does so still, where the disk tells its contents
+abbrev pub KeepsCopy : State → State → Option (List ℕ) → Option (List ℕ) → Type 0
+KeepsCopy s t was now = (copy : Copy) (bytes : List ℕ) → was ≡ Some bytes → HasCopy s bytes copy → IfTold now (λ after. HasCopy t after copy)

@@ -8,3 +8,4 @@ pub mod Entries
 pub mod Next
 pub mod Noted
 pub mod Putting
+pub mod Steps

@@ -3,6 +3,7 @@
 
 mod copying;
 mod fault;
+mod flushing;
 mod listing;
 mod next;
 mod noting;

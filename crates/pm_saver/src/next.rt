@@ -16,6 +16,7 @@ ghost use Rattle.pm_saving.specs.Tied.{HasPage};
 ghost use Rattle.pm_saver.specs.Seen.{progress_seen};
 ghost use Rattle.pm_saver.specs.Frozen.{frozen_image, frozen_in};
 ghost use Rattle.pm_saver.specs.Kept.{IsKept, IsPlaced, is_open};
+ghost use Rattle.pm_saver.specs.Noted.{HasPlaceFor};
 ghost use Rattle.pm_saver.specs.Next.{IsFound, Spells, next_seen};
 ghost use Rattle.pm_saver.specs.declared.next.Next.TheVariants.{Car};
 
@@ -128,6 +129,7 @@ fn part_page(
     requires may { IfSome (part_before (catalog_left (progress_seen settled.now it.now)) (progress_seen settled.now it.now)) HasPage }
     ensures next { IfOk result (λ page. part_before (catalog_left (progress_seen settled.now it.now)) (progress_seen settled.now it.now) ≡ option_map (λ (page : Ready). next_seen page.next) page) }
     ensures spelled { IfOk result (λ page. IfSome page (Spells (progress_seen settled.now it.now))) }
+    ensures place { IfOk result (λ page. IfSome page (λ (ready : Ready). HasPlaceFor it.now ready.next)) }
 {
     let Some(count) = it.counts.last() else {
         return Ok(None);
@@ -155,6 +157,7 @@ pub(crate) fn ready_next(
     requires may { IfSome (next_page (frozen_in cars.now) (progress_seen settled.now it.now)) HasPage }
     ensures next { IfOk result (λ page. next_page (frozen_in cars.now) (progress_seen settled.now it.now) ≡ option_map (λ (page : Ready). next_seen page.next) page) }
     ensures spelled { IfOk result (λ page. IfSome page (Spells (progress_seen settled.now it.now))) }
+    ensures place { IfOk result (λ page. IfSome page (λ (ready : Ready). HasPlaceFor it.now ready.next)) }
 {
     match it.cars.get(it.placed) {
         Some(one) => Ok(Some(car_page(alloc, cars, one.number)?)),
