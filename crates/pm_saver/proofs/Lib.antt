@@ -6,3 +6,4 @@ mod Placed
 mod NotedCar
 mod NotedPart
 mod Keeping
+mod FlushLemmas
