@@ -78,7 +78,7 @@ same_then s t u one two = record {
   kept = λ page. two.kept page ∙ one.kept page;
 }
 
-copy_still : (s t : State) (bytes : List ℕ) (copy : Copy) → KeepsSamePages s t → HasCopy s bytes copy → HasCopy t bytes copy
+pub copy_still : (s t : State) (bytes : List ℕ) (copy : Copy) → KeepsSamePages s t → HasCopy s bytes copy → HasCopy t bytes copy
 copy_still s t bytes copy same has = record { graph = has.graph; keeps = keeps_still s t bytes has.graph same has.keeps; is_copy = has.is_copy ∙ ap (λ (header : Header). copy_of_graph header.next has.graph) (sym same.header) }
 
 module _ (old : Saving) (progress after : Progress) (frozen : Option Cars) (s t : State) (was now : Option (List ℕ)) (on : AllByRecursion (λ (page : ℕ). keeps s page ≡ true) (newly_kept progress))

@@ -7,3 +7,4 @@ mod NotedCar
 mod NotedPart
 mod Keeping
 mod FlushLemmas
+mod DropLemmas

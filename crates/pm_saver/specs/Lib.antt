@@ -9,3 +9,4 @@ pub mod Next
 pub mod Noted
 pub mod Putting
 pub mod Steps
+pub mod Thawed

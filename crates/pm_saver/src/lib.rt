@@ -2,6 +2,7 @@
 #![tactic(auto)]
 
 mod copying;
+mod dropping;
 mod fault;
 mod flushing;
 mod listing;
