@@ -1,11 +1,10 @@
 -- What holds once a copy was given up.
-use Rattle.std.proofs.Common.{◌≡◌, ℕ, List, Option, Some, None, refl, sym, ap, ◌∙◌, subst}
-use Rattle.pm_model.specs.World.{Copy}
+use Rattle.std.proofs.Common.{◌≡◌, ℕ, List, Option, sym, subst}
 use Rattle.pm_image.specs.declared.settled.KeptPage.{KeptPage}
 use Rattle.pm_shadow.specs.State.{State}
 use Rattle.pm_shadow.specs.Copies.{KeepsSamePages}
 use Rattle.pm_view.specs.View.{Cars}
-use Rattle.pm_saving.specs.Progress.{Progress, Saving}
+use Rattle.pm_saving.specs.Progress.{Progress}
 use Rattle.pm_saving.specs.Tied.{HasCopy, IsTied}
 use Rattle.pm_saver.specs.Answers.{KeepsCopy}
 use Rattle.pm_saver.proofs.FlushLemmas.{copy_still}

@@ -1,11 +1,10 @@
 -- What a flush leaves.
-use Rattle.std.proofs.Common.{◌≡◌, ◌⊎◌, inl, inr, ⊎_elim, ℕ, ◌+◌, ◌<◌, ◌≤◌, Bool, true, false, List, length, map, Option, Some, None, Result, Ok, Err, refl, sym, ap, ◌∙◌, subst, arith}
-use Rattle.std.specs.Prelude.{◌↔◌, IfOk, IfSome, OnErr, option_map}
+use Rattle.std.proofs.Common.{◌≡◌, ℕ, ◌+◌, ◌<◌, ◌≤◌, true, false, List, Option, Some, None, Result, Ok, Err, refl, sym, ap, ◌∙◌, subst}
+use Rattle.std.specs.Prelude.{◌↔◌, IfOk, IfSome, OnErr}
 use Rattle.std.specs.List.{AllByRecursion}
 use Rattle.pm_types.specs.declared.event.Flushed.{Flushed}
 use Rattle.pm_types.specs.declared.event.Flushed.TheVariants.{Wrote, AllFlushed}
 use Rattle.pm_disk.specs.Disk.{IfTold, LeavesOnly}
-use Rattle.pm_disk.specs.Writes.{written}
 use Rattle.pm_disk.proofs.RunLemmas.{started, weaker}
 use Rattle.pm_model.specs.World.{Copy}
 use Rattle.pm_image.specs.declared.settled.KeptPage.{KeptPage}
@@ -21,7 +20,7 @@ use Rattle.pm_view.specs.View.{Cars}
 use Rattle.pm_saving.specs.Progress.{Progress, Saving}
 use Rattle.pm_saving.specs.Paging.{NextPage, left, left_of, newly_kept, next_page, with_page as with_next_page}
 use Rattle.pm_saving.specs.Beginning.{IsInProgress}
-use Rattle.pm_saving.specs.Tied.{HasCopy, HasPage, IsBegun, IsOnPage, IsTied, WritesNext, with_all_kept}
+use Rattle.pm_saving.specs.Tied.{HasCopy, HasPage, IsBegun, IsTied, WritesNext, with_all_kept}
 use Rattle.pm_saver.specs.declared.fault.SaveFault.{SaveFault}
 use Rattle.pm_saver.specs.declared.fault.SaveFault.TheVariants.{Disk, Memory}
 use Rattle.pm_saver.specs.Shown.{cars_or_none}

@@ -1,5 +1,5 @@
 -- Pages that are kept, and one that is claimed.
-use Rattle.std.proofs.Common.{◌≡◌, ◌⊎◌, inl, inr, ⊎_elim, ℕ, zero, suc, ◌+◌, ◌<◌, ◌==◌, Bool, true, false, List, [], ◌∷◌, ◌++◌, length, map, take, get_or, Option, Some, refl, sym, ap, ◌∙◌, subst, arith, if◌then◌else◌, append_assoc}
+use Rattle.std.proofs.Common.{◌≡◌, ℕ, zero, suc, ◌+◌, ◌<◌, ◌==◌, Bool, true, false, List, [], ◌∷◌, ◌++◌, length, map, take, get_or, Option, refl, sym, ap, ◌∙◌, subst, arith, if◌then◌else◌, append_assoc}
 use Rattle.std.specs.List.{AllByRecursion, flat_map, slice_get}
 use Rattle.std.proofs.lemmas.Bool.Decides.{nat_tests}
 use Rattle.std.proofs.lemmas.List.{take_more}
@@ -14,7 +14,7 @@ use Rattle.pm_shadow.specs.Images.{Holds}
 use Rattle.pm_shadow.specs.Copies.{KeepsSamePages}
 use Rattle.pm_shadow.proofs.CopyLemmas.{claimed_keeps}
 use Rattle.pm_law_graphs.proofs.Lists.{all_both, all_follow}
-use Rattle.pm_law_saving.proofs.Keeping.{all_kept_failed, all_kept_same, free_keeps, same_or_not, same_then, use_here, use_other}
+use Rattle.pm_law_saving.proofs.Keeping.{all_kept_failed, all_kept_same, free_keeps, same_then, use_here, use_other}
 use Rattle.pm_law_saving.proofs.Staying.{held_same}
 use Rattle.pm_saving.specs.Progress as seen
 use Rattle.pm_saving.specs.Paging.{clean_page, newly_kept}
@@ -24,9 +24,7 @@ use Rattle.pm_saver.specs.declared.place.Place.TheVariants.{Clean, Unwritten, Wr
 use Rattle.pm_saver.specs.declared.place.PlacedCar.{PlacedCar}
 use Rattle.pm_saver.specs.declared.place.InProgress.{InProgress}
 use Rattle.pm_saver.specs.Seen.{car_seen, clean_at, place_seen, progress_seen}
-use Rattle.pm_saver.specs.Kept.{IsWithin}
 use Rattle.pm_saver.specs.Putting.{pages_in}
-use Rattle.pm_saver.proofs.Placed.{Within}
 
 -- ---- pages that are kept
 

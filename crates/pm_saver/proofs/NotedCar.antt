@@ -1,5 +1,5 @@
 -- What is noted of the page of a car.
-use Rattle.std.proofs.Common.{◌≡◌, ℕ, zero, suc, ◌+◌, ◌-◌, ◌<◌, ◌≤◌, Bool, true, false, List, [], ◌∷◌, ◌++◌, length, map, take, drop, reverse, if◌then◌else◌, slice_set, get_or, Option, Some, None, refl, sym, ap, ◌∙◌, subst, arith}
+use Rattle.std.proofs.Common.{◌≡◌, ℕ, zero, suc, ◌-◌, ◌<◌, ◌≤◌, Bool, true, false, List, [], ◌∷◌, ◌++◌, length, map, take, drop, reverse, if◌then◌else◌, slice_set, get_or, Option, Some, refl, sym, ap, ◌∙◌, subst, arith}
 use Rattle.std.specs.List.{AllByRecursion, slice_get}
 use Rattle.std.specs.Prelude.{IfSome}
 use Rattle.std.proofs.lemmas.List.{nil_from_length}
@@ -11,12 +11,12 @@ use Rattle.pm_law_layout.specs.Plans.{chain_of, digest_of, root_entry}
 use Rattle.pm_law_layout.specs.Cutting.{OnePage, cut}
 use Rattle.pm_saving.specs.Progress as seen
 use Rattle.pm_saving.specs.Progress.{Progress, catalog_left, catalog_of, draft_entry, paired, parts_of, roots_of}
-use Rattle.pm_saving.specs.Paging.{CarPage, car_text, is_unwritten, kept_on, place_first, unwritten, with_page}
+use Rattle.pm_saving.specs.Paging.{CarPage, car_text, is_unwritten, place_first, unwritten, with_page}
 use Rattle.pm_saver.specs.declared.place.Place.TheVariants.{Written}
 use Rattle.pm_saver.specs.declared.place.PlacedCar.{PlacedCar}
 use Rattle.pm_saver.specs.declared.place.InProgress.{InProgress}
 use Rattle.pm_saver.specs.Seen.{car_seen, place_seen, progress_seen}
-use Rattle.pm_saver.specs.Kept.{IsKept, IsPlaced, IsWithin, is_open}
+use Rattle.pm_saver.specs.Kept.{IsKept, IsPlaced, is_open}
 use Rattle.pm_saver.specs.Next.{IsFound}
 use Rattle.pm_saver.specs.Noted.{with_written}
 use Rattle.pm_saver.proofs.Slices.{there}

@@ -1,18 +1,17 @@
 -- What is noted of a page of the catalog.
-use Rattle.std.proofs.Common.{◌≡◌, ℕ, zero, suc, ◌+◌, ◌-◌, ◌<◌, ◌≤◌, Bool, true, false, List, [], ◌∷◌, ◌++◌, length, map, take, drop, reverse, if◌then◌else◌, slice_index_or, get_or, Option, Some, None, refl, sym, ap, ◌∙◌, subst, arith}
+use Rattle.std.proofs.Common.{◌≡◌, ℕ, zero, suc, ◌+◌, ◌<◌, Bool, true, false, List, [], ◌∷◌, ◌++◌, length, map, take, drop, reverse, if◌then◌else◌, slice_index_or, get_or, Option, Some, None, refl, sym, ap, ◌∙◌, subst, arith}
 use Rattle.std.specs.List.{AllByRecursion, slice_get}
 use Rattle.std.specs.Prelude.{IfSome, vec_capacity}
-use Rattle.std.proofs.lemmas.List.{drop_more, length-append, length-map, length-reverse, reverse-append, take_more}
+use Rattle.std.proofs.lemmas.List.{drop_more, length-append, length-map, reverse-append, take_more}
 use Rattle.sha2.specs.Sha256.{sha256}
-use Rattle.pm_image.specs.declared.catalog.CatEntry.{CatEntry}
 use Rattle.pm_image.specs.declared.settled.KeptPage.{KeptPage}
 use Rattle.pm_law_graphs.proofs.Lists.{all_both}
-use Rattle.pm_law_layout.specs.Plans.{chain_of, digest_of, root_entry}
+use Rattle.pm_law_layout.specs.Plans.{chain_of, digest_of}
 use Rattle.pm_law_layout.specs.Cutting.{OnePage, cut}
 use Rattle.pm_view.specs.View.{Cars}
 use Rattle.pm_saving.specs.Progress as seen
 use Rattle.pm_saving.specs.Progress.{Progress, catalog_left, catalog_len, catalog_of, draft_entry, image_of, paired, parts_of, roots_of}
-use Rattle.pm_saving.specs.Paging.{CarPage, NextPage, PartPage, is_unwritten, next_after, next_page, part_before, text_of, unwritten, with_page}
+use Rattle.pm_saving.specs.Paging.{CarPage, PartPage, is_unwritten, next_after, next_page, part_before, text_of, unwritten}
 use Rattle.pm_saver.specs.declared.place.PlacedCar.{PlacedCar}
 use Rattle.pm_saver.specs.declared.place.InProgress.{InProgress}
 use Rattle.pm_saver.specs.Seen.{car_seen, progress_seen}

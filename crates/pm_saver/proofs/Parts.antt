@@ -5,21 +5,19 @@ use Rattle.std.specs.Prelude.{◌==◌, ◌||◌, not}
 use Rattle.std.specs.List.{list_all}
 use Rattle.std.proofs.lemmas.Bool.Decides.{nat_tests}
 use Rattle.std.proofs.Math.Seq.{drop-append-add}
-use Rattle.std.proofs.lemmas.List.{length-map, length-append, length-drop, map-append, take_at, take_more, same_from_push, take_all, drop_more, get_or-map, reverse-append, length-reverse}
+use Rattle.std.proofs.lemmas.List.{length-map, length-append, length-drop, map-append, take_at, take_more, same_from_push, get_or-map, reverse-append, length-reverse}
 use Rattle.std.proofs.lemmas.List.Sums.{sum_by-cons, sum_by_push, sum_by-take-le}
-use Rattle.pm_types.specs.declared.address.Addr.{Addr}
 use Rattle.pm_types.specs.declared.limits.TheConstants.{PAGE_BYTES}
 use Rattle.pm_image.specs.declared.catalog.CatEntry.{CatEntry}
-use Rattle.pm_image.specs.declared.settled.KeptPage.{KeptPage}
 use Rattle.pm_image.specs.declared.catalog.CatalogPage.{CatalogPage}
 use Rattle.pm_image.specs.CatalogPages.{HasCatalogPage, entry_size, has_next_digest, nothing_met}
 use Rattle.pm_law_graphs.proofs.Lists.{all_both}
 use Rattle.pm_saving.specs.Tied.{HasPage}
-use Rattle.pm_law_layout.specs.Plans.{CarInTrain, PlannedTrain, car_entry, cars_in, cars_of_train, chain_of, digest_of, first_of, planned_entries}
+use Rattle.pm_law_layout.specs.Plans.{car_entry, cars_of_train, chain_of, digest_of, first_of}
 use Rattle.pm_law_layout.specs.Cutting.{OnePage, cut, cut_from, joined, onto_first}
 use Rattle.pm_law_layout.proofs.Sizes.{lengths, lengths_by_sizes, count_by_sizes}
-use Rattle.pm_saving.specs.Progress.{Place, Clean, Unwritten, Written, PlacedCar, Progress, cars_plan, catalog_left, catalog_len, catalog_of, draft_entry, paired, parts_of, planned, roots_of}
-use Rattle.pm_saving.specs.Paging.{NextPage, PartPage, is_unwritten, part_before}
+use Rattle.pm_saving.specs.Progress.{Place, Clean, Unwritten, Written, PlacedCar, Progress, catalog_left, catalog_len, catalog_of, draft_entry, paired, parts_of, planned, roots_of}
+use Rattle.pm_saving.specs.Paging.{PartPage, is_unwritten, part_before}
 use Rattle.pm_saver.specs.Kept.{counts_of}
 use Rattle.pm_saver.proofs.Slices.{before_end, last_split, last_none}
 use Rattle.pm_saver.specs.Entries.{entries_in, entry_of}
@@ -168,9 +166,11 @@ by_left progress zero counts front count few placed is pushed =
     let none : length (front ++ count ∷ []) ≡ 0 = ap length (sym pushed ∙ is) in
     absurd (omega (arith, one, none))
 by_left progress (suc before) counts front count few placed is pushed =
-    let last = last_of (entries_in progress) before counts front count (omega (arith, few)) is pushed in
-    (last.there, last.within,
-    ap (λ (pages : List OnePage). Some (PartPage (slice_index_or pages before []))) (parts_are progress placed) ∙ ap (λ (part : OnePage). Some (PartPage part)) (sym last.stretch))
+    let last = last_of (entries_in progress) before counts front count (omega (arith, few)) is pushed in (
+      last.there,
+      last.within,
+      ap (λ (pages : List OnePage). Some (PartPage (slice_index_or pages before []))) (parts_are progress placed) ∙ ap (λ (part : OnePage). Some (PartPage part)) (sym last.stretch),
+    )
 
 pub next_part : (progress : Progress) (counts : List ℕ) (count : ℕ) → AllByRecursion (λ (one : PlacedCar). is_unwritten one.place ≡ false) progress.cars
     → counts ≡ take (catalog_left progress) (counts_of progress) → slice_get counts (length counts - 1) ≡ Some count → IsNextPart progress counts count

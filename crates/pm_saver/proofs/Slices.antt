@@ -1,5 +1,5 @@
 -- A stretch of two lists, one behind the other.
-use Rattle.std.proofs.Common.{◌≡◌, ℕ, zero, suc, ◌+◌, ◌-◌, ◌<◌, ◌≤◌, min, Option, Some, None, List, [], ◌∷◌, ◌++◌, length, map, get_or, take, drop, refl, sym, ap, ◌∙◌, subst, arith}
+use Rattle.std.proofs.Common.{◌≡◌, ℕ, zero, suc, ◌-◌, ◌<◌, ◌≤◌, min, Some, None, List, [], ◌∷◌, ◌++◌, length, map, get_or, take, drop, refl, sym, ap, ◌∙◌, arith}
 use Rattle.std.specs.List.{slice_get, slice_range}
 use Rattle.std.proofs.lemmas.List.{take-map, drop-map, length-drop, take_min, drop_min, drop_all, nil_from_length}
 

@@ -1,5 +1,5 @@
 -- A saver keeps a copy in progress in one way.
-use Rattle.std.specs.Prelude.{ℕ, List, [], ◌∷◌, Option, Some, None}
+use Rattle.std.specs.Prelude.{List, [], ◌∷◌, Option, Some, None}
 use Rattle.std.specs.List.{AllByRecursion}
 use Rattle.std.proofs.Props.{props}
 use Rattle.pm_image.specs.declared.settled.KeptPage.{KeptPage}

@@ -1,8 +1,7 @@
 -- The next page of a copy in progress, before it is written.
-use Rattle.std.specs.Prelude.{◌≡◌, ℕ, true, List, [], take, length, Option, Some, None, IfSome, option_map}
+use Rattle.std.specs.Prelude.{◌≡◌, true, take, length, IfSome}
 use Rattle.std.specs.List.{AllByRecursion, slice_get}
 use Rattle.pm_types.specs.declared.limits.TheConstants.{PAGE_BYTES}
-use Rattle.pm_image.specs.declared.settled.KeptPage.{KeptPage}
 use Rattle.pm_saving.specs.Progress.{Progress}
 use Rattle.pm_saving.specs.Paging.{NextPage, CarPage, PartPage, text_of}
 use Rattle.pm_saver.specs.declared.place.InProgress.{InProgress}

@@ -23,11 +23,7 @@ fn copy_slots(alloc: Global, slots: &[(u32, Slot)]) -> Result<Vec<(u32, Slot)>, 
 }
 
 /// The slots of the car of this number, as it was frozen; none where there is no such car.
-fn slots_in(
-    alloc: Global,
-    cars: &Table<Held>,
-    number: u64,
-) -> Result<Vec<(u32, Slot)>, NoMemory>
+fn slots_in(alloc: Global, cars: &Table<Held>, number: u64) -> Result<Vec<(u32, Slot)>, NoMemory>
     ensures { IfOk result (λ slots. slots.items ≡ slots_of (get (frozen_in cars.now) number)) }
 {
     match cars.frozen(number) {
@@ -37,11 +33,7 @@ fn slots_in(
 }
 
 /// The car of this number, as it was frozen.
-pub(crate) fn image_in(
-    alloc: Global,
-    cars: &Table<Held>,
-    number: u64,
-) -> Result<CarImage, NoMemory>
+pub(crate) fn image_in(alloc: Global, cars: &Table<Held>, number: u64) -> Result<CarImage, NoMemory>
     ensures { IfOk result (λ image. image ≡ frozen_image cars.now number) }
 {
     let slots = slots_in(alloc, cars, number)?;

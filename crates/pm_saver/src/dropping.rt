@@ -19,11 +19,7 @@ impl Saver {
 
     /// Gives the copy in progress up, and answers its number: the pages that were written for it are free again, and the
     /// cars are frozen no more. It takes no memory, and makes no call of the disk.
-    pub fn drop_copy<D: Disk, F: Drop>(
-        &mut self,
-        space: &mut Space<F>,
-        pages: &mut Pages<D>,
-    ) -> u32
+    pub fn drop_copy<D: Disk, F: Drop>(&mut self, space: &mut Space<F>, pages: &mut Pages<D>) -> u32
         requires tied { IsTied (saving self.old) (frozen_of space.old.parts) (state pages.old) (D.contents (disk_of pages.old)) }
         requires begun { IsSome (saving self.old).progress }
         ensures number { option_map (λ (progress : Progress). progress.number) (saving self.old).progress ≡ Some result }

@@ -13,11 +13,11 @@ ghost use Rattle.pm_saver.specs.Answers.{HasCause, IsMadeBy, OnMemory, TellsOn};
 ghost use Rattle.pm_saver.specs.Putting.{IsReady};
 ghost use Rattle.pm_saver.specs.Steps.{IsStep};
 
-use crate::{SaveFault, Saver};
 use crate::next::{find_next, ready_next};
 use crate::noting::note_written;
 use crate::place::InProgress;
 use crate::putting::put_page;
+use crate::{SaveFault, Saver};
 use pm_disk::Disk;
 use pm_image::KeptPage;
 use pm_law_saving::{

@@ -1,5 +1,4 @@
-use Rattle.std.proofs.Common.{rules, ◌≡◌, Option, Some, None, sym, ap, ◌∙◌}
-use Rattle.std.specs.Option.{option_copied}
+use Rattle.std.proofs.Common.{Some, None, ◌∙◌}
 use Rattle.pm_saver.proofs.Frozen.{frozen_slots}
 use Rattle.pm_saver.proofs.copying.slots_in.Goals as goal
 

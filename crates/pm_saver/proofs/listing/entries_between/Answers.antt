@@ -1,4 +1,4 @@
-use Rattle.std.proofs.Common.{rules, ◌≡◌, List, [], ◌++◌, map, length, min, sym, ap, ◌∙◌, ℕ, ◌-◌, arith}
+use Rattle.std.proofs.Common.{rules, ◌≡◌, List, [], ◌++◌, map, length, min, ap, ◌∙◌, ◌-◌}
 use Rattle.std.specs.List.{slice_range}
 use Rattle.pm_image.specs.declared.catalog.CatEntry.{CatEntry}
 use Rattle.pm_law_layout.specs.Plans.{root_entry}

@@ -1,4 +1,4 @@
-use Rattle.std.proofs.Common.{rules, ◌≡◌, Option, refl, ap, ◌∙◌, length, ℕ, List, ◌-◌}
+use Rattle.std.proofs.Common.{◌≡◌, Option, refl, ap, ◌∙◌, length, ℕ, List, ◌-◌}
 use Rattle.std.specs.Prelude.{unwrap_or}
 use Rattle.std.specs.Option.{option_copied}
 use Rattle.std.specs.List.{slice_get}

@@ -1,15 +1,12 @@
-use Rattle.std.proofs.Common.{rules, ◌≡◌, ◌+◌, ◌<◌, ◌≤◌, ◌^◌, ◌-◌, ◌∷◌, ℕ, List, Option, Some, None, length, map, drop, sum, refl, sym, ap, ◌∙◌, subst, arith}
+use Rattle.std.proofs.Common.{rules, ◌≡◌, ◌+◌, ◌<◌, ◌^◌, ◌-◌, ℕ, List, Option, Some, length, map, drop, sum, sym, ap, ◌∙◌, subst, arith}
 use Rattle.std.specs.Prelude.{IfSome}
 use Rattle.std.specs.List.{slice_get, slice_range, AllByRecursion}
 use Rattle.std.proofs.lemmas.List.{length-map, length-append}
-use Rattle.pm_types.specs.declared.address.Addr.{Addr}
 use Rattle.pm_image.specs.declared.settled.KeptPage.{KeptPage}
-use Rattle.pm_image.specs.declared.catalog.CatalogPage.{CatalogPage}
 use Rattle.pm_image.specs.declared.catalog.CatEntry.{CatEntry}
-use Rattle.pm_image.specs.CatalogPages.{HasCatalogPage, has_next_digest, nothing_met}
-use Rattle.pm_law_layout.specs.Plans.{chain_of, first_of, root_entry}
-use Rattle.pm_saving.specs.Progress.{catalog_left, catalog_of, parts_of}
-use Rattle.pm_saving.specs.Paging.{NextPage, PartPage, part_before}
+use Rattle.pm_law_layout.specs.Plans.{root_entry}
+use Rattle.pm_saving.specs.Progress.{catalog_left, parts_of}
+use Rattle.pm_saving.specs.Paging.{NextPage, PartPage}
 use Rattle.pm_saving.specs.Tied.{HasPage}
 use Rattle.pm_saver.specs.declared.place.InProgress.{InProgress}
 use Rattle.pm_saver.specs.Seen.{car_seen, progress_seen}

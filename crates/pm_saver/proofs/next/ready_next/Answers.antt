@@ -1,13 +1,11 @@
-use Rattle.std.proofs.Common.{rules, ◌≡◌, ◌+◌, ◌<◌, ◌≤◌, ℕ, List, true, length, get_or, Option, Some, None, refl, sym, ap, ◌∙◌, subst, arith}
+use Rattle.std.proofs.Common.{rules, ◌≡◌, ◌<◌, ◌≤◌, List, true, length, get_or, Option, Some, None, sym, ap, ◌∙◌, subst}
 use Rattle.std.specs.Prelude.{IfOk, IfSome, option_map}
 use Rattle.std.specs.List.{AllByRecursion, slice_get}
-use Rattle.pm_types.specs.declared.limits.TheConstants.{FIELDS}
 use Rattle.pm_image.specs.declared.settled.KeptPage.{KeptPage}
 use Rattle.pm_view.specs.View.{Cars}
-use Rattle.pm_saving.specs.Progress as seen
 use Rattle.pm_saving.specs.Progress.{catalog_left, image_of}
 use Rattle.pm_saving.specs.Paging.{NextPage as SeenPage}
-use Rattle.pm_saving.specs.Paging.{CarPage, first_unwritten, next_after, next_page, part_before}
+use Rattle.pm_saving.specs.Paging.{CarPage, next_after, next_page, part_before}
 use Rattle.pm_saving.specs.Tied.{HasPage}
 use Rattle.pm_saver.specs.declared.place.PlacedCar.{PlacedCar}
 use Rattle.pm_saver.specs.declared.place.InProgress.{InProgress}

@@ -1,7 +1,7 @@
-use Rattle.std.proofs.Common.{rules, ◌≡◌, ℕ, List, take, sym, ap, ◌∙◌, subst}
+use Rattle.std.proofs.Common.{rules, ℕ, List, take, sym, ap, ◌∙◌, subst}
 use Rattle.std.specs.List.{AllByRecursion}
 use Rattle.pm_shadow.specs.State.{State}
-use Rattle.pm_shadow.specs.Pages.{state, disk_of}
+use Rattle.pm_shadow.specs.Pages.{state}
 use Rattle.pm_saving.specs.Paging.{clean_page}
 use Rattle.pm_saving.specs.Tied.{IsOnPage, with_all_kept}
 use Rattle.pm_saver.specs.Seen.{place_seen}

@@ -1,4 +1,4 @@
-use Rattle.std.proofs.Common.{◌≡◌, None, ap}
+use Rattle.std.proofs.Common.{None, ap}
 use Rattle.std.specs.Prelude.{option_map}
 use Rattle.pm_base.specs.Mapped.{mapped}
 use Rattle.pm_shadow.specs.State.{abandoned_in}

@@ -1,11 +1,8 @@
-use Rattle.std.proofs.Common.{rules, ◌≡◌, ℕ, List, Option, Some, true, false, refl, sym, ap, ◌∙◌, subst}
+use Rattle.std.proofs.Common.{◌≡◌, List, Some, sym, ap, subst}
 use Rattle.std.specs.Prelude.{IfOk, IfSome, OnErr, option_map}
-use Rattle.std.specs.List.{AllByRecursion}
 use Rattle.pm_image.specs.declared.settled.KeptPage.{KeptPage}
-use Rattle.pm_shadow.specs.State.{keeps}
 use Rattle.pm_shadow.specs.Pages.{state, disk_of, current_kept}
-use Rattle.pm_saving.specs.Progress.{Progress}
-use Rattle.pm_saving.specs.Paging.{newly_kept, next_page}
+use Rattle.pm_saving.specs.Paging.{next_page}
 use Rattle.pm_saving.specs.Tied.{HasPage}
 use Rattle.pm_saver.specs.Frozen.{frozen_in}
 use Rattle.pm_saver.specs.Seen.{progress_seen}
