@@ -1,6 +1,6 @@
 -- What a flush leaves.
-use Rattle.std.proofs.Common.{◌≡◌, ℕ, ◌+◌, ◌<◌, ◌≤◌, true, false, List, Option, Some, None, Result, Ok, Err, refl, sym, ap, ◌∙◌, subst}
-use Rattle.std.specs.Prelude.{◌↔◌, IfOk, IfSome, OnErr}
+use Rattle.std.proofs.Common.{◌≡◌, ℕ, zero, suc, ◌+◌, ◌<◌, ◌≤◌, true, false, List, Option, Some, None, Result, Ok, Err, refl, sym, ap, ◌∙◌, subst, arith}
+use Rattle.std.specs.Prelude.{◌↔◌, IfOk, IfSome, IsSome, OnErr}
 use Rattle.std.specs.List.{AllByRecursion}
 use Rattle.pm_types.specs.declared.event.Flushed.{Flushed}
 use Rattle.pm_types.specs.declared.event.Flushed.TheVariants.{Wrote, AllFlushed}
@@ -113,6 +113,14 @@ module _ (old : Saving) (progress after : Progress) (frozen : Option Cars) (s t 
     contents = it.written.contents;
     left = ap (λ (p : Progress). left p + 1) it.seen ∙ less old.settled cars progress it.next page begun.1 it.is_next ∙ sym (ap left_of is);
   }
+
+  more_left : (n : ℕ) → left progress ≡ n → IsSome (next_page cars progress) → 0 < n
+  more_left zero gone some = let none_is = (none old.settled cars progress begun.1).1 gone in let absent : IsSome {T = NextPage} None = subst (λ (next : Option NextPage). IsSome next) none_is some in absurd cc
+  more_left (suc n) gone some = omega arith
+
+  pub fault_by : (result : Result Flushed SaveFault) → OnErr result (IsSome (next_page cars progress)) → OnErr result (0 < left_of old.progress)
+  fault_by (Ok done) some = tt
+  fault_by (Err fault) some = subst (λ (n : ℕ). 0 < n) (sym (ap left_of is)) (more_left (left progress) refl some)
 
   pub flushed_by : (result : Result Flushed SaveFault) → IfOk result (IsStep cars progress after s t was now) → IfOk result (IsFlushed old new cars s t was now)
   flushed_by (Ok AllFlushed) step = rests step

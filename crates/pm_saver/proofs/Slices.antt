@@ -1,5 +1,7 @@
 -- A stretch of two lists, one behind the other.
 use Rattle.std.proofs.Common.{◌≡◌, ℕ, zero, suc, ◌-◌, ◌<◌, ◌≤◌, min, Some, None, List, [], ◌∷◌, ◌++◌, length, map, get_or, take, drop, refl, sym, ap, ◌∙◌, arith}
+use Rattle.std.proofs.Common.{Result, Ok, Err}
+use Rattle.std.specs.Prelude.{OnErr}
 use Rattle.std.specs.List.{slice_get, slice_range}
 use Rattle.std.proofs.lemmas.List.{take-map, drop-map, length-drop, take_min, drop_min, drop_all, nil_from_length}
 
@@ -84,3 +86,8 @@ module _ {A : Type 0} where
 
   pub last_none : (xs : List A) → slice_get xs (length xs - 1) ≡ None → xs ≡ []
   last_none xs is = let none = past_end xs (length xs - 1) is in nil_from_length xs (omega (arith, none))
+
+-- what holds holds of a fault
+pub on_err : {T E : Type 0} (A : Type 0) (result : Result T E) → A → OnErr result A
+on_err A (Ok x) is = tt
+on_err A (Err fault) is = is

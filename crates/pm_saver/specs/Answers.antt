@@ -1,5 +1,5 @@
 -- What each answer of a saver's calls says.
-use Rattle.std.specs.Prelude.{◌≡◌, ℕ, List, Option, Some, Result, MatchResult}
+use Rattle.std.specs.Prelude.{◌≡◌, ℕ, List, Option, Some, Result, MatchResult, IfOk}
 use Rattle.pm_base.specs.Counts.{Rose}
 use Rattle.pm_types.specs.declared.event.Flushed.{Flushed}
 use Rattle.pm_types.specs.declared.event.Flushed.TheVariants.{Wrote, AllFlushed}
@@ -52,6 +52,11 @@ IsFlushed old new cars s t was now (Wrote page) = WritesNext old new cars s t wa
 abbrev pub IsMadeBy : Made → Made → Flushed → Type 0
 IsMadeBy before after AllFlushed = after ≡ before
 IsMadeBy before after (Wrote page) = after ≡ with_write before
+
+-- the same, and whatever is answered no read reached past the end of what the disk told
+pub record Makes (before after : Made) (result : Result Flushed SaveFault) : Type 0 where
+  pub by : IfOk result (IsMadeBy before after)
+  pub past : after.past ≡ before.past
 
 -- A crash at any moment of a run of calls leaves the copy that was current before it.
 abbrev pub Spares : {D : Type 0} → (D → Option (List ℕ)) → (D → ℕ) → (D → ℕ → List ℕ → Type 0) → State → D → D → Type 0

@@ -1,6 +1,6 @@
 //! Writing the next page of the copy in progress.
 
-ghost use Rattle.std.specs.Prelude.{◌≡◌, ℕ, List, IfOk, IfSome, OnErr};
+ghost use Rattle.std.specs.Prelude.{◌≡◌, ℕ, List, IfOk, IfSome, IsSome, OnErr};
 ghost use Rattle.pm_disk.specs.Disk.{IfTold, LeavesOnly};
 ghost use Rattle.pm_shadow.specs.Images.{Holds};
 ghost use Rattle.pm_shadow.specs.Pages.{state, disk_of};
@@ -9,7 +9,7 @@ ghost use Rattle.pm_saving.specs.Tied.{HasPage};
 ghost use Rattle.pm_saver.specs.Frozen.{frozen_in};
 ghost use Rattle.pm_saver.specs.Seen.{progress_seen};
 ghost use Rattle.pm_saver.specs.Kept.{IsKept};
-ghost use Rattle.pm_saver.specs.Answers.{HasCause, IsMadeBy, OnMemory, TellsOn};
+ghost use Rattle.pm_saver.specs.Answers.{HasCause, Makes, OnMemory, TellsOn};
 ghost use Rattle.pm_saver.specs.Putting.{IsReady};
 ghost use Rattle.pm_saver.specs.Steps.{IsStep};
 
@@ -49,8 +49,9 @@ fn flush<D: Disk>(
     ensures leaves { IfTold (D.contents (disk_of pages.old)) (λ told. LeavesOnly D.moment D.since (disk_of pages.old) (disk_of pages.new) (Holds (state pages.old) told)) }
     ensures told { TellsOn (D.contents (disk_of pages.old)) (D.contents (disk_of pages.new)) }
     ensures cause { HasCause (D.count (disk_of pages.old)) (D.count (disk_of pages.new)) result }
-    ensures made { IfOk result (IsMadeBy (D.made (disk_of pages.old)) (D.made (disk_of pages.new))) }
-    ensures past { (D.made (disk_of pages.new)).past ≡ (D.made (disk_of pages.old)).past }
+    ensures made { Makes (D.made (disk_of pages.old)) (D.made (disk_of pages.new)) result }
+    // A fault comes only where a page is left.
+    ensures fault { OnErr result (IsSome (next_page (frozen_in cars.now) (progress_seen settled.now it.old))) }
 {
     find_next(it);
     let Some(ready) = ready_next(alloc, settled, cars, it)? else {
@@ -62,11 +63,12 @@ fn flush<D: Disk>(
 }
 
 impl Saver {
-    ghost use Rattle.std.specs.Prelude.{◌≡◌, IfOk};
+    ghost use Rattle.std.specs.Prelude.{◌≡◌, ◌<◌, IfOk, OnErr};
+    ghost use Rattle.pm_saving.specs.Paging.{left_of};
     ghost use Rattle.pm_shadow.specs.Pages.{state, disk_of};
     ghost use Rattle.pm_saving.specs.Tied.{IsTied};
     ghost use Rattle.pm_saver.specs.Shown.{saving, frozen_of, frozen_cars};
-    ghost use Rattle.pm_saver.specs.Answers.{HasCause, IsFlushed, IsMadeBy, IsStill, KeepsCopy, OnMemory, Spares, TellsOn, UnlessDisk};
+    ghost use Rattle.pm_saver.specs.Answers.{HasCause, IsFlushed, Makes, IsStill, KeepsCopy, OnMemory, Spares, TellsOn, UnlessDisk};
 
     /// Writes the next page of the copy in progress on the lowest page that is free. `AllFlushed` exactly where no copy is
     /// in progress, or nothing of it is left to be written; nothing changed then.
@@ -93,9 +95,10 @@ impl Saver {
         ensures leaves { Spares D.contents D.moment D.since (state pages.old) (disk_of pages.old) (disk_of pages.new) }
         ensures told { TellsOn (D.contents (disk_of pages.old)) (D.contents (disk_of pages.new)) }
         ensures cause { HasCause (D.count (disk_of pages.old)) (D.count (disk_of pages.new)) result }
-        ensures made { IfOk result (IsMadeBy (D.made (disk_of pages.old)) (D.made (disk_of pages.new))) }
-        // No read reached past the end of what the disk told.
-        ensures past { (D.made (disk_of pages.new)).past ≡ (D.made (disk_of pages.old)).past }
+        // One write was made for a page, and no read reached past the end of what the disk told.
+        ensures made { Makes (D.made (disk_of pages.old)) (D.made (disk_of pages.new)) result }
+        // A fault comes only where a page is left.
+        ensures fault { OnErr result (0 < left_of (saving self.old).progress) }
     {
         pages_of_a_copy_are_written_in_order();
         the_next_page_is_written_beside_the_current_copy();

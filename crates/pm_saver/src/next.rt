@@ -3,7 +3,7 @@
 ghost use Rattle.pm_image.specs.declared.settled.KeptPage.{KeptPage};
 ghost use Rattle.pm_saver.specs.declared.place.PlacedCar.{PlacedCar};
 ghost use Rattle.pm_saver.specs.declared.next.Ready.{Ready};
-ghost use Rattle.std.specs.Prelude.{◌≡◌, ◌<◌, ◌≤◌, ◌^◌, ℕ, List, true, length, take, sum, Some, IfOk, IfSome, option_map};
+ghost use Rattle.std.specs.Prelude.{◌≡◌, ◌<◌, ◌≤◌, ◌^◌, ℕ, List, true, length, take, sum, Some, IfOk, IfSome, IsSome, OnErr, option_map};
 ghost use Rattle.std.specs.List.{AllByRecursion, slice_get};
 ghost use Rattle.std.specs.FinSet as set;
 ghost use Rattle.pm_types.specs.declared.limits.TheConstants.{FIELDS, PAGE_BYTES};
@@ -130,6 +130,8 @@ fn part_page(
     ensures next { IfOk result (λ page. part_before (catalog_left (progress_seen settled.now it.now)) (progress_seen settled.now it.now) ≡ option_map (λ (page : Ready). next_seen page.next) page) }
     ensures spelled { IfOk result (λ page. IfSome page (Spells (progress_seen settled.now it.now))) }
     ensures place { IfOk result (λ page. IfSome page (λ (ready : Ready). HasPlaceFor it.now ready.next)) }
+    // Memory runs out only where one is left.
+    ensures err { OnErr result (IsSome (part_before (catalog_left (progress_seen settled.now it.now)) (progress_seen settled.now it.now))) }
 {
     let Some(count) = it.counts.last() else {
         return Ok(None);
@@ -158,6 +160,8 @@ pub(crate) fn ready_next(
     ensures next { IfOk result (λ page. next_page (frozen_in cars.now) (progress_seen settled.now it.now) ≡ option_map (λ (page : Ready). next_seen page.next) page) }
     ensures spelled { IfOk result (λ page. IfSome page (Spells (progress_seen settled.now it.now))) }
     ensures place { IfOk result (λ page. IfSome page (λ (ready : Ready). HasPlaceFor it.now ready.next)) }
+    // Memory runs out only where one is left.
+    ensures err { OnErr result (IsSome (next_page (frozen_in cars.now) (progress_seen settled.now it.now))) }
 {
     match it.cars.get(it.placed) {
         Some(one) => Ok(Some(car_page(alloc, cars, one.number)?)),

@@ -1,17 +1,18 @@
-use Rattle.std.proofs.Common.{rules, ◌≡◌, ◌+◌, ◌<◌, ◌^◌, ◌-◌, ℕ, List, Option, Some, length, map, drop, sum, sym, ap, ◌∙◌, subst, arith}
-use Rattle.std.specs.Prelude.{IfSome}
+use Rattle.std.proofs.Common.{rules, refl, ◌≡◌, ◌+◌, ◌<◌, ◌^◌, ◌-◌, ℕ, List, Option, Some, length, map, drop, sum, sym, ap, ◌∙◌, subst, arith}
+use Rattle.std.specs.Prelude.{IfSome, IsSome}
 use Rattle.std.specs.List.{slice_get, slice_range, AllByRecursion}
 use Rattle.std.proofs.lemmas.List.{length-map, length-append}
 use Rattle.pm_image.specs.declared.settled.KeptPage.{KeptPage}
 use Rattle.pm_image.specs.declared.catalog.CatEntry.{CatEntry}
 use Rattle.pm_law_layout.specs.Plans.{root_entry}
 use Rattle.pm_saving.specs.Progress.{catalog_left, parts_of}
-use Rattle.pm_saving.specs.Paging.{NextPage, PartPage}
+use Rattle.pm_saving.specs.Paging.{NextPage, PartPage, part_before}
 use Rattle.pm_saving.specs.Tied.{HasPage}
 use Rattle.pm_saver.specs.declared.place.InProgress.{InProgress}
 use Rattle.pm_saver.specs.Seen.{car_seen, progress_seen}
 use Rattle.pm_saver.specs.Entries.{entries_in, entry_of}
 use Rattle.pm_saver.specs.Kept.{IsKept, IsPlaced}
+use Rattle.pm_saver.proofs.Slices.{on_err}
 use Rattle.pm_saver.proofs.Placed.{all_placed}
 use Rattle.pm_saver.proofs.Parts.{IsNextPart, next_part, digest_fits, page_fits}
 use Rattle.pm_saver.proofs.next.part_page.Goals as goal
@@ -77,3 +78,14 @@ returns-clause-next c =
     let is : c.linked-page.result.entries ≡ slice_range (entries_in progress) (sum it.counts.items - c.in-Some.count.now) (sum it.counts.items) =
     entries ∙ ap (λ (to : ℕ). slice_range (entries_in progress) (to - c.in-Some.count.now) to) same in
     next.part ∙ ap (λ (entries : List CatEntry). Some (PartPage entries)) (sym is)
+
+some_part : (settled : List KeptPage) (it : InProgress) (count : ℕ) → IsNextPart (progress_seen settled it) it.counts.items count → IsSome (part_before (catalog_left (progress_seen settled it)) (progress_seen settled it))
+some_part settled it count next = subst (λ (next : Option NextPage). IsSome next) (sym next.part) refl
+
+pub returns-in_err-entries-clause-err : goal.returns-in_err-entries-clause-err
+returns-in_err-entries-clause-err c =
+    on_err (IsSome (part_before (catalog_left (progress_seen c.args.settled.now c.args.it.now)) (progress_seen c.args.settled.now c.args.it.now))) c.from_residual.result (some_part c.args.settled.now c.args.it.now c.in-Some.count.now (part c.args.settled.now c.args.it.now c.in-Some.count.now c.deref.result.now c.requires.kept c.requires.placed c.in-Some.ensures.value c.deref.ensures.value))
+
+pub returns-in_err-bytes-clause-err : goal.returns-in_err-bytes-clause-err
+returns-in_err-bytes-clause-err c =
+    on_err (IsSome (part_before (catalog_left (progress_seen c.args.settled.now c.args.it.now)) (progress_seen c.args.settled.now c.args.it.now))) c.from_residual-in_err-bytes.result (some_part c.args.settled.now c.args.it.now c.in-Some.count.now (part c.args.settled.now c.args.it.now c.in-Some.count.now c.deref.result.now c.requires.kept c.requires.placed c.in-Some.ensures.value c.deref.ensures.value))

@@ -1,5 +1,5 @@
-use Rattle.std.proofs.Common.{rules, ◌≡◌, ◌<◌, ◌≤◌, List, true, length, get_or, Option, Some, None, sym, ap, ◌∙◌, subst}
-use Rattle.std.specs.Prelude.{IfOk, IfSome, option_map}
+use Rattle.std.proofs.Common.{rules, refl, ◌≡◌, ◌<◌, ◌≤◌, List, true, length, get_or, Option, Some, None, sym, ap, ◌∙◌, subst}
+use Rattle.std.specs.Prelude.{IfOk, IfSome, IsSome, OnErr, option_map}
 use Rattle.std.specs.List.{AllByRecursion, slice_get}
 use Rattle.pm_image.specs.declared.settled.KeptPage.{KeptPage}
 use Rattle.pm_view.specs.View.{Cars}
@@ -14,7 +14,7 @@ use Rattle.pm_saver.specs.Seen.{car_seen, progress_seen}
 use Rattle.pm_saver.specs.Frozen.{frozen_image, frozen_in}
 use Rattle.pm_saver.specs.Kept.{IsKept, IsPlaced, is_open}
 use Rattle.pm_saver.specs.Next.{IsFound, next_seen}
-use Rattle.pm_saver.proofs.Slices.{got, got_none}
+use Rattle.pm_saver.proofs.Slices.{got, got_none, on_err}
 use Rattle.pm_saver.proofs.Placed.{all_before, all_placed, first_found, none_open}
 use Rattle.pm_saver.proofs.next.ready_next.Goals as goal
 
@@ -64,3 +64,14 @@ pub returns-in-None-clause-next : goal.returns-in-None-clause-next
 returns-in-None-clause-next c =
     let next = (no_car c.args.settled.now (frozen_in c.args.cars.now) c.args.it.now c.deref.result.now c.requires.kept c.requires.found (search rules) c.deref.ensures.value).1 in
     subst (λ (next : Option SeenPage). IfOk c.part_page.result (λ page. next ≡ option_map (λ (page : Ready). next_seen page.next) page)) (sym next) c.part_page.ensures.next
+
+pub returns-in_err-car_page-in-Some-clause-err : goal.returns-in_err-car_page-in-Some-clause-err
+returns-in_err-car_page-in-Some-clause-err c =
+    let lookup = c.in-Some.ensures.lookup in
+    let next = car_next c.args.settled.now (frozen_in c.args.cars.now) c.args.it.now c.deref.result.now c.in-Some.one.now c.requires.kept c.requires.found lookup.3.0 lookup.1 c.deref.ensures.value in
+    on_err (IsSome (next_page (frozen_in c.args.cars.now) (progress_seen c.args.settled.now c.args.it.now))) c.from_residual.result (subst (λ (next : Option SeenPage). IsSome next) (sym next) refl)
+
+pub returns-in-None-clause-err : goal.returns-in-None-clause-err
+returns-in-None-clause-err c =
+    let next = (no_car c.args.settled.now (frozen_in c.args.cars.now) c.args.it.now c.deref.result.now c.requires.kept c.requires.found (search rules) c.deref.ensures.value).1 in
+    subst (λ (next : Option SeenPage). OnErr c.part_page.result (IsSome next)) (sym next) c.part_page.ensures.err

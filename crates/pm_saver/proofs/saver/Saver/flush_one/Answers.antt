@@ -1,5 +1,5 @@
 use Rattle.std.proofs.Common.{◌≡◌, List, Some, sym, ap, subst}
-use Rattle.std.specs.Prelude.{IfOk, IfSome, OnErr, option_map}
+use Rattle.std.specs.Prelude.{IfOk, IfSome, IsSome, OnErr, option_map}
 use Rattle.pm_image.specs.declared.settled.KeptPage.{KeptPage}
 use Rattle.pm_shadow.specs.Pages.{state, disk_of, current_kept}
 use Rattle.pm_saving.specs.Paging.{next_page}
@@ -10,7 +10,7 @@ use Rattle.pm_saver.specs.Shown.{frozen_of, saving}
 use Rattle.pm_saver.specs.Answers.{OnMemory}
 use Rattle.pm_saver.specs.Steps.{IsStep}
 use Rattle.pm_saver.proofs.Keeping.{newly_on}
-use Rattle.pm_saver.proofs.FlushLemmas.{memory_told, begun_from, may_be, holds_now, spares_by, spares_still, flushed_by, tied_by, has_by}
+use Rattle.pm_saver.proofs.FlushLemmas.{memory_told, begun_from, may_be, holds_now, spares_by, spares_still, fault_by, flushed_by, tied_by, has_by}
 use Rattle.pm_saver.proofs.saver.Saver.flush_one.Goals as goal
 
 pub returns-in_default-clause-leaves : goal.returns-in_default-clause-leaves
@@ -97,3 +97,16 @@ returns-clause-has g c =
 pub returns-clause-leaves : goal.returns-clause-leaves
 returns-clause-leaves g c =
     spares_by g.D.Disk.contents g.D.Disk.image g.D.Disk.moment g.D.Disk.since (state c.args.pages.now) (disk_of c.args.pages.now) (disk_of c.flush.new.pages) c.flush.ensures.leaves c.a_published_copy_is_the_settled_one.ensures.held
+
+pub returns-clause-fault : goal.returns-clause-fault
+returns-clause-fault g c =
+    let self = c.args.self.now in
+    let settled = self.settled.items in
+    let progress = progress_seen settled c.in-Some.it in
+    let is : (saving self).progress ≡ Some progress = ap (option_map (progress_seen settled)) c.in-Some.is in
+    let s = state c.args.pages.now in
+    let cars = frozen_in c.args.space.now.parts.cars in
+    let some : OnErr c.flush.result (IsSome (next_page cars progress)) = subst (λ (settled : List KeptPage). OnErr c.flush.result (IsSome (next_page cars (progress_seen settled c.in-Some.it)))) c.deref.ensures.value c.flush.ensures.fault in
+    let law = c.pages_of_a_copy_are_written_in_order.ensures in
+    fault_by (saving self) progress (progress_seen settled c.flush.new.it) (frozen_of c.args.space.now.parts) s (state c.flush.new.pages) (g.D.Disk.contents (disk_of c.args.pages.now)) (g.D.Disk.contents (disk_of c.flush.new.pages))
+    (newly_on s settled c.in-Some.it c.requires.tied.on_pages) c.requires.tied is law.none law.left c.flush.result some
