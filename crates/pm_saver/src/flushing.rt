@@ -42,11 +42,13 @@ fn flush<D: Disk>(
     requires may { IfSome (next_page (frozen_in cars.now) (progress_seen settled.now it.old)) HasPage }
     requires ready { IsReady (state pages.old) settled.now }
     ensures kept { IsKept settled.now it.new }
-    ensures step { IfOk result (IsStep (frozen_in cars.now) (progress_seen settled.now it.old) (progress_seen settled.now it.new)
+    ensures step { IfOk result (IsStep (frozen_in cars.now) (progress_seen settled.now it.old)
+        (progress_seen settled.now it.new)
         (state pages.old) (state pages.new) (D.contents (disk_of pages.old)) (D.contents (disk_of pages.new))) }
     ensures err { OnErr result (progress_seen settled.now it.new ≡ progress_seen settled.now it.old) }
     ensures memory { OnMemory result ((state pages.new ≡ state pages.old) × (disk_of pages.new ≡ disk_of pages.old)) }
-    ensures leaves { IfTold (D.contents (disk_of pages.old)) (λ told. LeavesOnly D.moment D.since (disk_of pages.old) (disk_of pages.new) (Holds (state pages.old) told)) }
+    ensures leaves { IfTold (D.contents (disk_of pages.old)) (λ told. LeavesOnly D.moment D.since
+        (disk_of pages.old) (disk_of pages.new) (Holds (state pages.old) told)) }
     ensures told { TellsOn (D.contents (disk_of pages.old)) (D.contents (disk_of pages.new)) }
     ensures cause { HasCause (D.count (disk_of pages.old)) (D.count (disk_of pages.new)) result }
     ensures made { Makes (D.made (disk_of pages.old)) (D.made (disk_of pages.new)) result }
@@ -70,8 +72,8 @@ impl Saver {
     ghost use Rattle.pm_saver.specs.Shown.{saving, frozen_of, frozen_cars};
     ghost use Rattle.pm_saver.specs.Answers.{HasCause, IsFlushed, Makes, IsStill, KeepsCopy, OnMemory, Spares, TellsOn, UnlessDisk};
 
-    /// Writes the next page of the copy in progress on the lowest page that is free. `AllFlushed` exactly where no copy is
-    /// in progress, or nothing of it is left to be written; nothing changed then.
+    /// Writes the next page of the copy in progress on the lowest page that is free. `AllFlushed` exactly where no
+    /// copy is in progress, or nothing of it is left to be written; nothing changed then.
     ///
     /// # Errors
     ///
@@ -82,15 +84,19 @@ impl Saver {
         space: &Space<F>,
         pages: &mut Pages<D>,
     ) -> Result<Flushed, SaveFault>
-        requires tied { IsTied (saving self.old) (frozen_of space.now.parts) (state pages.old) (D.contents (disk_of pages.old)) }
+        requires tied { IsTied (saving self.old) (frozen_of space.now.parts) (state pages.old) (D.contents
+            (disk_of pages.old)) }
         ensures flushed { IfOk result (IsFlushed (saving self.old) (saving self.new) (frozen_cars space.now.parts)
             (state pages.old) (state pages.new) (D.contents (disk_of pages.old)) (D.contents (disk_of pages.new))) }
         // What holds between calls holds again.
-        ensures tied { UnlessDisk result (IsTied (saving self.new) (frozen_of space.now.parts) (state pages.new) (D.contents (disk_of pages.new))) }
-        ensures memory { OnMemory result (IsStill (saving self.old) (saving self.new) (state pages.old) (state pages.new)
+        ensures tied { UnlessDisk result (IsTied (saving self.new) (frozen_of space.now.parts) (state pages.new)
+            (D.contents (disk_of pages.new))) }
+        ensures memory { OnMemory result (IsStill (saving self.old) (saving self.new) (state pages.old)
+            (state pages.new)
             (D.contents (disk_of pages.old)) (D.contents (disk_of pages.new))) }
         // The current copy stands where it stood,
-        ensures has { UnlessDisk result (KeepsCopy (state pages.old) (state pages.new) (D.contents (disk_of pages.old)) (D.contents (disk_of pages.new))) }
+        ensures has { UnlessDisk result (KeepsCopy (state pages.old) (state pages.new) (D.contents
+            (disk_of pages.old)) (D.contents (disk_of pages.new))) }
         // and a crash at any moment of the call leaves it.
         ensures leaves { Spares D.contents D.moment D.since (state pages.old) (disk_of pages.old) (disk_of pages.new) }
         ensures told { TellsOn (D.contents (disk_of pages.old)) (D.contents (disk_of pages.new)) }

@@ -46,7 +46,8 @@ fn push_cars(
 ) -> Result<(), NoMemory>
     requires within { AllByRecursion (λ (one : PlacedCar). IsWithin settled.now one.place) cars.now }
     requires placed { AllByRecursion IsPlaced cars.now }
-    ensures { OnOk result (entries.new.items ≡ entries.old.items ++ map entry_of (map (car_seen settled.now) cars.now)) }
+    ensures { OnOk result (entries.new.items ≡ entries.old.items ++ map entry_of (map
+        (car_seen settled.now) cars.now)) }
 {
     for one in cars {
         entries.push(entry_of(settled, one))?;

@@ -126,12 +126,15 @@ fn part_page(
 ) -> Result<Option<Ready>, NoMemory>
     requires kept { IsKept settled.now it.now }
     requires placed { AllByRecursion IsPlaced it.now.cars.items }
-    requires may { IfSome (part_before (catalog_left (progress_seen settled.now it.now)) (progress_seen settled.now it.now)) HasPage }
-    ensures next { IfOk result (λ page. part_before (catalog_left (progress_seen settled.now it.now)) (progress_seen settled.now it.now) ≡ option_map (λ (page : Ready). next_seen page.next) page) }
+    requires may { IfSome (part_before (catalog_left (progress_seen settled.now it.now))
+        (progress_seen settled.now it.now)) HasPage }
+    ensures next { IfOk result (λ page. part_before (catalog_left (progress_seen settled.now it.now))
+        (progress_seen settled.now it.now) ≡ option_map (λ (page : Ready). next_seen page.next) page) }
     ensures spelled { IfOk result (λ page. IfSome page (Spells (progress_seen settled.now it.now))) }
     ensures place { IfOk result (λ page. IfSome page (λ (ready : Ready). HasPlaceFor it.now ready.next)) }
     // Memory runs out only where one is left.
-    ensures err { OnErr result (IsSome (part_before (catalog_left (progress_seen settled.now it.now)) (progress_seen settled.now it.now))) }
+    ensures err { OnErr result (IsSome (part_before (catalog_left (progress_seen settled.now it.now))
+        (progress_seen settled.now it.now))) }
 {
     let Some(count) = it.counts.last() else {
         return Ok(None);
@@ -157,7 +160,8 @@ pub(crate) fn ready_next(
     requires kept { IsKept settled.now it.now }
     requires found { IsFound it.now }
     requires may { IfSome (next_page (frozen_in cars.now) (progress_seen settled.now it.now)) HasPage }
-    ensures next { IfOk result (λ page. next_page (frozen_in cars.now) (progress_seen settled.now it.now) ≡ option_map (λ (page : Ready). next_seen page.next) page) }
+    ensures next { IfOk result (λ page. next_page (frozen_in cars.now) (progress_seen settled.now it.now)
+        ≡ option_map (λ (page : Ready). next_seen page.next) page) }
     ensures spelled { IfOk result (λ page. IfSome page (Spells (progress_seen settled.now it.now))) }
     ensures place { IfOk result (λ page. IfSome page (λ (ready : Ready). HasPlaceFor it.now ready.next)) }
     // Memory runs out only where one is left.

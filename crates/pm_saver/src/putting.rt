@@ -29,7 +29,8 @@ fn keep_page<D: Disk>(settled: &[KeptPage], one: &PlacedCar, pages: &mut Pages<D
     requires within { IsWithin settled.now one.now.place }
     requires known { (state pages.old).known ≡ true }
     requires on_pages { AllByRecursion (IsOnPage (state pages.old)) settled.now }
-    ensures state { state pages.new ≡ with_all_kept (clean_page (place_seen settled.now one.now.place)) (state pages.old) }
+    ensures state { state pages.new ≡ with_all_kept (clean_page (place_seen settled.now one.now.place))
+        (state pages.old) }
     ensures still { disk_of pages.new ≡ disk_of pages.old }
 {
     let Place::Clean(index) = &one.place else {
@@ -65,8 +66,8 @@ fn keep_first<D: Disk>(settled: &[KeptPage], it: &InProgress, pages: &mut Pages<
     keep_clean(settled, &it.cars, pages);
 }
 
-/// Claims the lowest page that is free and writes these bytes on it; with the first page of a copy the pages of its clean
-/// cars are kept.
+/// Claims the lowest page that is free and writes these bytes on it; with the first page of a copy the pages of its
+/// clean cars are kept.
 pub(crate) fn put_page<D: Disk>(
     settled: &[KeptPage],
     it: &InProgress,
@@ -76,10 +77,12 @@ pub(crate) fn put_page<D: Disk>(
     requires within { AllByRecursion (λ (one : PlacedCar). IsWithin settled.now one.place) it.now.cars.items }
     requires ready { IsReady (state pages.old) settled.now }
     requires whole { length bytes.now ≡ PAGE_BYTES }
-    ensures written { IfOk result (IsWritten (newly_kept (progress_seen settled.now it.now)) (state pages.old) (state pages.new)
+    ensures written { IfOk result (IsWritten (newly_kept (progress_seen settled.now it.now)) (state pages.old)
+        (state pages.new)
         (D.contents (disk_of pages.old)) (D.contents (disk_of pages.new)) bytes.now) }
     ensures memory { OnMemory result ((state pages.new ≡ state pages.old) × (disk_of pages.new ≡ disk_of pages.old)) }
-    ensures leaves { IfTold (D.contents (disk_of pages.old)) (λ told. LeavesOnly D.moment D.since (disk_of pages.old) (disk_of pages.new) (Holds (state pages.old) told)) }
+    ensures leaves { IfTold (D.contents (disk_of pages.old)) (λ told. LeavesOnly D.moment D.since
+        (disk_of pages.old) (disk_of pages.new) (Holds (state pages.old) told)) }
     ensures told { TellsOn (D.contents (disk_of pages.old)) (D.contents (disk_of pages.new)) }
     ensures cause { HasCause (D.count (disk_of pages.old)) (D.count (disk_of pages.new)) result }
     ensures made { IfOk result (λ page. D.made (disk_of pages.new) ≡ with_write (D.made (disk_of pages.old))) }
