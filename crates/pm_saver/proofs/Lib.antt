@@ -3,3 +3,13 @@ pub mod PlaceLemmas
 pub mod PlanLemmas
 pub mod RootLemmas
 pub mod BeginLemmas
+mod Slices
+mod Between
+mod Frozen
+mod Parts
+mod Placed
+mod NotedCar
+mod NotedPart
+mod Keeping
+mod FlushLemmas
+mod DropLemmas

@@ -1,9 +1,9 @@
 -- What each answer of a saver's calls says.
-use Rattle.std.specs.Prelude.{◌≡◌, ℕ, List, Option, Some, Result, MatchResult}
+use Rattle.std.specs.Prelude.{◌≡◌, ℕ, List, Option, Some, Result, MatchResult, IfOk}
 use Rattle.pm_base.specs.Counts.{Rose}
 use Rattle.pm_types.specs.declared.event.Flushed.{Flushed}
 use Rattle.pm_types.specs.declared.event.Flushed.TheVariants.{Wrote, AllFlushed}
-use Rattle.pm_disk.specs.Disk.{LeavesOnly}
+use Rattle.pm_disk.specs.Disk.{IfTold, LeavesOnly}
 use Rattle.pm_disk.specs.Made.{Made, with_write}
 use Rattle.pm_model.specs.World.{Copy}
 use Rattle.pm_image.specs.Stands.{Stands}
@@ -53,6 +53,11 @@ abbrev pub IsMadeBy : Made → Made → Flushed → Type 0
 IsMadeBy before after AllFlushed = after ≡ before
 IsMadeBy before after (Wrote page) = after ≡ with_write before
 
+-- the same, and whatever is answered no read reached past the end of what the disk told
+pub record Makes (before after : Made) (result : Result Flushed SaveFault) : Type 0 where
+  pub by : IfOk result (IsMadeBy before after)
+  pub past : after.past ≡ before.past
+
 -- A crash at any moment of a run of calls leaves the copy that was current before it.
 abbrev pub Spares : {D : Type 0} → (D → Option (List ℕ)) → (D → ℕ) → (D → ℕ → List ℕ → Type 0) → State → D → D → Type 0
 Spares contents moment since s old new =
@@ -62,3 +67,7 @@ Spares contents moment since s old new =
 -- the disk tells its contents still
 abbrev pub TellsOn : Option (List ℕ) → Option (List ℕ) → Type 0
 TellsOn was now = (bytes : List ℕ) → was ≡ Some bytes → (after : List ℕ) × (now ≡ Some after)
+
+-- the copy that stood behind the current header does so still, where the disk tells its contents
+abbrev pub KeepsCopy : State → State → Option (List ℕ) → Option (List ℕ) → Type 0
+KeepsCopy s t was now = (copy : Copy) (bytes : List ℕ) → was ≡ Some bytes → HasCopy s bytes copy → IfTold now (λ after. HasCopy t after copy)

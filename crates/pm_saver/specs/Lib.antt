@@ -5,3 +5,10 @@ pub mod Shown
 pub mod Answers
 pub mod Planned
 pub mod Counted
+pub mod Frozen
+pub mod Entries
+pub mod Next
+pub mod Noted
+pub mod Putting
+pub mod Steps
+pub mod Thawed

@@ -4,13 +4,20 @@
 mod beginning;
 #[cfg(test)]
 mod beginning_tests;
+mod copying;
 mod counter;
 mod counting;
+mod dropping;
 mod fault;
+mod flushing;
+mod listing;
 mod naming;
+mod next;
+mod noting;
 mod place;
 mod placing;
 mod planning;
+mod putting;
 mod saver;
 
 pub use fault::SaveFault;
