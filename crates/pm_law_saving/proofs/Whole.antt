@@ -11,7 +11,8 @@ use Rattle.pm_image.specs.declared.car.CarImage.{CarImage}
 use Rattle.pm_image.specs.declared.catalog.CatalogPage.{CatalogPage}
 use Rattle.pm_image.specs.declared.settled.KeptPage.{KeptPage}
 use Rattle.pm_image.specs.CarAnswers.{AreBytes}
-use Rattle.pm_image.specs.Opening.{page_count}
+use Rattle.pm_image.specs.Opening.{page_count, page_of}
+use Rattle.pm_image.proofs.FrameLaws.{graph_too}
 use Rattle.pm_image.specs.Stands.{pages_of}
 use Rattle.pm_shadow.specs.declared.page_use.PageUse.{PageUse}
 use Rattle.pm_shadow.specs.declared.page_use.PageUse.TheVariants.{Free, Current, Claimed, Kept}
@@ -148,7 +149,7 @@ claimed_or_kept Claimed is = inl refl
 claimed_or_kept Kept is = inr refl
 
 module _ (saving : Saving) (cars : Cars) (s : State) (bytes : List ℕ) (progress : Progress) (tied : IsTied saving (Some cars) s (Some bytes)) (is : saving.progress ≡ Some progress) (none : left progress ≡ 0)
-    (fits : AreBytes bytes) (counted : s.count ≤ page_count bytes) (few : page_count bytes ≤ 2 ^ 64) where
+    (fits : AreBytes bytes) (counted : s.count ≤ page_count bytes) (few : s.count ≤ 2 ^ 64) where
   way : IsUnderWay saving cars s (Some bytes) progress
   way = under_way saving cars s (Some bytes) progress tied is
 
@@ -289,30 +290,34 @@ module _ (saving : Saving) (cars : Cars) (s : State) (bytes : List ℕ) (progres
   plan_listed : IsListed (plan_of progress)
   plan_listed = subst (IsCutInto (planned_entries (plan_of progress))) (sym catalog_parts) (planned_cut progress.next_id FIELDS (plan_of progress) plan_store)
 
-  plan_laid : IsLaidBehind (pages_of bytes) (header_of progress) (plan_of progress)
+  -- It is laid on the pages that are counted: all that the copy stands on are among them.
+  plan_laid : IsLaidBehind (record { count = s.count; page = page_of bytes }) (header_of progress) (plan_of progress)
   plan_laid = record {
     of_store = plan_store;
     listed = plan_listed;
     held = record {
-      cars = subst (AllByRecursion (IsCarHeld (pages_of bytes))) (sym planned_are) (by_members (IsCarHeld (pages_of bytes)) (car_pages progress) (λ kept within. (car_held kept within).0));
+      cars = subst (AllByRecursion (IsCarHeld (record { count = s.count; page = page_of bytes }))) (sym planned_are)
+          (by_members (IsCarHeld (record { count = s.count; page = page_of bytes })) (car_pages progress) (λ kept within. let held = (car_held kept within).0 in record { spelled = held.spelled; digest = held.digest }));
       catalog = parts_held (chain_of (catalog_of progress)) (all_map (IsPut s (Some bytes)) part_put (chain_of (catalog_of progress)) (all_back (IsPut s (Some bytes)) (written_cars progress.cars) (written_parts (catalog_of progress)) way.pages.read));
       own_pages = record {
-        within = by_members (λ (page : ℕ). (2 ≤ page) × (page < page_count bytes)) (planned_pages (plan_of progress)) (λ page within. let next = page_next page within in (next.from_2, next.there));
+        within = by_members (λ (page : ℕ). (2 ≤ page) × (page < s.count)) (planned_pages (plan_of progress)) (λ page within. let next = page_next page within in (next.from_2, next.counted));
         apart = plan_apart;
       };
     };
     header_of = record { version = refl; first = refl; digest = refl };
   }
     where
-      parts_held : (chain : List (ℕ × CatalogPage)) → AllByRecursion (λ (page : ℕ × CatalogPage). IsPut s (Some bytes) (part_put page)) chain → AllByRecursion (IsPageHeld (pages_of bytes)) chain
+      parts_held : (chain : List (ℕ × CatalogPage)) → AllByRecursion (λ (page : ℕ × CatalogPage). IsPut s (Some bytes) (part_put page)) chain → AllByRecursion (IsPageHeld (record { count = s.count; page = page_of bytes })) chain
       parts_held [] read = tt
       parts_held (page ∷ chain) read = (read.0.reads bytes refl, parts_held chain read.1)
 
   whole_laid : IsWhole s bytes cars progress
   whole_laid =
       let plan = plan_of progress in
-      let found = laid_found (pages_of bytes) (header_of progress) plan few plan_laid in
       let used = plan_pages plan in
+      let found = graph_too (record { count = s.count; page = page_of bytes }) (pages_of bytes) (header_of progress) (graph_of_plan plan)
+      (laid_found (record { count = s.count; page = page_of bytes }) (header_of progress) plan few plan_laid)
+      (λ page within. ((page_next page (subst (λ (pages : List ℕ). Contains pages page) used within)).there, refl)) in
       let same : planned_list plan ≡ list_of cars progress = cars_same saving.settled cars progress.cars way.copy.stand all.cars in
       record {
         graph = graph_of_plan plan;
@@ -327,7 +332,7 @@ module _ (saving : Saving) (cars : Cars) (s : State) (bytes : List ℕ) (progres
       }
 
 pub copy_whole : (saving : Saving) (cars : Cars) (s : State) (bytes : List ℕ) (progress : Progress) → IsTied saving (Some cars) s (Some bytes) → saving.progress ≡ Some progress → left progress ≡ 0
-    → AreBytes bytes → s.count ≤ page_count bytes → page_count bytes ≤ 2 ^ 64 → IsWhole s bytes cars progress
+    → AreBytes bytes → s.count ≤ page_count bytes → s.count ≤ 2 ^ 64 → IsWhole s bytes cars progress
 copy_whole = whole_laid
 
 pub copy_header : (saving : Saving) (cars : Cars) (s : State) (contents : Option (List ℕ)) (progress : Progress) → IsTied saving (Some cars) s contents → saving.progress ≡ Some progress → left progress ≡ 0

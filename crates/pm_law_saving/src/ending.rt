@@ -24,7 +24,7 @@ pub fn a_whole_copy_may_be_published()
     // numbers of eight bytes count.
     ensures whole { (saving : Saving) (cars : Cars) (s : State) (bytes : List ℕ) (progress : Progress)
         → IsTied saving (Some cars) s (Some bytes) → saving.progress ≡ Some progress → left progress ≡ 0
-        → AreBytes bytes → s.count ≤ page_count bytes → page_count bytes ≤ 2 ^ 64 → IsWhole s bytes cars progress }
+        → AreBytes bytes → s.count ≤ page_count bytes → s.count ≤ 2 ^ 64 → IsWhole s bytes cars progress }
 {}
 
 /// A law of saving: the gate of the next header is closed beside the copy in progress.
