@@ -2,7 +2,6 @@
 use Rattle.std.proofs.Common.{◌≡◌, ◌<◌, ◌≤◌, ℕ, ◌+◌, Bool, true, false, if◌then◌else◌, List, [], ◌∷◌, ◌++◌, Option, Some, None, option_map, refl, sym, ap, subst, ◌∙◌, arith, nat_lt}
 use Rattle.std.proofs.lemmas.Bool.Decides.{nat_tests}
 use Rattle.std.specs.FinMap.{get}
-
 use Rattle.pm_types.specs.declared.limits.TheConstants.{LAST_COPY}
 use Rattle.pm_types.specs.declared.command.Cmd.{Cmd}
 use Rattle.pm_types.specs.declared.command.Cmd.TheVariants.{Save, Settle, Unsave, Watch, New, Load, Store, Clear, Show, Put, Copy, IdOf, Forget, Bind, Unbind, Find, Close, Swap}
@@ -95,12 +94,11 @@ module _ (client : ℕ) (cmd : Cmd) (old new : Serving) (reply : Reply) (served 
   pub refuses : new.view ≡ old.view → new.frozen ≡ old.frozen → new.saving ≡ old.saving → Serves client cmd old new reply × IsServed new
   refuses view frozen saving =
       let is : reply ≡ (answer (world old) client cmd).0 = sym (ap (λ (a : Reply × World). a.0) says) in
-      let same : (answer (world old) client cmd).1 ≡ world old = ap (λ (a : Reply × World). a.1) says in
-      (
+      let same : (answer (world old) client cmd).1 ≡ world old = ap (λ (a : Reply × World). a.1) says in (
         record { appends = appends; reply_is = is },
         goes_on client cmd old new reply served appends is
-        (subst (Represents new.view) (sym same) (subst (λ (v : SpaceView). Represents v (world old)) (sym view) served.represents))
-        (ap (λ (w : World). w.saving) same ∙ served.saving ∙ same_progress old new frozen saving),
+            (subst (Represents new.view) (sym same) (subst (λ (v : SpaceView). Represents v (world old)) (sym view) served.represents))
+            (ap (λ (w : World). w.saving) same ∙ served.saving ∙ same_progress old new frozen saving),
       )
 
 -- what is in progress in the world
@@ -138,18 +136,18 @@ undropped client old new served none appends =
 saved_apart : (view : SpaceView) (w v : World) → v.heap ≡ w.heap → v.roots ≡ w.roots → v.registers ≡ w.registers → v.next ≡ w.next → Represents view w → Represents view v
 saved_apart view w v heap roots registers next represents =
     subst (Represents view) (λ i. record v { heap = sym heap i; roots = sym roots i; registers = sym registers i; next = sym next i }) (again view w v represents)
-    where
-      again : (view : SpaceView) (w v : World) → Represents view w → Represents view (record v { heap = w.heap; roots = w.roots; registers = w.registers; next = w.next })
-      again view w v represents = record {
-        roots = represents.roots;
-        registers = represents.registers;
-        next = represents.next;
-        objects = represents.objects;
-        reached = represents.reached;
-        leftover = λ a object aside is none.
-            let gone = represents.leftover a object aside is none in
-            record { name = gone.name; register = gone.register; field = gone.field };
-      }
+  where
+    again : (view : SpaceView) (w v : World) → Represents view w → Represents view (record v { heap = w.heap; roots = w.roots; registers = w.registers; next = w.next })
+    again view w v represents = record {
+      roots = represents.roots;
+      registers = represents.registers;
+      next = represents.next;
+      objects = represents.objects;
+      reached = represents.reached;
+      leftover = λ a object aside is none.
+          let gone = represents.leftover a object aside is none in
+          record { name = gone.name; register = gone.register; field = gone.field };
+    }
 
 below : (n : ℕ) → n < LAST_COPY → nat_lt n LAST_COPY ≡ true
 below n less = grind (arith, nat_tests, less)
@@ -163,12 +161,11 @@ module _ (client : ℕ) (cmd : Cmd) (old new : Serving) (reply : Reply) (served 
       → Serves client cmd old new reply × IsServed new
   moves view saving heap roots registers next_id =
       let is : reply ≡ (answer (world old) client cmd).0 = sym (ap (λ (a : Reply × World). a.0) says) in
-      let same : (answer (world old) client cmd).1 ≡ next = ap (λ (a : Reply × World). a.1) says in
-      (
+      let same : (answer (world old) client cmd).1 ≡ next = ap (λ (a : Reply × World). a.1) says in (
         record { appends = appends; reply_is = is },
         goes_on client cmd old new reply served appends is
-        (subst (Represents new.view) (sym same) (saved_apart new.view (world old) next heap roots registers next_id (subst (λ (v : SpaceView). Represents v (world old)) (sym view) served.represents)))
-        (ap (λ (w : World). w.saving) same ∙ saving),
+            (subst (Represents new.view) (sym same) (saved_apart new.view (world old) next heap roots registers next_id (subst (λ (v : SpaceView). Represents v (world old)) (sym view) served.represents)))
+            (ap (λ (w : World). w.saving) same ∙ saving),
       )
 
 pub begins : (client : ℕ) (old new : Serving) (begun : Progress) → IsServed old → HeapLaw old.view → old.saving.progress ≡ None → (world old).settled < LAST_COPY → begun.number ≡ (world old).settled + 1

@@ -47,9 +47,9 @@ module _ {D : Type 0} (contents : D → Option (List ℕ)) (image : D → List �
 
   -- a call of which each image stands so
   module _ (old : Serving) (before after : D) (P : List ℕ → Type 0) (sound : IsSound old) (keeps : KeepsImages contents image moment since opened old before)
-    (leaves : IsTold (contents before) → LeavesOnly moment since before after P) (told : IsTold (contents before) → IsTold (contents after))
-    (later : moment before ≤ moment after)
-    (counts : (t : ℕ) (bytes : List ℕ) → t ≤ moment after → image after bytes → since after t bytes) where
+      (leaves : IsTold (contents before) → LeavesOnly moment since before after P) (told : IsTold (contents before) → IsTold (contents after))
+      (later : moment before ≤ moment after)
+      (counts : (t : ℕ) (bytes : List ℕ) → t ≤ moment after → image after bytes → since after t bytes) where
     goes : (new : Serving) → ((left : List ℕ) → P left → IsLast new left) → ((left : List ℕ) → P left → IsOfRun new left) → ((left : List ℕ) → IsOfChain (opening old) old.journal left → IsOfRun new left)
         → KeepsImages contents image moment since opened new after
     goes new last run chained = record {
@@ -87,7 +87,7 @@ module _ {D : Type 0} (contents : D → Option (List ℕ)) (image : D → List �
         → (IsTold (contents before) → (left : List ℕ) → image after left → IsSettled (world new) left) → KeepsImages contents image moment since opened new after
     acknowledged new longer is_longer more there was_there stands only =
         let in_new : (left : List ℕ) → IsOfChain (opening old) old.journal left → IsOfRun new left =
-            λ left kept. inl (kept.0, subst (λ (copies : List (ℕ × Copy)). Contains copies kept.0) (sym is_longer) (more kept.0 kept.1), kept.2) in
+        λ left kept. inl (kept.0, subst (λ (copies : List (ℕ × Copy)). Contains copies kept.0) (sym is_longer) (more kept.0 kept.1), kept.2) in
         record {
           later = let first = keeps.later in omega (arith, first, later);
           told = λ is. told (keeps.told is);
