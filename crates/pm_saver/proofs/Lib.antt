@@ -13,3 +13,8 @@ mod NotedPart
 mod Keeping
 mod FlushLemmas
 mod DropLemmas
+mod TakeLemmas
+mod RunLemmas
+mod GateLemmas
+mod OnceLemmas
+mod SettleLemmas

@@ -12,3 +12,6 @@ pub mod Noted
 pub mod Putting
 pub mod Steps
 pub mod Thawed
+pub mod Taken
+pub mod Settling
+pub mod Runs

@@ -19,6 +19,7 @@ mod placing;
 mod planning;
 mod putting;
 mod saver;
+mod settling;
 
 pub use fault::SaveFault;
 pub use saver::Saver;

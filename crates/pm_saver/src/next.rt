@@ -103,6 +103,14 @@ fn total(counts: &[usize]) -> usize
     total
 }
 
+/// The first of the pages of the catalog that were written, 0 where none was.
+pub(crate) fn first_part(it: &InProgress) -> u64
+    ensures { (settled : List KeptPage) → IsKept settled it.now → AllByRecursion IsPlaced it.now.cars.items
+        → result ≡ first_of (chain_of (catalog_of (progress_seen settled it.now))) }
+{
+    it.parts.last().copied().unwrap_or(0)
+}
+
 /// Entries before the pages of the catalog that were written.
 fn linked(it: &InProgress, entries: EntryList) -> CatalogPage
     ensures entries { result.entries ≡ entries }
@@ -112,7 +120,7 @@ fn linked(it: &InProgress, entries: EntryList) -> CatalogPage
 {
     let digest = it.digest;
     CatalogPage {
-        next: it.parts.last().copied().unwrap_or(0),
+        next: first_part(it),
         digest,
         entries,
     }
