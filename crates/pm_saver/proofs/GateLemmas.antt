@@ -1,10 +1,10 @@
 -- Closing the other gate, and publishing beside the pages.
-use Rattle.std.proofs.Common.{◌≡◌, ◌⊎◌, inl, inr, ⊎_elim, ℕ, ◌+◌, ◌*◌, ◌<◌, ◌≤◌, Bool, true, false, List, [], ◌∷◌, length, Option, Some, None, option_map, refl, sym, ap, ◌∙◌, subst, arith}
+use Rattle.std.proofs.Common.{◌≡◌, ◌⊎◌, inl, inr, ⊎_elim, ℕ, ◌+◌, ◌*◌, ◌≤◌, Bool, true, false, List, [], ◌∷◌, length, Option, Some, option_map, refl, sym, ap, ◌∙◌, subst, arith}
 use Rattle.pm_types.specs.declared.limits.TheConstants.{PAGE_BYTES}
 use Rattle.pm_layout.specs.declared.header.Header.{Header}
 use Rattle.pm_layout.specs.Headers.{header_spelling}
 use Rattle.pm_disk.specs.Disk.{IfTold}
-use Rattle.pm_disk.specs.Writes.{Torn, TornIfTold, written}
+use Rattle.pm_disk.specs.Writes.{Torn, TornIfTold}
 use Rattle.pm_disk.proofs.WriteLemmas.{torn_written}
 use Rattle.pm_image.specs.Opening.{gate_place, open_gate, page_count, page_of}
 use Rattle.pm_shadow.specs.State.{State, other}

@@ -1,5 +1,5 @@
 -- What is known of the cars of a copy that was written whole: each stands on a page, and no settled car is that of two.
-use Rattle.std.proofs.Common.{◌≡◌, ℕ, zero, suc, ◌+◌, ◌<◌, ◌==◌, if◌then◌else◌, Bool, true, false, List, [], ◌∷◌, length, map, Option, Some, None, refl, sym, ap, ◌∙◌, subst, arith}
+use Rattle.std.proofs.Common.{◌≡◌, ℕ, zero, suc, ◌+◌, ◌<◌, ◌==◌, if◌then◌else◌, Bool, true, false, List, [], ◌∷◌, length, map, Some, refl, sym, ap, ◌∙◌, subst, arith}
 use Rattle.std.specs.List.{AllByRecursion, slice_get}
 use Rattle.std.proofs.lemmas.Bool.{eqb-true}
 use Rattle.std.proofs.lemmas.Bool.Decides.{nat_tests}
@@ -17,7 +17,7 @@ use Rattle.pm_saver.specs.declared.place.Place.TheVariants.{Clean, Unwritten, Wr
 use Rattle.pm_saver.specs.declared.place.PlacedCar.{PlacedCar}
 use Rattle.pm_saver.specs.declared.place.InProgress.{InProgress}
 use Rattle.pm_saver.specs.Seen.{car_seen, clean_at, place_seen, progress_seen}
-use Rattle.pm_saver.specs.Kept.{IsKept, IsPlaced, IsWithin, is_open}
+use Rattle.pm_saver.specs.Kept.{IsKept, IsPlaced, IsWithin}
 use Rattle.pm_saver.specs.Taken.{AreApart, AreOnce, IsNotAt}
 use Rattle.pm_saver.proofs.Placed.{Within, same_open}
 

@@ -3,8 +3,7 @@ use Rattle.std.proofs.Common.{◌≡◌, ◌⊎◌, inl, inr, ⊎_elim, ℕ, zer
 use Rattle.std.specs.List.{AllByRecursion, Contains}
 use Rattle.std.specs.Option.{IsSome}
 use Rattle.std.proofs.lemmas.List.Elements.{Contains-append_cases, Contains-append_left, Contains-append_right}
-use Rattle.pm_types.specs.declared.limits.TheConstants.{PAGE_BYTES}
-use Rattle.pm_disk.specs.Disk.{IfTold, LeavesOnly}
+use Rattle.pm_disk.specs.Disk.{LeavesOnly}
 use Rattle.pm_disk.proofs.RunLemmas.{joined}
 use Rattle.pm_disk.specs.Writes.{written}
 use Rattle.pm_model.specs.World.{Copy}
@@ -12,12 +11,11 @@ use Rattle.pm_model.proofs.Members.{at_first, in_none}
 use Rattle.pm_image.specs.Opening.{page_count, page_of}
 use Rattle.pm_image.specs.Stands.{Stands}
 use Rattle.pm_layout.specs.declared.header.Header.{Header}
-use Rattle.pm_shadow.specs.declared.page_use.PageUse.{PageUse}
-use Rattle.pm_shadow.specs.declared.page_use.PageUse.TheVariants.{Free, Claimed, Kept}
+use Rattle.pm_shadow.specs.declared.page_use.PageUse.TheVariants.{Free, Claimed}
 use Rattle.pm_shadow.specs.Uses.{with_use}
-use Rattle.pm_shadow.specs.State.{State, with_claimed, with_kept, with_page}
+use Rattle.pm_shadow.specs.State.{State, with_kept}
 use Rattle.pm_shadow.specs.Images.{WritesPage, place_of}
-use Rattle.pm_shadow.proofs.PageLemmas.{page_made, page_there, torn_page}
+use Rattle.pm_shadow.proofs.PageLemmas.{page_made, torn_page}
 use Rattle.pm_shadow.proofs.SlotLemmas.{count_le}
 use Rattle.pm_view.specs.View.{Cars}
 use Rattle.pm_law_graphs.specs.Apart.{AreApart, times}
@@ -35,7 +33,7 @@ use Rattle.pm_saver.proofs.FlushLemmas.{begun_from}
 use Rattle.pm_saver.specs.declared.fault.SaveFault.{SaveFault}
 use Rattle.pm_saver.specs.declared.fault.SaveFault.TheVariants.{Disk, Memory}
 use Rattle.pm_saver.specs.Answers.{IfMemory, IsStill, KeepsCopy, Spares, TellsOn}
-use Rattle.pm_saver.specs.Runs.{HasRun, Runs, StaysBeside}
+use Rattle.pm_saver.specs.Runs.{HasRun, Runs}
 
 -- ---- pages one after another
 

@@ -1,5 +1,5 @@
 -- What a settle leaves: all of the copy was written, the other gate is closed, and the header is published.
-use Rattle.std.proofs.Common.{◌≡◌, ◌⊎◌, inl, inr, ⊎_elim, ℕ, ◌+◌, ◌<◌, ◌≤◌, ◌^◌, true, false, List, length, Option, Some, None, option_map, refl, sym, ap, ◌∙◌, subst, arith}
+use Rattle.std.proofs.Common.{◌≡◌, ◌⊎◌, inl, inr, ⊎_elim, ℕ, ◌<◌, ◌≤◌, ◌^◌, false, List, length, Option, Some, None, option_map, refl, sym, ap, ◌∙◌, subst, arith}
 use Rattle.std.specs.Prelude.{IfSome}
 use Rattle.std.specs.List.{AllByRecursion}
 use Rattle.std.proofs.lemmas.Bool.{cases_lt}
@@ -8,10 +8,9 @@ use Rattle.pm_disk.specs.Disk.{IfTold, LeavesOnly}
 use Rattle.pm_disk.specs.Images.{IsBytes}
 use Rattle.pm_disk.specs.declared.disk.Disk.{Ghosts}
 use Rattle.pm_disk.proofs.RunLemmas.{joined, weaker}
-use Rattle.pm_model.specs.World.{Copy}
 use Rattle.pm_layout.specs.declared.header.Header.{Header}
 use Rattle.pm_image.specs.CarAnswers.{AreBytes}
-use Rattle.pm_image.specs.Opening.{page_count, page_of}
+use Rattle.pm_image.specs.Opening.{page_count}
 use Rattle.pm_image.specs.Stands.{Stands}
 use Rattle.pm_image.specs.declared.settled.KeptPage.{KeptPage}
 use Rattle.pm_shadow.specs.State.{State, IsPublishable, other, published, with_closed}

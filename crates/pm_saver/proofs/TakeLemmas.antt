@@ -1,6 +1,6 @@
 -- Settled cars that are taken one by one.
-use Rattle.std.proofs.Common.{◌≡◌, ℕ, suc, ◌+◌, ◌<◌, ◌==◌, false, List, [], ◌∷◌, ◌++◌, length, map, take, drop, get_or, Option, Some, None, refl, sym, ap, ◌∙◌, subst, arith, append_assoc}
-use Rattle.std.specs.List.{AllByRecursion, flat_map, slice_get}
+use Rattle.std.proofs.Common.{◌≡◌, ℕ, ◌+◌, ◌<◌, List, [], ◌∷◌, ◌++◌, length, map, take, drop, get_or, refl, sym, ap, ◌∙◌, subst, arith, append_assoc}
+use Rattle.std.specs.List.{AllByRecursion, flat_map}
 use Rattle.std.proofs.lemmas.List.{drop_more, take_more}
 use Rattle.pm_image.specs.declared.settled.KeptPage.{KeptPage}
 use Rattle.pm_saving.specs.Progress as seen
@@ -10,7 +10,7 @@ use Rattle.pm_saver.specs.declared.place.Place.TheVariants.{Clean, Unwritten, Wr
 use Rattle.pm_saver.specs.declared.place.PlacedCar.{PlacedCar}
 use Rattle.pm_saver.specs.Seen.{car_seen, clean_at, place_seen}
 use Rattle.pm_saver.specs.Kept.{IsWithin}
-use Rattle.pm_saver.specs.Taken.{AreApart, AreOnce, StaysBut, StaysFor, pages_of}
+use Rattle.pm_saver.specs.Taken.{AreApart, StaysBut, StaysFor, pages_of}
 
 flat_more : {A B : Type 0} (f : A → List B) (xs ys : List A) → flat_map f (xs ++ ys) ≡ flat_map f xs ++ flat_map f ys
 flat_more f [] ys = refl

@@ -1,4 +1,3 @@
-use Rattle.std.proofs.Common.{sym}
 use Rattle.pm_types.specs.declared.limits.TheConstants.{VERSION}
 use Rattle.pm_saver.proofs.settling.header_in.Goals as goal
 

@@ -1,6 +1,6 @@
-use Rattle.std.proofs.Common.{rules, ◌≡◌, ◌+◌, ◌<◌, ◌≤◌, ℕ, List, [], ◌∷◌, ◌++◌, length, take, drop, get_or, sym, ap, ◌∙◌, subst, arith}
+use Rattle.std.proofs.Common.{rules, ◌≡◌, ◌+◌, ◌<◌, List, [], ◌∷◌, ◌++◌, length, take, drop, get_or, sym, ap, ◌∙◌, subst, arith}
 use Rattle.std.specs.List.{AllByRecursion}
-use Rattle.std.proofs.lemmas.List.{drop_more, drop-set-lt, length-set, length_push}
+use Rattle.std.proofs.lemmas.List.{drop_more, drop-set-lt}
 use Rattle.pm_image.specs.declared.settled.KeptPage.{KeptPage}
 use Rattle.pm_saving.specs.Progress.{page_in}
 use Rattle.pm_saver.specs.declared.place.Place.{Place}

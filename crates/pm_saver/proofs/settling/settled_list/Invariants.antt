@@ -1,8 +1,5 @@
-use Rattle.std.proofs.Common.{◌≡◌, ◌≤◌, length, map, take, drop, vec_capacity}
-use Rattle.std.specs.List.{AllByRecursion, flat_map}
-use Rattle.pm_saving.specs.Progress as seen
-use Rattle.pm_saving.specs.Progress.{page_in}
-use Rattle.pm_saver.specs.Seen.{car_seen}
+use Rattle.std.proofs.Common.{◌≡◌, ◌≤◌, length, take, drop, vec_capacity}
+use Rattle.std.specs.List.{AllByRecursion}
 use Rattle.pm_saver.specs.Taken.{AreOnce, StaysFor, pages_of}
 use Rattle.pm_saver.proofs.settling.settled_list.Given as goal
 

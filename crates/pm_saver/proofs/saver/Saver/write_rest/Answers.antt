@@ -1,12 +1,11 @@
-use Rattle.std.proofs.Common.{rules, ◌≡◌, ◌+◌, ◌<◌, ℕ, refl, sym, ap, ◌∙◌, subst, arith}
+use Rattle.std.proofs.Common.{rules, refl, ◌∙◌, subst}
 use Rattle.std.proofs.lemmas.Result.{err_from_is_err_and}
 use Rattle.pm_shadow.specs.Pages.{state, disk_of, current_kept}
-use Rattle.pm_saving.specs.Paging.{left_of}
 use Rattle.pm_types.specs.declared.event.Flushed.{Flushed}
 use Rattle.pm_saver.specs.Answers.{IsFlushed}
 use Rattle.pm_saver.specs.Shown.{saving, frozen_of, frozen_cars}
 use Rattle.pm_saver.proofs.FlushLemmas.{spares_by, spares_still}
-use Rattle.pm_saver.proofs.RunLemmas.{begin_runs, fault_runs, left_some, more_runs, spares_then, still_runs, tells_then}
+use Rattle.pm_saver.proofs.RunLemmas.{begin_runs, fault_runs, left_some, more_runs, spares_then, tells_then}
 use Rattle.pm_law_saving.proofs.Publishing.{copy_held}
 use Rattle.pm_saver.proofs.saver.Saver.write_rest.Goals as goal
 

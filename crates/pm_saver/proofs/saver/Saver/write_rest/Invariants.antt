@@ -1,4 +1,4 @@
-use Rattle.std.proofs.Common.{◌≡◌, ℕ}
+use Rattle.std.proofs.Common.{◌≡◌}
 use Rattle.pm_shadow.specs.Pages.{state, disk_of}
 use Rattle.pm_saving.specs.Paging.{left_of}
 use Rattle.pm_saver.specs.Answers.{Spares, TellsOn}
