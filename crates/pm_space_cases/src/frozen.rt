@@ -69,6 +69,76 @@ fn remove(tables: &mut Tables, key: u64) -> Result<(), Fault> {
     Ok(())
 }
 
+// Freezes a table of this many values, whose keys are 1, 2 and so on.
+fn fill(tables: &mut Tables, count: u64) -> Result<(), Fault> {
+    for number in 0..count {
+        let key = add(tables, number)?;
+        tables.frozen.insert(key, number)?;
+    }
+    tables.table.thaw();
+    tables.table.freeze();
+    Ok(())
+}
+
+// Changes each value, and counts the differences.
+fn change_all(tables: &mut Tables, end: u64) -> Result<u64, Fault> {
+    for key in 0..end {
+        change(tables, key, key.saturating_add(end))?;
+    }
+    Ok(differences(tables, end))
+}
+
+// Removes each third value, and counts the differences.
+fn remove_thirds(tables: &mut Tables, count: u64, end: u64) -> Result<u64, Fault> {
+    for third in 0..count {
+        remove(tables, third.saturating_mul(3))?;
+    }
+    Ok(differences(tables, end))
+}
+
+// Adds so many values, and answers the key of the last one.
+fn add_all(tables: &mut Tables, count: u64) -> Result<u64, Fault> {
+    let mut last = 0;
+    for number in 0..count {
+        last = add(tables, number)?;
+    }
+    Ok(last)
+}
+
+// Thaws the table, and counts the differences.
+fn thaw(tables: &mut Tables, alloc: Global, end: u64) -> u64 {
+    tables.table.thaw();
+    tables.frozen = BTreeMap::new(alloc);
+    differences(tables, end)
+}
+
+// Changes a table of so many values that is frozen, and adds the differences after each kind of change.
+fn push_changes(
+    tables: &mut Tables,
+    alloc: Global,
+    count: u64,
+    out: &mut String,
+) -> Result<(), Fault> {
+    let end = count.saturating_mul(3);
+    fill(tables, count)?;
+    let changed = change_all(tables, end)?;
+    let removed = remove_thirds(tables, count, end)?;
+    let last = add_all(tables, count)?;
+    let added = differences(tables, end);
+    let thawed = thaw(tables, alloc, end);
+    push_differences([changed, removed, added, thawed], last, out)
+}
+
+// Adds the line of four counts and a key.
+fn push_differences(counts: [u64; 4], last: u64, out: &mut String) -> Result<(), Fault> {
+    let [changed, removed, added, thawed] = counts;
+    writeln!(
+        out,
+        "differences {changed} {removed} {added} {thawed}, last {last}"
+    )?;
+    Ok(())
+}
+
 /// `N`: a table of N values is frozen; then each is changed, each third is removed, and N values are added, which take the
 /// keys that were removed first; then it is thawed. At how many keys it has another value than two plain maps, now or
 /// frozen, after each of these four, and which key the last value that was added has.
@@ -78,32 +148,5 @@ pub(crate) fn push_frozen(alloc: Global, count: u64, out: &mut String) -> Result
         current: BTreeMap::new(alloc),
         frozen: BTreeMap::new(alloc),
     };
-    let end = count.saturating_mul(3);
-    for number in 0..count {
-        let key = add(&mut tables, number)?;
-        tables.frozen.insert(key, number)?;
-    }
-    tables.table.thaw();
-    tables.table.freeze();
-    for key in 0..end {
-        change(&mut tables, key, key.saturating_add(end))?;
-    }
-    let changed = differences(&tables, end);
-    for third in 0..count {
-        remove(&mut tables, third.saturating_mul(3))?;
-    }
-    let removed = differences(&tables, end);
-    let mut last = 0;
-    for number in 0..count {
-        last = add(&mut tables, number)?;
-    }
-    let added = differences(&tables, end);
-    tables.table.thaw();
-    tables.frozen = BTreeMap::new(alloc);
-    let thawed = differences(&tables, end);
-    writeln!(
-        out,
-        "differences {changed} {removed} {added} {thawed}, last {last}"
-    )?;
-    Ok(())
+    push_changes(&mut tables, alloc, count, out)
 }

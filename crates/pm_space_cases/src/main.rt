@@ -28,27 +28,70 @@ pub(crate) fn number(text: &str) -> Result<u64, Fault> {
     }
 }
 
+// A number, and what follows it behind one space.
+pub(crate) fn numbered(text: &str) -> Result<(u64, &str), Fault> {
+    match text.split_once(' ') {
+        Some((first, rest)) => Ok((number(first)?, rest)),
+        None => Err(Fault::Number),
+    }
+}
+
+// Adds the name of a case.
+fn push_case(text: &str, out: &mut String) -> Result<(), Fault> {
+    writeln!(out, "case {text}")?;
+    Ok(())
+}
+
+// What a step shows of a script, if it is one that runs a script.
+fn shows(step: &str) -> Option<Shows> {
+    match step {
+        "script" => Some(Shows::All),
+        "replies" => Some(Shows::Replies),
+        "end" => Some(Shows::End),
+        "last" => Some(Shows::Last),
+        _ => None,
+    }
+}
+
+// A step that is told a number.
+fn push_counted(alloc: Global, step: &str, number: u64, out: &mut String) -> Result<(), Fault> {
+    match step {
+        "drawn" => push_drawn(alloc, number, out),
+        "births" => push_births(alloc, number, out),
+        "names" => push_names(alloc, number, out),
+        "frozen" => push_frozen(alloc, number, out),
+        "queued" => push_queued(alloc, number, out),
+        _ => Err(Fault::Step),
+    }
+}
+
+// A step: its first word, and what follows.
+fn push_step(alloc: Global, step: &str, text: &str, out: &mut String) -> Result<(), Fault> {
+    if let Some(shows) = shows(step) {
+        return push_script(alloc, text, shows, out);
+    }
+    match step {
+        "case" => push_case(text, out),
+        "collected" => push_collected(alloc, text, out),
+        _ => push_counted(alloc, step, number(text)?, out),
+    }
+}
+
 // Takes a line of the input, and adds what it gives. A line that begins with `#`, and one that is empty, say nothing.
 fn take(alloc: Global, line: &str, out: &mut String) -> Result<(), Fault> {
     if line.is_empty() || line.starts_with('#') {
         return Ok(());
     }
-    let Some((step, text)) = line.split_once(' ') else {
-        return Err(Fault::Step);
-    };
-    match step {
-        "case" => writeln!(out, "case {text}")?,
-        "drawn" => push_drawn(alloc, number(text)?, out)?,
-        "births" => push_births(alloc, number(text)?, out)?,
-        "names" => push_names(alloc, number(text)?, out)?,
-        "collected" => push_collected(alloc, text, out)?,
-        "script" => push_script(alloc, text, Shows::All, out)?,
-        "replies" => push_script(alloc, text, Shows::Replies, out)?,
-        "end" => push_script(alloc, text, Shows::End, out)?,
-        "last" => push_script(alloc, text, Shows::Last, out)?,
-        "frozen" => push_frozen(alloc, number(text)?, out)?,
-        "queued" => push_queued(alloc, number(text)?, out)?,
-        _ => return Err(Fault::Step),
+    match line.split_once(' ') {
+        Some((step, text)) => push_step(alloc, step, text, out),
+        None => Err(Fault::Step),
+    }
+}
+
+// Takes a line, and adds what it gives, or why it was not done.
+fn push_line(alloc: Global, line: &str, out: &mut String) -> io::Result<()> {
+    if let Err(fault) = take(alloc, line, out) {
+        writeln!(out, "? {fault:?}: {line}")?;
     }
     Ok(())
 }
@@ -58,9 +101,7 @@ fn main(rt: HostRuntime) -> io::Result<()> {
     for line in BufReader::new(alloc, rt.reader())?.lines(alloc) {
         let line = line?;
         let mut out = String::new(alloc);
-        if let Err(fault) = take(alloc, line.as_str(), &mut out) {
-            writeln!(out, "? {fault:?}: {line}")?;
-        }
+        push_line(alloc, line.as_str(), &mut out)?;
         print!(rt; "{out}")?;
     }
     Ok(())

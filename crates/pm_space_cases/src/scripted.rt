@@ -5,12 +5,12 @@ ghost use Rattle.pm_place.specs.Choosers.{IsChooser};
 ghost use Rattle.pm_view.specs.Commands.{is_act};
 
 use crate::fault::Fault;
-use pm_grammar::{Line, read_script, reply_text};
+use pm_grammar::{Line, Script, read_script, reply_text};
 use pm_mutate::act;
 use pm_place::Placement;
 use pm_reclaim::collect_one;
 use pm_space::Space;
-use pm_types::{Cmd, Entry, SOURCE_BYTES, Step};
+use pm_types::{Cmd, Entry, Reply, SOURCE_BYTES, Step};
 use std::alloc::Global;
 use std::fmt::Write;
 
@@ -63,13 +63,30 @@ fn push_part(lines: &mut Vec<u8>, part: &str) -> Result<(), Fault> {
     Ok(())
 }
 
-// The bytes of a script, whose parts stand between ` / `.
-fn script_of(alloc: Global, text: &str) -> Result<Vec<u8>, Fault> {
-    let mut lines = Vec::new(alloc);
+// Adds the lines of a script, whose parts stand between ` / `.
+fn push_lines(lines: &mut Vec<u8>, text: &str) -> Result<(), Fault> {
     for part in text.split(" / ") {
-        push_part(&mut lines, part)?;
+        push_part(lines, part)?;
     }
-    Ok(lines)
+    Ok(())
+}
+
+// Reads these bytes as a script.
+fn read(alloc: Global, bytes: &[u8]) -> Result<Script, Fault> {
+    if bytes.len() > SOURCE_BYTES {
+        return Err(Fault::Script);
+    }
+    match read_script(alloc, bytes) {
+        Ok(script) => Ok(script),
+        Err(_) => Err(Fault::Script),
+    }
+}
+
+// The script whose lines stand between ` / `.
+fn script_of(alloc: Global, text: &str) -> Result<Script, Fault> {
+    let mut lines = Vec::new(alloc);
+    push_lines(&mut lines, text)?;
+    read(alloc, &lines)
 }
 
 // What happened so far: how many events, which of them was the last that did something, and the one that is not yet
@@ -129,7 +146,22 @@ fn collect<F: Fn(&[u64]) -> usize + Drop>(
     show(events, out)
 }
 
-// Gives a command to the space, and answers its reply's line, which does not depend on the command.
+// A reply's line, which does not depend on the command.
+fn line_of(alloc: Global, client: u32, reply: Reply) -> Result<String, Fault>
+    requires { client < 8 }
+{
+    let entry = Entry {
+        client,
+        cmd: Cmd::Close,
+        reply,
+    };
+    match String::from_utf8(reply_text(alloc, &entry)?) {
+        Ok(line) => Ok(line),
+        Err(_) => Err(Fault::Step),
+    }
+}
+
+// Gives a command to the space, and answers its reply's line.
 fn answer<F: Fn(&[u64]) -> usize + Drop>(
     space: &mut Space<F>,
     alloc: Global,
@@ -142,49 +174,123 @@ fn answer<F: Fn(&[u64]) -> usize + Drop>(
     if client >= 8 || !acts(cmd) {
         return Err(Fault::Step);
     }
-    let entry = Entry {
-        client,
-        cmd: Cmd::Close,
-        reply: act(space, alloc, client, cmd)?,
-    };
-    let line = reply_text(alloc, &entry)?;
-    match String::from_utf8(line) {
-        Ok(line) => Ok(line),
-        Err(_) => Err(Fault::Step),
+    let reply = act(space, alloc, client, cmd)?;
+    line_of(alloc, client, reply)
+}
+
+// What the lines so far came to.
+#[derive(Drop)]
+struct Course {
+    events: Events,
+    // The line of the last reply.
+    last: String,
+}
+
+// Carries a line out.
+fn carry_out<F: Fn(&[u64]) -> usize + Drop>(
+    space: &mut Space<F>,
+    alloc: Global,
+    line: &Line,
+    shows: Shows,
+    course: &mut Course,
+    out: &mut String,
+) -> Result<(), Fault>
+    requires { IsChooser F.Fn space.old.parts.place }
+    ensures { IsChooser F.Fn space.new.parts.place }
+{
+    match line {
+        Line::Client { client, cmd } => {
+            course.last = answer(space, alloc, *client, cmd)?;
+            if matches!(shows, Shows::All | Shows::Replies) {
+                out.push_str(&course.last)?;
+            }
+            Ok(())
+        }
+        Line::Gc(count) => collect(space, alloc, *count, shows, &mut course.events, out),
+        Line::Flush(_) => Err(Fault::Step),
     }
 }
 
-// Runs the lines, and answers what happened and the last reply.
+// Runs the lines.
 fn run<F: Fn(&[u64]) -> usize + Drop>(
     space: &mut Space<F>,
     alloc: Global,
     lines: &[Line],
     shows: Shows,
+    course: &mut Course,
     out: &mut String,
-) -> Result<(Events, String), Fault>
+) -> Result<(), Fault>
     requires { IsChooser F.Fn space.old.parts.place }
     ensures { IsChooser F.Fn space.new.parts.place }
 {
-    let mut events = Events {
-        count: 0,
-        last: 0,
-        step: Step::Nothing,
-        times: 0,
-    };
-    let mut last = String::new(alloc);
     for line in lines {
-        match line {
-            Line::Client { client, cmd } => {
-                last = answer(space, alloc, *client, cmd)?;
-                if matches!(shows, Shows::All | Shows::Replies) {
-                    out.push_str(&last)?;
-                }
-            }
-            Line::Gc(count) => collect(space, alloc, *count, shows, &mut events, out)?,
-            Line::Flush(_) => return Err(Fault::Step),
-        }
+        carry_out(space, alloc, line, shows, course, out)?;
     }
-    Ok((events, last))
+    Ok(())
+}
+
+// Adds the numbers at the end.
+fn push_end<F: Drop>(space: &Space<F>, events: Events, out: &mut String) -> Result<(), Fault> {
+    let Events { count, last, .. } = events;
+    let completed = space.parts.completed;
+    let standing = space.standing();
+    writeln!(
+        out,
+        "events {count}, last {last}, completed {completed}, standing {standing}"
+    )?;
+    Ok(())
+}
+
+// Runs the lines over a space, and adds what is shown.
+fn push_course<F: Fn(&[u64]) -> usize + Drop>(
+    space: &mut Space<F>,
+    alloc: Global,
+    lines: &[Line],
+    shows: Shows,
+    course: &mut Course,
+    out: &mut String,
+) -> Result<(), Fault>
+    requires { IsChooser F.Fn space.old.parts.place }
+{
+    run(space, alloc, lines, shows, course, out)?;
+    if shows == Shows::Last {
+        out.push_str(&course.last)?;
+        return Ok(());
+    }
+    push_end(space, course.events, out)
+}
+
+// Runs the lines over a space where nothing happened yet, and adds what is shown.
+fn push_run<F: Fn(&[u64]) -> usize + Drop>(
+    space: &mut Space<F>,
+    alloc: Global,
+    lines: &[Line],
+    shows: Shows,
+    out: &mut String,
+) -> Result<(), Fault>
+    requires { IsChooser F.Fn space.old.parts.place }
+{
+    let mut course = Course {
+        events: Events {
+            count: 0,
+            last: 0,
+            step: Step::Nothing,
+            times: 0,
+        },
+        last: String::new(alloc),
+    };
+    push_course(space, alloc, lines, shows, &mut course, out)
+}
+
+// Runs the lines over a new space, and adds what is shown.
+fn push_over_new(
+    alloc: Global,
+    lines: &[Line],
+    shows: Shows,
+    out: &mut String,
+) -> Result<(), Fault> {
+    let mut space = Space::new(alloc, Placement::new(|_: &[u64]| 0))?;
+    push_run(&mut space, alloc, lines, shows, out)
 }
 
 /// `LINES`: the lines of a script, between ` / `, over a new space: the replies and the events as they come, and at the
@@ -196,26 +302,6 @@ pub(crate) fn push_script(
     shows: Shows,
     out: &mut String,
 ) -> Result<(), Fault> {
-    let bytes = script_of(alloc, text)?;
-    if bytes.len() > SOURCE_BYTES {
-        return Err(Fault::Script);
-    }
-    let Ok(script) = read_script(alloc, &bytes) else {
-        return Err(Fault::Script);
-    };
-    let mut space = Space::new(alloc, Placement::new(|_: &[u64]| 0))?;
-    let (events, last) = run(&mut space, alloc, script.as_slice(), shows, out)?;
-    if shows == Shows::Last {
-        out.push_str(&last)?;
-        return Ok(());
-    }
-    writeln!(
-        out,
-        "events {}, last {}, completed {}, standing {}",
-        events.count,
-        events.last,
-        space.parts.completed,
-        space.standing()
-    )?;
-    Ok(())
+    let script = script_of(alloc, text)?;
+    push_over_new(alloc, script.as_slice(), shows, out)
 }

@@ -3,33 +3,32 @@ use clap::{Arg, Command};
 use pm_types::NoMemory;
 use std::alloc::Global;
 
-// A value that has to be given.
-fn value<'a>(alloc: Global, name: &'a str) -> Arg<'a> {
-    Arg::new(alloc, name).required(true)
+// The commands, each with its values.
+const COMMANDS: [(&str, &[&str]); 5] = [
+    ("init", &["FILE"]),
+    ("run", &["FILE", "ORDER"]),
+    ("inspect", &["FILE"]),
+    ("make", &["SEED", "N"]),
+    ("trial", &["FILE", "SEED", "N"]),
+];
+
+// A command, and values that have to be given.
+fn command<'a>(alloc: Global, name: &'a str, values: &[&'a str]) -> Result<Command<'a>, NoMemory> {
+    let mut command = Command::new(alloc, name);
+    for value in values {
+        command = command.arg(Arg::new(alloc, value).required(true))?;
+    }
+    Ok(command)
 }
 
 // The commands and their values.
 fn grammar<'a>(alloc: Global) -> Result<Command<'a>, NoMemory> {
-    let init = Command::new(alloc, "init").arg(value(alloc, "FILE"))?;
-    let run = Command::new(alloc, "run")
-        .arg(value(alloc, "FILE"))?
-        .arg(value(alloc, "ORDER"))?;
-    let inspect = Command::new(alloc, "inspect").arg(value(alloc, "FILE"))?;
-    let make = Command::new(alloc, "make")
-        .arg(value(alloc, "SEED"))?
-        .arg(value(alloc, "N"))?;
-    let trial = Command::new(alloc, "trial")
-        .arg(value(alloc, "FILE"))?
-        .arg(value(alloc, "SEED"))?
-        .arg(value(alloc, "N"))?;
-    let commands = Command::new(alloc, "pmos")
+    let mut commands = Command::new(alloc, "pmos")
         .no_binary_name(true)
-        .subcommand_required(true)
-        .subcommand(init)?
-        .subcommand(run)?
-        .subcommand(inspect)?
-        .subcommand(make)?
-        .subcommand(trial)?;
+        .subcommand_required(true);
+    for (name, values) in COMMANDS {
+        commands = commands.subcommand(command(alloc, name, values)?)?;
+    }
     Ok(commands)
 }
 

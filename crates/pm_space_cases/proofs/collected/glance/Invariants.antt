@@ -3,4 +3,4 @@ use Rattle.pm_space_cases.proofs.collected.glance.Given as goal
 
 -- the chooser may be called
 abbrev pub invariant-loop-number : goal.invariant-loop-number
-invariant-loop-number g l = IsChooser g.F.Fn l.space.parts.place
+invariant-loop-number g l = IsChooser g.F.Fn l.both.space.parts.place
