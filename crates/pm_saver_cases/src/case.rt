@@ -1,0 +1,102 @@
+//! A case: its steps, one a line.
+
+use crate::fault::Fault;
+use crate::spelling::{push_bytes, script, written_out};
+use crate::stopping::{opening, push_calls, push_stops, push_whole};
+use pm_disk::MemDisk;
+use pm_grammar::Script;
+use pm_shadow::init;
+use std::alloc::Global;
+use std::fmt::Write;
+
+/// What a case has come to.
+#[derive(Drop)]
+pub(crate) struct Case {
+    /// The bytes that the next run finds on the disk.
+    disk: Vec<u8>,
+    /// With what each image is looked at.
+    look: Script,
+}
+
+// The bytes of a store that has just been made.
+fn new_store(alloc: Global) -> Result<Vec<u8>, Fault> {
+    let mut disk = MemDisk::new(Vec::new(alloc), Vec::new(alloc));
+    match init(alloc, &mut disk) {
+        Ok(()) => Ok(disk.contents().to_vec(alloc)?),
+        Err(_) => Err(Fault::Memory),
+    }
+}
+
+impl Case {
+    /// A case that has just begun: a new store, and no look.
+    pub(crate) fn new(alloc: Global) -> Result<Case, Fault> {
+        Ok(Case {
+            disk: new_store(alloc)?,
+            look: script(alloc, "")?,
+        })
+    }
+
+    // Runs the lines; the disk is what the run leaves.
+    fn go(&mut self, alloc: Global, text: &str, out: &mut String) -> Result<MemDisk, Fault> {
+        let lines = script(alloc, text)?;
+        let disk = push_whole(alloc, &self.disk, lines.as_slice(), out)?;
+        self.disk = disk.contents().to_vec(alloc)?;
+        Ok(disk)
+    }
+
+    // A step: its first word, and what follows.
+    fn step(
+        &mut self,
+        alloc: Global,
+        step: &str,
+        text: &str,
+        out: &mut String,
+    ) -> Result<(), Fault> {
+        match step {
+            "do" => {
+                let mut unseen = String::new(alloc);
+                self.go(alloc, text, &mut unseen)?;
+            }
+            "run" => {
+                self.go(alloc, text, out)?;
+            }
+            "calls" => {
+                let first = opening(alloc, &self.disk)?;
+                let disk = self.go(alloc, text, out)?;
+                push_calls(&disk, first, out)?;
+            }
+            "look" => self.look = script(alloc, text)?,
+            "stops" => {
+                let lines = script(alloc, text)?;
+                let look = self.look.as_slice();
+                push_stops(alloc, &self.disk, lines.as_slice(), look, out)?;
+            }
+            "at" => push_bytes(&self.disk, text, out)?,
+            _ => return Err(Fault::Step),
+        }
+        Ok(())
+    }
+
+    /// Takes a line of the input, and adds what it gives. A line that begins with `#`, and one that is empty, say
+    /// nothing.
+    pub(crate) fn take(
+        &mut self,
+        alloc: Global,
+        line: &str,
+        out: &mut String,
+    ) -> Result<(), Fault> {
+        if line.is_empty() || line.starts_with('#') {
+            return Ok(());
+        }
+        let line = written_out(alloc, line)?;
+        let Some((step, text)) = line.as_str().split_once(' ') else {
+            return Err(Fault::Step);
+        };
+        if step == "case" {
+            *self = Case::new(alloc)?;
+            writeln!(out, "case {text}")?;
+            return Ok(());
+        }
+        self.step(alloc, step, text, out)
+    }
+}

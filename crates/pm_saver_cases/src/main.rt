@@ -1,0 +1,29 @@
+//! `pm_saver_cases`: reads cases from standard input, saves copies of a space on a disk in memory, stops that at each call
+//! of the disk, and prints what that gave. `docs/TESTS.md` says how a case is written.
+#![tactic(auto)]
+
+mod case;
+mod fault;
+mod saving;
+mod spelling;
+mod stopping;
+
+use case::Case;
+use std::fmt::Write;
+use std::io::{self, BufRead, BufReader};
+
+fn main(rt: HostRuntime) -> io::Result<()> {
+    let alloc = rt.alloc();
+    let Ok(mut case) = Case::new(alloc) else {
+        return print!(rt; "? no memory\n");
+    };
+    for line in BufReader::new(alloc, rt.reader())?.lines(alloc) {
+        let line = line?;
+        let mut out = String::new(alloc);
+        if let Err(fault) = case.take(alloc, line.as_str(), &mut out) {
+            writeln!(out, "? {fault:?}: {line}")?;
+        }
+        print!(rt; "{out}")?;
+    }
+    Ok(())
+}

@@ -1,0 +1,130 @@
+//! What a crash leaves.
+
+use crate::fault::Fault;
+use crate::saving::push_run;
+use pm_disk::{DiskCall, MemDisk};
+use pm_grammar::Line;
+use pm_types::PAGE_BYTES;
+use std::alloc::Global;
+use std::collections::BTreeMap;
+use std::fmt::Write;
+
+// More writes than this have too many images.
+const MOST_WRITES: u64 = 10;
+
+// A disk with these bytes that fails the calls of these numbers.
+fn disk_of(alloc: Global, bytes: &[u8], fails: Vec<u64>) -> Result<MemDisk, Fault> {
+    Ok(MemDisk::new(bytes.to_vec(alloc)?, fails))
+}
+
+/// How many calls opening makes of a disk with these bytes.
+pub(crate) fn opening(alloc: Global, bytes: &[u8]) -> Result<usize, Fault> {
+    let disk = disk_of(alloc, bytes, Vec::new(alloc))?;
+    let mut text = String::new(alloc);
+    Ok(push_run(alloc, disk, &[], &mut text)?.calls().len())
+}
+
+/// Runs the lines over a disk with these bytes, none of whose calls fails, and adds what that gives.
+pub(crate) fn push_whole(
+    alloc: Global,
+    bytes: &[u8],
+    lines: &[Line],
+    out: &mut String,
+) -> Result<MemDisk, Fault> {
+    let disk = disk_of(alloc, bytes, Vec::new(alloc))?;
+    let disk = push_run(alloc, disk, lines, out)?;
+    out.push('\n')?;
+    Ok(disk)
+}
+
+// How many writes the first calls of a disk made since their last sync.
+fn unsynced(calls: &[DiskCall], first: usize) -> u64 {
+    let mut writes = 0u64;
+    for call in calls.iter().take(first) {
+        match call {
+            DiskCall::Write { .. } => writes = writes.saturating_add(1),
+            DiskCall::Sync => writes = 0,
+            DiskCall::Len | DiskCall::Read { .. } => {}
+        }
+    }
+    writes
+}
+
+// Counts a text once more.
+fn note(texts: &mut BTreeMap<String, u64>, text: String) -> Result<(), Fault> {
+    match texts.get_mut(text.as_str()) {
+        Some(times) => *times = times.saturating_add(1),
+        None => {
+            texts.insert(text, 1)?;
+        }
+    }
+    Ok(())
+}
+
+// Adds what the look gives on each image that a crash leaves after so many calls of a disk, none of which failed, and of
+// how many images.
+fn push_images(
+    alloc: Global,
+    disk: &MemDisk,
+    made: usize,
+    look: &[Line],
+    out: &mut String,
+) -> Result<(), Fault> {
+    let writes = unsynced(disk.calls(), made);
+    if writes > MOST_WRITES {
+        return Err(Fault::Images);
+    }
+    let mut texts = BTreeMap::new(alloc);
+    for pick in 0..1u64 << writes {
+        let image = disk.image(alloc, pick)?;
+        let mut text = String::new(alloc);
+        push_run(alloc, MemDisk::new(image, Vec::new(alloc)), look, &mut text)?;
+        note(&mut texts, text)?;
+    }
+    for (text, times) in texts.iter() {
+        writeln!(out, "- {times} of {text}")?;
+    }
+    Ok(())
+}
+
+/// Runs the lines over a disk with these bytes that stops after each number of calls in turn, from those of the opening
+/// on, and adds what each of these runs gives, and what the look gives on each image that it may leave.
+pub(crate) fn push_stops(
+    alloc: Global,
+    bytes: &[u8],
+    lines: &[Line],
+    look: &[Line],
+    out: &mut String,
+) -> Result<(), Fault> {
+    let opening = opening(alloc, bytes)?;
+    let mut whole = String::new(alloc);
+    let calls = push_whole(alloc, bytes, lines, &mut whole)?.calls().len();
+    for after in 0..=calls.saturating_sub(opening) {
+        let made = opening.saturating_add(after);
+        let mut text = String::new(alloc);
+        let fails = vec![in alloc; (made as u64).saturating_add(1)]?;
+        let disk = push_run(alloc, disk_of(alloc, bytes, fails)?, lines, &mut text)?;
+        writeln!(out, "after {after}: {text}")?;
+        push_images(alloc, &disk, made, look, out)?;
+    }
+    Ok(())
+}
+
+/// Adds the calls of a disk but the first ones: a write with its page and the byte where it begins.
+pub(crate) fn push_calls(disk: &MemDisk, first: usize, out: &mut String) -> Result<(), Fault> {
+    out.push_str("calls")?;
+    for call in disk.calls().iter().skip(first) {
+        match call {
+            DiskCall::Len => out.push_str(" len")?,
+            DiskCall::Read { .. } => out.push_str(" read")?,
+            DiskCall::Write { at, .. } => {
+                let page = *at / PAGE_BYTES as u64;
+                let byte = *at % PAGE_BYTES as u64;
+                write!(out, " write {page}:{byte}")?;
+            }
+            DiskCall::Sync => out.push_str(" sync")?,
+        }
+    }
+    out.push('\n')?;
+    Ok(())
+}
