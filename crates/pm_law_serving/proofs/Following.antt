@@ -60,7 +60,7 @@ module _ (client : ℕ) (cmd : Cmd) (old new : Serving) (reply : Reply) (served 
   }
 
 -- a command on the space saves nothing
-acts : (cmd : Cmd) → is_act cmd ≡ true → saves cmd ≡ false
+pub acts : (cmd : Cmd) → is_act cmd ≡ true → saves cmd ≡ false
 acts Save is = cc is
 acts Settle is = cc is
 acts Unsave is = cc is

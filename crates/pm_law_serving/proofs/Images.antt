@@ -47,19 +47,18 @@ module _ {D : Type 0} (contents : D → Option (List ℕ)) (image : D → List �
 
   -- a call of which each image stands so
   module _ (old : Serving) (before after : D) (P : List ℕ → Type 0) (sound : IsSound old) (keeps : KeepsImages contents image moment since opened old before)
-      (leaves : IsTold (contents before) → LeavesOnly moment since before after P) (told : IsTold (contents before) → IsTold (contents after))
-      (later : moment before ≤ moment after)
+      (leaves : IsTold (contents opened) → LeavesOnly moment since before after P) (told : IsTold (contents before) → IsTold (contents after))
       (counts : (t : ℕ) (bytes : List ℕ) → t ≤ moment after → image after bytes → since after t bytes) where
     goes : (new : Serving) → ((left : List ℕ) → P left → IsLast new left) → ((left : List ℕ) → P left → IsOfRun new left) → ((left : List ℕ) → IsOfChain (opening old) old.journal left → IsOfRun new left)
         → KeepsImages contents image moment since opened new after
     goes new last run chained = record {
-      later = let first = keeps.later in omega (arith, first, later);
+      later = λ is. let first = keeps.later is in let later = (leaves is).later in omega (arith, first, later);
       told = λ is. told (keeps.told is);
-      now = λ is left there. last left ((leaves (keeps.told is)).each left (counts (moment before) left later there));
+      now = λ is left there. last left ((leaves is).each left (counts (moment before) left (leaves is).later there));
       ever = λ is left there. ⊎_elim
           (λ (was : since before (moment opened) left). chained left (chain_of old left sound (keeps.ever is left was)))
           (run left)
-          ((leaves (keeps.told is)).before (moment opened) left keeps.later there);
+          ((leaves is).before (moment opened) left (keeps.later is) there);
     }
 
     -- the last acknowledged copy alone
@@ -84,28 +83,28 @@ module _ {D : Type 0} (contents : D → Option (List ℕ)) (image : D → List �
     -- a copy was acknowledged: it or the one before at each moment of the call, and it alone after
     pub acknowledged : (new : Serving) → (longer : List (ℕ × Copy)) → chain (opening new) new.journal ≡ longer → ((kept : ℕ × Copy) → Contains (chain (opening old) old.journal) kept → Contains longer kept) → Contains longer (settled_in (world new))
         → Contains (chain (opening old) old.journal) (settled_in (world old)) → ((left : List ℕ) → P left → IsSettled (world old) left ⊎ IsSettled (world new) left)
-        → (IsTold (contents before) → (left : List ℕ) → image after left → IsSettled (world new) left) → KeepsImages contents image moment since opened new after
+        → (IsTold (contents opened) → (left : List ℕ) → image after left → IsSettled (world new) left) → KeepsImages contents image moment since opened new after
     acknowledged new longer is_longer more there was_there stands only =
         let in_new : (left : List ℕ) → IsOfChain (opening old) old.journal left → IsOfRun new left =
         λ left kept. inl (kept.0, subst (λ (copies : List (ℕ × Copy)). Contains copies kept.0) (sym is_longer) (more kept.0 kept.1), kept.2) in
         record {
-          later = let first = keeps.later in omega (arith, first, later);
+          later = λ is. let first = keeps.later is in let later = (leaves is).later in omega (arith, first, later);
           told = λ is. told (keeps.told is);
-          now = λ is left here. inl (only (keeps.told is) left here);
+          now = λ is left here. inl (only is left here);
           ever = λ is left here. ⊎_elim
               (λ (was : since before (moment opened) left). in_new left (chain_of old left sound (keeps.ever is left was)))
               (λ (during : P left). ⊎_elim
               (λ (settled : IsSettled (world old) left). in_new left (settled_in (world old), was_there, settled))
               (λ (settled : IsSettled (world new) left). inl (settled_in (world new), subst (λ (copies : List (ℕ × Copy)). Contains copies (settled_in (world new))) (sym is_longer) there, settled))
               (stands left during))
-              ((leaves (keeps.told is)).before (moment opened) left keeps.later here);
+              ((leaves is).before (moment opened) left (keeps.later is) here);
         }
 
   -- the disk as it was opened
   pub begins : (it : Serving) → Contains (chain (opening it) it.journal) (settled_in (world it)) → ((bytes : List ℕ) → since opened (moment opened) bytes → image opened bytes)
       → (IsTold (contents opened) → (left : List ℕ) → image opened left → IsSettled (world it) left) → KeepsImages contents image moment since opened it opened
   begins it there only_now stands = record {
-    later = omega arith;
+    later = λ is. omega arith;
     told = λ is. is;
     now = λ is left here. inl (stands is left here);
     ever = λ is left here. inl (settled_in (world it), there, stands is left (only_now left here));

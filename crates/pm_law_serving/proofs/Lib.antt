@@ -1,3 +1,5 @@
 pub mod Following
 pub mod Opening
 pub mod Images
+pub mod Splitting
+pub mod Stored

@@ -1,6 +1,6 @@
 //! What an engine serves, call by call. Each function's contract is a law, and the function does nothing.
 
-ghost use Rattle.std.specs.Prelude.{◌≡◌, ◌<◌, ◌+◌, ℕ, List, Some, None, true};
+ghost use Rattle.std.specs.Prelude.{◌≡◌, ◌<◌, ◌+◌, ℕ, List, Option, Some, None, true};
 ghost use Rattle.std.specs.FinMap.{get};
 ghost use Rattle.pm_types.specs.declared.limits.TheConstants.{LAST_COPY};
 ghost use Rattle.pm_types.specs.declared.command.Cmd.{Cmd};
@@ -17,7 +17,9 @@ ghost use Rattle.pm_copies.specs.Listed.{Listed, copy_in};
 ghost use Rattle.pm_copies.specs.Accepted.{IsAccepted};
 ghost use Rattle.pm_copies.specs.Opened.{IsOpened};
 ghost use Rattle.pm_saving.specs.Progress.{Progress, Saving, copy_of};
+ghost use Rattle.pm_shadow.specs.State.{State};
 ghost use Rattle.pm_serving.specs.Serving.{IsServed, Serving, frozen_cars, just_opened, world};
+ghost use Rattle.pm_serving.specs.Images.{IsStored};
 ghost use Rattle.pm_serving.specs.Events.{Appends, Serves};
 
 /// A law of serving: the engine of a space that was just opened serves the world of the copy in it.
@@ -66,4 +68,10 @@ pub fn a_served_command_goes_on()
         → old.saving.progress ≡ Some begun → Appends client Unsave old new (Dropped begun.number)
         → new.view ≡ old.view → new.saving.progress ≡ None
         → Serves client Unsave old new (Dropped begun.number) × IsServed new }
+{}
+
+/// A law of serving: where it is known in some way that what is stored fits, it does.
+pub fn what_is_stored_is_told()
+    ensures { (it : Serving) (s : State) (opened contents : Option (List ℕ)) → ∥ IsStored it s opened contents ∥₁
+        → IsStored it s opened contents }
 {}

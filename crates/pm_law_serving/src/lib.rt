@@ -3,4 +3,4 @@
 
 mod laws;
 
-pub use laws::{a_served_command_goes_on, an_engine_begins_to_serve};
+pub use laws::{a_served_command_goes_on, an_engine_begins_to_serve, what_is_stored_is_told};

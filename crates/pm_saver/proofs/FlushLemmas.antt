@@ -175,3 +175,8 @@ pub memory_told : {D T : Type 0} (A : Type 0) (contents : D → Option (List ℕ
 memory_told A contents (Ok x) was is same = tt
 memory_told A contents (Err Disk) was is same = tt
 memory_told A contents (Err Memory) was is same = (same.0, ap contents same.1)
+
+-- a fault leaves the copies as they were
+pub err_kept : (old : Saving) (progress after : Progress) (result : Result Flushed SaveFault) → old.progress ≡ Some progress → OnErr result (after ≡ progress) → OnErr result (record old { progress = Some after } ≡ old)
+err_kept old progress after (Ok flushed) is same = tt
+err_kept old progress after (Err fault) is same = ap (λ (o : Option Progress). record old { progress = o }) (ap Some same ∙ sym is)

@@ -34,6 +34,7 @@ use Rattle.pm_saver.specs.declared.fault.SaveFault.{SaveFault}
 use Rattle.pm_saver.specs.declared.fault.SaveFault.TheVariants.{Disk, Memory}
 use Rattle.pm_saver.specs.Answers.{IfMemory, IsStill, KeepsCopy, Spares, TellsOn}
 use Rattle.pm_saver.specs.Runs.{HasRun, Runs}
+use Rattle.pm_saver.specs.Settling.{StaysOn}
 
 -- ---- pages one after another
 
@@ -268,3 +269,13 @@ left_some frozen cars old mid s m was is runs some =
     let before : left_of old.progress ≡ left runs.progress = ap left_of runs.is_progress in
     let all = runs.run.left in
     omega (arith, some, after, before, all)
+
+-- after a run the copy is in progress still
+pub runs_on : (frozen : Option Cars) (cars : Cars) (old mid new : Saving) (s t : State) (was now : Option (List ℕ)) → Runs frozen cars old mid s t was now → new ≡ mid → StaysOn old new
+runs_on frozen cars old mid new s t was now runs same = record {
+  progress = runs.progress;
+  after = written_on cars runs.pages runs.progress;
+  is_progress = runs.is_progress;
+  saving = same ∙ runs.run.saving;
+  goes_on = runs.run.goes;
+}

@@ -24,6 +24,8 @@ use Rattle.pm_saving.specs.Paging.{header_of, left, left_of, written_on}
 use Rattle.pm_saving.specs.Beginning.{IsInProgress}
 use Rattle.pm_saving.specs.Tied.{ChangesOnly, HasCopy, IsBegun, IsTied, IsWhole, Settles}
 use Rattle.pm_law_saving.proofs.Giving.{gate_closed}
+use Rattle.pm_law_saving.proofs.Members.{of_member}
+use Rattle.pm_shadow.specs.declared.page_use.PageUse.TheVariants.{Free}
 use Rattle.pm_law_saving.proofs.Whole.{copy_header, copy_whole}
 use Rattle.pm_law_saving.proofs.Publishing.{copy_held, copy_next, copy_renewed, copy_settled, copy_still}
 use Rattle.pm_saver.specs.declared.place.InProgress.{InProgress}
@@ -31,9 +33,11 @@ use Rattle.pm_saver.specs.Seen.{progress_seen}
 use Rattle.pm_saver.specs.Shown.{cars_or_none}
 use Rattle.pm_saver.specs.Kept.{AreKept, IsKept, IsPlaced}
 use Rattle.pm_saver.specs.Taken.{AreOnce}
-use Rattle.pm_saver.specs.Answers.{KeepsCopy, Spares, TellsOn}
+use Rattle.pm_saver.specs.declared.fault.SaveFault.{SaveFault}
+use Rattle.pm_saver.specs.declared.fault.SaveFault.TheVariants.{Disk, Memory}
+use Rattle.pm_saver.specs.Answers.{IfMemory, KeepsCopy, Spares, TellsOn}
 use Rattle.pm_saver.specs.Runs.{Runs}
-use Rattle.pm_saver.specs.Settling.{ClosesFrom, PublishesFrom, SparesEither, StandsThen}
+use Rattle.pm_saver.specs.Settling.{ClosesFrom, IsLeftSo, PublishesFrom, SparesEither, StandsThen}
 use Rattle.pm_saver.proofs.FlushLemmas.{begun_from}
 use Rattle.pm_saver.proofs.FlushLemmas.{copy_still as copy_stays}
 use Rattle.pm_saver.proofs.OnceLemmas.{once_by, placed_by}
@@ -262,4 +266,26 @@ module _ {D : Type 0} {g : Ghosts D} where
     counted = λ bytes now. (current_kept it (ap (λ (k : State). k.failed) is ∙ sound) bytes now).counted;
     bytes = λ bytes now. bytes_are bytes (leaves_bytes (g.moment (disk_of it)) bytes (counts (g.moment (disk_of it)) bytes (omega arith) (stay bytes now)));
     few = let few = it.few in omega (arith, few);
+  }
+
+-- memory ran out while the copy was written
+module _ {D : Type 0} (contents : D → Option (List ℕ)) (moment : D → ℕ) (since : D → ℕ → List ℕ → Type 0) (frozen : Option Cars) (cars : Cars) (old new : Saving) (s t : State) (before after : D) where
+  pub left_by : (fault : SaveFault) → IfMemory (Runs frozen cars old new s t (contents before) (contents after)) fault → 0 < left_of old.progress → Spares contents moment since s before after
+      → IfMemory (IsLeftSo contents moment since old new s t before after) fault
+  left_by Disk runs some spares = tt
+  left_by Memory runs some spares = record {
+    stays = record {
+      before = runs.progress;
+      after = written_on cars runs.pages runs.progress;
+      is_before = runs.is_progress;
+      saving = runs.run.saving;
+      some_left = subst (λ (o : Option Progress). 0 < left_of o) runs.is_progress some;
+      goes_on = runs.run.goes;
+      header = runs.run.header;
+      slot = runs.run.slot;
+      closed = runs.run.closed;
+      only = λ told is told_now also page there not_free. (runs.run.only told is told_now also).same page there (λ within. not_free (of_member (λ (p : ℕ). s.uses p ≡ Free) runs.pages page runs.run.free within));
+    };
+    spares = spares;
+    has = runs.run.has;
   }

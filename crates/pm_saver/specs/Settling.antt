@@ -12,7 +12,7 @@ use Rattle.pm_space.specs.declared.parts.Parts.{Parts}
 use Rattle.pm_space.specs.Shown.{view}
 use Rattle.pm_view.specs.View.{Cars}
 use Rattle.pm_saving.specs.Progress.{Progress, Saving, copy_of}
-use Rattle.pm_saving.specs.Tied.{HasCopy, StaysInProgress}
+use Rattle.pm_saving.specs.Tied.{GoesOn, HasCopy, StaysInProgress}
 use Rattle.pm_saver.specs.declared.fault.SaveFault.{SaveFault}
 use Rattle.pm_saver.specs.Shown.{frozen_of}
 use Rattle.pm_saver.specs.Answers.{HasCause, KeepsCopy, Spares}
@@ -52,6 +52,14 @@ pub record IsLeftSo {D : Type 0} (contents : D → Option (List ℕ)) (moment : 
   pub stays : StaysInProgress old new s t (contents before) (contents after)
   pub spares : Spares contents moment since s before after
   pub has : KeepsCopy s t (contents before) (contents after)
+
+-- The copy is in progress still: more of its pages may have been written, and the settled cars stay.
+pub record StaysOn (old new : Saving) : Type 0 where
+  pub progress : Progress
+  pub after : Progress
+  pub is_progress : old.progress ≡ Some progress
+  pub saving : new ≡ record old { progress = Some after }
+  pub goes_on : GoesOn progress after
 
 -- what is seen of the space stays, and its chooser; its cars are frozen no more after Ok, and as before otherwise
 pub record LeavesSpace {F T : Type 0} (old new : Parts F) (result : Result T SaveFault) : Type 0 where

@@ -103,8 +103,9 @@ impl Saver {
         ensures cause { HasCause (D.count (disk_of pages.old)) (D.count (disk_of pages.new)) result }
         // One write was made for a page, and no read reached past the end of what the disk told.
         ensures made { Makes (D.made (disk_of pages.old)) (D.made (disk_of pages.new)) result }
-        // A fault comes only where a page is left.
+        // A fault comes only where a page is left, and leaves the copies as they were.
         ensures fault { OnErr result (0 < left_of (saving self.old).progress) }
+        ensures err { OnErr result (saving self.new ≡ saving self.old) }
     {
         pages_of_a_copy_are_written_in_order();
         the_next_page_is_written_beside_the_current_copy();

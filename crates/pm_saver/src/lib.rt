@@ -2,8 +2,6 @@
 #![tactic(auto)]
 
 mod beginning;
-#[cfg(test)]
-mod beginning_tests;
 mod copying;
 mod counter;
 mod counting;

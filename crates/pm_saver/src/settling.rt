@@ -143,7 +143,7 @@ impl Saver {
     ghost use Rattle.pm_saving.specs.Tied.{IsTied, Settles};
     ghost use Rattle.pm_saver.specs.Shown.{saving, frozen_of, frozen_cars};
     ghost use Rattle.pm_saver.specs.Answers.{HasCause, OnMemory, Spares, TellsOn, UnlessDisk};
-    ghost use Rattle.pm_saver.specs.Settling.{IsCausedBy, IsLeftSo, LeavesSpace, SparesEither, StandsThen};
+    ghost use Rattle.pm_saver.specs.Settling.{IsCausedBy, IsLeftSo, LeavesSpace, SparesEither, StandsThen, StaysOn};
     ghost use Rattle.pm_saver.specs.Runs.{Runs};
 
     /// Writes what is left of the copy in progress.
@@ -161,6 +161,7 @@ impl Saver {
             (D.contents (disk_of pages.old)) (D.contents (disk_of pages.new))) }
         ensures none { OnOk result (left_of (saving self.new).progress ≡ 0) }
         ensures fault { OnErr result (0 < left_of (saving self.old).progress) }
+        ensures goes { OnErr result (StaysOn (saving self.old) (saving self.new)) }
         ensures spares { Spares D.contents D.moment D.since (state pages.old) (disk_of pages.old) (disk_of pages.new) }
         ensures told { TellsOn (D.contents (disk_of pages.old)) (D.contents (disk_of pages.new)) }
         ensures cause { HasCause (D.count (disk_of pages.old)) (D.count (disk_of pages.new)) result }
@@ -213,6 +214,8 @@ impl Saver {
             (D.contents (disk_of pages.new))) }
         ensures memory { OnMemory result (IsLeftSo D.contents D.moment D.since (saving self.old) (saving self.new)
             (state pages.old) (state pages.new) (disk_of pages.old) (disk_of pages.new)) }
+        // After a fault the copy is in progress still.
+        ensures goes { OnErr result (StaysOn (saving self.old) (saving self.new)) }
         ensures space { LeavesSpace space.old.parts space.new.parts result }
         ensures told { TellsOn (D.contents (disk_of pages.old)) (D.contents (disk_of pages.new)) }
         ensures causes { IsCausedBy (D.count (disk_of pages.old)) (D.count (disk_of pages.new))

@@ -1,5 +1,5 @@
 -- What the calls of an engine do.
-use Rattle.std.specs.Prelude.{◌≡◌, ℕ, ◌+◌, [], ◌∷◌, ◌++◌, Option, Some, None}
+use Rattle.std.specs.Prelude.{◌≡◌, ℕ, [], ◌∷◌, ◌++◌, Option, Some, None}
 use Rattle.pm_types.specs.declared.command.Cmd.{Cmd}
 use Rattle.pm_types.specs.declared.reply.Reply.{Reply}
 use Rattle.pm_types.specs.declared.fault.EngineFault.{EngineFault}
@@ -8,13 +8,13 @@ use Rattle.pm_base.specs.Counts.{ShowsRise}
 use Rattle.pm_model.specs.Answer.{answer}
 use Rattle.pm_saving.specs.Progress.{Progress}
 use Rattle.pm_saving.specs.Tied.{GoesOn}
-use Rattle.pm_serving.specs.Serving.{Serving, KeepsOpening, world}
+use Rattle.pm_serving.specs.Serving.{Serving, KeepsOpening, one_more, world}
 
 -- A command's entry, with this reply, was put at the journal's end, and one event more was made. The opening stays.
 pub record Appends (client : ℕ) (cmd : Cmd) (old new : Serving) (reply : Reply) : Type 0 where
   pub opening : KeepsOpening old new
   pub journal : new.journal ≡ old.journal ++ record { client = client; cmd = cmd; reply = reply } ∷ []
-  pub events : new.events ≡ old.events + 1
+  pub events : new.events ≡ one_more old.events
   pub stopped : new.stopped ≡ old.stopped
 
 -- A command was answered: the reply is the world's, and its entry is at the journal's end.
@@ -29,7 +29,7 @@ pub record Flushes (old new : Serving) : Type 0 where
   pub frozen : new.frozen ≡ old.frozen
   pub settled : new.saving.settled ≡ old.saving.settled
   pub journal : new.journal ≡ old.journal
-  pub events : new.events ≡ old.events + 1
+  pub events : new.events ≡ one_more old.events
   pub stopped : new.stopped ≡ old.stopped
 
 -- the copy in progress is the same, of which more pages may have been written

@@ -37,14 +37,15 @@ IsTold contents = (bytes : List ℕ) × (contents ≡ Some bytes)
 -- moment since the opening one that was acknowledged; where a call answered that the disk failed, the copy in progress too.
 -- It tells its contents still, and its clock has not gone back. Of a disk that tells nothing nothing is said.
 pub record KeepsImages {D : Type 0} (contents : D → Option (List ℕ)) (image : D → List ℕ → Type 0) (moment : D → ℕ) (since : D → ℕ → List ℕ → Type 0) (opened : D) (it : Serving) (disk : D) : Type 0 where
-  pub later : moment opened ≤ moment disk
+  pub later : IsTold (contents opened) → moment opened ≤ moment disk
   pub told : IsTold (contents opened) → IsTold (contents disk)
   pub now : IsTold (contents opened) → (left : List ℕ) → image disk left → IsLast it left
   pub ever : IsTold (contents opened) → (left : List ℕ) → since disk (moment opened) left → IsOfRun it left
 
 -- While no call has answered that the disk failed: saver, frozen cars and pages fit one another, the current header has
--- the number of the copy that has settled, and that copy stands behind it.
-pub record IsStored (it : Serving) (s : State) (contents : Option (List ℕ)) : Type 0 where
+-- the number of the copy that has settled, and, where the disk told its contents when it was opened, that copy stands
+-- behind it.
+pub record IsStored (it : Serving) (s : State) (opened contents : Option (List ℕ)) : Type 0 where
   pub tied : IsTied it.saving it.frozen s contents
   pub numbered : s.header.epoch ≡ (world it).settled
-  pub has : IfTold contents (λ bytes. HasCopy s bytes (world it).settled_copy)
+  pub has : IsTold opened → IfTold contents (λ bytes. HasCopy s bytes (world it).settled_copy)

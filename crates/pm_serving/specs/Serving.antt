@@ -1,6 +1,7 @@
 -- What contracts see of an engine, beside its disk.
-use Rattle.std.specs.Prelude.{◌≡◌, ℕ, List, [], Option, Some, None, option_map}
+use Rattle.std.specs.Prelude.{◌≡◌, ℕ, ◌+◌, min, List, [], Option, Some, None, option_map}
 use Rattle.std.specs.FinMap.{empty}
+use Rattle.pm_base.specs.Counts.{greatest_count}
 use Rattle.pm_types.specs.declared.entry.Entry.{Entry}
 use Rattle.pm_model.specs.World.{World, Copy, begin}
 use Rattle.pm_model.specs.Closed.{IsClosed}
@@ -22,6 +23,10 @@ pub record Serving : Type 0 where
   pub journal : List Entry
   pub events : ℕ
   pub stopped : Option ℕ
+
+-- one event more; at its greatest value the count stands still
+abbrev pub one_more : ℕ → ℕ
+one_more count = min (count + 1) greatest_count
 
 -- the world as it was opened
 abbrev pub opening : Serving → World

@@ -10,7 +10,7 @@ use Rattle.pm_saver.specs.Shown.{frozen_of, saving}
 use Rattle.pm_saver.specs.Answers.{OnMemory}
 use Rattle.pm_saver.specs.Steps.{IsStep}
 use Rattle.pm_saver.proofs.Keeping.{newly_on}
-use Rattle.pm_saver.proofs.FlushLemmas.{memory_told, begun_from, may_be, holds_now, spares_by, spares_still, fault_by, flushed_by, tied_by, has_by}
+use Rattle.pm_saver.proofs.FlushLemmas.{memory_told, begun_from, may_be, holds_now, spares_by, spares_still, fault_by, flushed_by, tied_by, has_by, err_kept}
 use Rattle.pm_saver.proofs.saver.Saver.flush_one.Goals as goal
 
 pub returns-in_default-clause-leaves : goal.returns-in_default-clause-leaves
@@ -110,3 +110,13 @@ returns-clause-fault g c =
     let law = c.pages_of_a_copy_are_written_in_order.ensures in
     fault_by (saving self) progress (progress_seen settled c.flush.new.it) (frozen_of c.args.space.now.parts) s (state c.flush.new.pages) (g.D.Disk.contents (disk_of c.args.pages.now)) (g.D.Disk.contents (disk_of c.flush.new.pages))
     (newly_on s settled c.in-Some.it c.requires.tied.on_pages) c.requires.tied is law.none law.left c.flush.result some
+
+pub returns-clause-err : goal.returns-clause-err
+returns-clause-err g c =
+    let self = c.args.self.now in
+    let settled = self.settled.items in
+    let progress = progress_seen settled c.in-Some.it in
+    let is : (saving self).progress ≡ Some progress = ap (option_map (progress_seen settled)) c.in-Some.is in
+    let kept : OnErr c.flush.result (progress_seen settled c.flush.new.it ≡ progress) =
+    subst (λ (settled : List KeptPage). OnErr c.flush.result (progress_seen settled c.flush.new.it ≡ progress_seen settled c.in-Some.it)) c.deref.ensures.value c.flush.ensures.err in
+    err_kept (saving self) progress (progress_seen settled c.flush.new.it) c.flush.result is kept

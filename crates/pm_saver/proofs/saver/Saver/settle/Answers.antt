@@ -1,4 +1,4 @@
-use Rattle.std.proofs.Common.{Option, ap, subst, sym}
+use Rattle.std.proofs.Common.{rules, Option, ap, refl, subst, sym}
 use Rattle.std.specs.Prelude.{option_map}
 use Rattle.pm_base.specs.Mapped.{mapped}
 use Rattle.pm_shadow.specs.Pages.{state, disk_of}
@@ -6,7 +6,9 @@ use Rattle.pm_space.specs.Shown.{car_of}
 use Rattle.pm_view.specs.View.{Cars}
 use Rattle.pm_saving.specs.Tied.{IsTied}
 use Rattle.pm_saver.specs.Shown.{saving, frozen_of, frozen_cars}
-use Rattle.pm_saver.proofs.SettleLemmas.{all_written, is_shut, either_of, gate_either, header_whole, is_written, once_in, placed_in, publish_either, publishable, settles_by, stands_by, tied_by, told_by}
+use Rattle.pm_saver.proofs.SettleLemmas.{all_written, is_shut, either_of, gate_either, header_whole, is_written, left_by, once_in, placed_in, publish_either, publishable, settles_by, stands_by, tied_by, told_by}
+use Rattle.std.proofs.lemmas.Result.{err_from_is_err_and}
+use Rattle.pm_saver.proofs.RunLemmas.{runs_on}
 use Rattle.pm_saver.proofs.saver.Saver.settle.Goals as goal
 
 pub returns-in_err-write_rest-clause-leaves : goal.returns-in_err-write_rest-clause-leaves
@@ -130,3 +132,21 @@ returns-clause-told g c =
     let shut = is_shut (state rest) (disk_of rest) gate all.runs.run.tied.sound c.in_ok-close_gate.ensures.state c.in_ok-close_gate.ensures.closes c.close_gate.ensures.leaves c.close_gate.ensures.told
     (g.met.D.Disk.leaves_bytes (disk_of gate)) (g.met.D.Disk.counts_now (disk_of gate)) (g.met.D.Disk.contents_stay (disk_of gate)) in
     told_by all shut (disk_of c.publish.new.pages) c.publish.ensures.told
+
+pub returns-in_err-close_gate-clause-goes : goal.returns-in_err-close_gate-clause-goes
+returns-in_err-close_gate-clause-goes g c =
+    let on = runs_on (frozen_of c.args.space.now.parts) (frozen_cars c.args.space.now.parts) (saving c.args.self.now) (saving c.write_rest.new.self) (saving c.write_rest.new.self) (state c.args.pages.now) (state c.write_rest.new.pages)
+    (g.D.Disk.contents (disk_of c.args.pages.now)) (g.D.Disk.contents (disk_of c.write_rest.new.pages)) c.in_ok-write_rest.ensures.run refl in
+    search (rules, on)
+
+pub returns-in_err-publish-clause-goes : goal.returns-in_err-publish-clause-goes
+returns-in_err-publish-clause-goes g c =
+    let on = runs_on (frozen_of c.args.space.now.parts) (frozen_cars c.args.space.now.parts) (saving c.args.self.now) (saving c.write_rest.new.self) (saving c.write_rest.new.self) (state c.args.pages.now) (state c.write_rest.new.pages)
+    (g.D.Disk.contents (disk_of c.args.pages.now)) (g.D.Disk.contents (disk_of c.write_rest.new.pages)) c.in_ok-write_rest.ensures.run refl in
+    search (rules, on)
+
+pub returns-in_err-write_rest-clause-memory : goal.returns-in_err-write_rest-clause-memory
+returns-in_err-write_rest-clause-memory g c =
+    let p = err_from_is_err_and c.from_residual.result c.from_residual.ensures.1 in
+    rw (p.1, p.2) (left_by g.D.Disk.contents g.D.Disk.moment g.D.Disk.since (frozen_of c.args.space.now.parts) (frozen_cars c.args.space.now.parts) (saving c.args.self.now) (saving c.write_rest.new.self) (state c.args.pages.now) (state c.write_rest.new.pages)
+    (disk_of c.args.pages.now) (disk_of c.write_rest.new.pages) c.in_err-write_rest.field-0.0 c.in_err-write_rest.ensures.run c.in_err-write_rest.ensures.fault c.write_rest.ensures.spares)

@@ -5,7 +5,7 @@ use Rattle.pm_types.specs.declared.event.Flushed.{Flushed}
 use Rattle.pm_saver.specs.Answers.{IsFlushed}
 use Rattle.pm_saver.specs.Shown.{saving, frozen_of, frozen_cars}
 use Rattle.pm_saver.proofs.FlushLemmas.{spares_by, spares_still}
-use Rattle.pm_saver.proofs.RunLemmas.{begin_runs, fault_runs, left_some, more_runs, spares_then, tells_then}
+use Rattle.pm_saver.proofs.RunLemmas.{begin_runs, fault_runs, left_some, more_runs, runs_on, spares_then, still_runs, tells_then}
 use Rattle.pm_law_saving.proofs.Publishing.{copy_held}
 use Rattle.pm_saver.proofs.saver.Saver.write_rest.Goals as goal
 
@@ -76,3 +76,9 @@ returns-clause-spares g c =
     let is = c.loop-page.invariant in
     spares_then g.D.Disk.contents g.D.Disk.moment g.D.Disk.since (state c.args.pages.now) (state c.loop-page.pages) (disk_of c.args.pages.now) (disk_of c.loop-page.pages) (disk_of c.flush_one.new.pages)
     is.run.run.header is.told is.run.run.has is.spares c.flush_one.ensures.leaves
+
+pub returns-in_err-_page-clause-goes : goal.returns-in_err-_page-clause-goes
+returns-in_err-_page-clause-goes g c =
+    let p = err_from_is_err_and c.from_residual.result c.from_residual.ensures.1 in
+    rw p.1 (runs_on (frozen_of c.args.space.now.parts) (frozen_cars c.args.space.now.parts) (saving c.args.self.now) (saving c.loop-page.self) (saving c.flush_one.new.self) (state c.args.pages.now) (state c.loop-page.pages)
+    (g.D.Disk.contents (disk_of c.args.pages.now)) (g.D.Disk.contents (disk_of c.loop-page.pages)) c.loop-page.invariant.run c.in_err-_page.ensures.err)

@@ -1,0 +1,277 @@
+-- What each command's answer makes of what holds.
+use Rattle.std.proofs.Common.{◌≡◌, ◌⊎◌, ⊎_elim, inl, inr, ℕ, ◌<◌, ◌≤◌, ◌+◌, Bool, true, false, List, [], ◌∷◌, ◌++◌, Option, Some, None, option_map, IfSome, Contains, refl, sym, ap, subst, ◌∙◌, arith}
+use Rattle.std.proofs.lemmas.List.Elements.{Contains-append_left, Contains-append_right}
+use Rattle.pm_types.specs.declared.command.Cmd.{Cmd}
+use Rattle.pm_types.specs.declared.command.Cmd.TheVariants.{Save, Settle, Unsave, Watch, New, Load, Store, Clear, Show, Put, Copy, IdOf, Forget, Bind, Unbind, Find, Swap, Close}
+use Rattle.pm_types.specs.declared.entry.Entry.{Entry}
+use Rattle.pm_types.specs.declared.limits.TheConstants.{LAST_COPY}
+use Rattle.pm_types.specs.declared.reply.Reply.{Reply}
+use Rattle.pm_types.specs.declared.reply.Reply.TheVariants.{Begun, Busy, Dropped, Idle, Saved, SavesSpent}
+use Rattle.pm_disk.specs.declared.disk.Disk.{Ghosts}
+use Rattle.pm_disk.specs.Disk.{IfTold, LeavesOnly}
+use Rattle.pm_model.specs.World.{World}
+use Rattle.pm_model.specs.Answer.{answer}
+use Rattle.pm_model.specs.Frames.{is_settle, saves, sets_watch}
+use Rattle.pm_shadow.specs.declared.pages.Pages.{Pages}
+use Rattle.pm_shadow.specs.Pages.{disk_of}
+use Rattle.pm_model.specs.Journal.{after, chain, settled_in, says_saved}
+use Rattle.pm_model.proofs.AnswerLaws.{leaves_saving}
+use Rattle.pm_model.proofs.ChainLaws.{after_more, chain_more, saved}
+use Rattle.pm_model.proofs.Members.{at_first}
+use Rattle.pm_image.specs.Stands.{Stands}
+use Rattle.pm_view.specs.View.{Cars}
+use Rattle.pm_view.specs.Law.{HeapLaw}
+use Rattle.pm_view.specs.Commands.{is_act}
+use Rattle.pm_copies.specs.Listed.{copy_in}
+use Rattle.pm_saving.specs.Progress.{Progress, copy_of}
+use Rattle.pm_saving.specs.Paging.{NextPage, CarPage, PartPage, header_of, next_page, with_next, written_on}
+use Rattle.pm_saving.specs.Tied.{HasCopy}
+use Rattle.pm_saver.specs.Answers.{TellsOn}
+use Rattle.pm_saver.specs.Shown.{cars_or_none}
+use Rattle.pm_saver.specs.Settling.{SparesEither}
+use Rattle.pm_serving.specs.Serving.{IsServed, frozen_cars, numbered_copy, opening, world}
+use Rattle.pm_serving.specs.Events.{Serves}
+use Rattle.pm_serving.specs.Images.{IsInProgress, IsSettled, IsStored, IsTold}
+use Rattle.pm_law_serving.proofs.Following as law
+use Rattle.pm_law_serving.proofs.Images.{acknowledged, failed}
+use Rattle.pm_engine.specs.declared.opening.Opening.{Opening}
+use Rattle.pm_engine.specs.declared.works.Works.{Works}
+use Rattle.pm_engine.specs.Working.{Acts, Adds, Answers, IsTiedIn, LeavesEither, Rests, Saves, SettlesCopy, SettlesIt, StaysStill, Unsaves, contents_in, disk_at, frozen_in, saving_in, state_in, view_in}
+use Rattle.pm_engine.specs.Seen.{IsSound, disk_then, seen}
+use Rattle.pm_engine.proofs.Going.{answers_sound, appends, serves_on, settled_there}
+use Rattle.pm_engine.proofs.Kept.{pages_last, same_cars, spares_still}
+
+-- only `settle` says that a copy settled
+pub not_saved : (world : World) (client : ℕ) (cmd : Cmd) (reply : Reply) → reply ≡ (answer world client cmd).0 → saves cmd ≡ false → says_saved reply ≡ false
+not_saved world client cmd (Saved number) is none =
+    let was = saved world client number cmd (sym is) in
+    let never : None ≡ Some (settled_in (answer world client cmd).1) = sym was.2 ∙ leaves_saving world client cmd none ∙ was.0 in
+    absurd (cc never)
+not_saved world client cmd reply is none = refl
+
+module _ {D : Type 0} {F : Type 0} {g : Ghosts D} (start : Opening D F g) (old new : Works D F g) where
+  pub act_served : (client : ℕ) (cmd : Cmd) (reply : Reply) → IsServed (seen start None old) → is_act cmd ≡ true → Acts client cmd old new reply
+      → Serves client cmd (seen start None old) (seen start None new) reply × IsServed (seen start None new)
+  act_served client cmd reply served act acts =
+      let w = world (seen start None old) in
+      let is = acts.served w served.represents (law.fresh (seen start None old) served) in
+      let appended = appends start old new client cmd reply acts.adds in (
+        record { appends = appended; reply_is = is.reply },
+        law.acted client cmd (seen start None old) (seen start None new) reply served act appended is.reply is.world acts.frozen acts.saving,
+      )
+
+  -- an entry whose reply has this number
+  numbered : (client : ℕ) (cmd : Cmd) (reply : ℕ → Reply) (number other : ℕ) → number ≡ other → Adds client cmd (reply number) old new → Adds client cmd (reply other) old new
+  numbered client cmd reply number other is adds = subst (λ (n : ℕ). Adds client cmd (reply n) old new) is adds
+
+  back : (client : ℕ) (cmd : Cmd) (reply : ℕ → Reply) (number other : ℕ) → number ≡ other → Serves client cmd (seen start None old) (seen start None new) (reply other) × IsServed (seen start None new)
+      → Serves client cmd (seen start None old) (seen start None new) (reply number) × IsServed (seen start None new)
+  back client cmd reply number other is both = subst (λ (n : ℕ). Serves client cmd (seen start None old) (seen start None new) (reply n) × IsServed (seen start None new)) (sym is) both
+
+  pub save_served : (client : ℕ) (reply : Reply) → IsServed (seen start None old) → HeapLaw (view_in old) → (state_in old).header.epoch ≡ (world (seen start None old)).settled → Saves client old new reply
+      → Serves client Save (seen start None old) (seen start None new) reply × IsServed (seen start None new)
+  save_served client (Busy number) served heap at is =
+      back client Save Busy number is.begun.number is.number_is
+      (law.busy client (seen start None old) (seen start None new) is.begun served is.is_begun (appends start old new client Save (Busy is.begun.number) (numbered client Save Busy number is.begun.number is.number_is is.adds)) is.keeps.view is.keeps.frozen is.keeps.saving)
+  save_served client SavesSpent served heap at is =
+      law.spent client (seen start None old) (seen start None new) served is.none (sym at ∙ is.last) (appends start old new client Save SavesSpent is.adds) is.keeps.view is.keeps.frozen is.keeps.saving
+  save_served client (Begun number) served heap at is =
+      back client Save Begun number is.begun.number is.number_is
+      (law.begins client (seen start None old) (seen start None new) is.begun served heap is.none (subst (λ (n : ℕ). n < LAST_COPY) at is.below) (is.next ∙ ap (λ (n : ℕ). n + 1) at)
+      (appends start old new client Save (Begun is.begun.number) (numbered client Save Begun number is.begun.number is.number_is is.adds)) is.view is.is_begun
+      (ap (λ (cars : Cars). copy_of cars is.begun) (sym (same_cars (frozen_in new))) ∙ is.copy))
+  save_served client reply served heap at is = absurd is
+
+  pub unsave_served : (client : ℕ) (reply : Reply) → IsServed (seen start None old) → Unsaves client old new reply → Serves client Unsave (seen start None old) (seen start None new) reply × IsServed (seen start None new)
+  unsave_served client Idle served is =
+      law.undropped client (seen start None old) (seen start None new) served is.none (appends start old new client Unsave Idle is.adds) is.keeps.view is.keeps.frozen is.keeps.saving
+  unsave_served client (Dropped number) served is =
+      back client Unsave Dropped number is.begun.number is.number_is
+      (law.drops client (seen start None old) (seen start None new) is.begun served is.is_begun (appends start old new client Unsave (Dropped is.begun.number) (numbered client Unsave Dropped number is.begun.number is.number_is is.adds)) is.view is.none)
+  unsave_served client reply served is = absurd is
+
+-- the number of a copy stays while its pages are written
+pub written_number : (cars : Cars) (pages : List ℕ) (progress : Progress) → (written_on cars pages progress).number ≡ progress.number
+written_number cars [] progress = refl
+written_number cars (page ∷ pages) progress = written_number cars pages (with_next page progress (next_page cars progress)) ∙ number_next (next_page cars progress)
+  where
+    number_next : (next : Option NextPage) → (with_next page progress next).number ≡ progress.number
+    number_next None = refl
+    number_next (Some (CarPage image)) = refl
+    number_next (Some (PartPage entries)) = refl
+
+module _ {D : Type 0} {F : Type 0} {g : Ghosts D} (start : Opening D F g) (old new : Works D F g) where
+  -- at each moment the current copy stood, or the one in progress
+  pub leaves_either : IsStored (seen start None old) (state_in old) (g.contents (disk_then start)) (contents_in old) → (IsTold (g.contents (disk_then start)) → IsTold (contents_in old))
+      → (progress : Progress) → (saving_in old).progress ≡ Some progress
+      → SparesEither g.contents g.moment g.since (saving_in old).progress (cars_or_none (frozen_in old)) (state_in old) (disk_at old) (disk_at new) → IsTold (g.contents (disk_then start))
+      → LeavesOnly g.moment g.since (disk_at old) (disk_at new) (λ image. IsSettled (world (seen start None old)) image ⊎ Stands image progress.number (copy_of (cars_or_none (frozen_in old)) progress))
+  leaves_either stored tells progress is spares first =
+      let was = tells first in
+      let w = world (seen start None old) in
+      let cars = cars_or_none (frozen_in old) in
+      let all = subst (λ (o : Option Progress). SparesEither g.contents g.moment g.since o cars (state_in old) (disk_at old) (disk_at new)) is spares in
+      subst (λ (n : ℕ). LeavesOnly g.moment g.since (disk_at old) (disk_at new) (λ image. Stands image n w.settled_copy ⊎ Stands image progress.number (copy_of cars progress))) stored.numbered
+      (all w.settled_copy was.0 was.1 (stored.has first was.0 was.1))
+
+module _ {D : Type 0} {F : Type 0} {g : Ghosts D} (start : Opening D F g) (old new : Works D F g) (sound : IsSound start None old)
+    (counts : (t : ℕ) (bytes : List ℕ) → t ≤ g.moment (disk_at new) → g.image (disk_at new) bytes → g.since (disk_at new) t bytes) (told : TellsOn (contents_in old) (contents_in new)) where
+  tells : IsTold (contents_in old) → IsTold (contents_in new)
+  tells is = told is.0 is.1
+
+  -- the copy in progress has settled
+  pub settled_sound : (client number : ℕ) → SettlesCopy client old new number → IsTiedIn new
+      → SparesEither g.contents g.moment g.since (saving_in old).progress (cars_or_none (frozen_in old)) (state_in old) (disk_at old) (disk_at new)
+      → Serves client Settle (seen start None old) (seen start None new) (Saved number) × IsSound start None new
+  settled_sound client number is tied spares =
+      let progress = is.settles.progress in
+      let cars = cars_or_none (frozen_in old) in
+      let OS = seen start None old in
+      let NS = seen start None new in
+      let adds = subst (λ (n : ℕ). Adds client Settle (Saved n) old new) is.settles.number_is is.adds in
+      let all = law.settles client OS NS progress sound.served is.settles.is_progress (appends start old new client Settle (Saved progress.number) adds) is.view (ap (λ s. s.progress) is.settles.saving) in
+      let copied : (world NS).settled_copy ≡ copy_of cars progress = all.3 ∙ ap (λ (c : Cars). copy_of c progress) (sym (same_cars (frozen_in old))) in
+      let w = opening OS in
+      let entry : Entry = record { client = client; cmd = Settle; reply = Saved progress.number } in
+      let longer = chain w old.journal.items ++ settled_in (world NS) ∷ [] in
+      let now = subst (λ (o : Option Progress). IfSome o (λ (p : Progress). (was : List ℕ) → contents_in old ≡ Some was
+      → ((left : List ℕ) → g.image (disk_at new) left → Stands left number (copy_of cars p)) × IfTold (contents_in new) (λ after. HasCopy (state_in new) after (copy_of cars p)))) is.settles.is_progress is.now in
+      let stands : (left : List ℕ) → Stands left progress.number (copy_of cars progress) → IsSettled (world NS) left =
+      λ left it. subst (Stands left (world NS).settled) (sym copied) (subst (λ (n : ℕ). Stands left n (copy_of cars progress)) (sym all.2) it) in (
+        subst (λ (n : ℕ). Serves client Settle OS NS (Saved n)) (sym is.settles.number_is) all.0,
+        record {
+          served = all.1;
+          stored = λ _. record {
+            tied = tied;
+            numbered = ap (λ h. h.epoch) is.settles.header ∙ written_number cars is.settles.pages progress ∙ sym all.2;
+            has = λ first bytes told.
+                let was = sound.images.told first in
+                subst (HasCopy (state_in new) bytes) (sym copied) ((now was.0 was.1).1 bytes told);
+          };
+          images = acknowledged g.contents g.image g.moment g.since (disk_then start) OS (disk_at old) (disk_at new) (λ image. IsSettled (world OS) image ⊎ Stands image progress.number (copy_of cars progress)) refl sound.images
+              (leaves_either start old new (sound.stored refl) sound.images.told progress is.settles.is_progress spares) tells counts NS longer
+              (ap (chain w) all.0.appends.journal ∙ chain_more w old.journal.items entry ∙ ap (λ (last : World). chain w old.journal.items ++ settled_in last ∷ []) (ap (after w) (sym all.0.appends.journal)))
+              (λ kept there. Contains-append_left (chain w old.journal.items) (settled_in (world NS) ∷ []) kept there)
+              (Contains-append_right (chain w old.journal.items) (settled_in (world NS) ∷ []) (settled_in (world NS)) (at_first (settled_in (world NS)) []))
+              (settled_there OS sound.served)
+              (λ left it. ⊎_elim (λ settled. inl settled) (λ begun. inr (stands left begun)) it)
+              (λ first left here.
+              let was = sound.images.told first in
+              stands left (subst (λ (n : ℕ). Stands left n (copy_of cars progress)) is.settles.number_is ((now was.0 was.1).0 left here)));
+        },
+      )
+
+  -- the disk failed
+  pub failed_sound : (count : ℕ) → Rests old new → SparesEither g.contents g.moment g.since (saving_in old).progress (cars_or_none (frozen_in old)) (state_in old) (disk_at old) (disk_at new)
+      → (progress : Progress) → (saving_in old).progress ≡ Some progress → IsSound start (Some count) new
+  failed_sound count rests spares progress is =
+      let OS = seen start None old in
+      let NS = seen start (Some count) new in
+      let w = opening OS in
+      let cars = cars_or_none (frozen_in old) in
+      let saving : (world OS).saving ≡ Some (progress.number, copy_of cars progress) =
+      sound.served.saving ∙ ap (option_map (numbered_copy (frozen_in old))) is ∙ (λ i. Some (progress.number, copy_of (sym (same_cars (frozen_in old)) i) progress)) in
+      record {
+        served = serves_on start old new (Some count) sound.served rests.nothing.journal rests.view rests.frozen rests.progress;
+        stored = λ none. absurd (cc none);
+        images = failed g.contents g.image g.moment g.since (disk_then start) OS (disk_at old) (disk_at new) (λ image. IsSettled (world OS) image ⊎ Stands image progress.number (copy_of cars progress)) refl sound.images
+            (leaves_either start old new (sound.stored refl) sound.images.told progress is spares) tells counts NS refl (ap (after w) rests.nothing.journal) (ap (chain w) rests.nothing.journal) (settled_there OS sound.served)
+            (λ left it. ⊎_elim (λ settled. inl settled) (λ begun. inr ((progress.number, copy_of cars progress), saving, begun)) it);
+      }
+
+-- every command but `settle` says that none settled
+save_other : {D F : Type 0} {g : Ghosts D} (client : ℕ) (old new : Works D F g) (reply : Reply) → Saves client old new reply → says_saved reply ≡ false
+save_other client old new (Busy number) is = refl
+save_other client old new SavesSpent is = refl
+save_other client old new (Begun number) is = refl
+save_other client old new reply is = absurd is
+
+unsave_other : {D F : Type 0} {g : Ghosts D} (client : ℕ) (old new : Works D F g) (reply : Reply) → Unsaves client old new reply → says_saved reply ≡ false
+unsave_other client old new Idle is = refl
+unsave_other client old new (Dropped number) is = refl
+unsave_other client old new reply is = absurd is
+
+-- what is known of a command that was answered
+pub record Told {D F : Type 0} {g : Ghosts D} (cmd : Cmd) (old new : Works D F g) : Type 0 where
+  pub heap : HeapLaw (view_in old)
+  pub tied : IsTiedIn new
+  pub still : is_settle cmd ≡ false → StaysStill old new
+  pub leaves : is_settle cmd ≡ true → LeavesEither old new
+  pub told : TellsOn (contents_in old) (contents_in new)
+  pub counts : (t : ℕ) (bytes : List ℕ) → t ≤ g.moment (disk_at new) → g.image (disk_at new) bytes → g.since (disk_at new) t bytes
+  pub only_now : (bytes : List ℕ) → g.since (disk_at old) (g.moment (disk_at old)) bytes → g.image (disk_at old) bytes
+
+module _ {D : Type 0} {F : Type 0} {g : Ghosts D} (start : Opening D F g) (old new : Works D F g) (sound : IsSound start None old) where
+  abbrev Result_of : ℕ → Cmd → Reply → Type 0
+  Result_of client cmd reply = Serves client cmd (seen start None old) (seen start None new) reply × IsSound start None new
+
+  stays : (client : ℕ) (cmd : Cmd) (reply : Reply) → IsTiedIn new → StaysStill old new → TellsOn (contents_in old) (contents_in new)
+      → ((t : ℕ) (bytes : List ℕ) → t ≤ g.moment (disk_at new) → g.image (disk_at new) bytes → g.since (disk_at new) t bytes)
+      → ((bytes : List ℕ) → g.since (disk_at old) (g.moment (disk_at old)) bytes → g.image (disk_at old) bytes)
+      → says_saved reply ≡ false → Serves client cmd (seen start None old) (seen start None new) reply × IsServed (seen start None new) → Result_of client cmd reply
+  stays client cmd reply tied still told counts only_now other both = (
+    both.0,
+    answers_sound start old new sound counts client cmd reply both.0 both.1 other tied still.lasts told (spares_still old new only_now still.disk (sound.stored refl).tied.sound),
+  )
+
+  settle_answered : (client : ℕ) (reply : Reply) → Told Settle old new → SettlesIt client old new reply → Result_of client Settle reply
+  settle_answered client Idle all is =
+      stays client Settle Idle all.tied (record { disk = ap (λ (p : Pages D g). disk_of p) is.pages; lasts = pages_last old new is.pages }) all.told all.counts all.only_now refl
+      (law.idle client (seen start None old) (seen start None new) sound.served is.none (appends start old new client Settle Idle is.adds) is.keeps.view is.keeps.frozen is.keeps.saving)
+  settle_answered client (Saved number) all is = settled_sound start old new sound all.counts all.told client number is all.tied (all.leaves refl).either
+  settle_answered client reply all is = absurd is
+
+  act_answered : (client : ℕ) (cmd : Cmd) (reply : Reply) → is_act cmd ≡ true → Told cmd old new → is_settle cmd ≡ false → Acts client cmd old new reply → Result_of client cmd reply
+  act_answered client cmd reply act all quiet is =
+      let both = act_served start old new client cmd reply sound.served act is in
+      stays client cmd reply all.tied (all.still quiet) all.told all.counts all.only_now
+      (not_saved (world (seen start None old)) client cmd reply both.0.reply_is (law.acts cmd act)) both
+
+  -- each command
+  pub answered : (client : ℕ) (cmd : Cmd) (reply : Reply) → sets_watch cmd ≡ false → Told cmd old new → Answers client cmd old new reply → Result_of client cmd reply
+  answered client Save reply known all is =
+      stays client Save reply all.tied (all.still refl) all.told all.counts all.only_now (save_other client old new reply is)
+      (save_served start old new client reply sound.served all.heap (sound.stored refl).numbered is)
+  answered client Settle reply known all is = settle_answered client reply all is
+  answered client Unsave reply known all is =
+      stays client Unsave reply all.tied (all.still refl) all.told all.counts all.only_now (unsave_other client old new reply is)
+      (unsave_served start old new client reply sound.served is)
+  answered client Watch reply known all is = absurd (cc known)
+  answered client (New reg count bytes) reply known all is = act_answered client (New reg count bytes) reply refl all refl is
+  answered client (Load to reg index) reply known all is = act_answered client (Load to reg index) reply refl all refl is
+  answered client (Store reg index value) reply known all is = act_answered client (Store reg index value) reply refl all refl is
+  answered client (Clear reg index) reply known all is = act_answered client (Clear reg index) reply refl all refl is
+  answered client (Show reg) reply known all is = act_answered client (Show reg) reply refl all refl is
+  answered client (Put reg at bytes) reply known all is = act_answered client (Put reg at bytes) reply refl all refl is
+  answered client (Copy to reg) reply known all is = act_answered client (Copy to reg) reply refl all refl is
+  answered client (IdOf reg) reply known all is = act_answered client (IdOf reg) reply refl all refl is
+  answered client (Forget reg) reply known all is = act_answered client (Forget reg) reply refl all refl is
+  answered client (Bind name reg) reply known all is = act_answered client (Bind name reg) reply refl all refl is
+  answered client (Unbind name) reply known all is = act_answered client (Unbind name) reply refl all refl is
+  answered client (Find to name) reply known all is = act_answered client (Find to name) reply refl all refl is
+  answered client (Swap reg index before value) reply known all is = act_answered client (Swap reg index before value) reply refl all refl is
+  answered client Close reply known all is = act_answered client Close reply refl all refl is
+
+-- ---- the entry of an answer
+
+save_adds : {D F : Type 0} {g : Ghosts D} (client : ℕ) (old new : Works D F g) (reply : Reply) → Saves client old new reply → Adds client Save reply old new
+save_adds client old new (Busy number) is = is.adds
+save_adds client old new SavesSpent is = is.adds
+save_adds client old new (Begun number) is = is.adds
+save_adds client old new reply is = absurd is
+
+unsave_adds : {D F : Type 0} {g : Ghosts D} (client : ℕ) (old new : Works D F g) (reply : Reply) → Unsaves client old new reply → Adds client Unsave reply old new
+unsave_adds client old new Idle is = is.adds
+unsave_adds client old new (Dropped number) is = is.adds
+unsave_adds client old new reply is = absurd is
+
+settle_adds : {D F : Type 0} {g : Ghosts D} (client : ℕ) (old new : Works D F g) (reply : Reply) → SettlesIt client old new reply → Adds client Settle reply old new
+settle_adds client old new Idle is = is.adds
+settle_adds client old new (Saved number) is = is.adds
+settle_adds client old new reply is = absurd is
+
+pub adds_of : {D F : Type 0} {g : Ghosts D} (client : ℕ) (cmd : Cmd) (old new : Works D F g) (reply : Reply) → Answers client cmd old new reply → Adds client cmd reply old new
+adds_of client Save old new reply is = save_adds client old new reply is
+adds_of client Settle old new reply is = settle_adds client old new reply is
+adds_of client Unsave old new reply is = unsave_adds client old new reply is
+adds_of client cmd old new reply is = is.adds

@@ -1,0 +1,9 @@
+pub mod Kept
+pub mod Shown
+pub mod Going
+pub mod Answering
+pub mod Flushed
+pub mod Asking
+pub mod Crashing
+pub mod Settled
+pub mod Begun

@@ -1,0 +1,6 @@
+pub mod Replies
+pub mod Working
+pub mod Seen
+pub mod Opened
+pub mod Shown
+pub mod Calls

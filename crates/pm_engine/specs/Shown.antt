@@ -1,0 +1,56 @@
+-- What contracts see of an engine.
+use Rattle.std.specs.Prelude.{◌≡◌, ℕ, List, Option, length}
+use Rattle.pm_types.specs.declared.entry.Entry.{Entry}
+use Rattle.pm_disk.specs.declared.disk.Disk.{Ghosts}
+use Rattle.pm_shadow.specs.State.{State}
+use Rattle.pm_view.specs.Counts.{standing}
+use Rattle.pm_space.specs.Counted.{capped}
+use Rattle.pm_serving.specs.Serving.{KeepsOpening, Serving}
+use Rattle.pm_engine.specs.declared.engine.Engine.{Engine}
+use Rattle.pm_engine.specs.declared.tally.Tally.{Tally}
+use Rattle.pm_engine.specs.Working.{disk_at, room_in, state_in}
+use Rattle.pm_engine.specs.Seen.{disk_then, seen}
+
+module _ {D : Type 0} {F : Type 0} {g : Ghosts D} where
+  -- all but its disk
+  abbrev pub serving : Engine D F g → Serving
+  serving it = seen it.opening it.stopped it.works
+
+  -- its disk, and the pages on it
+  abbrev pub disk_in : Engine D F g → D
+  disk_in it = disk_at it.works
+
+  abbrev pub pages_in : Engine D F g → State
+  pages_in it = state_in it.works
+
+  -- the disk as it was opened, and its count of failed calls then
+  abbrev pub opened_disk : Engine D F g → D
+  opened_disk it = disk_then it.opening
+
+  abbrev pub opened_count : Engine D F g → ℕ
+  opened_count it = it.opening.count
+
+  -- so many entries more take no memory
+  abbrev pub room : Engine D F g → ℕ
+  room it = room_in it.works
+
+  -- the opening stays: the number and the space, the disk as it was, and its count
+  pub record KeepsStart (old new : Engine D F g) : Type 0 where
+    pub opening : KeepsOpening (serving old) (serving new)
+    pub disk : opened_disk new ≡ opened_disk old
+    pub count : opened_count new ≡ opened_count old
+
+-- What an engine came to: how many entries its journal has, how many events were made, how many objects stand, and the
+-- journal.
+pub record Total : Type 0 where
+  pub entries : ℕ
+  pub events : ℕ
+  pub standing : ℕ
+  pub journal : List Entry
+
+abbrev pub tally_of : Tally → Total
+tally_of it = record { entries = it.entries; events = it.events; standing = it.standing; journal = it.journal.value.items }
+
+-- what an engine comes to
+abbrev pub tally_in : Serving → Total
+tally_in it = record { entries = length it.journal; events = it.events; standing = capped (standing it.view); journal = it.journal }

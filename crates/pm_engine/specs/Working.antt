@@ -1,0 +1,212 @@
+-- What calls do to what an engine works with.
+use Rattle.std.specs.Prelude.{◌≡◌, ◌⊎◌, ℕ, ◌+◌, ◌-◌, ◌<◌, Bool, true, IsSome, List, [], ◌∷◌, ◌++◌, Option, Some, None, vec_len, vec_capacity}
+use Rattle.pm_types.specs.declared.limits.TheConstants.{LAST_COPY}
+use Rattle.pm_types.specs.declared.command.Cmd.{Cmd}
+use Rattle.pm_types.specs.declared.command.Cmd.TheVariants.{Save, Settle, Unsave}
+use Rattle.pm_types.specs.declared.event.Flushed.{Flushed}
+use Rattle.pm_types.specs.declared.reply.Reply.{Reply}
+use Rattle.pm_types.specs.declared.reply.Reply.TheVariants.{Begun, Busy, Dropped, Idle, Saved, SavesSpent}
+use Rattle.pm_disk.specs.declared.disk.Disk.{Ghosts}
+use Rattle.pm_shadow.specs.State.{State}
+use Rattle.pm_shadow.specs.Pages.{state, disk_of}
+use Rattle.pm_view.specs.View.{Cars, SpaceView}
+use Rattle.pm_space.specs.Shown.{view}
+use Rattle.pm_copies.specs.Listed.{copy_in}
+use Rattle.pm_saving.specs.Progress.{Progress, Saving, copy_of}
+use Rattle.pm_saving.specs.Paging.{left_of}
+use Rattle.pm_saving.specs.Tied.{IsTied, Settles}
+use Rattle.pm_saver.specs.Shown.{cars_or_none, frozen_of, saving}
+use Rattle.pm_saver.specs.Answers.{IsFlushed, KeepsCopy, Spares}
+use Rattle.pm_saver.specs.declared.fault.SaveFault.{SaveFault}
+use Rattle.pm_saver.specs.declared.fault.SaveFault.TheVariants.{Disk, Memory}
+use Rattle.pm_saver.specs.Settling.{SparesEither, StandsThen}
+use Rattle.pm_serving.specs.Serving.{one_more}
+use Rattle.pm_serving.specs.Events.{StaysBegun}
+use Rattle.pm_mutate.specs.Acts as mutate
+use Rattle.pm_engine.specs.declared.works.Works.{Works}
+
+module _ {D : Type 0} {F : Type 0} {g : Ghosts D} where
+  -- what is seen of the space, its cars as they were frozen, the saver, the pages and the disk
+  abbrev pub view_in : Works D F g → SpaceView
+  view_in it = view it.space.parts
+
+  abbrev pub frozen_in : Works D F g → Option Cars
+  frozen_in it = frozen_of it.space.parts
+
+  abbrev pub saving_in : Works D F g → Saving
+  saving_in it = saving it.saver
+
+  abbrev pub state_in : Works D F g → State
+  state_in it = state it.pages
+
+  abbrev pub disk_at : Works D F g → D
+  disk_at it = disk_of it.pages
+
+  abbrev pub contents_in : Works D F g → Option (List ℕ)
+  contents_in it = g.contents (disk_of it.pages)
+
+  -- so many entries more take no memory
+  abbrev pub room_in : Works D F g → ℕ
+  room_in it = vec_capacity it.journal - vec_len it.journal
+
+  -- the entry of a command is at the journal's end, and one event more was made
+  pub record Adds (client : ℕ) (cmd : Cmd) (reply : Reply) (old new : Works D F g) : Type 0 where
+    pub journal : new.journal.items ≡ old.journal.items ++ record { client = client; cmd = cmd; reply = reply } ∷ []
+    pub events : new.events ≡ one_more old.events
+
+  -- space, saver and pages stay
+  pub record KeepsStore (old new : Works D F g) : Type 0 where
+    pub space : new.space ≡ old.space
+    pub saver : new.saver ≡ old.saver
+    pub pages : new.pages ≡ old.pages
+
+  -- what is seen of the space stays, and so do the copies
+  pub record Keeps (old new : Works D F g) : Type 0 where
+    pub view : view_in new ≡ view_in old
+    pub frozen : frozen_in new ≡ frozen_in old
+    pub saving : saving_in new ≡ saving_in old
+
+  -- the journal stays, and no event was made
+  pub record AddsNothing (old new : Works D F g) : Type 0 where
+    pub journal : new.journal.items ≡ old.journal.items
+    pub events : new.events ≡ old.events
+
+  -- all of it stays
+  pub record IsLeft (old new : Works D F g) : Type 0 where
+    pub keeps : Keeps old new
+    pub nothing : AddsNothing old new
+
+  -- A command on the space: the entry is at the journal's end, the reply and the space after it are those of every world
+  -- that the space stands for, and the copies stay.
+  pub record Acts (client : ℕ) (cmd : Cmd) (old new : Works D F g) (reply : Reply) : Type 0 where
+    pub adds : Adds client cmd reply old new
+    pub served : mutate.Serves (view_in old) client cmd reply (view_in new)
+    pub frozen : frozen_in new ≡ frozen_in old
+    pub saving : saving_in new ≡ saving_in old
+
+  -- ---- copies
+
+  -- A copy is in progress already.
+  pub record IsBusy (client : ℕ) (old new : Works D F g) (number : ℕ) : Type 0 where
+    pub adds : Adds client Save (Busy number) old new
+    pub keeps : Keeps old new
+    pub begun : Progress
+    pub is_begun : (saving_in old).progress ≡ Some begun
+    pub number_is : number ≡ begun.number
+
+  -- The numbers of copies are spent.
+  pub record IsSpent (client : ℕ) (old new : Works D F g) : Type 0 where
+    pub adds : Adds client Save SavesSpent old new
+    pub keeps : Keeps old new
+    pub none : (saving_in old).progress ≡ None
+    pub last : (state_in old).header.epoch ≡ LAST_COPY
+
+  -- The copy in the space at this moment is in progress, under the number after that of the current one.
+  pub record BeginsCopy (client : ℕ) (old new : Works D F g) (number : ℕ) : Type 0 where
+    pub adds : Adds client Save (Begun number) old new
+    pub view : view_in new ≡ view_in old
+    pub none : (saving_in old).progress ≡ None
+    pub below : (state_in old).header.epoch < LAST_COPY
+    pub begun : Progress
+    pub is_begun : (saving_in new).progress ≡ Some begun
+    pub number_is : number ≡ begun.number
+    pub next : begun.number ≡ (state_in old).header.epoch + 1
+    pub copy : copy_of (cars_or_none (frozen_in new)) begun ≡ copy_in (view_in old)
+
+  -- No copy is in progress.
+  pub record IsIdle (client : ℕ) (cmd : Cmd) (old new : Works D F g) : Type 0 where
+    pub adds : Adds client cmd Idle old new
+    pub keeps : Keeps old new
+    pub none : (saving_in old).progress ≡ None
+    pub pages : new.pages ≡ old.pages
+
+  -- The copy in progress is given up.
+  pub record DropsCopy (client : ℕ) (old new : Works D F g) (number : ℕ) : Type 0 where
+    pub adds : Adds client Unsave (Dropped number) old new
+    pub view : view_in new ≡ view_in old
+    pub begun : Progress
+    pub is_begun : (saving_in old).progress ≡ Some begun
+    pub number_is : number ≡ begun.number
+    pub none : (saving_in new).progress ≡ None
+
+  -- The copy in progress is the settled one, and each image stands for it.
+  pub record SettlesCopy (client : ℕ) (old new : Works D F g) (number : ℕ) : Type 0 where
+    pub adds : Adds client Settle (Saved number) old new
+    pub view : view_in new ≡ view_in old
+    pub settles : Settles (saving_in old) (saving_in new) (cars_or_none (frozen_in old)) (state_in old) (state_in new) (contents_in old) (contents_in new) number
+    pub now : StandsThen g.contents g.image (saving_in old).progress (cars_or_none (frozen_in old)) (state_in new) (disk_at old) (disk_at new) number
+
+  abbrev pub Saves : ℕ → Works D F g → Works D F g → Reply → Type 0
+  Saves client old new (Busy number) = IsBusy client old new number
+  Saves client old new SavesSpent = IsSpent client old new
+  Saves client old new (Begun number) = BeginsCopy client old new number
+  Saves client old new reply = ⊥
+
+  abbrev pub Unsaves : ℕ → Works D F g → Works D F g → Reply → Type 0
+  Unsaves client old new Idle = IsIdle client Unsave old new
+  Unsaves client old new (Dropped number) = DropsCopy client old new number
+  Unsaves client old new reply = ⊥
+
+  abbrev pub SettlesIt : ℕ → Works D F g → Works D F g → Reply → Type 0
+  SettlesIt client old new Idle = IsIdle client Settle old new
+  SettlesIt client old new (Saved number) = SettlesCopy client old new number
+  SettlesIt client old new reply = ⊥
+
+  -- what a command does, once it is answered
+  abbrev pub Answers : ℕ → Cmd → Works D F g → Works D F g → Reply → Type 0
+  Answers client Save old new reply = Saves client old new reply
+  Answers client Settle old new reply = SettlesIt client old new reply
+  Answers client Unsave old new reply = Unsaves client old new reply
+  Answers client cmd old new reply = Acts client cmd old new reply
+
+  -- ---- what holds between calls, and what is left of it
+
+  abbrev pub IsTiedIn : Works D F g → Type 0
+  IsTiedIn it = IsTied (saving_in it) (frozen_in it) (state_in it) (contents_in it)
+
+  -- the current copy stands where it stood
+  pub record LastsIn (old new : Works D F g) : Type 0 where
+    pub header : (state_in new).header ≡ (state_in old).header
+    pub has : KeepsCopy (state_in old) (state_in new) (contents_in old) (contents_in new)
+
+  -- no call of the disk was made, and the current copy stands where it stood
+  pub record StaysStill (old new : Works D F g) : Type 0 where
+    pub disk : disk_at new ≡ disk_at old
+    pub lasts : LastsIn old new
+
+  -- Nothing was answered: the space stays, and so do the copies, but that more pages of the one in progress may have been
+  -- written.
+  pub record Rests (old new : Works D F g) : Type 0 where
+    pub nothing : AddsNothing old new
+    pub view : view_in new ≡ view_in old
+    pub frozen : frozen_in new ≡ frozen_in old
+    pub settled : (saving_in new).settled ≡ (saving_in old).settled
+    pub progress : StaysBegun (saving_in old).progress (saving_in new).progress
+
+  -- Memory ran out: the current copy stands where it stood, also at each moment of the call.
+  pub record LastsSo (old new : Works D F g) : Type 0 where
+    pub tied : IsTiedIn new
+    pub lasts : LastsIn old new
+    pub spares : Spares g.contents g.moment g.since (state_in old) (disk_at old) (disk_at new)
+
+  -- A crash at any moment of the call leaves the current copy or the one in progress; where none is, no call of the disk was
+  -- made.
+  pub record LeavesEither (old new : Works D F g) : Type 0 where
+    pub either : SparesEither g.contents g.moment g.since (saving_in old).progress (cars_or_none (frozen_in old)) (state_in old) (disk_at old) (disk_at new)
+    pub none : (saving_in old).progress ≡ None → disk_at new ≡ disk_at old
+
+  -- the disk fails in `settle` alone, and while a copy is in progress
+  abbrev pub IsFaultFor : Bool → Works D F g → SaveFault → Type 0
+  IsFaultFor settles old Disk = (settles ≡ true) × IsSome (saving_in old).progress
+  IsFaultFor settles old Memory = Unit {0}
+
+  -- The next page of the copy in progress was written, or none was left; one event more was made.
+  pub record FlushesOn (old new : Works D F g) (answer : Flushed) : Type 0 where
+    pub journal : new.journal.items ≡ old.journal.items
+    pub events : new.events ≡ one_more old.events
+    pub space : new.space ≡ old.space
+    pub flushed : IsFlushed (saving_in old) (saving_in new) (cars_or_none (frozen_in old)) (state_in old) (state_in new) (contents_in old) (contents_in new) answer
+
+  -- some of the copy in progress is left to be written, or there is no room for an entry
+  abbrev pub IsShort : Works D F g → Type 0
+  IsShort it = (0 < left_of (saving_in it).progress) ⊎ (room_in it ≡ 0)

@@ -1,0 +1,84 @@
+//! The engine: what it keeps, how it is opened, and what it tells.
+
+ghost use Rattle.pm_engine.specs.Seen.{IsSound};
+
+use crate::Tally;
+use crate::opening::Opening;
+use crate::works::Works;
+use pm_disk::Disk;
+use pm_types::{Entry, NoMemory};
+use std::snapshot::Snapshot;
+
+/// A space, the pages of its store on a disk, the saver between them, and the journal: one value, which is changed by one
+/// event after another. Once a call has answered that the disk failed every further one answers `Reopen`: the store has to
+/// be opened again.
+#[derive(Drop)]
+pub struct Engine<D: Disk, F> {
+    pub(crate) works: Works<D, F>,
+    pub(crate) opening: Opening<D, F>,
+    /// Where a call has answered that the disk failed: the count of failed calls then.
+    pub(crate) stopped: Option<u64>,
+    ghost sound: { ∥ IsSound opening stopped works ∥₁ },
+}
+
+impl<D: Disk, F: Drop> Engine<D, F> {
+    ghost use Rattle.std.specs.Prelude.{◌≡◌, ◌≤◌, ℕ, List, None, OnOk};
+    ghost use Rattle.pm_model.specs.Journal.{IsLegal};
+    ghost use Rattle.pm_serving.specs.Serving.{opening, world};
+    ghost use Rattle.pm_serving.specs.Images.{IsSettled, IsTold, KeepsImages};
+    ghost use Rattle.pm_engine.specs.Shown.{KeepsStart, disk_in, opened_disk, room, serving, tally_in, tally_of};
+
+    /// What was asked and answered since the opening, in order.
+    pub fn journal(&self) -> &[Entry]
+        ensures { result.now ≡ (serving self.now).journal }
+    {
+        self.works.journal.as_slice()
+    }
+
+    /// How many events were made: calls of `client` and `flush` that were answered Ok.
+    pub fn events(&self) -> u64
+        ensures { result ≡ (serving self.now).events }
+    {
+        self.works.events
+    }
+
+    /// Makes room for so many further entries of the journal, so that they take no memory.
+    pub fn reserve_entries(&mut self, n: u64) -> Result<(), NoMemory>
+        ensures serving { serving self.new ≡ serving self.old }
+        ensures disk { disk_in self.new ≡ disk_in self.old }
+        ensures start { KeepsStart self.old self.new }
+        ensures room { OnOk result (n ≤ room self.new) }
+    {
+        self.works.journal.reserve(n as usize)?;
+        Ok(())
+    }
+
+    /// The disk, the journal, and what the engine came to.
+    pub fn into_parts(self) -> (D, Vec<Entry>, Tally)
+        ensures disk { result.0 ≡ disk_in self }
+        ensures journal { result.1.items ≡ (serving self).journal }
+        ensures tally { tally_of result.2 ≡ tally_in (serving self) }
+    {
+        let Engine { works, .. } = self;
+        let entries = works.journal.len() as u64;
+        let standing = works.space.standing();
+        let tally = Tally {
+            entries,
+            events: works.events,
+            standing,
+            journal: Snapshot::of(&works.journal),
+        };
+        (works.pages.into_disk(), works.journal, tally)
+    }
+
+    /// A law of the engine at any time: the journal is legal from the world that was opened, and each image since then is
+    /// one that may be; while no call has answered that the disk failed, each image now stands for the last acknowledged
+    /// copy.
+    pub fn keep_their_images(&self)
+        ensures legal { IsLegal (opening (serving self.now)) (serving self.now).journal }
+        ensures images { ∥ KeepsImages D.contents D.image D.moment D.since (opened_disk self.now) (serving self.now)
+            (disk_in self.now) ∥₁ }
+        ensures settled { (serving self.now).stopped ≡ None → IsTold (D.contents (opened_disk self.now))
+            → (left : List ℕ) → D.image (disk_in self.now) left → IsSettled (world (serving self.now)) left }
+    {}
+}

@@ -1,0 +1,94 @@
+//! Making the copy in progress the settled one.
+
+ghost use Rattle.std.specs.Prelude.{◌≡◌, ◌<◌, IfErr, IfOk, OnErr, true, false};
+
+use crate::works::Works;
+use pm_disk::Disk;
+use pm_saver::SaveFault;
+use pm_types::{Cmd, NoMemory, Reply};
+use std::alloc::Global;
+
+impl<D: Disk, F: Drop> Works<D, F> {
+    ghost use Rattle.pm_types.specs.declared.limits.TheConstants.{CLIENTS};
+    ghost use Rattle.pm_saver.specs.Answers.{HasCause, OnMemory, TellsOn, UnlessDisk};
+    ghost use Rattle.pm_model.specs.Frames.{is_settle, sets_watch};
+    ghost use Rattle.pm_engine.specs.Working.{Answers, IsFaultFor, IsLeft, IsShort, IsTiedIn, LastsSo, LeavesEither, Rests, SettlesIt, StaysStill, contents_in, disk_at};
+
+    /// `settle`: the copy in progress is written to its end and published, if there is one. Its entry takes no memory
+    /// where there is room for it.
+    ///
+    /// # Errors
+    ///
+    /// `Disk` where the disk failed; `Memory`, after which the copy is in progress still.
+    pub(crate) fn settle(&mut self, alloc: Global, client: u32) -> Result<Reply, SaveFault>
+        requires tied { IsTiedIn self.old }
+        ensures settles { IfOk result (SettlesIt client self.old self.new) }
+        ensures tied { UnlessDisk result (IsTiedIn self.new) }
+        ensures rests { OnErr result (Rests self.old self.new) }
+        ensures memory { OnMemory result (LastsSo self.old self.new) }
+        ensures short { OnMemory result (IsShort self.old) }
+        ensures fault { IfErr result (IsFaultFor true self.old) }
+        ensures leaves { LeavesEither self.old self.new }
+        ensures told { TellsOn (contents_in self.old) (contents_in self.new) }
+        ensures cause { HasCause (D.count (disk_at self.old)) (D.count (disk_at self.new)) result }
+    {
+        self.pages.keep_the_current_copy();
+        self.journal.reserve(1)?;
+        if self.saver.number().is_none() {
+            self.append(client, Cmd::Settle, Reply::Idle);
+            return Ok(Reply::Idle);
+        }
+        let number = self.saver.settle(alloc, &mut self.space, &mut self.pages)?;
+        self.append(client, Cmd::Settle, Reply::Saved(number));
+        Ok(Reply::Saved(number))
+    }
+
+    /// Answers a command that calls no disk: every one but `settle` and `watch`. After want of memory all is as it was.
+    fn answer_still(&mut self, alloc: Global, client: u32, cmd: &Cmd) -> Result<Reply, NoMemory>
+        requires client { client < CLIENTS }
+        requires known { sets_watch cmd.now ≡ false }
+        requires other { is_settle cmd.now ≡ false }
+        requires tied { IsTiedIn self.old }
+        ensures answers { IfOk result (Answers client cmd.now self.old self.new) }
+        ensures tied { IsTiedIn self.new }
+        ensures err { OnErr result (IsLeft self.old self.new) }
+        ensures still { StaysStill self.old self.new }
+    {
+        match cmd {
+            Cmd::Save => self.save(alloc, client),
+            Cmd::Unsave => self.unsave(client),
+            _ => self.act(alloc, client, cmd),
+        }
+    }
+
+    /// Answers a command of a client, which is none of a watch. Only `settle` calls the disk.
+    ///
+    /// # Errors
+    ///
+    /// `Disk`, for `settle` alone, where the disk failed; `Memory`.
+    pub(crate) fn answer(
+        &mut self,
+        alloc: Global,
+        client: u32,
+        cmd: &Cmd,
+    ) -> Result<Reply, SaveFault>
+        requires client { client < CLIENTS }
+        requires known { sets_watch cmd.now ≡ false }
+        requires tied { IsTiedIn self.old }
+        ensures answers { IfOk result (Answers client cmd.now self.old self.new) }
+        ensures tied { UnlessDisk result (IsTiedIn self.new) }
+        ensures rests { OnErr result (Rests self.old self.new) }
+        ensures memory { OnMemory result (LastsSo self.old self.new) }
+        ensures short { is_settle cmd.now ≡ true → OnMemory result (IsShort self.old) }
+        ensures still { is_settle cmd.now ≡ false → StaysStill self.old self.new }
+        ensures fault { IfErr result (IsFaultFor (is_settle cmd.now) self.old) }
+        ensures leaves { is_settle cmd.now ≡ true → LeavesEither self.old self.new }
+        ensures told { TellsOn (contents_in self.old) (contents_in self.new) }
+        ensures cause { HasCause (D.count (disk_at self.old)) (D.count (disk_at self.new)) result }
+    {
+        match cmd {
+            Cmd::Settle => self.settle(alloc, client),
+            _ => Ok(self.answer_still(alloc, client, cmd)?),
+        }
+    }
+}

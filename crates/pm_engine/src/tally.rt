@@ -1,0 +1,41 @@
+//! What an engine came to.
+
+ghost use Rattle.std.specs.Prelude.{◌≡◌};
+
+use pm_types::Entry;
+use std::snapshot::Snapshot;
+
+/// What an engine came to. It is made where an engine is taken apart, and nothing changes it.
+#[derive(Drop)]
+pub struct Tally {
+    pub(crate) entries: u64,
+    pub(crate) events: u64,
+    pub(crate) standing: u64,
+    /// The journal that it was made with, which tells it from the tally of another engine.
+    pub(crate) journal: Snapshot<Vec<Entry>>,
+}
+
+impl Tally {
+    ghost use Rattle.pm_engine.specs.Shown.{tally_of};
+
+    /// How many entries the journal has.
+    pub fn entries(&self) -> u64
+        ensures { result ≡ (tally_of self.now).entries }
+    {
+        self.entries
+    }
+
+    /// How many events were made.
+    pub fn events(&self) -> u64
+        ensures { result ≡ (tally_of self.now).events }
+    {
+        self.events
+    }
+
+    /// How many objects stand.
+    pub fn standing(&self) -> u64
+        ensures { result ≡ (tally_of self.now).standing }
+    {
+        self.standing
+    }
+}

@@ -1,0 +1,34 @@
+//! Writing the next page of the copy in progress.
+
+ghost use Rattle.std.specs.Prelude.{◌≡◌, ◌<◌, IfOk, OnErr};
+
+use crate::works::Works;
+use pm_disk::Disk;
+use pm_saver::SaveFault;
+use pm_types::Flushed;
+use std::alloc::Global;
+
+impl<D: Disk, F: Drop> Works<D, F> {
+    ghost use Rattle.pm_saver.specs.Answers.{HasCause, Spares, TellsOn, UnlessDisk};
+    ghost use Rattle.pm_engine.specs.Working.{FlushesOn, IsTiedIn, LastsIn, Rests, contents_in, disk_at, state_in};
+
+    /// Writes the next page of the copy in progress, if one is left.
+    ///
+    /// # Errors
+    ///
+    /// `Disk` where the disk failed; `Memory`, after which nothing has changed.
+    pub(crate) fn flush(&mut self, alloc: Global) -> Result<Flushed, SaveFault>
+        requires tied { IsTiedIn self.old }
+        ensures flushes { IfOk result (FlushesOn self.old self.new) }
+        ensures tied { UnlessDisk result (IsTiedIn self.new) }
+        ensures rests { OnErr result (Rests self.old self.new) }
+        ensures lasts { UnlessDisk result (LastsIn self.old self.new) }
+        ensures spares { Spares D.contents D.moment D.since (state_in self.old) (disk_at self.old) (disk_at self.new) }
+        ensures told { TellsOn (contents_in self.old) (contents_in self.new) }
+        ensures cause { HasCause (D.count (disk_at self.old)) (D.count (disk_at self.new)) result }
+    {
+        let flushed = self.saver.flush_one(alloc, &self.space, &mut self.pages)?;
+        self.events = self.events.saturating_add(1);
+        Ok(flushed)
+    }
+}
