@@ -1,5 +1,4 @@
-use pm_saver::SaveFault;
-use pm_types::NoMemory;
+use pm_types::{EngineFault, NoMemory};
 use std::alloc::{AllocError, AllocFailed};
 
 /// Why a step of a case was not done.
@@ -7,8 +6,10 @@ use std::alloc::{AllocError, AllocFailed};
 pub(crate) enum Fault {
     /// Memory ran out.
     Memory,
-    /// The disk failed.
-    Disk,
+    /// The disk failed: its count of failed calls rose.
+    Disk { before: u64, after: u64 },
+    /// The disk failed at an earlier call, with this count then.
+    Reopen { count: u64 },
     /// There is no such step.
     Step,
     /// A word is no number, or no place.
@@ -37,11 +38,12 @@ impl From<NoMemory> for Fault {
     }
 }
 
-impl From<SaveFault> for Fault {
-    fn from(fault: SaveFault) -> Fault {
+impl From<EngineFault> for Fault {
+    fn from(fault: EngineFault) -> Fault {
         match fault {
-            SaveFault::Disk => Fault::Disk,
-            SaveFault::Memory => Fault::Memory,
+            EngineFault::Memory => Fault::Memory,
+            EngineFault::Disk { before, after } => Fault::Disk { before, after },
+            EngineFault::Reopen { count } => Fault::Reopen { count },
         }
     }
 }

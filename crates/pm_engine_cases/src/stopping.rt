@@ -1,7 +1,7 @@
 //! What a crash leaves.
 
 use crate::fault::Fault;
-use crate::saving::push_run;
+use crate::running::{AfterFault, push_run};
 use pm_disk::{DiskCall, MemDisk};
 use pm_grammar::Line;
 use pm_types::PAGE_BYTES;
@@ -21,7 +21,11 @@ fn disk_of(alloc: Global, bytes: &[u8], fails: Vec<u64>) -> Result<MemDisk, Faul
 pub(crate) fn opening(alloc: Global, bytes: &[u8]) -> Result<usize, Fault> {
     let disk = disk_of(alloc, bytes, Vec::new(alloc))?;
     let mut text = String::new(alloc);
-    Ok(push_run(alloc, disk, &[], &mut text)?.calls().len())
+    Ok(
+        push_run(alloc, disk, &[], AfterFault::End, &mut text)?
+            .calls()
+            .len(),
+    )
 }
 
 /// Runs the lines over a disk with these bytes, none of whose calls fails, and adds what that gives.
@@ -32,7 +36,7 @@ pub(crate) fn push_whole(
     out: &mut String,
 ) -> Result<MemDisk, Fault> {
     let disk = disk_of(alloc, bytes, Vec::new(alloc))?;
-    let disk = push_run(alloc, disk, lines, out)?;
+    let disk = push_run(alloc, disk, lines, AfterFault::End, out)?;
     out.push('\n')?;
     Ok(disk)
 }
@@ -78,7 +82,13 @@ fn push_images(
     for pick in 0..1u64 << writes {
         let image = disk.image(alloc, pick)?;
         let mut text = String::new(alloc);
-        push_run(alloc, MemDisk::new(image, Vec::new(alloc)), look, &mut text)?;
+        push_run(
+            alloc,
+            disk_of(alloc, &image, Vec::new(alloc))?,
+            look,
+            AfterFault::End,
+            &mut text,
+        )?;
         note(&mut texts, text)?;
     }
     for (text, times) in texts.iter() {
@@ -103,9 +113,50 @@ pub(crate) fn push_stops(
         let made = opening.saturating_add(after);
         let mut text = String::new(alloc);
         let fails = vec![in alloc; (made as u64).saturating_add(1)]?;
-        let disk = push_run(alloc, disk_of(alloc, bytes, fails)?, lines, &mut text)?;
+        let disk = push_run(
+            alloc,
+            disk_of(alloc, bytes, fails)?,
+            lines,
+            AfterFault::End,
+            &mut text,
+        )?;
         writeln!(out, "after {after}: {text}")?;
         push_images(alloc, &disk, made, look, out)?;
+    }
+    Ok(())
+}
+
+// Runs the lines over a disk with these bytes that fails the call of this number alone, and goes on with the next line
+// after that; and adds what that gives.
+fn push_failing_at(
+    alloc: Global,
+    bytes: &[u8],
+    lines: &[Line],
+    number: usize,
+    out: &mut String,
+) -> Result<(), Fault> {
+    let fails = vec![in alloc; number as u64]?;
+    let disk = disk_of(alloc, bytes, fails)?;
+    push_run(alloc, disk, lines, AfterFault::GoOn, out)?;
+    out.push('\n')?;
+    Ok(())
+}
+
+/// Runs the lines over a disk with these bytes that fails one call, for each call of the lines in turn, and then no more;
+/// and adds what each of these runs gives.
+pub(crate) fn push_failing(
+    alloc: Global,
+    bytes: &[u8],
+    lines: &[Line],
+    out: &mut String,
+) -> Result<(), Fault> {
+    let opening = opening(alloc, bytes)?;
+    let mut whole = String::new(alloc);
+    let calls = push_whole(alloc, bytes, lines, &mut whole)?.calls().len();
+    for made in opening..calls {
+        let number = made.saturating_add(1);
+        write!(out, "call {}: ", number.saturating_sub(opening))?;
+        push_failing_at(alloc, bytes, lines, number, out)?;
     }
     Ok(())
 }

@@ -1,10 +1,10 @@
-//! `pm_saver_cases`: reads cases from standard input, saves copies of a space on a disk in memory, stops that at each call
-//! of the disk, and prints what that gave. `docs/TESTS.md` says how a case is written.
+//! `pm_engine_cases`: reads cases from standard input, runs lines over an engine on a disk in memory, stops that at each
+//! call of the disk, and prints what that gave. `docs/TESTS.md` says how a case is written.
 #![tactic(auto)]
 
 mod case;
 mod fault;
-mod saving;
+mod running;
 mod spelling;
 mod stopping;
 

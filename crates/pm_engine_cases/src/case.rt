@@ -2,7 +2,7 @@
 
 use crate::fault::Fault;
 use crate::spelling::{push_bytes, script, written_out};
-use crate::stopping::{opening, push_calls, push_stops, push_whole};
+use crate::stopping::{opening, push_calls, push_failing, push_stops, push_whole};
 use pm_disk::MemDisk;
 use pm_grammar::Script;
 use pm_shadow::init;
@@ -66,6 +66,10 @@ impl Case {
                 push_calls(&disk, first, out)?;
             }
             "look" => self.look = script(alloc, text)?,
+            "fails" => {
+                let lines = script(alloc, text)?;
+                push_failing(alloc, &self.disk, lines.as_slice(), out)?;
+            }
             "stops" => {
                 let lines = script(alloc, text)?;
                 let look = self.look.as_slice();

@@ -1,0 +1,181 @@
+//! Lines of a script over an engine.
+
+use crate::fault::Fault;
+use pm_disk::Disk;
+use pm_engine::{Engine, Tally};
+use pm_grammar::{Line, reply_text};
+use pm_place::Placement;
+use pm_shadow::Pages;
+use pm_types::{CLIENTS, Cmd, Entry, OpenFault};
+use std::alloc::Global;
+use std::fmt::Write;
+
+/// What a run does once a call has answered that the disk failed.
+#[derive(Clone, Copy, Debug, PartialEq, Eq)]
+pub(crate) enum AfterFault {
+    /// It ends.
+    End,
+    /// It goes on with the next line.
+    GoOn,
+}
+
+// Adds the reply's line of an entry.
+fn push_entry(alloc: Global, entry: &Entry, out: &mut String) -> Result<(), Fault> {
+    let line = reply_text(alloc, entry)?;
+    match str::from_utf8(&line) {
+        Ok(line) => write!(out, " / {}", line.trim_end())?,
+        Err(_) => return Err(Fault::Script),
+    }
+    Ok(())
+}
+
+// Gives a client's command, and adds the reply's line of the journal's last entry.
+fn push_answer<D: Disk, F: Drop>(
+    alloc: Global,
+    engine: &mut Engine<D, F>,
+    client: u32,
+    cmd: &Cmd,
+    out: &mut String,
+) -> Result<(), Fault> {
+    if client >= CLIENTS || matches!(cmd, Cmd::Watch) {
+        return Err(Fault::Step);
+    }
+    engine.client(alloc, client, cmd)?;
+    match engine.journal().last() {
+        Some(entry) => push_entry(alloc, entry, out),
+        None => Err(Fault::Script),
+    }
+}
+
+// Makes so many flush events, and adds what each of them answered.
+fn push_flushes<D: Disk, F: Drop>(
+    alloc: Global,
+    engine: &mut Engine<D, F>,
+    count: u32,
+    out: &mut String,
+) -> Result<(), Fault> {
+    for _ in 0..count {
+        let flushed = engine.flush(alloc)?;
+        write!(out, " / {flushed:?}")?;
+    }
+    Ok(())
+}
+
+// Runs a line, and adds what that gave.
+fn push_line<D: Disk, F: Drop>(
+    alloc: Global,
+    engine: &mut Engine<D, F>,
+    line: &Line,
+    out: &mut String,
+) -> Result<(), Fault> {
+    match line {
+        Line::Client { client, cmd } => push_answer(alloc, engine, *client, cmd, out),
+        Line::Flush(count) => push_flushes(alloc, engine, *count, out),
+        Line::Gc(_) => Err(Fault::Step),
+    }
+}
+
+// Adds why a line was not done, where the disk is why.
+fn push_fault(fault: Fault, out: &mut String) -> Result<(), Fault> {
+    match fault {
+        Fault::Disk { before, after } => write!(out, " / disk fault {before} {after}")?,
+        Fault::Reopen { count } => write!(out, " / reopen {count}")?,
+        _ => return Err(fault),
+    }
+    Ok(())
+}
+
+// Runs the lines, and adds what each of them gave.
+fn push_lines<D: Disk, F: Drop>(
+    alloc: Global,
+    engine: &mut Engine<D, F>,
+    lines: &[Line],
+    after: AfterFault,
+    out: &mut String,
+) -> Result<(), Fault> {
+    for line in lines {
+        if let Err(fault) = push_line(alloc, engine, line, out) {
+            push_fault(fault, out)?;
+            if after == AfterFault::End {
+                return Ok(());
+            }
+        }
+    }
+    Ok(())
+}
+
+// Runs the lines over an engine that was opened, and adds what they gave and, where it goes on after a fault, what the
+// engine came to.
+fn push_served<D: Disk + Drop, F: Drop>(
+    alloc: Global,
+    mut engine: Engine<D, F>,
+    lines: &[Line],
+    after: AfterFault,
+    out: &mut String,
+) -> Result<D, Fault> {
+    let said = push_lines(alloc, &mut engine, lines, after, out);
+    let (disk, _journal, tally) = engine.into_parts();
+    said?;
+    if after == AfterFault::GoOn {
+        push_tally(&tally, out)?;
+    }
+    Ok(disk)
+}
+
+// Adds what an engine came to.
+fn push_tally(tally: &Tally, out: &mut String) -> Result<(), Fault> {
+    let entries = tally.entries();
+    let events = tally.events();
+    let standing = tally.standing();
+    write!(
+        out,
+        " / {entries} entries, {events} events, {standing} standing"
+    )?;
+    Ok(())
+}
+
+// Opens the store of a disk, and runs the lines over it.
+fn push_opened<D: Disk + Drop>(
+    alloc: Global,
+    disk: D,
+    number: u32,
+    lines: &[Line],
+    after: AfterFault,
+    out: &mut String,
+) -> Result<D, Fault> {
+    match Engine::open_store(alloc, disk, Placement::new(|_: &[u64]| 0)) {
+        Ok(engine) => {
+            write!(out, "copy {number}")?;
+            push_served(alloc, engine, lines, after, out)
+        }
+        Err((disk, fault)) => {
+            write!(out, "{fault}")?;
+            Ok(disk)
+        }
+    }
+}
+
+// The number of the copy that a disk has, if it has one.
+fn number_of<D: Disk>(alloc: Global, disk: D) -> Result<(D, u32), (D, OpenFault)> {
+    let pages = Pages::attach(alloc, disk)?;
+    let number = pages.header().epoch;
+    Ok((pages.into_disk(), number))
+}
+
+/// Opens the store of a disk, and runs the lines over it. It adds the number of the copy that was found, the replies and
+/// the flush events, or why there is no store, with ` / ` between them. The disk is handed back.
+pub(crate) fn push_run<D: Disk + Drop>(
+    alloc: Global,
+    disk: D,
+    lines: &[Line],
+    after: AfterFault,
+    out: &mut String,
+) -> Result<D, Fault> {
+    match number_of(alloc, disk) {
+        Ok((disk, number)) => push_opened(alloc, disk, number, lines, after, out),
+        Err((disk, fault)) => {
+            write!(out, "{fault}")?;
+            Ok(disk)
+        }
+    }
+}
