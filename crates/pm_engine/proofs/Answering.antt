@@ -23,13 +23,12 @@ use Rattle.pm_view.specs.View.{Cars}
 use Rattle.pm_view.specs.Law.{HeapLaw}
 use Rattle.pm_view.specs.Commands.{is_act}
 use Rattle.pm_copies.specs.Listed.{copy_in}
-use Rattle.pm_saving.specs.Progress.{Progress, copy_of}
+use Rattle.pm_saving.specs.Progress.{Progress, cars_or_none, copy_of}
 use Rattle.pm_saving.specs.Paging.{NextPage, CarPage, PartPage, header_of, next_page, with_next, written_on}
 use Rattle.pm_saving.specs.Tied.{HasCopy}
 use Rattle.pm_saver.specs.Answers.{TellsOn}
-use Rattle.pm_saver.specs.Shown.{cars_or_none}
 use Rattle.pm_saver.specs.Settling.{SparesEither}
-use Rattle.pm_serving.specs.Serving.{IsServed, frozen_cars, numbered_copy, opening, world}
+use Rattle.pm_serving.specs.Serving.{IsServed, numbered_copy, opening, world}
 use Rattle.pm_serving.specs.Events.{Serves}
 use Rattle.pm_serving.specs.Images.{IsInProgress, IsSettled, IsStored, IsTold}
 use Rattle.pm_law_serving.proofs.Following as law

@@ -17,10 +17,9 @@ use Rattle.pm_model.specs.Frames.{is_settle, sets_watch}
 use Rattle.pm_image.specs.Stands.{Stands}
 use Rattle.pm_view.specs.View.{Cars}
 use Rattle.pm_view.specs.Law.{HeapLaw}
-use Rattle.pm_saving.specs.Progress.{Progress, copy_of}
+use Rattle.pm_saving.specs.Progress.{Progress, cars_or_none, copy_of}
 use Rattle.pm_saving.specs.Tied.{HasCopy}
 use Rattle.pm_saver.specs.Answers.{Spares, TellsOn}
-use Rattle.pm_saver.specs.Shown.{cars_or_none}
 use Rattle.pm_saver.specs.Settling.{SparesEither}
 use Rattle.pm_serving.specs.Serving.{IsServed, Serving, numbered_copy, world}
 use Rattle.pm_serving.specs.Events.{Serves}

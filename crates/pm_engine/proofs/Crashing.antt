@@ -17,10 +17,9 @@ use Rattle.pm_model.specs.Journal.{after, settled_in, says_saved}
 use Rattle.pm_model.proofs.ChainLaws.{after_more, saved}
 use Rattle.pm_image.specs.Stands.{Stands}
 use Rattle.pm_view.specs.Commands.{is_act}
-use Rattle.pm_saving.specs.Progress.{Progress, copy_of}
+use Rattle.pm_saving.specs.Progress.{Progress, cars_or_none, copy_of}
 use Rattle.pm_saving.specs.Tied.{HasCopy}
 use Rattle.pm_saver.specs.Answers.{Spares}
-use Rattle.pm_saver.specs.Shown.{cars_or_none}
 use Rattle.pm_serving.specs.Serving.{opening, world}
 use Rattle.pm_serving.specs.Events.{Serves}
 use Rattle.pm_serving.specs.Images.{IsInProgress, IsSettled, IsTold}

@@ -9,12 +9,12 @@ use Rattle.pm_shadow.specs.State.{State, with_kept}
 use Rattle.pm_space.specs.declared.space.Space.{Space}
 use Rattle.pm_space.specs.Shown.{view}
 use Rattle.pm_view.specs.View.{Cars}
-use Rattle.pm_saving.specs.Progress.{Progress, Saving}
+use Rattle.pm_saving.specs.Progress.{Progress, Saving, cars_or_none}
 use Rattle.pm_saving.specs.Paging.{newly_kept}
 use Rattle.pm_saving.specs.Tied.{IsTied, with_all_kept}
 use Rattle.pm_law_saving.proofs.Next.{next_goes}
 use Rattle.pm_saver.specs.Answers.{IsFlushed, Spares, TellsOn}
-use Rattle.pm_saver.specs.Shown.{cars_or_none, frozen_of}
+use Rattle.pm_saver.specs.Shown.{frozen_of}
 use Rattle.pm_serving.specs.Serving.{IsServed, opening}
 use Rattle.pm_serving.specs.Events.{Flushes, StaysBegun}
 use Rattle.pm_engine.specs.declared.opening.Opening.{Opening}

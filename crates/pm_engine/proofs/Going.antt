@@ -21,13 +21,12 @@ use Rattle.pm_shadow.specs.Pages.{current_kept}
 use Rattle.pm_view.specs.View.{Cars, SpaceView}
 use Rattle.pm_view.specs.Represents.{Represents}
 use Rattle.pm_copies.specs.Listed.{copy_in}
-use Rattle.pm_saving.specs.Progress.{Progress, copy_of}
+use Rattle.pm_saving.specs.Progress.{Progress, cars_or_none, copy_of}
 use Rattle.pm_saving.specs.Tied.{GoesOn, HasCopy}
 use Rattle.pm_law_saving.proofs.Publishing.{copy_held}
 use Rattle.pm_saver.specs.Answers.{Spares, TellsOn}
-use Rattle.pm_saver.specs.Shown.{cars_or_none}
 use Rattle.pm_saver.specs.Settling.{SparesEither}
-use Rattle.pm_serving.specs.Serving.{IsServed, Serving, frozen_cars, in_progress, numbered_copy, opening, world}
+use Rattle.pm_serving.specs.Serving.{IsServed, Serving, in_progress, numbered_copy, opening, world}
 use Rattle.pm_serving.specs.Events.{Appends, Serves, StaysBegun}
 use Rattle.pm_serving.specs.Images.{IsInProgress, IsSettled, IsStored, IsTold, KeepsImages}
 use Rattle.pm_law_serving.proofs.Images.{spared, failed, acknowledged}
@@ -61,7 +60,7 @@ stays_begun : (frozen : Option Cars) (old new : Option Progress) → StaysBegun 
 stays_begun frozen None None stays = refl
 stays_begun frozen None (Some now) stays = absurd stays
 stays_begun frozen (Some was) None stays = absurd stays
-stays_begun frozen (Some was) (Some now) stays = (λ i. Some (sym stays.number i, sym (stays.copy (frozen_cars frozen)) i))
+stays_begun frozen (Some was) (Some now) stays = (λ i. Some (sym stays.number i, sym (stays.copy (cars_or_none frozen)) i))
 
 goes_same : (progress : Progress) → GoesOn progress progress
 goes_same progress = record { number = refl; roots = refl; next_id = refl; copy = λ cars. refl; left = omega arith }

@@ -10,15 +10,14 @@ use Rattle.pm_shadow.specs.Pages.{state, disk_of, current_kept}
 use Rattle.pm_law_saving.proofs.Publishing.{copy_held}
 use Rattle.pm_space.specs.declared.space.Space.{Space}
 use Rattle.pm_view.specs.View.{Cars}
-use Rattle.pm_saving.specs.Progress.{Progress, Saving}
+use Rattle.pm_saving.specs.Progress.{Progress, Saving, cars_or_none}
 use Rattle.pm_saving.specs.Tied.{HasCopy, IsBegun, IsTied}
 use Rattle.pm_saver.specs.Answers.{KeepsCopy, Spares}
 use Rattle.pm_saver.specs.Settling.{SparesEither, StaysOn}
 use Rattle.pm_saving.specs.Beginning.{IsInProgress}
 use Rattle.pm_serving.specs.Events.{StaysBegun}
 use Rattle.pm_saver.specs.declared.saver.Saver.{Saver}
-use Rattle.pm_saver.specs.Shown.{cars_or_none, frozen_of, saving}
-use Rattle.pm_serving.specs.Serving.{frozen_cars}
+use Rattle.pm_saver.specs.Shown.{frozen_of, saving}
 use Rattle.pm_engine.specs.declared.works.Works.{Works}
 use Rattle.pm_engine.specs.Working.{IsTiedIn, KeepsStore, LastsIn, LastsSo, Rests, disk_at, frozen_in, saving_in, state_in, view_in}
 
@@ -81,7 +80,7 @@ module _ {D : Type 0} {F : Type 0} {g : Ghosts D} where
   }
 
 -- the cars of the copy in progress, in both spellings
-pub same_cars : (frozen : Option Cars) → cars_or_none frozen ≡ frozen_cars frozen
+pub same_cars : (frozen : Option Cars) → cars_or_none frozen ≡ cars_or_none frozen
 same_cars None = refl
 same_cars (Some cars) = refl
 

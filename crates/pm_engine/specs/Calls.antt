@@ -11,7 +11,8 @@ use Rattle.pm_model.specs.Frames.{is_settle}
 use Rattle.pm_shadow.specs.State.{State}
 use Rattle.pm_saving.specs.Paging.{left_of}
 use Rattle.pm_saving.specs.Tied.{Settles}
-use Rattle.pm_serving.specs.Serving.{Serving, frozen_cars, world}
+use Rattle.pm_saving.specs.Progress.{cars_or_none}
+use Rattle.pm_serving.specs.Serving.{Serving, world}
 use Rattle.pm_serving.specs.Images as images
 use Rattle.pm_serving.specs.Images.{IsInProgress, IsTold}
 use Rattle.pm_engine.specs.declared.engine.Engine.{Engine}
@@ -40,7 +41,7 @@ MayStand cmd it result image =
 pub record HasSettled {D : Type 0} (contents : D → Option (List ℕ)) (image : D → List ℕ → Type 0) (opened : D) (old new : Serving) (s t : State) (before after : D) (number : ℕ) : Type 0 where
   pub number_is : (world new).settled ≡ number
   pub now : IsTold (contents opened) → (left : List ℕ) → image after left → images.IsSettled (world new) left
-  pub settles : Settles old.saving new.saving (frozen_cars old.frozen) s t (contents before) (contents after) number
+  pub settles : Settles old.saving new.saving (cars_or_none old.frozen) s t (contents before) (contents after) number
 
 module _ {D : Type 0} {F : Type 0} {g : Ghosts D} where
   -- no call had answered that the disk failed, and none failed in this one

@@ -12,10 +12,10 @@ use Rattle.pm_shadow.specs.Pages.{state, disk_of}
 use Rattle.pm_view.specs.View.{Cars, SpaceView}
 use Rattle.pm_space.specs.Shown.{view}
 use Rattle.pm_copies.specs.Listed.{copy_in}
-use Rattle.pm_saving.specs.Progress.{Progress, Saving, copy_of}
+use Rattle.pm_saving.specs.Progress.{Progress, Saving, cars_or_none, copy_of}
 use Rattle.pm_saving.specs.Paging.{left_of}
 use Rattle.pm_saving.specs.Tied.{IsTied, Settles}
-use Rattle.pm_saver.specs.Shown.{cars_or_none, frozen_of, saving}
+use Rattle.pm_saver.specs.Shown.{frozen_of, saving}
 use Rattle.pm_saver.specs.Answers.{IsFlushed, KeepsCopy, Spares}
 use Rattle.pm_saver.specs.declared.fault.SaveFault.{SaveFault}
 use Rattle.pm_saver.specs.declared.fault.SaveFault.TheVariants.{Disk, Memory}

@@ -9,7 +9,7 @@ use pm_types::{EngineFault, Flushed};
 use std::alloc::Global;
 
 impl<D: Disk, F: Drop> Engine<D, F> {
-    ghost use Rattle.pm_serving.specs.Serving.{frozen_cars};
+    ghost use Rattle.pm_saving.specs.Progress.{cars_or_none};
     ghost use Rattle.pm_serving.specs.Events.{FailsAs, Flushes};
     ghost use Rattle.pm_saver.specs.Answers.{IsFlushed};
     ghost use Rattle.pm_engine.specs.Shown.{KeepsStart, disk_in, pages_in, serving};
@@ -25,7 +25,7 @@ impl<D: Disk, F: Drop> Engine<D, F> {
         ensures flushes { OnOk result (Flushes (serving self.old) (serving self.new)) }
         // The next page of the copy was written, and no other changed; or none was left.
         ensures flushed { IfOk result (IsFlushed (serving self.old).saving (serving self.new).saving
-            (frozen_cars (serving self.old).frozen) (pages_in self.old) (pages_in self.new)
+            (cars_or_none (serving self.old).frozen) (pages_in self.old) (pages_in self.new)
             (D.contents (disk_in self.old)) (D.contents (disk_in self.new))) }
         ensures fails { IfErr result (FailsAs (serving self.old) (serving self.new) (D.count (disk_in self.old))
             (D.count (disk_in self.new))) }
@@ -47,7 +47,7 @@ impl<D: Disk, F: Drop> Engine<D, F> {
         requires running { (serving self.old).stopped ≡ None }
         ensures flushes { OnOk result (Flushes (serving self.old) (serving self.new)) }
         ensures flushed { IfOk result (IsFlushed (serving self.old).saving (serving self.new).saving
-            (frozen_cars (serving self.old).frozen) (pages_in self.old) (pages_in self.new)
+            (cars_or_none (serving self.old).frozen) (pages_in self.old) (pages_in self.new)
             (D.contents (disk_in self.old)) (D.contents (disk_in self.new))) }
         ensures fails { IfErr result (FailsAs (serving self.old) (serving self.new) (D.count (disk_in self.old))
             (D.count (disk_in self.new))) }

@@ -13,8 +13,6 @@ mod skipping;
 mod sources;
 mod sweeping;
 mod telling;
-#[cfg(test)]
-mod tests;
 mod ways;
 
 pub use applying::apply;

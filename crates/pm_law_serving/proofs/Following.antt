@@ -24,8 +24,8 @@ use Rattle.pm_view.specs.Commands.{is_act}
 use Rattle.pm_view.specs.Represents.{Represents}
 use Rattle.pm_copies.specs.Listed.{copy_in}
 use Rattle.pm_law_copies.proofs.CopyOf.{worlds_copy}
-use Rattle.pm_saving.specs.Progress.{Progress, Saving, copy_of}
-use Rattle.pm_serving.specs.Serving.{IsServed, Serving, frozen_cars, in_progress, numbered_copy, opening, world}
+use Rattle.pm_saving.specs.Progress.{Progress, Saving, cars_or_none, copy_of}
+use Rattle.pm_serving.specs.Serving.{IsServed, Serving, in_progress, numbered_copy, opening, world}
 use Rattle.pm_serving.specs.Events.{Appends, Serves}
 
 -- no object of a closed world has the next identity
@@ -169,7 +169,7 @@ module _ (client : ℕ) (cmd : Cmd) (old new : Serving) (reply : Reply) (served 
       )
 
 pub begins : (client : ℕ) (old new : Serving) (begun : Progress) → IsServed old → HeapLaw old.view → old.saving.progress ≡ None → (world old).settled < LAST_COPY → begun.number ≡ (world old).settled + 1
-    → Appends client Save old new (Begun begun.number) → new.view ≡ old.view → new.saving.progress ≡ Some begun → copy_of (frozen_cars new.frozen) begun ≡ copy_in old.view
+    → Appends client Save old new (Begun begun.number) → new.view ≡ old.view → new.saving.progress ≡ Some begun → copy_of (cars_or_none new.frozen) begun ≡ copy_in old.view
     → Serves client Save old new (Begun begun.number) × IsServed new
 unfolding answer
 begins client old new begun served law none less number appends view is copied =
@@ -182,11 +182,11 @@ begins client old new begun served law none less number appends view is copied =
     moves client Save old new (Begun begun.number) served appends next says view (ap Some same ∙ sym (ap (option_map (numbered_copy new.frozen)) is)) refl refl refl refl
 
 pub settles : (client : ℕ) (old new : Serving) (begun : Progress) → IsServed old → old.saving.progress ≡ Some begun → Appends client Settle old new (Saved begun.number) → new.view ≡ old.view
-    → new.saving.progress ≡ None → Serves client Settle old new (Saved begun.number) × IsServed new × ((world new).settled ≡ begun.number) × ((world new).settled_copy ≡ copy_of (frozen_cars old.frozen) begun)
+    → new.saving.progress ≡ None → Serves client Settle old new (Saved begun.number) × IsServed new × ((world new).settled ≡ begun.number) × ((world new).settled_copy ≡ copy_of (cars_or_none old.frozen) begun)
 unfolding answer
 settles client old new begun served is appends view none =
     let w = world old in
-    let next = settling w begun.number (copy_of (frozen_cars old.frozen) begun) in
+    let next = settling w begun.number (copy_of (cars_or_none old.frozen) begun) in
     let says : answer w client Settle ≡ (Saved begun.number, next) = ap (answer_settle w) (saving_is old (Some begun) served is) in
     let both = moves client Settle old new (Saved begun.number) served appends next says view (sym (ap (option_map (numbered_copy new.frozen)) none)) refl refl refl refl in
     let goes : world new ≡ next = next_world client Settle old new (Saved begun.number) served appends ∙ ap (λ (a : Reply × World). a.1) says in

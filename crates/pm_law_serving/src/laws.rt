@@ -16,9 +16,9 @@ ghost use Rattle.pm_view.specs.Represents.{Represents};
 ghost use Rattle.pm_copies.specs.Listed.{Listed, copy_in};
 ghost use Rattle.pm_copies.specs.Accepted.{IsAccepted};
 ghost use Rattle.pm_copies.specs.Opened.{IsOpened};
-ghost use Rattle.pm_saving.specs.Progress.{Progress, Saving, copy_of};
+ghost use Rattle.pm_saving.specs.Progress.{Progress, Saving, cars_or_none, copy_of};
 ghost use Rattle.pm_shadow.specs.State.{State};
-ghost use Rattle.pm_serving.specs.Serving.{IsServed, Serving, frozen_cars, just_opened, world};
+ghost use Rattle.pm_serving.specs.Serving.{IsServed, Serving, just_opened, world};
 ghost use Rattle.pm_serving.specs.Images.{IsStored};
 ghost use Rattle.pm_serving.specs.Events.{Appends, Serves};
 
@@ -50,7 +50,7 @@ pub fn a_served_command_goes_on()
     ensures begun { (client : ℕ) (old new : Serving) (begun : Progress) → IsServed old → HeapLaw old.view
         → old.saving.progress ≡ None → (world old).settled < LAST_COPY → begun.number ≡ (world old).settled + 1
         → Appends client Save old new (Begun begun.number) → new.view ≡ old.view
-        → new.saving.progress ≡ Some begun → copy_of (frozen_cars new.frozen) begun ≡ copy_in old.view
+        → new.saving.progress ≡ Some begun → copy_of (cars_or_none new.frozen) begun ≡ copy_in old.view
         → Serves client Save old new (Begun begun.number) × IsServed new }
     // `settle` and `unsave`: none is in progress, or the one in progress is settled or dropped.
     ensures idle { (client : ℕ) (old new : Serving) → IsServed old → old.saving.progress ≡ None
@@ -60,7 +60,7 @@ pub fn a_served_command_goes_on()
         → old.saving.progress ≡ Some begun → Appends client Settle old new (Saved begun.number)
         → new.view ≡ old.view → new.saving.progress ≡ None
         → Serves client Settle old new (Saved begun.number) × IsServed new
-        × ((world new).settled ≡ begun.number) × ((world new).settled_copy ≡ copy_of (frozen_cars old.frozen) begun) }
+        × ((world new).settled ≡ begun.number) × ((world new).settled_copy ≡ copy_of (cars_or_none old.frozen) begun) }
     ensures undropped { (client : ℕ) (old new : Serving) → IsServed old → old.saving.progress ≡ None
         → Appends client Unsave old new Idle → new.view ≡ old.view → new.frozen ≡ old.frozen
         → new.saving ≡ old.saving → Serves client Unsave old new Idle × IsServed new }

@@ -12,8 +12,6 @@ mod opened_cars;
 mod opened_roots;
 mod opening;
 mod remembering;
-#[cfg(test)]
-mod tests;
 mod trains;
 
 pub use building::build;

@@ -11,10 +11,9 @@ use Rattle.pm_view.specs.View.{Cars, SpaceView}
 use Rattle.pm_view.specs.Law.{HeapLaw}
 use Rattle.pm_copies.specs.Listed.{copy_in}
 use Rattle.pm_saving.specs.Tied.{IsTied}
-use Rattle.pm_saver.specs.Shown.{cars_or_none}
 use Rattle.pm_law_layout.specs.Plans.{PlannedPage, chain_of, digest_of, root_entry}
 use Rattle.pm_law_layout.specs.Cutting.{OnePage, cut}
-use Rattle.pm_saving.specs.Progress.{Progress, Saving, copy_of, catalog_left, draft_entry, paired, roots_of}
+use Rattle.pm_saving.specs.Progress.{Progress, Saving, copy_of, catalog_left, draft_entry, paired, roots_of, cars_or_none}
 use Rattle.pm_saving.specs.Beginning.{Begins, IsCarNumbered}
 use Rattle.pm_saver.specs.declared.place.PlacedCar.{PlacedCar}
 use Rattle.pm_saver.specs.declared.place.InProgress.{InProgress}

@@ -17,13 +17,12 @@ use Rattle.pm_shadow.specs.Images.{Holds, IsSound}
 use Rattle.pm_shadow.specs.Copies.{KeepsSamePages}
 use Rattle.pm_shadow.proofs.CopyLemmas.{keeps_still}
 use Rattle.pm_view.specs.View.{Cars}
-use Rattle.pm_saving.specs.Progress.{Progress, Saving}
+use Rattle.pm_saving.specs.Progress.{Progress, Saving, cars_or_none}
 use Rattle.pm_saving.specs.Paging.{NextPage, left, left_of, newly_kept, next_page, with_page as with_next_page}
 use Rattle.pm_saving.specs.Beginning.{IsInProgress}
 use Rattle.pm_saving.specs.Tied.{HasCopy, HasPage, IsBegun, IsTied, WritesNext, with_all_kept}
 use Rattle.pm_saver.specs.declared.fault.SaveFault.{SaveFault}
 use Rattle.pm_saver.specs.declared.fault.SaveFault.TheVariants.{Disk, Memory}
-use Rattle.pm_saver.specs.Shown.{cars_or_none}
 use Rattle.pm_saver.specs.Answers.{IsFlushed, IsStill, KeepsCopy, OnMemory, UnlessDisk}
 use Rattle.pm_saver.specs.Steps.{IsStep, Rests, Steps}
 use Rattle.pm_saver.proofs.Keeping.{beside}

@@ -9,8 +9,7 @@ use Rattle.pm_cars.specs.Cars.{Car}
 use Rattle.pm_snap.specs.Snapped.{at_key}
 use Rattle.pm_space.specs.declared.held.Held.{Held}
 use Rattle.pm_space.specs.Shown.{car_of}
-use Rattle.pm_saving.specs.Progress.{slots_of}
-use Rattle.pm_saver.specs.Shown.{cars_or_none}
+use Rattle.pm_saving.specs.Progress.{slots_of, cars_or_none}
 
 pub frozen_slots : (frozen : Option (FinMap nat_cmp Held)) (number : ℕ) (found : Option Held) → found ≡ at_key frozen number
     → slots_of (option_map car_of found) ≡ slots_of (get (cars_or_none (option_map (mapped car_of) frozen)) number)

@@ -19,7 +19,7 @@ use Rattle.pm_shadow.specs.Copies.{KeepsSamePages}
 use Rattle.pm_shadow.specs.Pages.{current_kept, disk_of, state}
 use Rattle.pm_shadow.specs.declared.pages.Pages.{Pages}
 use Rattle.pm_view.specs.View.{Cars}
-use Rattle.pm_saving.specs.Progress.{Progress, Saving, car_pages, copy_of}
+use Rattle.pm_saving.specs.Progress.{Progress, Saving, car_pages, cars_or_none, copy_of}
 use Rattle.pm_saving.specs.Paging.{header_of, left, left_of, written_on}
 use Rattle.pm_saving.specs.Beginning.{IsInProgress}
 use Rattle.pm_saving.specs.Tied.{ChangesOnly, HasCopy, IsBegun, IsTied, IsWhole, Settles}
@@ -30,7 +30,6 @@ use Rattle.pm_law_saving.proofs.Whole.{copy_header, copy_whole}
 use Rattle.pm_law_saving.proofs.Publishing.{copy_held, copy_next, copy_renewed, copy_settled, copy_still}
 use Rattle.pm_saver.specs.declared.place.InProgress.{InProgress}
 use Rattle.pm_saver.specs.Seen.{progress_seen}
-use Rattle.pm_saver.specs.Shown.{cars_or_none}
 use Rattle.pm_saver.specs.Kept.{AreKept, IsKept, IsPlaced}
 use Rattle.pm_saver.specs.Taken.{AreOnce}
 use Rattle.pm_saver.specs.declared.fault.SaveFault.{SaveFault}

@@ -7,8 +7,7 @@ use Rattle.pm_snap.specs.Snapped.{Snapped}
 use Rattle.pm_view.specs.View.{Cars}
 use Rattle.pm_space.specs.declared.held.Held.{Held}
 use Rattle.pm_space.specs.Shown.{car_of}
-use Rattle.pm_saving.specs.Progress.{slots_of}
-use Rattle.pm_saver.specs.Shown.{cars_or_none}
+use Rattle.pm_saving.specs.Progress.{slots_of, cars_or_none}
 
 -- the cars that are frozen, none where they are not
 abbrev pub frozen_in : Snapped Held → Cars

@@ -1,11 +1,10 @@
 -- What contracts see of a saver, and of the frozen cars of a space.
 use Rattle.std.specs.Prelude.{Option, Some, None, option_map}
-use Rattle.std.specs.FinMap.{empty}
 use Rattle.pm_base.specs.Mapped.{mapped}
 use Rattle.pm_view.specs.View.{Cars}
 use Rattle.pm_space.specs.declared.parts.Parts.{Parts}
 use Rattle.pm_space.specs.Shown.{car_of}
-use Rattle.pm_saving.specs.Progress.{Saving}
+use Rattle.pm_saving.specs.Progress.{Saving, cars_or_none}
 use Rattle.pm_saver.specs.declared.saver.Saver.{Saver}
 use Rattle.pm_saver.specs.Seen.{progress_seen}
 
@@ -18,9 +17,5 @@ abbrev pub frozen_of : {F : Type 0} → Parts F → Option Cars
 frozen_of parts = option_map (mapped car_of) parts.cars.frozen
 
 -- the same, none where they are not frozen
-abbrev pub cars_or_none : Option Cars → Cars
-cars_or_none None = empty
-cars_or_none (Some cars) = cars
-
 abbrev pub frozen_cars : {F : Type 0} → Parts F → Cars
 frozen_cars parts = cars_or_none (frozen_of parts)

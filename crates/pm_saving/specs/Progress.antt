@@ -1,7 +1,7 @@
 -- A copy in progress: what it lists, and which of its pages were written.
 use Rattle.std.specs.Prelude.{ℕ, ◌-◌, Bool, List, [], ◌∷◌, ◌++◌, length, map, drop, replicate, Option, Some, None}
 use Rattle.std.specs.List.{flat_map}
-use Rattle.std.specs.FinMap.{get, entries}
+use Rattle.std.specs.FinMap.{empty, get, entries}
 use Rattle.pm_types.specs.declared.address.Addr.{Addr}
 use Rattle.pm_types.specs.declared.object.Slot.{Slot}
 use Rattle.pm_cars.specs.Cars.{Car}
@@ -46,6 +46,11 @@ pub record Saving : Type 0 where
   pub progress : Option Progress
 
 -- ---- what the copy lists; its cars are those that were frozen when it was begun
+
+-- the cars that are frozen, none where they are not
+abbrev pub cars_or_none : Option Cars → Cars
+cars_or_none None = empty
+cars_or_none (Some cars) = cars
 
 -- the Live and Moved slots of a car, ascending
 abbrev pub slots_of : Option Car → List (ℕ × Slot)

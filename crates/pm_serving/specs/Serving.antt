@@ -1,6 +1,5 @@
 -- What contracts see of an engine, beside its disk.
 use Rattle.std.specs.Prelude.{◌≡◌, ℕ, ◌+◌, min, List, [], Option, Some, None, option_map}
-use Rattle.std.specs.FinMap.{empty}
 use Rattle.pm_base.specs.Counts.{greatest_count}
 use Rattle.pm_types.specs.declared.entry.Entry.{Entry}
 use Rattle.pm_model.specs.World.{World, Copy, begin}
@@ -9,7 +8,7 @@ use Rattle.pm_model.specs.Journal.{IsLegal, after}
 use Rattle.pm_view.specs.View.{Cars, SpaceView}
 use Rattle.pm_view.specs.Represents.{Represents}
 use Rattle.pm_copies.specs.Listed.{copy_in}
-use Rattle.pm_saving.specs.Progress.{Progress, Saving, copy_of}
+use Rattle.pm_saving.specs.Progress.{Progress, Saving, cars_or_none, copy_of}
 
 -- An engine: the number of the copy that was opened, and the space as it was opened; the space now, and its cars as they
 -- were frozen, if they are; the saver; the journal; how many events were made; and, where a call answered that the disk
@@ -36,14 +35,9 @@ opening it = begin it.number (copy_in it.opened)
 abbrev pub world : Serving → World
 world it = after (opening it) it.journal
 
--- the cars of the copy in progress, none where none is
-abbrev pub frozen_cars : Option Cars → Cars
-frozen_cars None = empty
-frozen_cars (Some cars) = cars
-
 -- a copy in progress with its number
 abbrev pub numbered_copy : Option Cars → Progress → ℕ × Copy
-numbered_copy frozen progress = (progress.number, copy_of (frozen_cars frozen) progress)
+numbered_copy frozen progress = (progress.number, copy_of (cars_or_none frozen) progress)
 
 -- the copy in progress, if there is one
 abbrev pub in_progress : Serving → Option (ℕ × Copy)

@@ -10,8 +10,6 @@ mod pages;
 mod runs;
 mod slots;
 mod table;
-#[cfg(test)]
-mod tests;
 
 pub use law::{
     a_header_in_the_picked_slot_is_current, an_image_is_opened_with_its_graph,

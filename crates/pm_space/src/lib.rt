@@ -14,8 +14,6 @@ mod setting;
 mod sources;
 mod space;
 mod spreading;
-#[cfg(test)]
-mod tests;
 
 pub use barrier::tell_all;
 pub use held::Held;

@@ -6,6 +6,7 @@ mod collected;
 mod drawn;
 mod fault;
 mod frozen;
+mod opened;
 mod queued;
 mod scripted;
 mod spaced;
@@ -13,6 +14,7 @@ mod spaced;
 use collected::push_collected;
 use fault::Fault;
 use frozen::push_frozen;
+use opened::push_opened;
 use queued::push_queued;
 use scripted::{Shows, push_script};
 use spaced::{push_births, push_drawn, push_names};
@@ -73,6 +75,7 @@ fn push_step(alloc: Global, step: &str, text: &str, out: &mut String) -> Result<
     match step {
         "case" => push_case(text, out),
         "collected" => push_collected(alloc, text, out),
+        "opened" => push_opened(alloc, text, out),
         _ => push_counted(alloc, step, number(text)?, out),
     }
 }
