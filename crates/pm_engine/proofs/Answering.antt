@@ -1,5 +1,5 @@
 -- What each command's answer makes of what holds.
-use Rattle.std.proofs.Common.{◌≡◌, ◌⊎◌, ⊎_elim, inl, inr, ℕ, ◌<◌, ◌≤◌, ◌+◌, Bool, true, false, List, [], ◌∷◌, ◌++◌, Option, Some, None, option_map, IfSome, Contains, refl, sym, ap, subst, ◌∙◌, arith}
+use Rattle.std.proofs.Common.{◌≡◌, ◌⊎◌, ⊎_elim, inl, inr, ℕ, ◌<◌, ◌≤◌, ◌+◌, true, false, List, [], ◌∷◌, ◌++◌, Option, Some, None, option_map, IfSome, refl, sym, ap, subst, ◌∙◌}
 use Rattle.std.proofs.lemmas.List.Elements.{Contains-append_left, Contains-append_right}
 use Rattle.pm_types.specs.declared.command.Cmd.{Cmd}
 use Rattle.pm_types.specs.declared.command.Cmd.TheVariants.{Save, Settle, Unsave, Watch, New, Load, Store, Clear, Show, Put, Copy, IdOf, Forget, Bind, Unbind, Find, Swap, Close}
@@ -16,21 +16,20 @@ use Rattle.pm_shadow.specs.declared.pages.Pages.{Pages}
 use Rattle.pm_shadow.specs.Pages.{disk_of}
 use Rattle.pm_model.specs.Journal.{after, chain, settled_in, says_saved}
 use Rattle.pm_model.proofs.AnswerLaws.{leaves_saving}
-use Rattle.pm_model.proofs.ChainLaws.{after_more, chain_more, saved}
+use Rattle.pm_model.proofs.ChainLaws.{chain_more, saved}
 use Rattle.pm_model.proofs.Members.{at_first}
 use Rattle.pm_image.specs.Stands.{Stands}
 use Rattle.pm_view.specs.View.{Cars}
 use Rattle.pm_view.specs.Law.{HeapLaw}
 use Rattle.pm_view.specs.Commands.{is_act}
-use Rattle.pm_copies.specs.Listed.{copy_in}
 use Rattle.pm_saving.specs.Progress.{Progress, cars_or_none, copy_of}
-use Rattle.pm_saving.specs.Paging.{NextPage, CarPage, PartPage, header_of, next_page, with_next, written_on}
+use Rattle.pm_saving.specs.Paging.{NextPage, CarPage, PartPage, next_page, with_next, written_on}
 use Rattle.pm_saving.specs.Tied.{HasCopy}
 use Rattle.pm_saver.specs.Answers.{TellsOn}
 use Rattle.pm_saver.specs.Settling.{SparesEither}
 use Rattle.pm_serving.specs.Serving.{IsServed, numbered_copy, opening, world}
 use Rattle.pm_serving.specs.Events.{Serves}
-use Rattle.pm_serving.specs.Images.{IsInProgress, IsSettled, IsStored, IsTold}
+use Rattle.pm_serving.specs.Images.{IsSettled, IsStored, IsTold}
 use Rattle.pm_law_serving.proofs.Following as law
 use Rattle.pm_law_serving.proofs.Images.{acknowledged, failed}
 use Rattle.pm_engine.specs.declared.opening.Opening.{Opening}
@@ -38,7 +37,7 @@ use Rattle.pm_engine.specs.declared.works.Works.{Works}
 use Rattle.pm_engine.specs.Working.{Acts, Adds, Answers, IsTiedIn, LeavesEither, Rests, Saves, SettlesCopy, SettlesIt, StaysStill, Unsaves, contents_in, disk_at, frozen_in, saving_in, state_in, view_in}
 use Rattle.pm_engine.specs.Seen.{IsSound, disk_then, seen}
 use Rattle.pm_engine.proofs.Going.{answers_sound, appends, serves_on, settled_there}
-use Rattle.pm_engine.proofs.Kept.{pages_last, same_cars, spares_still}
+use Rattle.pm_engine.proofs.Kept.{pages_last, spares_still}
 
 -- only `settle` says that a copy settled
 pub not_saved : (world : World) (client : ℕ) (cmd : Cmd) (reply : Reply) → reply ≡ (answer world client cmd).0 → saves cmd ≡ false → says_saved reply ≡ false
@@ -77,8 +76,7 @@ module _ {D : Type 0} {F : Type 0} {g : Ghosts D} (start : Opening D F g) (old n
   save_served client (Begun number) served heap at is =
       back client Save Begun number is.begun.number is.number_is
       (law.begins client (seen start None old) (seen start None new) is.begun served heap is.none (subst (λ (n : ℕ). n < LAST_COPY) at is.below) (is.next ∙ ap (λ (n : ℕ). n + 1) at)
-      (appends start old new client Save (Begun is.begun.number) (numbered client Save Begun number is.begun.number is.number_is is.adds)) is.view is.is_begun
-      (ap (λ (cars : Cars). copy_of cars is.begun) (sym (same_cars (frozen_in new))) ∙ is.copy))
+      (appends start old new client Save (Begun is.begun.number) (numbered client Save Begun number is.begun.number is.number_is is.adds)) is.view is.is_begun is.copy)
   save_served client reply served heap at is = absurd is
 
   pub unsave_served : (client : ℕ) (reply : Reply) → IsServed (seen start None old) → Unsaves client old new reply → Serves client Unsave (seen start None old) (seen start None new) reply × IsServed (seen start None new)
@@ -129,7 +127,7 @@ module _ {D : Type 0} {F : Type 0} {g : Ghosts D} (start : Opening D F g) (old n
       let NS = seen start None new in
       let adds = subst (λ (n : ℕ). Adds client Settle (Saved n) old new) is.settles.number_is is.adds in
       let all = law.settles client OS NS progress sound.served is.settles.is_progress (appends start old new client Settle (Saved progress.number) adds) is.view (ap (λ s. s.progress) is.settles.saving) in
-      let copied : (world NS).settled_copy ≡ copy_of cars progress = all.3 ∙ ap (λ (c : Cars). copy_of c progress) (sym (same_cars (frozen_in old))) in
+      let copied : (world NS).settled_copy ≡ copy_of cars progress = all.3 in
       let w = opening OS in
       let entry : Entry = record { client = client; cmd = Settle; reply = Saved progress.number } in
       let longer = chain w old.journal.items ++ settled_in (world NS) ∷ [] in
@@ -169,7 +167,7 @@ module _ {D : Type 0} {F : Type 0} {g : Ghosts D} (start : Opening D F g) (old n
       let w = opening OS in
       let cars = cars_or_none (frozen_in old) in
       let saving : (world OS).saving ≡ Some (progress.number, copy_of cars progress) =
-      sound.served.saving ∙ ap (option_map (numbered_copy (frozen_in old))) is ∙ (λ i. Some (progress.number, copy_of (sym (same_cars (frozen_in old)) i) progress)) in
+      sound.served.saving ∙ ap (option_map (numbered_copy (frozen_in old))) is in
       record {
         served = serves_on start old new (Some count) sound.served rests.nothing.journal rests.view rests.frozen rests.progress;
         stored = λ none. absurd (cc none);

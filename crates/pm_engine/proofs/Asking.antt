@@ -1,27 +1,25 @@
 -- What an engine's type keeps goes on through its calls, and what is told of it.
-use Rattle.std.proofs.Common.{◌≡◌, ◌⊎◌, ⊎_elim, inl, inr, ℕ, ◌<◌, ◌≤◌, true, false, List, [], ◌∷◌, Option, Some, None, IfSome, option_map, Result, MatchResult, refl, sym, ap, subst, ◌∙◌}
+use Rattle.std.proofs.Common.{◌≡◌, ◌⊎◌, ⊎_elim, inl, inr, ℕ, ◌≤◌, false, List, [], ◌∷◌, Option, Some, None, option_map, refl, sym, ap, subst, ◌∙◌}
 use Rattle.std.specs.Coded.{Coded-set, coded×, coded_ℕ, coded_option}
 use Rattle.std.proofs.Math.Logic.{∥∥₁_elim, ∥∥₁_map}
 use mathlib.Core.HLevel.{⊥_prop}
+use Rattle.std.proofs.Props.{props}
 use Rattle.pm_types.specs.declared.command.Cmd.{Cmd}
-use Rattle.pm_types.specs.declared.command.Cmd.TheVariants.{Settle}
 use Rattle.pm_types.specs.declared.reply.Reply.{Reply}
-use Rattle.pm_types.specs.declared.reply.Reply.TheVariants.{Saved}
 use Rattle.pm_types.specs.contracts.reply.Reply as reply_type
 use Rattle.pm_disk.specs.declared.disk.Disk.{Ghosts}
-use Rattle.pm_disk.specs.Disk.{IfTold, LeavesOnly}
+use Rattle.pm_disk.specs.Disk.{LeavesOnly}
 use Rattle.pm_disk.proofs.RunLemmas.{weaker}
-use Rattle.pm_model.specs.World.{World, Copy, copy_code}
+use Rattle.pm_model.specs.World.{World, Copy, begin, copy_code}
+use Rattle.pm_model.specs.Closed.{IsClosed}
 use Rattle.pm_model.specs.Answer.{answer}
-use Rattle.pm_model.specs.Frames.{is_settle, sets_watch}
+use Rattle.pm_model.specs.Frames.{sets_watch}
 use Rattle.pm_image.specs.Stands.{Stands}
-use Rattle.pm_view.specs.View.{Cars}
-use Rattle.pm_view.specs.Law.{HeapLaw}
+use Rattle.pm_copies.specs.Listed.{copy_in}
 use Rattle.pm_saving.specs.Progress.{Progress, cars_or_none, copy_of}
-use Rattle.pm_saving.specs.Tied.{HasCopy}
 use Rattle.pm_saver.specs.Answers.{Spares, TellsOn}
 use Rattle.pm_saver.specs.Settling.{SparesEither}
-use Rattle.pm_serving.specs.Serving.{IsServed, Serving, numbered_copy, world}
+use Rattle.pm_serving.specs.Serving.{IsServed, Serving, numbered_copy, opening, world}
 use Rattle.pm_serving.specs.Events.{Serves}
 use Rattle.pm_serving.specs.Images.{IsInProgress, IsSettled, IsStored, IsTold, KeepsImages}
 use Rattle.pm_model.specs.Journal.{IsLegal}
@@ -36,12 +34,11 @@ use Rattle.pm_law_serving.proofs.Splitting.{splits_once}
 use Rattle.pm_law_serving.proofs.Stored.{splits_stored}
 use Rattle.pm_engine.specs.declared.opening.Opening.{Opening}
 use Rattle.pm_engine.specs.declared.works.Works.{Works}
-use Rattle.pm_engine.specs.Working.{Answers, FlushesOn, IsTiedIn, LastsIn, Rests, SettlesCopy, contents_in, disk_at, frozen_in, saving_in, state_in, view_in}
+use Rattle.pm_engine.specs.Working.{Answers, FlushesOn, IsTiedIn, LastsIn, Rests, contents_in, disk_at, frozen_in, saving_in, state_in}
 use Rattle.pm_engine.specs.Seen.{IsSound, disk_then, seen}
 use Rattle.pm_engine.proofs.Going.{failed_still, leaves, rests_sound}
 use Rattle.pm_engine.proofs.Flushed.{flush_sound}
 use Rattle.pm_engine.proofs.Answering.{Told, adds_of, answered, failed_sound, leaves_either}
-use Rattle.pm_engine.proofs.Kept.{same_cars}
 
 splits_told : (contents : Option (List ℕ)) → ∥ IsTold contents ∥₁ → IsTold contents
 splits_told (Some bytes) known = (bytes, refl)
@@ -60,7 +57,7 @@ module _ {D : Type 0} {F : Type 0} {g : Ghosts D} (start : Opening D F g) (stopp
   -- the copy in progress is the world's
   pub saving_is : (progress : Progress) → (saving_in old).progress ≡ Some progress → (world (seen start None old)).saving ≡ Some (progress.number, copy_of (cars_or_none (frozen_in old)) progress)
   saving_is progress is = splits_once (Coded-set (coded_option (coded× coded_ℕ copy_code)) _ _) (∥∥₁_map at_none (λ sound.
-      sound.served.saving ∙ ap (option_map (numbered_copy (frozen_in old))) is ∙ (λ i. Some (progress.number, copy_of (sym (same_cars (frozen_in old)) i) progress))))
+      sound.served.saving ∙ ap (option_map (numbered_copy (frozen_in old))) is))
 
   module _ (new : Works D F g) where
     -- a command was answered
@@ -121,6 +118,13 @@ module _ {D : Type 0} {F : Type 0} {g : Ghosts D} (start : Opening D F g) (stopp
       let was = tells first in
       subst (λ (n : ℕ). Stands left n (world (seen start None old)).settled_copy) stored.numbered
       (copy_held (state_in old) was.0 left (world (seen start None old)).settled_copy (stored.has first was.0 was.1) ((current_kept old.pages stored.tied.sound was.0 was.1).each left here))
+
+-- whatever is named in the world that was opened is an object
+closed_once : (number : ℕ) (copy : Copy) → IsProp (IsClosed (begin number copy))
+closed_once number copy = hlevel props
+
+pub splits_closed : (it : Serving) → ∥ IsClosed (opening it) ∥₁ → IsClosed (opening it)
+splits_closed it = splits_once (closed_once it.number (copy_in it.opened))
 
 -- the journal is legal
 pub splits_legal : (start : World) (journal : List Entry) → ∥ IsLegal start journal ∥₁ → IsLegal start journal

@@ -1,14 +1,12 @@
 -- What holds of an engine that was just opened.
-use Rattle.std.proofs.Common.{◌≡◌, inl, ⊎_elim, ℕ, ◌<◌, ◌≤◌, length, Bool, true, false, List, [], ◌∷◌, Option, Some, None, Result, Ok, Err, refl, sym, ap, subst, ◌∙◌, arith}
+use Rattle.std.proofs.Common.{◌≡◌, ⊎_elim, ℕ, ◌<◌, ◌≤◌, length, true, false, List, [], ◌∷◌, Option, Some, None, Result, Ok, Err, sym, ap, subst, ◌∙◌, arith}
 use Rattle.std.specs.List.{AllByRecursion}
 use Rattle.std.proofs.lemmas.Bool.{cases_lt}
 use Rattle.std.proofs.lemmas.List.{get_or_past}
 use Rattle.pm_image.specs.CarAnswers.{AreBytes}
-use Rattle.pm_types.specs.declared.entry.Entry.{Entry}
 use Rattle.pm_disk.specs.declared.disk.Disk.{Ghosts}
 use Rattle.pm_disk.specs.Disk.{IfTold}
 use Rattle.pm_disk.specs.Images.{IsBytes}
-use Rattle.pm_model.specs.World.{Copy, begin}
 use Rattle.pm_image.specs.declared.settled.KeptPage.{KeptPage}
 use Rattle.pm_base.specs.Results.{◌>>=◌}
 use Rattle.pm_image.specs.Graphs.{Graph, copy_of as copy_of_graph, entries_of, graph_of}
@@ -18,25 +16,24 @@ use Rattle.pm_types.specs.declared.fault.OpenFault.TheVariants.{NotAStore, Versi
 use Rattle.pm_shadow.specs.Attaching.{IsFaultOf}
 use Rattle.pm_engine.specs.Opened.{IsRefusal}
 use Rattle.pm_image.specs.Stands.{Opened, Stands, opened, pages_of}
-use Rattle.pm_shadow.specs.declared.page_use.PageUse.{PageUse}
 use Rattle.pm_shadow.specs.declared.page_use.PageUse.TheVariants.{Current}
-use Rattle.pm_shadow.specs.State.{State, keeps, keeps_by}
+use Rattle.pm_shadow.specs.State.{State, keeps_by}
 use Rattle.pm_shadow.specs.Copies.{KeepsGraph, current_graph}
 use Rattle.pm_shadow.specs.Images.{Holds}
 use Rattle.pm_shadow.specs.Pages.{current_kept}
 use Rattle.pm_shadow.proofs.CopyLemmas.{held_opened}
-use Rattle.pm_view.specs.View.{Cars, SpaceView}
+use Rattle.pm_view.specs.View.{Cars}
 use Rattle.pm_copies.specs.Listed.{copy_in}
 use Rattle.pm_copies.specs.Opened.{listed_graph}
 use Rattle.pm_law_copies.proofs.OpenedStands.{saves_again}
 use Rattle.pm_law_copies.proofs.FoundStore.{store_accepted, store_copy}
 use Rattle.pm_saving.specs.Progress.{Saving}
-use Rattle.pm_saving.specs.Tied.{AreSettled, HasCopy, IsOnPage, IsTied}
+use Rattle.pm_saving.specs.Tied.{HasCopy, IsOnPage, IsTied}
 use Rattle.pm_law_saving.proofs.Giving.{store_begins}
 use Rattle.pm_law_saving.proofs.Publishing.{copy_held}
 use Rattle.pm_opening.specs.Opening.{IsRefusedBy, KnowsPages, MakesSpace, OpensStore}
-use Rattle.pm_serving.specs.Serving.{IsServed, Serving, just_opened, opening, world}
-use Rattle.pm_serving.specs.Images.{IsSettled, IsStored, IsTold, KeepsImages}
+use Rattle.pm_serving.specs.Serving.{IsServed, Serving, just_opened, world}
+use Rattle.pm_serving.specs.Images.{IsSettled, IsStored, KeepsImages}
 use Rattle.pm_space.specs.Shown.{view}
 use Rattle.pm_shadow.specs.Pages.{disk_of}
 use Rattle.pm_law_serving.proofs.Opening.{begins_served}

@@ -1,10 +1,10 @@
 -- What a crash may leave while a command is answered, and what has settled then.
-use Rattle.std.proofs.Common.{◌≡◌, ◌⊎◌, ⊎_elim, inl, inr, ℕ, ◌≤◌, Bool, true, false, List, [], ◌∷◌, Option, Some, None, IfSome, Result, Ok, Err, refl, sym, ap, subst, ◌∙◌}
+use Rattle.std.proofs.Common.{◌≡◌, ◌⊎◌, ⊎_elim, inl, inr, ℕ, Bool, true, false, List, Option, Some, None, IfSome, Result, Ok, Err, refl, sym, ap, subst, ◌∙◌}
 use Rattle.std.specs.Option.{IsSome}
 use Rattle.pm_types.specs.declared.command.Cmd.{Cmd}
 use Rattle.pm_types.specs.declared.command.Cmd.TheVariants.{Save, Settle, Unsave, Watch, New, Load, Store, Clear, Show, Put, Copy, IdOf, Forget, Bind, Unbind, Find, Swap, Close}
 use Rattle.pm_types.specs.declared.fault.EngineFault.{EngineFault}
-use Rattle.pm_types.specs.declared.fault.EngineFault.TheVariants.{Memory, Disk}
+use Rattle.pm_types.specs.declared.fault.EngineFault.TheVariants.{Disk}
 use Rattle.pm_types.specs.declared.reply.Reply.{Reply}
 use Rattle.pm_types.specs.declared.reply.Reply.TheVariants.{Saved}
 use Rattle.pm_disk.specs.declared.disk.Disk.{Ghosts}
@@ -26,7 +26,7 @@ use Rattle.pm_serving.specs.Images.{IsInProgress, IsSettled, IsTold}
 use Rattle.pm_law_serving.proofs.Following as law
 use Rattle.pm_engine.specs.declared.opening.Opening.{Opening}
 use Rattle.pm_engine.specs.declared.works.Works.{Works}
-use Rattle.pm_engine.specs.Working.{Acts, Answers, LeavesEither, SettlesCopy, StaysStill, contents_in, disk_at, frozen_in, saving_in, state_in}
+use Rattle.pm_engine.specs.Working.{Answers, LeavesEither, SettlesCopy, StaysStill, contents_in, disk_at, frozen_in, saving_in, state_in}
 use Rattle.pm_engine.specs.Seen.{IsSound, disk_then, seen}
 use Rattle.pm_engine.specs.Calls.{MayStand}
 use Rattle.pm_engine.proofs.Answering.{not_saved}

@@ -15,7 +15,7 @@ use Rattle.pm_saving.specs.Tied.{IsTied, with_all_kept}
 use Rattle.pm_law_saving.proofs.Next.{next_goes}
 use Rattle.pm_saver.specs.Answers.{IsFlushed, Spares, TellsOn}
 use Rattle.pm_saver.specs.Shown.{frozen_of}
-use Rattle.pm_serving.specs.Serving.{IsServed, opening}
+use Rattle.pm_serving.specs.Serving.{opening}
 use Rattle.pm_serving.specs.Events.{Flushes, StaysBegun}
 use Rattle.pm_engine.specs.declared.opening.Opening.{Opening}
 use Rattle.pm_engine.specs.declared.works.Works.{Works}
@@ -44,8 +44,7 @@ flushed_stays old new frozen s t was now (Wrote page) tied is =
       subst (λ (o : Option Progress). StaysBegun o new.progress) (sym is.is_progress) (subst (StaysBegun (Some is.progress)) (sym (ap (λ (it : Saving). it.progress) is.saving)) goes),
     )
 
-module _ {D : Type 0} {F : Type 0} {g : Ghosts D} (start : Opening D F g) (old new : Works D F g) (sound : IsSound start None old)
-    (counts : (t : ℕ) (bytes : List ℕ) → t ≤ g.moment (disk_at new) → g.image (disk_at new) bytes → g.since (disk_at new) t bytes) (flushed : Flushed) (is : FlushesOn old new flushed) where
+module _ {D : Type 0} {F : Type 0} {g : Ghosts D} (start : Opening D F g) (stopped : Option ℕ) (old new : Works D F g) (flushed : Flushed) (tied : IsTiedIn old) (is : FlushesOn old new flushed) where
   same_view : view_in new ≡ view_in old
   same_view = ap (λ (space : Space F). view space.parts) is.space
 
@@ -53,10 +52,11 @@ module _ {D : Type 0} {F : Type 0} {g : Ghosts D} (start : Opening D F g) (old n
   same_frozen = ap (λ (space : Space F). frozen_of space.parts) is.space
 
   stays : ((saving_in new).settled ≡ (saving_in old).settled) × StaysBegun (saving_in old).progress (saving_in new).progress
-  stays = flushed_stays (saving_in old) (saving_in new) (frozen_in old) (state_in old) (state_in new) (contents_in old) (contents_in new) flushed (sound.stored refl).tied is.flushed
+  stays = flushed_stays (saving_in old) (saving_in new) (frozen_in old) (state_in old) (state_in new) (contents_in old) (contents_in new) flushed tied is.flushed
 
-  pub flush_serves : Flushes (seen start None old) (seen start None new)
-  flush_serves = record {
+  -- journal, space and copies stay, but for the page
+  pub flush_told : Flushes (seen start stopped old) (seen start stopped new)
+  flush_told = record {
     opening = record { number = refl; opened = refl };
     view = same_view;
     frozen = same_frozen;
@@ -66,9 +66,12 @@ module _ {D : Type 0} {F : Type 0} {g : Ghosts D} (start : Opening D F g) (old n
     stopped = refl;
   }
 
+module _ {D : Type 0} {F : Type 0} {g : Ghosts D} (start : Opening D F g) (old new : Works D F g) (sound : IsSound start None old)
+    (counts : (t : ℕ) (bytes : List ℕ) → t ≤ g.moment (disk_at new) → g.image (disk_at new) bytes → g.since (disk_at new) t bytes) (flushed : Flushed) (is : FlushesOn old new flushed) where
   pub flush_sound : IsTiedIn new → LastsIn old new → TellsOn (contents_in old) (contents_in new) → Spares g.contents g.moment g.since (state_in old) (disk_at old) (disk_at new) → IsSound start None new
   flush_sound =
       let w = opening (seen start None old) in
-      lasts start old new sound counts (serves_on start old new None sound.served is.journal same_view same_frozen stays.1)
+      let tied = (sound.stored refl).tied in
+      lasts start old new sound counts (serves_on start old new None sound.served is.journal (same_view start None old new flushed tied is) (same_frozen start None old new flushed tied is) (stays start None old new flushed tied is).1)
       (ap (λ (entries : List Entry). settled_in (after w entries)) is.journal)
       (ap (chain w) is.journal)

@@ -1,40 +1,29 @@
 -- What holds of an engine goes on through each of its calls.
-use Rattle.std.proofs.Common.{◌≡◌, ◌⊎◌, ⊎_elim, inl, inr, ℕ, ◌<◌, ◌≤◌, ◌+◌, Bool, true, false, if◌then◌else◌, option_map, List, [], ◌∷◌, ◌++◌, Option, Some, None, IfSome, Contains, refl, sym, ap, subst, ◌∙◌, arith}
-use Rattle.std.specs.Option.{IsSome}
-use Rattle.std.proofs.lemmas.List.Elements.{Contains-append_left, Contains-append_right}
+use Rattle.std.proofs.Common.{◌≡◌, ℕ, ◌≤◌, Bool, true, false, if◌then◌else◌, option_map, List, [], ◌∷◌, ◌++◌, Option, Some, None, Contains, refl, sym, ap, subst, ◌∙◌, arith}
 use Rattle.pm_types.specs.declared.command.Cmd.{Cmd}
-use Rattle.pm_types.specs.declared.command.Cmd.TheVariants.{Save, Settle, Unsave}
 use Rattle.pm_types.specs.declared.entry.Entry.{Entry}
 use Rattle.pm_types.specs.declared.reply.Reply.{Reply}
-use Rattle.pm_types.specs.declared.reply.Reply.TheVariants.{Begun, Busy, Dropped, Idle, Saved, SavesSpent}
 use Rattle.pm_disk.specs.declared.disk.Disk.{Ghosts}
-use Rattle.pm_disk.specs.Disk.{IfTold, LeavesOnly}
-use Rattle.pm_model.specs.World.{World, Copy, begin}
-use Rattle.pm_model.specs.Closed.{IsClosed}
+use Rattle.pm_disk.specs.Disk.{LeavesOnly}
+use Rattle.pm_model.specs.World.{World, Copy}
 use Rattle.pm_model.specs.Answer.{answer}
 use Rattle.pm_model.specs.Journal.{IsLegal, after, chain, settled_along, settled_in, says_saved}
-use Rattle.pm_model.proofs.ChainLaws.{after_more, chain_more, chain_same, same_settled}
+use Rattle.pm_model.proofs.ChainLaws.{after_more, chain_same, same_settled}
 use Rattle.pm_model.proofs.Members.{at_first, in_rest}
 use Rattle.pm_image.specs.Stands.{Stands}
-use Rattle.pm_shadow.specs.State.{State}
-use Rattle.pm_shadow.specs.Pages.{current_kept}
 use Rattle.pm_view.specs.View.{Cars, SpaceView}
 use Rattle.pm_view.specs.Represents.{Represents}
-use Rattle.pm_copies.specs.Listed.{copy_in}
-use Rattle.pm_saving.specs.Progress.{Progress, cars_or_none, copy_of}
+use Rattle.pm_saving.specs.Progress.{Progress, cars_or_none}
 use Rattle.pm_saving.specs.Tied.{GoesOn, HasCopy}
-use Rattle.pm_law_saving.proofs.Publishing.{copy_held}
 use Rattle.pm_saver.specs.Answers.{Spares, TellsOn}
-use Rattle.pm_saver.specs.Settling.{SparesEither}
-use Rattle.pm_serving.specs.Serving.{IsServed, Serving, in_progress, numbered_copy, opening, world}
+use Rattle.pm_serving.specs.Serving.{IsServed, Serving, numbered_copy, opening, world}
 use Rattle.pm_serving.specs.Events.{Appends, Serves, StaysBegun}
-use Rattle.pm_serving.specs.Images.{IsInProgress, IsSettled, IsStored, IsTold, KeepsImages}
-use Rattle.pm_law_serving.proofs.Images.{spared, failed, acknowledged}
+use Rattle.pm_serving.specs.Images.{IsSettled, IsStored, IsTold}
+use Rattle.pm_law_serving.proofs.Images.{spared}
 use Rattle.pm_engine.specs.declared.opening.Opening.{Opening}
 use Rattle.pm_engine.specs.declared.works.Works.{Works}
 use Rattle.pm_engine.specs.Working.{Adds, IsTiedIn, LastsIn, Rests, contents_in, disk_at, frozen_in, saving_in, state_in, view_in}
 use Rattle.pm_engine.specs.Seen.{IsSound, disk_then, seen}
-use Rattle.pm_engine.proofs.Kept.{same_cars}
 
 -- ---- the copy that settled last is one of the chain
 

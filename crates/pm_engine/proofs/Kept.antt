@@ -1,5 +1,5 @@
 -- What holds between calls, where only the journal changes.
-use Rattle.std.proofs.Common.{◌≡◌, ◌⊎◌, ⊎_elim, inl, inr, ℕ, false, List, Option, Some, None, refl, sym, ap, subst, ◌∙◌, arith}
+use Rattle.std.proofs.Common.{◌≡◌, ⊎_elim, inl, inr, ℕ, false, List, Option, Some, None, refl, sym, ap, subst, arith}
 use Rattle.pm_disk.specs.declared.disk.Disk.{Ghosts}
 use Rattle.pm_image.specs.declared.settled.KeptPage.{KeptPage}
 use Rattle.pm_shadow.specs.declared.pages.Pages.{Pages}
@@ -78,11 +78,6 @@ module _ {D : Type 0} {F : Type 0} {g : Ghosts D} where
     settled = ap (λ (it : Saving). it.settled) stays.saving;
     progress = subst (λ (o : Option Progress). StaysBegun o (saving_in new).progress) (sym stays.is_progress) (subst (StaysBegun (Some stays.progress)) (sym (ap (λ (it : Saving). it.progress) stays.saving)) stays.goes_on);
   }
-
--- the cars of the copy in progress, in both spellings
-pub same_cars : (frozen : Option Cars) → cars_or_none frozen ≡ cars_or_none frozen
-same_cars None = refl
-same_cars (Some cars) = refl
 
 -- where the current copy stood at each moment, it or the one in progress did
 pub either_of : {D : Type 0} (contents : D → Option (List ℕ)) (moment : D → ℕ) (since : D → ℕ → List ℕ → Type 0) (progress : Option Progress) (cars : Cars) (s : State) (old new : D) → Spares contents moment since s old new

@@ -1,5 +1,4 @@
 pub mod Kept
-pub mod Shown
 pub mod Going
 pub mod Answering
 pub mod Flushed
@@ -7,3 +6,4 @@ pub mod Asking
 pub mod Crashing
 pub mod Settled
 pub mod Begun
+pub mod Telling

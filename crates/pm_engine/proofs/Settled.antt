@@ -1,20 +1,17 @@
 -- What has settled once `settle` was answered so.
-use Rattle.std.proofs.Common.{◌≡◌, ℕ, false, List, Option, Some, None, refl, sym, ap, subst}
+use Rattle.std.proofs.Common.{◌≡◌, ℕ, false, Option, None, subst}
 use Rattle.pm_types.specs.declared.command.Cmd.{Cmd}
 use Rattle.pm_types.specs.declared.reply.Reply.{Reply}
 use Rattle.pm_types.specs.declared.reply.Reply.TheVariants.{Saved}
 use Rattle.pm_disk.specs.declared.disk.Disk.{Ghosts}
 use Rattle.pm_model.specs.Frames.{sets_watch}
-use Rattle.pm_view.specs.View.{Cars}
-use Rattle.pm_saving.specs.Tied.{Settles}
 use Rattle.pm_serving.specs.Events.{Serves}
 use Rattle.pm_engine.specs.declared.engine.Engine.{Engine}
 use Rattle.pm_engine.specs.declared.works.Works.{Works}
-use Rattle.pm_engine.specs.Working.{Answers, contents_in, frozen_in, saving_in, state_in}
+use Rattle.pm_engine.specs.Working.{Answers}
 use Rattle.pm_engine.specs.Seen.{IsSound, seen}
 use Rattle.pm_engine.specs.Calls.{IsSettled}
 use Rattle.pm_engine.proofs.Crashing.{settled_images, settled_number, settles_copy}
-use Rattle.pm_engine.proofs.Kept.{same_cars}
 
 module _ {D : Type 0} {F : Type 0} {g : Ghosts D} (old : Engine D F g) (new : Works D F g) (sound : ∥ IsSound old.opening old.stopped new ∥₁) (none : old.stopped ≡ None) (client : ℕ) (cmd : Cmd) (quiet : sets_watch cmd ≡ false) where
   pub settled_all : (reply : Reply) → Serves client cmd (seen old.opening old.stopped old.works) (seen old.opening old.stopped new) reply → Answers client cmd old.works new reply
@@ -26,6 +23,6 @@ module _ {D : Type 0} {F : Type 0} {g : Ghosts D} (old : Engine D F g) (new : Wo
       record {
         number_is = settled_number start old.stopped old.works none old.sound new client number cmd serves0 copy;
         now = settled_images start old.stopped old.works none old.sound new client number cmd serves0 copy;
-        settles = subst (λ (cars : Cars). Settles (saving_in old.works) (saving_in new) cars (state_in old.works) (state_in new) (contents_in old.works) (contents_in new) number) (same_cars (frozen_in old.works)) copy.settles;
+        settles = copy.settles;
       }
   settled_all reply serves is = tt

@@ -1,18 +1,22 @@
 -- What the calls of an engine do, beside its journal.
-use Rattle.std.specs.Prelude.{◌≡◌, ◌⊎◌, ℕ, ◌<◌, true, false, Bool, List, Option, Some, None, Result, MatchResult, IfErr}
+use Rattle.std.specs.Prelude.{◌≡◌, ◌⊎◌, ℕ, ◌<◌, true, false, List, Option, None, Result, MatchResult, IfOk, IfErr, OnOk}
 use Rattle.pm_types.specs.declared.command.Cmd.{Cmd}
+use Rattle.pm_types.specs.Replies.{IsShortReply}
+use Rattle.pm_types.specs.declared.event.Flushed.{Flushed}
 use Rattle.pm_types.specs.declared.fault.EngineFault.{EngineFault}
 use Rattle.pm_types.specs.declared.fault.EngineFault.TheVariants.{Memory, Disk, Reopen}
 use Rattle.pm_types.specs.declared.reply.Reply.{Reply}
 use Rattle.pm_types.specs.declared.reply.Reply.TheVariants.{Saved}
 use Rattle.pm_disk.specs.declared.disk.Disk.{Ghosts}
 use Rattle.pm_disk.specs.Disk.{LeavesOnly}
-use Rattle.pm_model.specs.Frames.{is_settle}
+use Rattle.pm_model.specs.Frames.{is_settle, saves}
 use Rattle.pm_shadow.specs.State.{State}
 use Rattle.pm_saving.specs.Paging.{left_of}
 use Rattle.pm_saving.specs.Tied.{Settles}
 use Rattle.pm_saving.specs.Progress.{cars_or_none}
+use Rattle.pm_saver.specs.Answers.{IsFlushed}
 use Rattle.pm_serving.specs.Serving.{Serving, world}
+use Rattle.pm_serving.specs.Events.{FailsAs, Flushes, Serves}
 use Rattle.pm_serving.specs.Images as images
 use Rattle.pm_serving.specs.Images.{IsInProgress, IsTold}
 use Rattle.pm_engine.specs.declared.engine.Engine.{Engine}
@@ -29,6 +33,23 @@ abbrev pub IsOfDisk : EngineFault → Type 0
 IsOfDisk Memory = ⊥
 IsOfDisk (Disk before after) = Unit {0}
 IsOfDisk (Reopen count) = ⊥
+
+-- P holds where memory ran out
+abbrev pub IfMemory : Type 0 → EngineFault → Type 0
+IfMemory P Memory = P
+IfMemory P (Disk before after) = Unit {0}
+IfMemory P (Reopen count) = Unit {0}
+
+-- P holds, unless an earlier call had answered that the disk failed
+abbrev pub UnlessReopen : Type 0 → EngineFault → Type 0
+UnlessReopen P Memory = P
+UnlessReopen P (Disk before after) = P
+UnlessReopen P (Reopen count) = Unit {0}
+
+-- the copy in progress stays, with the cars that were frozen for it, and so do the settled cars
+pub record KeepsCopies (old new : Serving) : Type 0 where
+  pub saving : new.saving ≡ old.saving
+  pub frozen : new.frozen ≡ old.frozen
 
 -- What may stand at a moment of a call: the copy that had settled; or, where `settle` was answered, or the disk failed in
 -- it, the one that was in progress.
@@ -80,3 +101,69 @@ module _ {D : Type 0} {F : Type 0} {g : Ghosts D} where
   MayRunOut cmd old Memory = is_settle cmd ≡ true → (0 < left_of (serving old).saving.progress) ⊎ (room old ≡ 0)
   MayRunOut cmd old (Disk before after) = Unit {0}
   MayRunOut cmd old (Reopen count) = Unit {0}
+
+  -- where no copy is in progress the disk is the same value, on which no call was made
+  abbrev pub IsIdle : Engine D F g → Engine D F g → Type 0
+  IsIdle old new = (serving old).saving.progress ≡ None → disk_in new ≡ disk_in old
+
+  -- no read was made past the end of what the disk told
+  abbrev pub ReadsWithin : Engine D F g → Engine D F g → Type 0
+  ReadsWithin old new = (g.made (disk_in new)).past ≡ (g.made (disk_in old)).past
+
+  -- nothing has changed, and what the disk holds is the same
+  pub record StaysAsItWas (old new : Engine D F g) : Type 0 where
+    pub serving : serving new ≡ serving old
+    pub pages : pages_in new ≡ pages_in old
+    pub contents : g.contents (disk_in new) ≡ g.contents (disk_in old)
+
+  -- What `client` does, whatever it answers.
+  pub record AnswersClient (client : ℕ) (cmd : Cmd) (old new : Engine D F g) (result : Result Reply EngineFault) : Type 0 where
+    -- the reply and the next world are those of the world, and one entry is appended
+    pub serves : IfOk result (Serves client cmd (serving old) (serving new))
+    -- why nothing was answered; world and journal stay
+    pub fails : IfErr result (FailsAs (serving old) (serving new) (g.count (disk_in old)) (g.count (disk_in new)))
+    -- it is answered only while no call has answered that the disk failed
+    pub running : OnOk result (IsRunning old new)
+    -- and else all stays
+    pub reopen : IfErr result (StaysWhole old new)
+    -- but for `settle` the disk is not called
+    pub still : is_settle cmd ≡ false → CallsNoDisk old new result
+    -- a crash at any moment of the call leaves the last acknowledged copy, or, of `settle`, that in progress
+    pub leaves : LeavesCopies cmd old new result
+    -- once a copy settled each image stands for it, and nothing was written but what was left of it and its header
+    pub settled : IfOk result (IsSettled old new)
+    -- memory runs out in `settle` only where something of the copy is left to be written, or no entry has room
+    pub short : IfErr result (MayRunOut cmd old)
+    -- a reply shows at most an object's bytes
+    pub shown : IfOk result IsShortReply
+    -- a command that neither begins, settles nor drops a copy leaves the copies as they were
+    pub copies : saves cmd ≡ false → OnOk result (KeepsCopies (serving old) (serving new))
+    -- after want of memory of a command other than `settle` nothing has changed
+    pub lasts : is_settle cmd ≡ false → IfErr result (IfMemory (serving new ≡ serving old))
+    -- where no copy is in progress the disk is not called
+    pub idle : IsIdle old new
+    -- no read is made past the end of what the disk told
+    pub past : ReadsWithin old new
+
+  -- What `flush` does, whatever it answers.
+  pub record AnswersFlush (old new : Engine D F g) (result : Result Flushed EngineFault) : Type 0 where
+    -- journal, space and copies stay, but for one page, and one event more was made
+    pub flushes : OnOk result (Flushes (serving old) (serving new))
+    -- the next page of the copy was written, and no other changed; or none was left
+    pub flushed : IfOk result (IsFlushed (serving old).saving (serving new).saving (cars_or_none (serving old).frozen) (pages_in old) (pages_in new) (g.contents (disk_in old)) (g.contents (disk_in new)))
+    -- why nothing was answered; space and journal stay
+    pub fails : IfErr result (FailsAs (serving old) (serving new) (g.count (disk_in old)) (g.count (disk_in new)))
+    -- it is answered only while no call has answered that the disk failed
+    pub running : OnOk result (IsRunning old new)
+    -- and else all stays
+    pub reopen : IfErr result (StaysWhole old new)
+    -- a crash at any moment of the call leaves the last acknowledged copy
+    pub leaves : LeavesCopy old new
+    -- after want of memory nothing has changed, and no page was written
+    pub memory : IfErr result (IfMemory (StaysAsItWas old new))
+    -- a fault comes only where something of the copy is left to be written
+    pub fault : IfErr result (UnlessReopen (0 < left_of (serving old).saving.progress))
+    -- where no copy is in progress the disk is not called
+    pub idle : IsIdle old new
+    -- no read is made past the end of what the disk told
+    pub past : ReadsWithin old new

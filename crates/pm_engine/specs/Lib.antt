@@ -1,4 +1,3 @@
-pub mod Replies
 pub mod Working
 pub mod Seen
 pub mod Opened

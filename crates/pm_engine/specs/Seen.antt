@@ -1,5 +1,5 @@
 -- What contracts see of the parts of an engine, and what holds of them.
-use Rattle.std.specs.Prelude.{◌≡◌, ℕ, List, Option, Some, None}
+use Rattle.std.specs.Prelude.{◌≡◌, ℕ, Option, None}
 use Rattle.pm_disk.specs.declared.disk.Disk.{Ghosts}
 use Rattle.pm_shadow.specs.Pages.{disk_of}
 use Rattle.pm_space.specs.Shown.{view}

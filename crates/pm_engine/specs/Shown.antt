@@ -1,5 +1,5 @@
 -- What contracts see of an engine.
-use Rattle.std.specs.Prelude.{◌≡◌, ℕ, List, Option, length}
+use Rattle.std.specs.Prelude.{◌≡◌, ℕ, List, length}
 use Rattle.pm_types.specs.declared.entry.Entry.{Entry}
 use Rattle.pm_disk.specs.declared.disk.Disk.{Ghosts}
 use Rattle.pm_shadow.specs.State.{State}

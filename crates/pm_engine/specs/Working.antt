@@ -1,5 +1,6 @@
 -- What calls do to what an engine works with.
 use Rattle.std.specs.Prelude.{◌≡◌, ◌⊎◌, ℕ, ◌+◌, ◌-◌, ◌<◌, Bool, true, IsSome, List, [], ◌∷◌, ◌++◌, Option, Some, None, vec_len, vec_capacity}
+use Rattle.pm_types.specs.Replies.{IsShortReply}
 use Rattle.pm_types.specs.declared.limits.TheConstants.{LAST_COPY}
 use Rattle.pm_types.specs.declared.command.Cmd.{Cmd}
 use Rattle.pm_types.specs.declared.command.Cmd.TheVariants.{Save, Settle, Unsave}
@@ -76,13 +77,20 @@ module _ {D : Type 0} {F : Type 0} {g : Ghosts D} where
     pub keeps : Keeps old new
     pub nothing : AddsNothing old new
 
+  -- all of it stays, and so do the pages and what the disk holds
+  pub record IsAsItWas (old new : Works D F g) : Type 0 where
+    pub left : IsLeft old new
+    pub state : state_in new ≡ state_in old
+    pub contents : contents_in new ≡ contents_in old
+
   -- A command on the space: the entry is at the journal's end, the reply and the space after it are those of every world
-  -- that the space stands for, and the copies stay.
+  -- that the space stands for, and the copies stay. A reply shows at most an object's bytes.
   pub record Acts (client : ℕ) (cmd : Cmd) (old new : Works D F g) (reply : Reply) : Type 0 where
     pub adds : Adds client cmd reply old new
     pub served : mutate.Serves (view_in old) client cmd reply (view_in new)
     pub frozen : frozen_in new ≡ frozen_in old
     pub saving : saving_in new ≡ saving_in old
+    pub short : IsShortReply reply
 
   -- ---- copies
 

@@ -1,7 +1,7 @@
 //! A reply for the journal and for the one who asked.
 
 ghost use Rattle.std.specs.Prelude.{◌≡◌, IfOk, OnErr, true};
-ghost use Rattle.pm_engine.specs.Replies.{is_shown};
+ghost use Rattle.pm_mutate.specs.Acts.{is_shown};
 
 use pm_types::{NoMemory, Reply};
 use std::alloc::Global;

@@ -22,7 +22,8 @@ pub struct Engine<D: Disk, F> {
 }
 
 impl<D: Disk, F: Drop> Engine<D, F> {
-    ghost use Rattle.std.specs.Prelude.{◌≡◌, ◌≤◌, ℕ, List, None, OnOk};
+    ghost use Rattle.std.specs.Prelude.{◌≡◌, ◌≤◌, ◌<◌, ℕ, List, None, OnOk, OnErr};
+    ghost use Rattle.pm_model.specs.Closed.{IsClosed};
     ghost use Rattle.pm_model.specs.Journal.{IsLegal};
     ghost use Rattle.pm_serving.specs.Serving.{opening, world};
     ghost use Rattle.pm_serving.specs.Images.{IsSettled, IsTold, KeepsImages};
@@ -42,12 +43,17 @@ impl<D: Disk, F: Drop> Engine<D, F> {
         self.works.events
     }
 
-    /// Makes room for so many further entries of the journal, so that they take no memory.
+    /// Makes room for so many further entries of the journal, so that they take no memory. Where memory runs out all is
+    /// as it was.
     pub fn reserve_entries(&mut self, n: u64) -> Result<(), NoMemory>
         ensures serving { serving self.new ≡ serving self.old }
         ensures disk { disk_in self.new ≡ disk_in self.old }
         ensures start { KeepsStart self.old self.new }
         ensures room { OnOk result (n ≤ room self.new) }
+        // There is room for as many as before; where it fails so many had no room, and as many have as before.
+        ensures grows { room self.old ≤ room self.new }
+        ensures full { OnErr result (room self.old < n) }
+        ensures err { OnErr result (room self.new ≡ room self.old) }
     {
         self.works.journal.reserve(n as usize)?;
         Ok(())
@@ -71,10 +77,11 @@ impl<D: Disk, F: Drop> Engine<D, F> {
         (works.pages.into_disk(), works.journal, tally)
     }
 
-    /// A law of the engine at any time: the journal is legal from the world that was opened, and each image since then is
-    /// one that may be; while no call has answered that the disk failed, each image now stands for the last acknowledged
+    /// A law of the engine at any time: in the world that was opened whatever is named is an object, the journal is legal
+    /// from it, and each image since then is one that may be; while no call has answered that the disk failed, each image now stands for the last acknowledged
     /// copy.
     pub fn keep_their_images(&self)
+        ensures closed { IsClosed (opening (serving self.now)) }
         ensures legal { IsLegal (opening (serving self.now)) (serving self.now).journal }
         ensures images { ∥ KeepsImages D.contents D.image D.moment D.since (opened_disk self.now) (serving self.now)
             (disk_in self.now) ∥₁ }

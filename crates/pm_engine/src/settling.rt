@@ -10,7 +10,8 @@ use std::alloc::Global;
 
 impl<D: Disk, F: Drop> Works<D, F> {
     ghost use Rattle.pm_types.specs.declared.limits.TheConstants.{CLIENTS};
-    ghost use Rattle.pm_saver.specs.Answers.{HasCause, OnMemory, TellsOn, UnlessDisk};
+    ghost use Rattle.pm_saver.specs.Answers.{OnMemory, TellsOn, UnlessDisk};
+    ghost use Rattle.pm_saver.specs.Settling.{IsCausedBy};
     ghost use Rattle.pm_model.specs.Frames.{is_settle, sets_watch};
     ghost use Rattle.pm_engine.specs.Working.{Answers, IsFaultFor, IsLeft, IsShort, IsTiedIn, LastsSo, LeavesEither, Rests, SettlesIt, StaysStill, contents_in, disk_at};
 
@@ -30,7 +31,8 @@ impl<D: Disk, F: Drop> Works<D, F> {
         ensures fault { IfErr result (IsFaultFor true self.old) }
         ensures leaves { LeavesEither self.old self.new }
         ensures told { TellsOn (contents_in self.old) (contents_in self.new) }
-        ensures cause { HasCause (D.count (disk_at self.old)) (D.count (disk_at self.new)) result }
+        ensures causes { IsCausedBy (D.count (disk_at self.old)) (D.count (disk_at self.new)) (D.made (disk_at self.old))
+            (D.made (disk_at self.new)) result }
     {
         self.pages.keep_the_current_copy();
         self.journal.reserve(1)?;
@@ -79,12 +81,14 @@ impl<D: Disk, F: Drop> Works<D, F> {
         ensures tied { UnlessDisk result (IsTiedIn self.new) }
         ensures rests { OnErr result (Rests self.old self.new) }
         ensures memory { OnMemory result (LastsSo self.old self.new) }
+        ensures left { is_settle cmd.now ≡ false → OnErr result (IsLeft self.old self.new) }
         ensures short { is_settle cmd.now ≡ true → OnMemory result (IsShort self.old) }
         ensures still { is_settle cmd.now ≡ false → StaysStill self.old self.new }
         ensures fault { IfErr result (IsFaultFor (is_settle cmd.now) self.old) }
         ensures leaves { is_settle cmd.now ≡ true → LeavesEither self.old self.new }
         ensures told { TellsOn (contents_in self.old) (contents_in self.new) }
-        ensures cause { HasCause (D.count (disk_at self.old)) (D.count (disk_at self.new)) result }
+        ensures causes { IsCausedBy (D.count (disk_at self.old)) (D.count (disk_at self.new)) (D.made (disk_at self.old))
+            (D.made (disk_at self.new)) result }
     {
         match cmd {
             Cmd::Settle => self.settle(alloc, client),

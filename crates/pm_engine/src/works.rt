@@ -2,6 +2,7 @@
 
 ghost use Rattle.std.specs.Prelude.{◌≡◌, ◌+◌, ◌<◌, [], ◌∷◌, ◌++◌, true, IfOk, OnErr, vec_len, vec_capacity};
 ghost use Rattle.pm_types.specs.declared.limits.TheConstants.{CLIENTS};
+ghost use Rattle.pm_types.specs.Replies.{IsShortReply};
 ghost use Rattle.pm_view.specs.Commands.{is_act};
 ghost use Rattle.pm_space.specs.Shown.{view, KeepsRest};
 ghost use Rattle.pm_mutate.specs.Acts.{Serves};
@@ -38,6 +39,7 @@ fn act_twice<F: Drop>(
     requires act { is_act cmd.now ≡ true }
     ensures served { IfOk result (λ told. Serves (view space.old.parts) client cmd.now told.0 (view space.new.parts)) }
     ensures same { IfOk result (λ told. told.1 ≡ told.0) }
+    ensures short { IfOk result (λ told. IsShortReply told.0) }
     ensures err { OnErr result (view space.new.parts ≡ view space.old.parts) }
     ensures rest { KeepsRest space.old.parts space.new.parts }
 {

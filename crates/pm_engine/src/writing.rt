@@ -1,6 +1,6 @@
 //! Writing the next page of the copy in progress.
 
-ghost use Rattle.std.specs.Prelude.{◌≡◌, ◌<◌, IfOk, OnErr};
+ghost use Rattle.std.specs.Prelude.{◌≡◌, ◌<◌, None, IfOk, OnErr};
 
 use crate::works::Works;
 use pm_disk::Disk;
@@ -9,8 +9,10 @@ use pm_types::Flushed;
 use std::alloc::Global;
 
 impl<D: Disk, F: Drop> Works<D, F> {
-    ghost use Rattle.pm_saver.specs.Answers.{HasCause, Spares, TellsOn, UnlessDisk};
-    ghost use Rattle.pm_engine.specs.Working.{FlushesOn, IsTiedIn, LastsIn, Rests, contents_in, disk_at, state_in};
+    ghost use Rattle.pm_saving.specs.Paging.{left_of};
+    ghost use Rattle.pm_saver.specs.Answers.{OnMemory, Spares, TellsOn, UnlessDisk};
+    ghost use Rattle.pm_saver.specs.Settling.{IsCausedBy};
+    ghost use Rattle.pm_engine.specs.Working.{FlushesOn, IsAsItWas, IsTiedIn, LastsIn, Rests, contents_in, disk_at, saving_in, state_in};
 
     /// Writes the next page of the copy in progress, if one is left.
     ///
@@ -25,8 +27,16 @@ impl<D: Disk, F: Drop> Works<D, F> {
         ensures lasts { UnlessDisk result (LastsIn self.old self.new) }
         ensures spares { Spares D.contents D.moment D.since (state_in self.old) (disk_at self.old) (disk_at self.new) }
         ensures told { TellsOn (contents_in self.old) (contents_in self.new) }
-        ensures cause { HasCause (D.count (disk_at self.old)) (D.count (disk_at self.new)) result }
+        ensures causes { IsCausedBy (D.count (disk_at self.old)) (D.count (disk_at self.new)) (D.made (disk_at self.old))
+            (D.made (disk_at self.new)) result }
+        ensures memory { OnMemory result (IsAsItWas self.old self.new) }
+        ensures fault { OnErr result (0 < left_of (saving_in self.old).progress) }
+        ensures idle { (saving_in self.old).progress ≡ None → disk_at self.new ≡ disk_at self.old }
     {
+        if self.saver.number().is_none() {
+            self.events = self.events.saturating_add(1);
+            return Ok(Flushed::AllFlushed);
+        }
         let flushed = self.saver.flush_one(alloc, &self.space, &mut self.pages)?;
         self.events = self.events.saturating_add(1);
         Ok(flushed)

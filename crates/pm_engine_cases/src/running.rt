@@ -104,16 +104,30 @@ fn push_lines<D: Disk, F: Drop>(
     Ok(())
 }
 
+// Adds the number of the copy that was found, and runs the lines.
+fn push_copy<D: Disk, F: Drop>(
+    alloc: Global,
+    engine: &mut Engine<D, F>,
+    number: u32,
+    lines: &[Line],
+    after: AfterFault,
+    out: &mut String,
+) -> Result<(), Fault> {
+    write!(out, "copy {number}")?;
+    push_lines(alloc, engine, lines, after, out)
+}
+
 // Runs the lines over an engine that was opened, and adds what they gave and, where it goes on after a fault, what the
 // engine came to.
 fn push_served<D: Disk + Drop, F: Drop>(
     alloc: Global,
     mut engine: Engine<D, F>,
+    number: u32,
     lines: &[Line],
     after: AfterFault,
     out: &mut String,
 ) -> Result<D, Fault> {
-    let said = push_lines(alloc, &mut engine, lines, after, out);
+    let said = push_copy(alloc, &mut engine, number, lines, after, out);
     let (disk, _journal, tally) = engine.into_parts();
     said?;
     if after == AfterFault::GoOn {
@@ -144,10 +158,7 @@ fn push_opened<D: Disk + Drop>(
     out: &mut String,
 ) -> Result<D, Fault> {
     match Engine::open_store(alloc, disk, Placement::new(|_: &[u64]| 0)) {
-        Ok(engine) => {
-            write!(out, "copy {number}")?;
-            push_served(alloc, engine, lines, after, out)
-        }
+        Ok(engine) => push_served(alloc, engine, number, lines, after, out),
         Err((disk, fault)) => {
             write!(out, "{fault}")?;
             Ok(disk)

@@ -4,3 +4,4 @@ pub mod Emptying
 pub mod Places
 pub mod Born
 pub mod Carried
+pub mod ShownBytes

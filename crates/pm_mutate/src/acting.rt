@@ -5,7 +5,8 @@ ghost use Rattle.pm_view.specs.Law.{HeapLaw};
 ghost use Rattle.pm_view.specs.Objects.{KeepsObjects};
 ghost use Rattle.pm_space.specs.Shown.{view, KeepsRest};
 ghost use Rattle.pm_mutate.specs.Picked.{IsRow};
-ghost use Rattle.pm_mutate.specs.Acts.{Serves, IsStill, IsBirth, AddsLittleWork};
+ghost use Rattle.pm_types.specs.Replies.{IsShortReply};
+ghost use Rattle.pm_mutate.specs.Acts.{Serves, IsStill, IsBirth, AddsLittleWork, LeavesWhereShown};
 
 use crate::birth::new;
 use crate::bytes::put;
@@ -124,6 +125,9 @@ pub fn act<F: Drop>(
     ensures row { IfOk result (λ reply. IsRow (view space.old.parts) client cmd.now (reply, view space.new.parts)) }
     ensures served { IfOk result (λ reply. Serves (view space.old.parts) client cmd.now reply (view space.new.parts)) }
     ensures refused { IfOk result (λ reply. IsStill (view space.old.parts) cmd.now reply (view space.new.parts)) }
+    // The bytes of `data` are an object's, and `data` leaves the space as it is.
+    ensures short { IfOk result IsShortReply }
+    ensures shown { IfOk result (λ reply. LeavesWhereShown (view space.old.parts) reply (view space.new.parts)) }
     ensures still { is_new cmd.now ≡ false → KeepsObjects (view space.old.parts) (view space.new.parts) }
     ensures born { IfOk result (λ reply. IsBirth (view space.old.parts) cmd.now reply (view space.new.parts)) }
     ensures work { AddsLittleWork (view space.old.parts) cmd.now (view space.new.parts) }

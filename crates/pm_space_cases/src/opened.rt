@@ -1,6 +1,7 @@
 //! A store that is laid out byte by byte and opened as a space.
 
-ghost use Rattle.std.specs.Prelude.{◌≡◌, ◌⊎◌};
+ghost use Rattle.std.specs.Prelude.{◌≡◌, ◌⊎◌, false};
+ghost use Rattle.pm_shadow.specs.Pages.{state};
 
 use crate::fault::Fault;
 use crate::numbered;
@@ -215,7 +216,9 @@ fn push_refused(fault: OpenFault, out: &mut String) -> Result<(), Fault> {
 }
 
 // Opens the store behind these pages, and adds what it holds.
-fn push_pages(alloc: Global, pages: &mut Pages<MemDisk>, out: &mut String) -> Result<(), Fault> {
+fn push_pages(alloc: Global, pages: &mut Pages<MemDisk>, out: &mut String) -> Result<(), Fault>
+    requires { (state pages.old).failed ≡ false }
+{
     match open_space(alloc, pages, Placement::new(|_: &[u64]| 0)) {
         Ok((space, cars)) => push_made(&space, cars.as_slice().len(), out),
         Err(fault) => push_refused(fault, out),

@@ -1,5 +1,6 @@
 use Rattle.pm_space.specs.Shown.{view}
 use Rattle.pm_mutate.proofs.Carried.{refused_still, born_so, adds_little}
+use Rattle.pm_mutate.proofs.ShownBytes.{shown_leaves, shown_short}
 use Rattle.pm_mutate.proofs.acting.act.Goals as goal
 
 pub returns-clause-refused : goal.returns-clause-refused
@@ -17,3 +18,9 @@ pub returns-clause-work : goal.returns-clause-work
 returns-clause-work g c =
     let v = view c.args.space.now.parts in
     adds_little c.run.result v (view c.run.new.parts) c.args.client c.args.cmd.now (λ picks are. c.a_command_adds_little_work.ensures v c.args.client c.args.cmd.now picks c.args.space.now.kept c.requires.client are) c.run.ensures.row c.run.ensures.err
+
+pub returns-clause-short : goal.returns-clause-short
+returns-clause-short g c = shown_short (view c.args.space.now.parts) (view c.run.new.parts) c.args.space.now.kept c.args.client c.args.cmd.now c.run.result c.run.ensures.row
+
+pub returns-clause-shown : goal.returns-clause-shown
+returns-clause-shown g c = shown_leaves (view c.args.space.now.parts) (view c.run.new.parts) c.args.space.now.kept c.args.client c.args.cmd.now c.run.result c.run.ensures.row

@@ -1,14 +1,19 @@
-use Rattle.std.proofs.Common.{Err, subst}
+use Rattle.std.proofs.Common.{◌≡◌, ℕ, true, false, Some, Result, Err, OnErr, sym, ap, subst, ◌∙◌}
+use Rattle.pm_types.specs.declared.reply.Reply.{Reply}
 use Rattle.pm_types.specs.declared.fault.EngineFault.TheVariants.{Memory}
 use Rattle.pm_model.specs.Frames.{is_settle}
 use Rattle.pm_saver.specs.declared.fault.SaveFault.{SaveFault}
-use Rattle.pm_saver.specs.Answers.{IfMemory}
-use Rattle.pm_engine.specs.Working.{IsFaultFor, IsTiedIn, LastsSo, disk_at, saving_in}
+use Rattle.pm_saver.specs.Answers.{IfMemory, IsFaultOf, OnMemory}
+use Rattle.pm_engine.specs.Working.{IsFaultFor, IsLeft, IsShort, LastsSo, disk_at, saving_in}
 use Rattle.pm_engine.proofs.engine.Engine.ask.Goals as goal
 use Rattle.pm_engine.proofs.Asking.{ask_serves, ask_sound, fail_sound, rest_sound, stored}
 use Rattle.pm_engine.proofs.Crashing.{leaves_answered, leaves_failed, progress_of, settled_alone}
 use Rattle.pm_engine.proofs.Answering.{Told}
 use Rattle.pm_engine.proofs.Settled.{settled_all}
+use Rattle.pm_engine.proofs.Telling.{copies_of, idle_of, left_alone, nothing_served, short_of, shows_rise}
+
+true_false : true ≡ false → ⊥
+true_false is = cc is
 
 pub answer-requires-clause-tied : goal.answer-requires-clause-tied
 answer-requires-clause-tied g c = (stored c.args.self.now.opening c.args.self.now.stopped c.args.self.now.works c.requires.running c.args.self.now.sound).tied
@@ -43,39 +48,8 @@ invariant_of-self-in-Err-Disk g c =
     let begun = progress_of (saving_in self.works).progress fault.1 in
     record { sound = fail_sound self.opening self.stopped self.works c.requires.running self.sound new c.faults-after.result c.in-Err-Disk.ensures.rests (c.answer.ensures.leaves fault.0).either begun.0 begun.1 c.answer.ensures.told (g.met.D.Disk.counts_now (disk_at new)) }
 
-pub returns-in-Ok-clause-serves : goal.returns-in-Ok-clause-serves
-returns-in-Ok-clause-serves g c =
-    let self = c.args.self.now in
-    let new = c.answer.new.self in
-    let told : Told c.args.cmd.now self.works new = record {
-      heap = self.works.space.kept;
-      tied = c.in-Ok.ensures.tied;
-      still = c.answer.ensures.still;
-      leaves = c.answer.ensures.leaves;
-      told = c.answer.ensures.told;
-      counts = g.met.D.Disk.counts_now (disk_at new);
-      only_now = g.met.D.Disk.only_now (disk_at self.works);
-    } in
-    ask_serves self.opening self.stopped self.works c.requires.running self.sound new c.args.client c.args.cmd.now c.in-Ok.reply c.requires.known told c.in-Ok.ensures.answers
-
-pub returns-in-Ok-clause-leaves : goal.returns-in-Ok-clause-leaves
-returns-in-Ok-clause-leaves g c = λ none. leaves_answered c.args.self.now.opening c.args.self.now.stopped c.args.self.now.works none c.args.self.now.sound c.answer.new.self c.args.cmd.now c.in-Ok.reply (g.met.D.Disk.only_now (disk_at c.args.self.now.works)) c.answer.ensures.still c.answer.ensures.leaves
-
-pub returns-in-Err-Memory-clause-leaves : goal.returns-in-Err-Memory-clause-leaves
-returns-in-Err-Memory-clause-leaves g c =
-    let self = c.args.self.now in
-    let so = subst (λ (fault : SaveFault). IfMemory (LastsSo self.works c.answer.new.self) fault) c.in-Err-Memory.field-0-is c.in-Err-Memory.ensures.memory in
-    λ none. settled_alone self.opening self.stopped self.works none self.sound c.answer.new.self c.args.cmd.now (Err Memory) so.spares
-
-pub returns-in-Err-Disk-clause-leaves : goal.returns-in-Err-Disk-clause-leaves
-returns-in-Err-Disk-clause-leaves g c =
-    let self = c.args.self.now in
-    let fault = subst (λ (fault : SaveFault). IsFaultFor (is_settle c.args.cmd.now) self.works fault) c.in-Err-Disk.field-0-is c.in-Err-Disk.ensures.fault in
-    let begun = progress_of (saving_in self.works).progress fault.1 in
-    λ none. leaves_failed self.opening self.stopped self.works none self.sound c.answer.new.self c.args.cmd.now c.faults-before.result c.faults-after.result fault.0 begun.0 begun.1 (c.answer.ensures.leaves fault.0)
-
-pub returns-in-Ok-clause-settled : goal.returns-in-Ok-clause-settled
-returns-in-Ok-clause-settled g c =
+pub returns-in-Ok-clause-call : goal.returns-in-Ok-clause-call
+returns-in-Ok-clause-call g c =
     let self = c.args.self.now in
     let new = c.answer.new.self in
     let told : Told c.args.cmd.now self.works new = record {
@@ -89,4 +63,70 @@ returns-in-Ok-clause-settled g c =
     } in
     let sound = ask_sound self.opening self.stopped self.works c.requires.running self.sound new c.args.client c.args.cmd.now c.in-Ok.reply c.requires.known told c.in-Ok.ensures.answers in
     let serves = ask_serves self.opening self.stopped self.works c.requires.running self.sound new c.args.client c.args.cmd.now c.in-Ok.reply c.requires.known told c.in-Ok.ensures.answers in
-    settled_all self new sound c.requires.running c.args.client c.args.cmd.now c.requires.known c.in-Ok.reply serves c.in-Ok.ensures.answers
+    record {
+      serves = serves;
+      fails = tt;
+      running = record { running = c.requires.running; count = c.in-Ok.ensures.causes.cause };
+      reopen = tt;
+      still = λ other. record { disk = (c.answer.ensures.still other).disk; none = tt };
+      leaves = λ none. leaves_answered self.opening self.stopped self.works none self.sound new c.args.cmd.now c.in-Ok.reply (g.met.D.Disk.only_now (disk_at self.works)) c.answer.ensures.still c.answer.ensures.leaves;
+      settled = settled_all self new sound c.requires.running c.args.client c.args.cmd.now c.requires.known c.in-Ok.reply serves c.in-Ok.ensures.answers;
+      short = tt;
+      shown = short_of c.args.client c.args.cmd.now self.works new c.in-Ok.reply c.in-Ok.ensures.answers;
+      copies = λ other. copies_of self.opening self.stopped self.works new c.args.client c.args.cmd.now c.in-Ok.reply other c.in-Ok.ensures.answers;
+      lasts = λ _. tt;
+      idle = idle_of self.opening self.stopped self.works new c.args.cmd.now c.answer.ensures.still c.answer.ensures.leaves;
+      past = c.in-Ok.ensures.causes.past;
+    }
+
+pub returns-in-Err-Memory-clause-call : goal.returns-in-Err-Memory-clause-call
+returns-in-Err-Memory-clause-call g c =
+    let self = c.args.self.now in
+    let new = c.answer.new.self in
+    let arm = c.in-Err-Memory in
+    let so = subst (λ (fault : SaveFault). IfMemory (LastsSo self.works new) fault) arm.field-0-is arm.ensures.memory in
+    let stands = subst (λ (fault : SaveFault). IsFaultOf (g.D.Disk.count (disk_at self.works)) (g.D.Disk.count (disk_at new)) fault) arm.field-0-is arm.ensures.causes.cause in
+    record {
+      serves = tt;
+      fails = (nothing_served self.opening self.stopped self.works new self.stopped arm.ensures.rests, c.requires.running, c.requires.running, stands);
+      running = tt;
+      reopen = tt;
+      still = λ other. record { disk = (c.answer.ensures.still other).disk; none = tt };
+      leaves = λ none. settled_alone self.opening self.stopped self.works none self.sound new c.args.cmd.now (Err Memory) so.spares;
+      settled = tt;
+      short = λ settles. subst (λ (fault : SaveFault). IfMemory (IsShort self.works) fault) arm.field-0-is (subst (λ (result : Result Reply SaveFault). OnMemory result (IsShort self.works)) arm.is (c.answer.ensures.short settles));
+      shown = tt;
+      copies = λ _. tt;
+      lasts = λ other. left_alone self.opening self.stopped self.works new (subst (λ (result : Result Reply SaveFault). OnErr result (IsLeft self.works new)) arm.is (c.answer.ensures.left other));
+      idle = idle_of self.opening self.stopped self.works new c.args.cmd.now c.answer.ensures.still c.answer.ensures.leaves;
+      past = arm.ensures.causes.past;
+    }
+
+pub returns-in-Err-Disk-clause-call : goal.returns-in-Err-Disk-clause-call
+returns-in-Err-Disk-clause-call g c =
+    let self = c.args.self.now in
+    let new = c.answer.new.self in
+    let arm = c.in-Err-Disk in
+    let fault = subst (λ (fault : SaveFault). IsFaultFor (is_settle c.args.cmd.now) self.works fault) arm.field-0-is arm.ensures.fault in
+    let rose = subst (λ (fault : SaveFault). IsFaultOf (g.D.Disk.count (disk_at self.works)) (g.D.Disk.count (disk_at new)) fault) arm.field-0-is arm.ensures.causes.cause in
+    let begun = progress_of (saving_in self.works).progress fault.1 in
+    record {
+      serves = tt;
+      fails = (
+        nothing_served self.opening self.stopped self.works new (Some c.faults-after.result) arm.ensures.rests,
+        c.requires.running,
+        ap (λ (count : ℕ). Some count) c.faults-after.ensures,
+        shows_rise c.faults-before.result c.faults-after.result (g.D.Disk.count (disk_at self.works)) (g.D.Disk.count (disk_at new)) c.faults-before.ensures c.faults-after.ensures rose,
+      );
+      running = tt;
+      reopen = tt;
+      still = λ other. absurd (true_false (sym fault.0 ∙ other));
+      leaves = λ none. leaves_failed self.opening self.stopped self.works none self.sound new c.args.cmd.now c.faults-before.result c.faults-after.result fault.0 begun.0 begun.1 (c.answer.ensures.leaves fault.0);
+      settled = tt;
+      short = tt;
+      shown = tt;
+      copies = λ _. tt;
+      lasts = λ _. tt;
+      idle = idle_of self.opening self.stopped self.works new c.args.cmd.now c.answer.ensures.still c.answer.ensures.leaves;
+      past = arm.ensures.causes.past;
+    }

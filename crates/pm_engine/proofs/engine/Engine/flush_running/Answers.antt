@@ -1,9 +1,11 @@
-use Rattle.std.proofs.Common.{◌≡◌, subst}
+use Rattle.std.proofs.Common.{ℕ, Some, ap, subst}
 use Rattle.pm_saver.specs.declared.fault.SaveFault.{SaveFault}
-use Rattle.pm_saver.specs.Answers.{IfMemory}
-use Rattle.pm_engine.specs.Working.{IsTiedIn, LastsIn, disk_at}
+use Rattle.pm_saver.specs.Answers.{IfMemory, IsFaultOf}
+use Rattle.pm_engine.specs.Working.{IsAsItWas, IsTiedIn, LastsIn, disk_at}
 use Rattle.pm_engine.proofs.engine.Engine.flush_running.Goals as goal
 use Rattle.pm_engine.proofs.Asking.{flush_failed, flush_kept, leaves_settled, rest_sound, stored}
+use Rattle.pm_engine.proofs.Flushed.{flush_told}
+use Rattle.pm_engine.proofs.Telling.{left_alone, nothing_served, shows_rise}
 
 pub flush-requires : goal.flush-requires
 flush-requires g c = record { tied = (stored c.args.self.now.opening c.args.self.now.stopped c.args.self.now.works c.requires.running c.args.self.now.sound).tied }
@@ -28,11 +30,63 @@ invariant_of-self-in-Err-Disk g c =
     let new = c.flush.new.self in
     record { sound = flush_failed self.opening self.stopped self.works c.requires.running self.sound new c.faults-after.result c.in-Err-Disk.ensures.rests c.flush.ensures.told c.flush.ensures.spares (g.met.D.Disk.counts_now (disk_at new)) }
 
-pub returns-in-Ok-clause-leaves : goal.returns-in-Ok-clause-leaves
-returns-in-Ok-clause-leaves g c = λ none. leaves_settled c.args.self.now.opening c.args.self.now.stopped c.args.self.now.works none c.args.self.now.sound c.flush.new.self c.flush.ensures.spares
+pub returns-in-Ok-clause-call : goal.returns-in-Ok-clause-call
+returns-in-Ok-clause-call g c =
+    let self = c.args.self.now in
+    let new = c.flush.new.self in
+    record {
+      flushes = flush_told self.opening self.stopped self.works new c.in-Ok.flushed (stored self.opening self.stopped self.works c.requires.running self.sound).tied c.in-Ok.ensures.flushes;
+      flushed = c.in-Ok.ensures.flushes.flushed;
+      fails = tt;
+      running = record { running = c.requires.running; count = c.in-Ok.ensures.causes.cause };
+      reopen = tt;
+      leaves = λ none. leaves_settled self.opening self.stopped self.works none self.sound new c.flush.ensures.spares;
+      memory = tt;
+      fault = tt;
+      idle = c.flush.ensures.idle;
+      past = c.in-Ok.ensures.causes.past;
+    }
 
-pub returns-in-Err-Memory-clause-leaves : goal.returns-in-Err-Memory-clause-leaves
-returns-in-Err-Memory-clause-leaves g c = λ none. leaves_settled c.args.self.now.opening c.args.self.now.stopped c.args.self.now.works none c.args.self.now.sound c.flush.new.self c.flush.ensures.spares
+pub returns-in-Err-Memory-clause-call : goal.returns-in-Err-Memory-clause-call
+returns-in-Err-Memory-clause-call g c =
+    let self = c.args.self.now in
+    let new = c.flush.new.self in
+    let arm = c.in-Err-Memory in
+    let stands = subst (λ (fault : SaveFault). IsFaultOf (g.D.Disk.count (disk_at self.works)) (g.D.Disk.count (disk_at new)) fault) arm.field-0-is arm.ensures.causes.cause in
+    let same = subst (λ (fault : SaveFault). IfMemory (IsAsItWas self.works new) fault) arm.field-0-is arm.ensures.memory in
+    record {
+      flushes = tt;
+      flushed = tt;
+      fails = (nothing_served self.opening self.stopped self.works new self.stopped arm.ensures.rests, c.requires.running, c.requires.running, stands);
+      running = tt;
+      reopen = tt;
+      leaves = λ none. leaves_settled self.opening self.stopped self.works none self.sound new c.flush.ensures.spares;
+      memory = record { serving = left_alone self.opening self.stopped self.works new same.left; pages = same.state; contents = same.contents };
+      fault = arm.ensures.fault;
+      idle = c.flush.ensures.idle;
+      past = arm.ensures.causes.past;
+    }
 
-pub returns-in-Err-Disk-clause-leaves : goal.returns-in-Err-Disk-clause-leaves
-returns-in-Err-Disk-clause-leaves g c = λ none. leaves_settled c.args.self.now.opening c.args.self.now.stopped c.args.self.now.works none c.args.self.now.sound c.flush.new.self c.flush.ensures.spares
+pub returns-in-Err-Disk-clause-call : goal.returns-in-Err-Disk-clause-call
+returns-in-Err-Disk-clause-call g c =
+    let self = c.args.self.now in
+    let new = c.flush.new.self in
+    let arm = c.in-Err-Disk in
+    let rose = subst (λ (fault : SaveFault). IsFaultOf (g.D.Disk.count (disk_at self.works)) (g.D.Disk.count (disk_at new)) fault) arm.field-0-is arm.ensures.causes.cause in
+    record {
+      flushes = tt;
+      flushed = tt;
+      fails = (
+        nothing_served self.opening self.stopped self.works new (Some c.faults-after.result) arm.ensures.rests,
+        c.requires.running,
+        ap (λ (count : ℕ). Some count) c.faults-after.ensures,
+        shows_rise c.faults-before.result c.faults-after.result (g.D.Disk.count (disk_at self.works)) (g.D.Disk.count (disk_at new)) c.faults-before.ensures c.faults-after.ensures rose,
+      );
+      running = tt;
+      reopen = tt;
+      leaves = λ none. leaves_settled self.opening self.stopped self.works none self.sound new c.flush.ensures.spares;
+      memory = tt;
+      fault = arm.ensures.fault;
+      idle = c.flush.ensures.idle;
+      past = arm.ensures.causes.past;
+    }

@@ -1,6 +1,10 @@
 use Rattle.std.proofs.Math.Logic.{∥∥₁_map}
+use Rattle.pm_engine.specs.Shown.{serving}
 use Rattle.pm_engine.proofs.engine.Engine.keep_their_images.Goals as goal
-use Rattle.pm_engine.proofs.Asking.{settled_now, splits_legal}
+use Rattle.pm_engine.proofs.Asking.{settled_now, splits_closed, splits_legal}
+
+pub returns-clause-closed : goal.returns-clause-closed
+returns-clause-closed g c = splits_closed (serving c.args.self.now) (∥∥₁_map c.args.self.now.sound (λ sound. sound.served.closed))
 
 pub returns-clause-legal : goal.returns-clause-legal
 returns-clause-legal g c = splits_legal _ _ (∥∥₁_map c.args.self.now.sound (λ sound. sound.served.legal))

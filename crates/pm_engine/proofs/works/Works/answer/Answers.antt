@@ -1,5 +1,5 @@
-use Rattle.std.proofs.Common.{rules, ◌≡◌}
-use Rattle.pm_engine.specs.Working.{LastsSo, disk_at}
+use Rattle.std.proofs.Common.{rules}
+use Rattle.pm_engine.specs.Working.{disk_at}
 use Rattle.pm_engine.proofs.works.Works.answer.Goals as goal
 use Rattle.pm_engine.proofs.Kept.{lasts_so}
 

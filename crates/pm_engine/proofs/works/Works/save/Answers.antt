@@ -2,7 +2,7 @@ use Rattle.std.proofs.Common.{rules, ◌≡◌, ◌<◌, ◌+◌, Option, None, 
 use Rattle.std.proofs.lemmas.Grind.{common_steps}
 use Rattle.pm_view.specs.View.{Cars}
 use Rattle.pm_saving.specs.Tied.{IsTied}
-use Rattle.pm_engine.specs.Working.{saving_in, frozen_in, state_in, contents_in}
+use Rattle.pm_engine.specs.Working.{saving_in, state_in, contents_in}
 use Rattle.pm_engine.proofs.works.Works.save.Goals as goal
 use Rattle.pm_engine.proofs.Kept.{tied_kept, unfrozen}
 

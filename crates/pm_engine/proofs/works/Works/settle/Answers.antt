@@ -1,6 +1,6 @@
-use Rattle.std.proofs.Common.{rules, ◌≡◌, refl}
+use Rattle.std.proofs.Common.{rules, refl}
 use Rattle.pm_saving.specs.Progress.{cars_or_none}
-use Rattle.pm_engine.specs.Working.{LastsSo, Rests, disk_at, frozen_in, saving_in, state_in}
+use Rattle.pm_engine.specs.Working.{disk_at, frozen_in, saving_in, state_in}
 use Rattle.pm_engine.proofs.works.Works.settle.Goals as goal
 use Rattle.pm_engine.proofs.Kept.{either_of, lasts_so, pages_last, rests_on, spares_still}
 
