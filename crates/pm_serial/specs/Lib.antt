@@ -1,0 +1,5 @@
+pub mod Asked
+pub mod Causes
+pub mod Running
+pub mod Writing
+pub mod Stepping

@@ -1,0 +1,85 @@
+//! The lines of a script, one after another.
+
+ghost use Rattle.std.specs.Prelude.{◌≡◌, ◌≤◌, [], length, OnOk, IfOk, nat_eq};
+ghost use Rattle.pm_model.specs.Text.{text};
+ghost use Rattle.pm_grammar.specs.Script.{AreLines};
+ghost use Rattle.pm_output.specs.Gathered.{gathered};
+ghost use Rattle.pm_engine.specs.Shown.{KeepsStart, disk_in, room, serving};
+ghost use Rattle.pm_serial.specs.Asked.{AreServed, requests_asked};
+ghost use Rattle.pm_serial.specs.Causes.{why};
+ghost use Rattle.pm_serial.specs.Running.{AnswersLines, IsFresh, RunsOnDisk};
+ghost use Rattle.pm_serial.specs.Writing.{WroteRun};
+
+use crate::ending::end;
+use crate::line::run_all;
+use crate::stop::Stop;
+use pm_disk::Disk;
+use pm_engine::Engine;
+use pm_grammar::Line;
+use pm_io::Sink;
+use pm_output::Output;
+use pm_types::NoMemory;
+use std::alloc::Global;
+
+// How many entries the lines add to a journal.
+fn count_entries(lines: &[Line]) -> u64
+    ensures { result ≡ length (requests_asked lines.now) }
+{
+    let mut count = 0;
+    for line in lines {
+        if matches!(line, Line::Client { .. }) {
+            count += 1;
+        }
+    }
+    count
+}
+
+// Takes the buffer of the replies, and the room of all entries.
+fn take_room<D: Disk, F: Drop>(
+    alloc: Global,
+    lines: &[Line],
+    engine: &mut Engine<D, F>,
+) -> Result<Output, NoMemory>
+    ensures empty { IfOk result (λ output. gathered output ≡ []) }
+    ensures room { OnOk result (length (requests_asked lines.now) ≤ room engine.new) }
+    ensures serving { serving engine.new ≡ serving engine.old }
+    ensures disk { disk_in engine.new ≡ disk_in engine.old }
+    ensures start { KeepsStart engine.old engine.new }
+{
+    let output = Output::new(alloc)?;
+    engine.reserve_entries(count_entries(lines))?;
+    Ok(output)
+}
+
+/// Runs the lines in their order over an engine that was just opened. Each reply is written after its event, through a
+/// buffer whose room, with that of all entries of the journal, is taken before the first event. The lines are none of a
+/// watch or of the collector.
+///
+/// # Errors
+///
+/// The first cause that ends the run. The journal has what was answered until then, and every reply of it is written, unless
+/// the sink fails.
+pub fn run_lines<D: Disk, F: Drop, K: Sink>(
+    alloc: Global,
+    lines: &[Line],
+    engine: &mut Engine<D, F>,
+    sink: &mut K,
+) -> Result<(), Stop>
+    requires clients { AreLines lines.now }
+    requires served { AreServed lines.now }
+    requires fresh { IsFresh (serving engine.old) }
+    ensures answers { AnswersLines lines.now (serving engine.new) (why result) }
+    // What a crash at any moment leaves, and what it leaves at the end.
+    ensures disk { RunsOnDisk engine.old engine.new (why result) }
+    ensures sink { WroteRun K.written K.finished K.count sink.old sink.new (text (serving engine.new).journal)
+        (why result) }
+    ensures start { KeepsStart engine.old engine.new }
+{
+    engine.keep_their_images();
+    let Ok(mut output) = take_room(alloc, lines, engine) else {
+        return Err(Stop::Memory);
+    };
+    let ran = run_all(alloc, lines, engine, &mut output, sink);
+    engine.keep_their_images();
+    end(ran, &mut output, sink)
+}
