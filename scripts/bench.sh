@@ -1,11 +1,16 @@
 #!/usr/bin/env bash
-# Measures the program on real files: scripts of n and 4n lines; a save with its settle, and an opening, beside
-# `dd` of the same bytes; and the memory at its highest. 'scripts/build.sh' builds the program. Needs python3, dd and
-# GNU time.
+# Measures the program on real files, at n and 4n, and prints what is wanted beside what came:
+#
+# - a store of 7,000 and of 28,000 objects of 200 bytes that are all reached: the first save and settle, and opening, each
+#   beside `dd` and `sha256sum` of as many pages; memory beside the bytes of the objects;
+# - a second settle after one `put`: how many pages it writes, and how long it takes beside the first;
+# - scripts of 16,384 and of 65,536 lines of mixed commands.
+#
+# 'scripts/build.sh' builds the program; PMOS names another one. Needs python3, dd, sha256sum and GNU time.
 set -euo pipefail
 cd "$(dirname "$0")/.."
 
-pmos=$PWD/pmos
+pmos=${PMOS:-$PWD/pmos}
 [ -x "$pmos" ] || { echo "run scripts/build.sh first: it builds $pmos"; exit 1; }
 work=$(mktemp -d)
 trap 'rm -rf "$work"' EXIT
@@ -14,11 +19,13 @@ python3 - "$pmos" "$work" <<'PYTHON'
 import os, re, subprocess, sys, time
 
 pmos, work = sys.argv[1:]
+PAGE = 16384
+ROUNDS = 5
 
 def timed(words, text=b"", prepare=None):
-    """The best of five: seconds, and KiB of memory at the highest."""
+    """The best of the rounds: seconds, and bytes of memory at the highest."""
     seconds, memory = [], []
-    for _ in range(5):
+    for _ in range(ROUNDS):
         if prepare:
             prepare()
         with open(f"{work}/replies", "wb") as out:
@@ -27,47 +34,68 @@ def timed(words, text=b"", prepare=None):
             seconds.append(time.perf_counter() - start)
         if ran.returncode:
             sys.exit(f"{words}: {ran.stderr.decode()}")
-        memory.append(int(re.findall(rb"^(\d+)$", ran.stderr, re.M)[-1]))
+        memory.append(int(re.findall(rb"^(\d+)$", ran.stderr, re.M)[-1]) * 1024)
     return min(seconds), min(memory)
 
-def line(i):
-    first = i // 4
-    client, register, name = first % 8, first % 1024, first % 4096
-    return (f"{client} new {register} 1 -", f"{client} root n{name} {register}",
-            f"{client} find {register} n{name}", f"{client} id {register}")[i % 4]
+def run(store):
+    return [pmos, "run", store, "serial"]
 
-def fresh(path):
-    if os.path.exists(path):
-        os.remove(path)
-    subprocess.run([pmos, "init", path], check=True)
+def fresh(store):
+    if os.path.exists(store):
+        os.remove(store)
+    subprocess.run([pmos, "init", store], check=True)
 
-print("scripts: lines, seconds, KiB")
-for n in (16384, 65536):
-    text = "".join(line(i) + "\n" for i in range(n)).encode()
-    store = f"{work}/lines.pmos"
-    print("  %6d  %6.3f s  %6d" % (n, *timed([pmos, "run", store, "serial"], text, lambda: fresh(store))))
+def copied(kept, store):
+    with open(kept, "rb") as source, open(store, "wb") as target:
+        target.write(source.read())
 
-print("stores: objects, roots, bytes of each object; then seconds")
-base, base_memory = timed([pmos, "run", f"{work}/lines.pmos", "serial"])
-for objects, roots, size in ((4000, 1000, 100), (16000, 4000, 100), (4000, 1000, 4096), (16000, 4000, 4096)):
-    # One object in four is bound to a name: a copy has as many objects as names.
-    hexes = "ab" * size
+store, kept = f"{work}/store.pmos", f"{work}/kept.pmos"
+empty, empty_memory = timed(run(store), b"", lambda: fresh(store))
+print(f"an empty script on an empty store: {empty:.3f} s, {empty_memory >> 10} KiB")
+
+def objects(count):
+    """Each object holds the one before it; the last one has a name."""
+    hexes = "ab" * 200
     lines = []
-    for i in range(objects):
-        lines.append(f"0 new 1 2 {hexes}\n")
-        if i % (objects // roots) == 0:
-            lines.append(f"0 root n{i} 1\n")
-    made = "".join(lines).encode()
-    store = f"{work}/store.pmos"
-    run = [pmos, "run", store, "serial"]
-    without, graph = timed(run, made, lambda: fresh(store))
-    both, memory = timed(run, made + b"0 save\n0 settle\n", lambda: fresh(store))
-    pages = (os.path.getsize(store) - 49152) // 16384
-    write, _ = timed(["dd", "if=/dev/zero", f"of={work}/copy", "bs=16384", f"count={pages}", "conv=fsync"])
-    opening, opened = timed(run)
-    read, _ = timed(["dd", f"if={store}", "of=/dev/null", "bs=16384"])
-    print(f"  {objects:6d} {roots:5d} {size:5d}: {pages} pages, run {without:.3f} s")
-    print(f"    save and settle {both - without:.3f} s, dd of as many pages with fsync {write:.3f} s, ratio {(both - without) / write:.1f}")
-    print(f"    opening {opening:.3f} s ({opening - base:.3f} s over an empty store), dd {read:.3f} s, ratio {opening / read:.1f}")
-    print(f"    memory: the graph {(graph - base_memory)} KiB, with the copy {(memory - base_memory)} KiB, ratio {(memory - base_memory) / max(1, graph - base_memory):.2f}; opened {(opened - base_memory)} KiB")
+    for i in range(count):
+        lines.append(f"0 new {i % 2} 1 {hexes}\n")
+        if i:
+            lines.append(f"0 store {i % 2} 0 {(i + 1) % 2}\n")
+    lines.append(f"0 root last {(count - 1) % 2}\n")
+    return "".join(lines).encode()
+
+print("objects of 200 bytes, all reached")
+for count in (7000, 28000):
+    made = objects(count)
+    without, graph = timed(run(store), made, lambda: fresh(store))
+    both, memory = timed(run(store), made + b"0 save\n0 settle\n", lambda: fresh(store))
+    copied(store, kept)
+    pages = os.path.getsize(kept) // PAGE - 3
+    dd, _ = timed(["dd", f"if={kept}", f"of={work}/copy", f"bs={PAGE}", f"count={pages}", "conv=fsync"])
+    sha, _ = timed(["sha256sum", f"{work}/copy"])
+    opening, opened = timed(run(kept))
+    put = b"0 find 1 last\n0 put 1 0 ff\n"
+    once, _ = timed(run(store), put, lambda: copied(kept, store))
+    again, _ = timed(run(store), put + b"0 save\n0 settle\n", lambda: copied(kept, store))
+    grown = os.path.getsize(store) // PAGE - 3 - pages
+    first, second = both - without, again - once
+    data = count * 200
+    print(f"  {count:6d} objects, {pages} pages; dd with fsync {dd:.3f} s, sha256sum {sha:.3f} s")
+    print(f"    making them {without:.3f} s; first save and settle {first:.3f} s, {first / (dd + sha):.1f} of dd and sha256sum (3 at most)")
+    print(f"    opening {opening - empty:.3f} s, {(opening - empty) / (dd + sha):.1f} of dd and sha256sum (3 at most)")
+    print(f"    second save and settle after one put {second:.3f} s, {second / first:.2f} of the first (0.10 at most); the file grew by {grown} pages")
+    print(f"    memory {(memory - empty_memory) / data:.1f} of the objects' bytes with the copy, {(graph - empty_memory) / data:.1f} without (5 at most), {(opened - empty_memory) / data:.1f} opened")
+
+def line(i):
+    first = i // 8
+    client, register, name = first % 8, first % 1024, first % 4096
+    return (f"{client} new {register} 2 cafe", f"{client} root n{name} {register}", f"{client} copy 1023 {register}",
+            f"{client} store {register} 0 1023", f"{client} load 1022 {register} 0", f"{client} put {register} 0 ff",
+            f"{client} find {register} n{name}", f"{client} data {register}")[i % 8]
+
+print("mixed commands: lines, seconds, KiB")
+for count in (16384, 65536):
+    text = "".join(line(i) + "\n" for i in range(count)).encode()
+    seconds, memory = timed(run(store), text, lambda: fresh(store))
+    print(f"  {count:6d}  {seconds:6.3f} s  {memory >> 10:6d}")
 PYTHON

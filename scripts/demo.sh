@@ -1,7 +1,8 @@
 #!/usr/bin/env bash
-# Makes a store, runs the first script on it and then the second, and runs the second on a copy of the file that was taken
-# before the first: it holds the copy of then. It takes the program that was proved and built, where there is one, and
-# else builds one without proof.
+# Makes a store, runs the first script on it and then the second. Then it shows what a crash leaves: the third script ends
+# with a copy that is written and not settled, and the second one finds the copy of before; and a copy of the file that was
+# taken before the first settle holds the empty copy. It takes the program that was proved and built, where there is one,
+# and else builds one without proof.
 set -euo pipefail
 cd "$(dirname "$0")/.."
 
@@ -35,5 +36,11 @@ cp "$work/store.pmos" "$work/before.pmos"
 show examples/first.script store.pmos
 show examples/second.script store.pmos
 echo
-echo "On the copy of the file that was taken before the settle:"
+echo "A run that ends with a copy half written, as a crash would leave it:"
+show examples/third.script store.pmos
+echo
+echo "The store holds the copy that settled, whole:"
+show examples/second.script store.pmos
+echo
+echo "On the copy of the file that was taken before the first settle:"
 show examples/second.script before.pmos

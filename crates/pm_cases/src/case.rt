@@ -1,11 +1,10 @@
 //! A case: its steps, one a line.
 
 use crate::disks::{digits_at, named, patch, put_digest_of, seal};
+use crate::ends::push_memory_text;
 use crate::fault::{Fault, refuse};
 use crate::generated::generated;
-use crate::inner::{
-    push_copies, push_digest, push_memory_text, push_name, push_register, push_room,
-};
+use crate::inner::{push_copies, push_digest, push_name, push_register, push_room};
 use crate::replayed::push_alike;
 use crate::running::{INIT, RUN, Run, Setting, run};
 use crate::scripts::{push_read, push_read_lines, push_texts};
@@ -13,7 +12,6 @@ use crate::shown::{push_last, push_named, push_run, push_run_in_line};
 use crate::spelling::{bytes, counted, first_word, number, numbered, push_lines, written_out};
 use std::alloc::Global;
 use std::fmt::Write;
-use std::mem;
 
 /// What a case has come to.
 #[derive(Drop)]
@@ -27,11 +25,23 @@ pub(crate) struct Case {
     changed: bool,
 }
 
+// A run with this script, in which nothing fails.
+fn setting_of(alloc: Global, lines: &str) -> Result<Setting, Fault> {
+    let mut setting = Setting::new(alloc, RUN)?;
+    push_lines(&mut setting.script, lines)?;
+    Ok(setting)
+}
+
 // Runs over a disk with one script, and nothing fails.
 fn run_lines<R: AllocGlobal>(rt: &R, disk: Vec<u8>, lines: &str) -> Result<Run, Fault> {
-    let mut setting = Setting::new(rt.alloc(), RUN)?;
-    push_lines(&mut setting.script, lines)?;
+    let setting = setting_of(rt.alloc(), lines)?;
     run(rt, disk, setting)
+}
+
+// Runs over a disk that holds these bytes.
+fn run_on<R: AllocGlobal>(rt: &R, disk: &[u8], setting: Setting) -> Result<Run, Fault> {
+    let copy = disk.to_vec(rt.alloc())?;
+    run(rt, copy, setting)
 }
 
 // The last run.
@@ -42,16 +52,27 @@ fn ended(last: &Option<Run>) -> Result<&Run, Fault> {
     }
 }
 
-// The numbers of calls. One with a plus is counted from behind `opening` calls.
-fn call_numbers(alloc: Global, text: &str, opening: u64) -> Result<Vec<u64>, Fault> {
-    let mut numbers = Vec::new(alloc);
+// The number of a call. One with a plus is counted from behind `opening` calls.
+fn call_number(word: &str, opening: u64) -> Result<u64, Fault> {
+    match word.strip_prefix('+') {
+        Some(later) => Ok(opening.saturating_add(number(later)?)),
+        None => number(word),
+    }
+}
+
+// Adds the numbers of calls.
+fn push_call_numbers(numbers: &mut Vec<u64>, text: &str, opening: u64) -> Result<(), Fault> {
     for word in text.split(' ') {
-        let call = match word.strip_prefix('+') {
-            Some(later) => opening.saturating_add(number(later)?),
-            None => number(word)?,
-        };
+        let call = call_number(word, opening)?;
         numbers.push(call)?;
     }
+    Ok(())
+}
+
+// The numbers of calls.
+fn call_numbers(alloc: Global, text: &str, opening: u64) -> Result<Vec<u64>, Fault> {
+    let mut numbers = Vec::new(alloc);
+    push_call_numbers(&mut numbers, text, opening)?;
     Ok(numbers)
 }
 
@@ -59,12 +80,27 @@ fn call_numbers(alloc: Global, text: &str, opening: u64) -> Result<Vec<u64>, Fau
 fn push_times(alloc: Global, script: &mut Vec<u8>, text: &str) -> Result<(), Fault> {
     let (times, lines) = numbered(text)?;
     for time in 0..times {
-        push_lines(script, counted(alloc, lines, time)?.as_str())?;
+        let counted = counted(alloc, lines, time)?;
+        push_lines(script, counted.as_str())?;
     }
     Ok(())
 }
 
-// Adds what each of the first N images of the last run's disk is opened as: what a script gives on it.
+// Adds what a script gives on the image of the last run's disk that this pick chooses.
+fn push_image<R: AllocGlobal>(
+    rt: &R,
+    last: &Run,
+    pick: u64,
+    lines: &str,
+    out: &mut String,
+) -> Result<(), Fault> {
+    write!(out, "image {pick}: ")?;
+    let image = last.disk.image(rt.alloc(), pick)?;
+    let next = run_lines(rt, image, lines)?;
+    push_run_in_line(rt.alloc(), &next, out)
+}
+
+// Adds what a script gives on each image of the last run's disk whose pick is below N.
 fn push_images<R: AllocGlobal>(
     rt: &R,
     last: &Run,
@@ -73,10 +109,7 @@ fn push_images<R: AllocGlobal>(
 ) -> Result<(), Fault> {
     let (count, lines) = numbered(text)?;
     for pick in 0..count {
-        let image = last.disk.image(rt.alloc(), pick)?;
-        let next = run_lines(rt, image, lines)?;
-        write!(out, "image {pick}: ")?;
-        push_run_in_line(rt.alloc(), &next, out)?;
+        push_image(rt, last, pick, lines, out)?;
     }
     Ok(())
 }
@@ -103,138 +136,327 @@ impl Case {
         }
     }
 
+    // Adds lines to the script so far.
+    fn push_script(&mut self, alloc: Global, lines: &str) -> Result<(), Fault> {
+        let setting = self.setting(alloc)?;
+        push_lines(&mut setting.script, lines)
+    }
+
+    // The setting so far; the next run begins anew.
+    fn take_setting(&mut self, alloc: Global) -> Result<Setting, Fault> {
+        match self.setting.take() {
+            Some(setting) => Ok(setting),
+            None => Setting::new(alloc, RUN),
+        }
+    }
+
+    // The disk is what the last run left.
+    fn keep_disk(&mut self, alloc: Global) -> Result<(), Fault> {
+        let run = ended(&self.last)?;
+        self.changed = run.disk.contents() != self.disk.as_slice();
+        self.disk = run.disk.contents().to_vec(alloc)?;
+        Ok(())
+    }
+
     // Runs with the setting so far and these lines; the disk is what the run leaves.
     fn go<R: AllocGlobal>(&mut self, rt: &R, lines: &str) -> Result<(), Fault> {
         let alloc = rt.alloc();
-        push_lines(&mut self.setting(alloc)?.script, lines)?;
-        let plain = Setting::new(alloc, RUN)?;
-        let setting = self.setting.take().unwrap_or(plain);
-        let ended = run(rt, self.disk.as_slice().to_vec(alloc)?, setting)?;
-        self.changed = ended.disk.contents() != self.disk.as_slice();
-        self.disk = ended.disk.contents().to_vec(alloc)?;
-        self.last = Some(ended);
-        Ok(())
+        self.push_script(alloc, lines)?;
+        let setting = self.take_setting(alloc)?;
+        self.last = Some(run_on(rt, self.disk.as_slice(), setting)?);
+        self.keep_disk(alloc)
     }
 
     // The script so far, and these lines; the next run begins anew.
     fn script(&mut self, alloc: Global, lines: &str) -> Result<Vec<u8>, Fault> {
-        push_lines(&mut self.setting(alloc)?.script, lines)?;
-        let plain = Setting::new(alloc, RUN)?;
-        Ok(self.setting.take().unwrap_or(plain).script)
+        self.push_script(alloc, lines)?;
+        Ok(self.take_setting(alloc)?.script)
     }
 
     // How many calls opening makes of this disk.
     fn opening<R: AllocGlobal>(&self, rt: &R) -> Result<u64, Fault> {
-        let ended = run_lines(rt, self.disk.as_slice().to_vec(rt.alloc())?, "")?;
+        let copy = self.disk.as_slice().to_vec(rt.alloc())?;
+        let ended = run_lines(rt, copy, "")?;
         Ok(ended.disk.calls().len() as u64)
     }
 
-    // A step that says something of the next run; whether it is one.
-    fn set<R: AllocGlobal>(&mut self, rt: &R, step: &str, text: &str) -> Result<bool, Fault> {
-        let alloc = rt.alloc();
-        match step {
-            "words" => self.setting(alloc)?.words = String::from_str(alloc, text)?,
-            "pieces" => self.setting(alloc)?.piece = number(text)? as usize,
-            "times" => push_times(alloc, &mut self.setting(alloc)?.script, text)?,
-            "bytes" => {
-                let raw = bytes(alloc, text)?;
-                self.setting(alloc)?
-                    .script
-                    .extend_from_slice(raw.as_slice())?;
-            }
-            "generate" => {
-                let drawn = generated(alloc, number(text)?)?;
-                self.setting(alloc)?
-                    .script
-                    .extend_from_slice(drawn.as_bytes())?;
-            }
-            "disk-fails" => {
-                let opening = self.opening(rt)?;
-                self.setting(alloc)?.disk_fails = call_numbers(alloc, text, opening)?;
-            }
-            "source-fails" => self.setting(alloc)?.source_fails = call_numbers(alloc, text, 0)?,
-            "sink-fails" => self.setting(alloc)?.sink_fails = call_numbers(alloc, text, 0)?,
-            _ => return Ok(false),
-        }
-        Ok(true)
+    // The words of the next run.
+    fn set_words(&mut self, alloc: Global, text: &str) -> Result<(), Fault> {
+        self.setting(alloc)?.words = String::from_str(alloc, text)?;
+        Ok(())
     }
 
-    // A step that changes the disk's bytes; whether it is one.
-    fn lay<R: AllocGlobal>(&mut self, rt: &R, step: &str, text: &str) -> Result<bool, Fault> {
-        match step {
-            "disk" => self.disk = named(rt, &self.last, text)?,
-            "patch" => patch(rt.alloc(), self.disk.as_mut_slice(), text)?,
-            "digest" => put_digest_of(self.disk.as_mut_slice(), text)?,
-            "seal" => seal(self.disk.as_mut_slice(), text)?,
-            _ => return Ok(false),
+    // How many bytes the source of the next run gives at most.
+    fn set_pieces(&mut self, alloc: Global, text: &str) -> Result<(), Fault> {
+        self.setting(alloc)?.piece = number(text)? as usize;
+        Ok(())
+    }
+
+    // Adds lines to the script so far, N times.
+    fn add_times(&mut self, alloc: Global, text: &str) -> Result<(), Fault> {
+        let setting = self.setting(alloc)?;
+        push_times(alloc, &mut setting.script, text)
+    }
+
+    // Adds bytes to the script so far.
+    fn add_bytes(&mut self, alloc: Global, text: &str) -> Result<(), Fault> {
+        let raw = bytes(alloc, text)?;
+        let setting = self.setting(alloc)?;
+        setting.script.extend_from_slice(raw.as_slice())?;
+        Ok(())
+    }
+
+    // Adds lines that are drawn to the script so far.
+    fn add_generated(&mut self, alloc: Global, text: &str) -> Result<(), Fault> {
+        let drawn = generated(alloc, number(text)?)?;
+        let setting = self.setting(alloc)?;
+        setting.script.extend_from_slice(drawn.as_bytes())?;
+        Ok(())
+    }
+
+    // The calls of the disk that fail in the next run.
+    fn set_disk_fails<R: AllocGlobal>(&mut self, rt: &R, text: &str) -> Result<(), Fault> {
+        let opening = self.opening(rt)?;
+        self.setting(rt.alloc())?.disk_fails = call_numbers(rt.alloc(), text, opening)?;
+        Ok(())
+    }
+
+    // The calls of the source that fail in the next run.
+    fn set_source_fails(&mut self, alloc: Global, text: &str) -> Result<(), Fault> {
+        self.setting(alloc)?.source_fails = call_numbers(alloc, text, 0)?;
+        Ok(())
+    }
+
+    // The calls of the sink that fail in the next run.
+    fn set_sink_fails(&mut self, alloc: Global, text: &str) -> Result<(), Fault> {
+        self.setting(alloc)?.sink_fails = call_numbers(alloc, text, 0)?;
+        Ok(())
+    }
+
+    // The disk is the one of that name.
+    fn lay_disk<R: AllocGlobal>(&mut self, rt: &R, text: &str) -> Result<(), Fault> {
+        self.disk = named(rt, &self.last, text)?;
+        Ok(())
+    }
+
+    // Adds what the last run wrote, the text of its end, and its status.
+    fn push_ended(&self, alloc: Global, out: &mut String) -> Result<(), Fault> {
+        push_run(alloc, ended(&self.last)?, out)
+    }
+
+    // Runs with these lines, and adds what that gave.
+    fn go_and_push<R: AllocGlobal>(
+        &mut self,
+        rt: &R,
+        lines: &str,
+        out: &mut String,
+    ) -> Result<(), Fault> {
+        self.go(rt, lines)?;
+        self.push_ended(rt.alloc(), out)
+    }
+
+    // Makes a store, and adds what that gave.
+    fn init<R: AllocGlobal>(&mut self, rt: &R, out: &mut String) -> Result<(), Fault> {
+        self.set_words(rt.alloc(), INIT)?;
+        self.go_and_push(rt, "", out)
+    }
+
+    // Adds whether the last run changed the disk's bytes.
+    fn push_changed(&self, out: &mut String) -> Result<(), Fault> {
+        let how = if self.changed { "changed" } else { "unchanged" };
+        writeln!(out, "disk {how}")?;
+        Ok(())
+    }
+
+    // Adds what a word names of the last run.
+    fn push_word(&self, alloc: Global, word: &str, out: &mut String) -> Result<(), Fault> {
+        if word == "changed" {
+            return self.push_changed(out);
         }
-        Ok(true)
+        push_named(alloc, ended(&self.last)?, word, out)
     }
 
     // Adds what each of the words names of the last run.
     fn show(&self, alloc: Global, text: &str, out: &mut String) -> Result<(), Fault> {
         for word in text.split(' ') {
-            if word == "changed" {
-                let how = if self.changed { "changed" } else { "unchanged" };
-                writeln!(out, "disk {how}")?;
-            } else {
-                push_named(alloc, ended(&self.last)?, word, out)?;
-            }
+            self.push_word(alloc, word, out)?;
         }
         Ok(())
     }
 
-    // A step that runs the program, or prints something of a run; whether it is one.
-    fn run<R: AllocGlobal>(
-        &mut self,
-        rt: &R,
-        step: &str,
-        text: &str,
-        out: &mut String,
-    ) -> Result<bool, Fault> {
-        let alloc = rt.alloc();
-        match step {
-            "do" => self.go(rt, text)?,
-            "run" => {
-                self.go(rt, text)?;
-                push_run(alloc, ended(&self.last)?, out)?;
-            }
-            "init" => {
-                self.setting(alloc)?.words = String::from_str(alloc, INIT)?;
-                self.go(rt, "")?;
-                push_run(alloc, ended(&self.last)?, out)?;
-            }
-            "show" => self.show(alloc, text, out)?,
-            "last" => push_last(alloc, ended(&self.last)?, number(text)?, out)?,
-            "read" => push_read(alloc, self.script(alloc, text)?.as_slice(), out)?,
-            "lines" => push_read_lines(alloc, self.script(alloc, text)?.as_slice(), out)?,
-            "texts" => push_texts(alloc, ended(&self.last)?.journal.as_slice(), out)?,
-            "images" => push_images(rt, ended(&self.last)?, text, out)?,
-            "oracle" => push_alike(alloc, ended(&self.last)?.journal.as_slice(), out)?,
-            "at" => {
-                let digits = digits_at(alloc, self.disk.as_slice(), text)?;
-                writeln!(out, "{digits}")?;
-            }
-            _ => return Ok(false),
-        }
-        Ok(true)
+    // Adds the last lines that the last run wrote.
+    fn push_last(&self, alloc: Global, text: &str, out: &mut String) -> Result<(), Fault> {
+        let count = number(text)?;
+        push_last(alloc, ended(&self.last)?, count, out)
     }
 
-    // A step: its first word, and what follows.
-    fn step<R: AllocGlobal>(
+    // Adds what the reader of the whole grammar says of the script so far and these lines.
+    fn push_read(&mut self, alloc: Global, text: &str, out: &mut String) -> Result<(), Fault> {
+        let script = self.script(alloc, text)?;
+        push_read(alloc, script.as_slice(), out)
+    }
+
+    // Adds the lines that this reader finds in them.
+    fn push_read_lines(
+        &mut self,
+        alloc: Global,
+        text: &str,
+        out: &mut String,
+    ) -> Result<(), Fault> {
+        let script = self.script(alloc, text)?;
+        push_read_lines(alloc, script.as_slice(), out)
+    }
+
+    // Adds what a script gives on images of the last run's disk.
+    fn push_images<R: AllocGlobal>(
+        &self,
+        rt: &R,
+        text: &str,
+        out: &mut String,
+    ) -> Result<(), Fault> {
+        push_images(rt, ended(&self.last)?, text, out)
+    }
+
+    // Adds the text of the last run's journal.
+    fn push_texts(&self, alloc: Global, out: &mut String) -> Result<(), Fault> {
+        push_texts(alloc, ended(&self.last)?.journal.as_slice(), out)
+    }
+
+    // Adds how many replies of the last run the plain slow program gives alike.
+    fn push_alike(&self, alloc: Global, out: &mut String) -> Result<(), Fault> {
+        push_alike(alloc, ended(&self.last)?.journal.as_slice(), out)
+    }
+
+    // Adds bytes of the disk.
+    fn push_digits(&self, alloc: Global, text: &str, out: &mut String) -> Result<(), Fault> {
+        let digits = digits_at(alloc, self.disk.as_slice(), text)?;
+        out.push_str(digits.as_str())?;
+        out.push('\n')?;
+        Ok(())
+    }
+
+    // A step that says with what the next run begins, or another one.
+    fn set_step<R: AllocGlobal>(
         &mut self,
         rt: &R,
         step: &str,
         text: &str,
         out: &mut String,
     ) -> Result<(), Fault> {
-        if self.set(rt, step, text)?
-            || self.lay(rt, step, text)?
-            || self.run(rt, step, text, out)?
-        {
-            return Ok(());
+        let alloc = rt.alloc();
+        match step {
+            "words" => self.set_words(alloc, text),
+            "pieces" => self.set_pieces(alloc, text),
+            "times" => self.add_times(alloc, text),
+            "bytes" => self.add_bytes(alloc, text),
+            "generate" => self.add_generated(alloc, text),
+            _ => self.fail_step(rt, step, text, out),
         }
-        call(rt.alloc(), step, text, out)
+    }
+
+    // A step that says what fails in the next run, or another one.
+    fn fail_step<R: AllocGlobal>(
+        &mut self,
+        rt: &R,
+        step: &str,
+        text: &str,
+        out: &mut String,
+    ) -> Result<(), Fault> {
+        let alloc = rt.alloc();
+        match step {
+            "disk-fails" => self.set_disk_fails(rt, text),
+            "source-fails" => self.set_source_fails(alloc, text),
+            "sink-fails" => self.set_sink_fails(alloc, text),
+            _ => self.lay_step(rt, step, text, out),
+        }
+    }
+
+    // A step that changes the disk's bytes, or another one.
+    fn lay_step<R: AllocGlobal>(
+        &mut self,
+        rt: &R,
+        step: &str,
+        text: &str,
+        out: &mut String,
+    ) -> Result<(), Fault> {
+        match step {
+            "disk" => self.lay_disk(rt, text),
+            "patch" => patch(rt.alloc(), self.disk.as_mut_slice(), text),
+            "digest" => put_digest_of(self.disk.as_mut_slice(), text),
+            "seal" => seal(self.disk.as_mut_slice(), text),
+            _ => self.run_step(rt, step, text, out),
+        }
+    }
+
+    // A step that runs the program, or another one.
+    fn run_step<R: AllocGlobal>(
+        &mut self,
+        rt: &R,
+        step: &str,
+        text: &str,
+        out: &mut String,
+    ) -> Result<(), Fault> {
+        match step {
+            "do" => self.go(rt, text),
+            "run" => self.go_and_push(rt, text, out),
+            "init" => self.init(rt, out),
+            "images" => self.push_images(rt, text, out),
+            _ => self.show_step(rt.alloc(), step, text, out),
+        }
+    }
+
+    // A step that shows something of a run, or another one.
+    fn show_step(
+        &mut self,
+        alloc: Global,
+        step: &str,
+        text: &str,
+        out: &mut String,
+    ) -> Result<(), Fault> {
+        match step {
+            "show" => self.show(alloc, text, out),
+            "last" => self.push_last(alloc, text, out),
+            "texts" => self.push_texts(alloc, out),
+            "oracle" => self.push_alike(alloc, out),
+            _ => self.read_step(alloc, step, text, out),
+        }
+    }
+
+    // A step that reads the script so far or the disk, or another one.
+    fn read_step(
+        &mut self,
+        alloc: Global,
+        step: &str,
+        text: &str,
+        out: &mut String,
+    ) -> Result<(), Fault> {
+        match step {
+            "read" => self.push_read(alloc, text, out),
+            "lines" => self.push_read_lines(alloc, text, out),
+            "at" => self.push_digits(alloc, text, out),
+            _ => call(alloc, step, text, out),
+        }
+    }
+
+    // Begins the case of this name.
+    fn begin(&mut self, alloc: Global, name: &str, out: &mut String) -> Result<(), Fault> {
+        *self = Case::new(alloc);
+        writeln!(out, "case {name}")?;
+        Ok(())
+    }
+
+    // Takes a line that says something, written out.
+    fn take_written<R: AllocGlobal>(
+        &mut self,
+        rt: &R,
+        line: &str,
+        out: &mut String,
+    ) -> Result<(), Fault> {
+        let (step, text) = first_word(line);
+        if step == "case" {
+            return self.begin(rt.alloc(), text, out);
+        }
+        self.set_step(rt, step, text, out)
     }
 
     /// Takes a line of the input, and adds what it gives. A line that begins with `#`, and one that is empty, say
@@ -248,15 +470,8 @@ impl Case {
         if line.is_empty() || line.starts_with('#') {
             return Ok(());
         }
-        let alloc = rt.alloc();
-        let line = written_out(alloc, line)?;
-        let (step, text) = first_word(line.as_str());
-        if step == "case" {
-            *self = Case::new(alloc);
-            writeln!(out, "case {text}")?;
-            return Ok(());
-        }
-        self.step(rt, step, text, out)
+        let line = written_out(rt.alloc(), line)?;
+        self.take_written(rt, line.as_str(), out)
     }
 }
 

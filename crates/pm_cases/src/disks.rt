@@ -93,16 +93,32 @@ fn page_place(page: u64, at: u64) -> Result<usize, Fault> {
     }
 }
 
+// The digest of the first bytes of a page stands at a place of another one.
+fn put_digest_in(
+    disk: &mut [u8],
+    page: u64,
+    count: usize,
+    holder: u64,
+    at: u64,
+) -> Result<(), Fault> {
+    let from = page_place(page, 0)?;
+    let place = page_place(holder, at)?;
+    put_digest(disk, from, count, place)
+}
+
+// The same as `seal`, of the three numbers.
+fn seal_pages(disk: &mut [u8], header: u64, catalog: u64, car: u64) -> Result<(), Fault> {
+    put_digest_in(disk, car, PAGE_BYTES, catalog, 71)?;
+    put_digest_in(disk, catalog, PAGE_BYTES, header, 32)?;
+    put_digest_in(disk, header, 64, header, 64)
+}
+
 /// `HEADER CATALOG CAR`, three pages: the digest of the car is made again in the first entry of the catalog page, that
 /// of the catalog page in the header, and the header's own.
 pub(crate) fn seal(disk: &mut [u8], text: &str) -> Result<(), Fault> {
     let (header, rest) = numbered(text)?;
     let (catalog, car) = numbered(rest)?;
-    let car = page_place(number(car)?, 0)?;
-    put_digest(disk, car, PAGE_BYTES, page_place(catalog, 71)?)?;
-    let first = page_place(catalog, 0)?;
-    put_digest(disk, first, PAGE_BYTES, page_place(header, 32)?)?;
-    put_digest(disk, page_place(header, 0)?, 64, page_place(header, 64)?)
+    seal_pages(disk, header, catalog, number(car)?)
 }
 
 /// `PLACE COUNT`: that many bytes from that place on, in hexadecimal.

@@ -9,20 +9,75 @@ fn next_draw(draw: u32) -> u32 {
     draw.wrapping_mul(69069).wrapping_add(1)
 }
 
+// Adds the line of a birth, of an object with two bytes or with none.
+fn push_birth(
+    script: &mut String,
+    client: u32,
+    register: u32,
+    count: u32,
+    is_empty: bool,
+) -> Result<(), Fault> {
+    write!(script, "{client} new {register} {count} ")?;
+    if is_empty {
+        script.push_str("-\n")?;
+    } else {
+        writeln!(script, "0{count}ff")?;
+    }
+    Ok(())
+}
+
+// Adds the line of a word and a register.
+fn push_on_register(
+    script: &mut String,
+    client: u32,
+    word: &str,
+    register: u32,
+) -> Result<(), Fault> {
+    writeln!(script, "{client} {word} {register}")?;
+    Ok(())
+}
+
+// Adds the line of a word alone.
+fn push_word(script: &mut String, client: u32, word: &str) -> Result<(), Fault> {
+    writeln!(script, "{client} {word}")?;
+    Ok(())
+}
+
+// Adds the line of a name that is bound to a register.
+fn push_root(script: &mut String, client: u32, register: u32, name: u32) -> Result<(), Fault> {
+    writeln!(script, "{client} root n{name} {register}")?;
+    Ok(())
+}
+
+// Adds the line of a name that is looked for.
+fn push_find(script: &mut String, client: u32, register: u32, name: u32) -> Result<(), Fault> {
+    writeln!(script, "{client} find {register} n{name}")?;
+    Ok(())
+}
+
 // Adds the line of a draw: bits 16 to 30 choose a client, a register, a name and a command.
 fn push_line(draw: u32, script: &mut String) -> Result<(), Fault> {
     let client = (draw >> 16) % 8;
     let register = (draw >> 20) % 4;
     let name = (draw >> 24) % 5;
     match (draw >> 28) % 8 {
-        0 => writeln!(script, "{client} new {register} {name} -")?,
-        1 => writeln!(script, "{client} new {register} {name} 0{name}ff")?,
-        2 => writeln!(script, "{client} root n{name} {register}")?,
-        3 => writeln!(script, "{client} find {register} n{name}")?,
-        4 => writeln!(script, "{client} data {register}")?,
-        5 => writeln!(script, "{client} save")?,
-        6 => writeln!(script, "{client} settle")?,
-        _ => writeln!(script, "{client} id {register}")?,
+        0 => push_birth(script, client, register, name, true),
+        1 => push_birth(script, client, register, name, false),
+        2 => push_root(script, client, register, name),
+        3 => push_find(script, client, register, name),
+        4 => push_on_register(script, client, "data", register),
+        5 => push_word(script, client, "save"),
+        6 => push_word(script, client, "settle"),
+        _ => push_on_register(script, client, "id", register),
+    }
+}
+
+// Adds this many lines, each made by a draw.
+fn push_drawn(script: &mut String, lines: u64) -> Result<(), Fault> {
+    let mut draw = 1;
+    for _ in 0..lines {
+        draw = next_draw(draw);
+        push_line(draw, script)?;
     }
     Ok(())
 }
@@ -30,10 +85,6 @@ fn push_line(draw: u32, script: &mut String) -> Result<(), Fault> {
 /// A script of this many lines, each made by a draw.
 pub(crate) fn generated(alloc: Global, lines: u64) -> Result<String, Fault> {
     let mut script = String::new(alloc);
-    let mut draw = 1;
-    for _ in 0..lines {
-        draw = next_draw(draw);
-        push_line(draw, &mut script)?;
-    }
+    push_drawn(&mut script, lines)?;
     Ok(script)
 }

@@ -1,24 +1,28 @@
 //! Inner functions that a case calls by name.
 
 use crate::fault::{Fault, refuse};
+use crate::printed::{push_digest_of, push_number, push_value};
 use crate::spelling::{bytes, number, numbered};
-use pm_layout::digest;
-use pm_top::{Detail, detail_text};
 use pm_types::{Addr, Bytes, Cmd, Fields, Name, NameFault, Object, Reg, Reply, Slot, room};
 use std::alloc::Global;
-use std::fmt::Write;
+
+// Adds why bytes are no name.
+fn push_name_fault(fault: NameFault, out: &mut String) -> Result<(), Fault> {
+    match fault {
+        NameFault::Empty => Ok(out.push_str("no name: empty\n")?),
+        NameFault::TooLong(length) => push_number("no name: too long,", length, out),
+        NameFault::BadByte(place) => push_number("no name: bad byte at", place, out),
+        NameFault::Memory => Err(refuse("no memory")),
+    }
+}
 
 /// `HEX`: whether these bytes are a name, or why they are none.
 pub(crate) fn push_name(alloc: Global, text: &str, out: &mut String) -> Result<(), Fault> {
     let spelled = bytes(alloc, text)?;
     match Name::read(alloc, spelled.as_slice()) {
-        Ok(name) => writeln!(out, "a name of {}", name.as_slice().len())?,
-        Err(NameFault::Empty) => writeln!(out, "no name: empty")?,
-        Err(NameFault::TooLong(length)) => writeln!(out, "no name: too long, {length}")?,
-        Err(NameFault::BadByte(place)) => writeln!(out, "no name: bad byte at {place}")?,
-        Err(NameFault::Memory) => return Err(refuse("no memory")),
+        Ok(name) => push_number("a name of", name.as_slice().len() as u64, out),
+        Err(fault) => push_name_fault(fault, out),
     }
-    Ok(())
 }
 
 /// `N`: the register of this number, or that there is none.
@@ -27,10 +31,9 @@ pub(crate) fn push_register(text: &str, out: &mut String) -> Result<(), Fault> {
         return Err(refuse("no such number"));
     };
     match Reg::new(wanted) {
-        Some(register) => writeln!(out, "register {}", register.number())?,
-        None => writeln!(out, "no register")?,
+        Some(register) => push_number("register", register.number() as u64, out),
+        None => Ok(out.push_str("no register\n")?),
     }
-    Ok(())
 }
 
 /// `FIELDS BYTES`: the room that such an object takes in its car.
@@ -40,24 +43,13 @@ pub(crate) fn push_room(text: &str, out: &mut String) -> Result<(), Fault> {
     if fields > 255 || bytes > 8192 {
         return Err(refuse("too large"));
     }
-    writeln!(out, "room {}", room(fields as u32, bytes as u32))?;
-    Ok(())
+    push_number("room", room(fields as u32, bytes as u32) as u64, out)
 }
 
 /// `HEX`: the digest of these bytes.
 pub(crate) fn push_digest(alloc: Global, text: &str, out: &mut String) -> Result<(), Fault> {
-    let made = digest(bytes(alloc, text)?.as_slice());
-    let digits = hex::encode(alloc, made.as_slice())?;
-    writeln!(out, "sha256 {digits}")?;
-    Ok(())
-}
-
-/// The line that the program writes where memory ran out.
-pub(crate) fn push_memory_text(alloc: Global, out: &mut String) -> Result<(), Fault> {
-    match str::from_utf8(detail_text(alloc, &Detail::Memory)?.as_slice()) {
-        Ok(text) => Ok(out.push_str(text)?),
-        Err(_) => Err(refuse("no text")),
-    }
+    let spelled = bytes(alloc, text)?;
+    push_digest_of(alloc, spelled.as_slice(), out)
 }
 
 // An object of a null field and one that is not null.
@@ -84,15 +76,35 @@ fn command(alloc: Global) -> Result<Cmd, Fault> {
     })
 }
 
+// Adds the copy of a slot.
+fn push_slot(alloc: Global, slot: Slot, out: &mut String) -> Result<(), Fault> {
+    let copy = slot.copy(alloc)?;
+    push_value(&copy, out)
+}
+
+// Adds the copies of a slot of each kind.
+fn push_slots(alloc: Global, out: &mut String) -> Result<(), Fault> {
+    let object = object(alloc)?;
+    push_slot(alloc, Slot::Live(object), out)?;
+    push_slot(alloc, Slot::Moved(Addr { car: 3, slot: 7 }), out)
+}
+
+// Adds the copy of a command.
+fn push_command(alloc: Global, out: &mut String) -> Result<(), Fault> {
+    let copy = command(alloc)?.copy(alloc)?;
+    push_value(&copy, out)
+}
+
+// Adds the copy of a reply.
+fn push_reply(alloc: Global, out: &mut String) -> Result<(), Fault> {
+    let bytes = b"\xca\xfe".to_vec(alloc)?;
+    let copy = Reply::Shown(Bytes::from_vec(bytes)).copy(alloc)?;
+    push_value(&copy, out)
+}
+
 /// A copy of each kind of value that is copied, as they are printed.
 pub(crate) fn push_copies(alloc: Global, out: &mut String) -> Result<(), Fault> {
-    let live = Slot::Live(object(alloc)?).copy(alloc)?;
-    let moved = Slot::Moved(Addr { car: 3, slot: 7 }).copy(alloc)?;
-    let command = command(alloc)?.copy(alloc)?;
-    let reply = Reply::Shown(Bytes::from_vec(b"\xca\xfe".to_vec(alloc)?)).copy(alloc)?;
-    writeln!(out, "{live:?}")?;
-    writeln!(out, "{moved:?}")?;
-    writeln!(out, "{command:?}")?;
-    writeln!(out, "{reply:?}")?;
-    Ok(())
+    push_slots(alloc, out)?;
+    push_command(alloc, out)?;
+    push_reply(alloc, out)
 }

@@ -4,9 +4,11 @@
 
 mod case;
 mod disks;
+mod ends;
 mod fault;
 mod generated;
 mod inner;
+mod printed;
 mod replayed;
 mod running;
 mod scripts;
@@ -17,16 +19,27 @@ use case::Case;
 use std::fmt::Write;
 use std::io::{self, BufRead, BufReader};
 
+// Takes a line, and adds what it gives, or why it was not done.
+fn push_line<R: AllocGlobal>(
+    rt: &R,
+    case: &mut Case,
+    line: &str,
+    out: &mut String,
+) -> io::Result<()> {
+    if let Err(fault) = case.take(rt, line, out) {
+        let reason = fault.reason;
+        writeln!(out, "? {reason}: {line}")?;
+    }
+    Ok(())
+}
+
 fn main(rt: HostRuntime) -> io::Result<()> {
     let alloc = rt.alloc();
     let mut case = Case::new(alloc);
     for line in BufReader::new(alloc, rt.reader())?.lines(alloc) {
         let line = line?;
         let mut out = String::new(alloc);
-        if let Err(fault) = case.take(&rt, line.as_str(), &mut out) {
-            let reason = fault.reason;
-            writeln!(out, "? {reason}: {line}")?;
-        }
+        push_line(&rt, &mut case, line.as_str(), &mut out)?;
         print!(rt; "{out}")?;
     }
     Ok(())

@@ -15,15 +15,22 @@ fn is_alike(alloc: Global, oracle: &mut Oracle, entry: &Entry) -> Result<bool, F
     Ok(oracle.answer(alloc, client, &entry.cmd)? == entry.reply)
 }
 
-/// Adds how many of the commands of a run's journal, begun on a new store, the plain slow program replies to alike.
-pub(crate) fn push_alike(alloc: Global, journal: &[Entry], out: &mut String) -> Result<(), Fault> {
-    let mut oracle = Oracle::new(alloc);
+// How many of the commands of a journal the plain program replies to alike.
+fn count_alike(alloc: Global, oracle: &mut Oracle, journal: &[Entry]) -> Result<u64, Fault> {
     let mut alike = 0u64;
     for entry in journal {
-        if is_alike(alloc, &mut oracle, entry)? {
+        if is_alike(alloc, oracle, entry)? {
             alike = alike.saturating_add(1);
         }
     }
-    writeln!(out, "oracle alike {alike} of {}", journal.len())?;
+    Ok(alike)
+}
+
+/// Adds how many of the commands of a run's journal, begun on a new store, the plain slow program replies to alike.
+pub(crate) fn push_alike(alloc: Global, journal: &[Entry], out: &mut String) -> Result<(), Fault> {
+    let mut oracle = Oracle::new(alloc);
+    let alike = count_alike(alloc, &mut oracle, journal)?;
+    let commands = journal.len();
+    writeln!(out, "oracle alike {alike} of {commands}")?;
     Ok(())
 }

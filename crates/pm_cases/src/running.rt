@@ -3,6 +3,7 @@
 use crate::fault::Fault;
 use pm_disk::MemDisk;
 use pm_io::{MemSink, MemSource};
+use pm_place::Placement;
 use pm_top::{Ended, pmos};
 use std::alloc::Global;
 
@@ -56,19 +57,17 @@ fn words_of(alloc: Global, text: &str) -> Result<Vec<&str>, Fault> {
     Ok(words)
 }
 
+// Runs the program with these words.
+fn run_words<R: AllocGlobal>(rt: &R, words: &[&str], disk: Vec<u8>, setting: Setting) -> Run {
+    let disk = MemDisk::new(disk, setting.disk_fails);
+    let source = MemSource::new(setting.script, setting.piece.max(1), setting.source_fails);
+    let sink = MemSink::new(rt.alloc(), setting.sink_fails);
+    pmos(rt, words, disk, source, sink, Placement::new(|_: &[u64]| 0))
+}
+
 /// Runs the program over a disk with these bytes.
 pub(crate) fn run<R: AllocGlobal>(rt: &R, disk: Vec<u8>, setting: Setting) -> Result<Run, Fault> {
-    let Setting {
-        words,
-        script,
-        piece,
-        disk_fails,
-        source_fails,
-        sink_fails,
-    } = setting;
-    let words = words_of(rt.alloc(), words.as_str())?;
-    let disk = MemDisk::new(disk, disk_fails);
-    let source = MemSource::new(script, piece.max(1), source_fails);
-    let sink = MemSink::new(rt.alloc(), sink_fails);
-    Ok(pmos(rt, words.as_slice(), disk, source, sink))
+    let text = String::from_str(rt.alloc(), setting.words.as_str())?;
+    let words = words_of(rt.alloc(), text.as_str())?;
+    Ok(run_words(rt, words.as_slice(), disk, setting))
 }

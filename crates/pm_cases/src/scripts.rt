@@ -1,6 +1,7 @@
 //! Scripts that the reader of the whole grammar reads, and the texts of a journal.
 
 use crate::fault::{Fault, refuse};
+use crate::printed::{push_text, push_value};
 use pm_grammar::{Script, ScriptFault, journal_text, read_script, reply_text};
 use pm_types::{Entry, SOURCE_BYTES};
 use std::alloc::Global;
@@ -14,11 +15,24 @@ fn read(alloc: Global, script: &[u8]) -> Result<Result<Script, ScriptFault>, Fau
     Ok(read_script(alloc, script))
 }
 
+// Adds a number of lines.
+fn push_count(count: usize, out: &mut String) -> Result<(), Fault> {
+    writeln!(out, "{count} lines")?;
+    Ok(())
+}
+
 /// Adds how many lines of the script say something, or why it is none.
 pub(crate) fn push_read(alloc: Global, script: &[u8], out: &mut String) -> Result<(), Fault> {
     match read(alloc, script)? {
-        Ok(script) => writeln!(out, "{} lines", script.as_slice().len())?,
-        Err(fault) => writeln!(out, "{fault:?}")?,
+        Ok(script) => push_count(script.as_slice().len(), out),
+        Err(fault) => push_value(&fault, out),
+    }
+}
+
+// Adds the lines of a script.
+fn push_lines(script: &Script, out: &mut String) -> Result<(), Fault> {
+    for line in script.as_slice() {
+        push_value(line, out)?;
     }
     Ok(())
 }
@@ -26,32 +40,36 @@ pub(crate) fn push_read(alloc: Global, script: &[u8], out: &mut String) -> Resul
 /// Adds each line of the script that says something, or why it is none.
 pub(crate) fn push_read_lines(alloc: Global, script: &[u8], out: &mut String) -> Result<(), Fault> {
     match read(alloc, script)? {
-        Ok(script) => {
-            for line in script.as_slice() {
-                writeln!(out, "{line:?}")?;
-            }
-        }
-        Err(fault) => writeln!(out, "{fault:?}")?,
+        Ok(script) => push_lines(&script, out),
+        Err(fault) => push_value(&fault, out),
     }
-    Ok(())
+}
+
+// What follows the entry's own line in a text, where the text begins with it.
+fn behind<'a>(alloc: Global, text: &'a [u8], entry: &Entry) -> Result<Option<&'a [u8]>, Fault> {
+    let line = reply_text(alloc, entry)?;
+    Ok(text.strip_prefix(line.as_slice()))
+}
+
+// How many of a journal's lines the text has, where each is made by itself.
+fn same_lines(alloc: Global, text: &[u8], journal: &[Entry]) -> Result<u64, Fault> {
+    let mut rest = text;
+    let mut same = 0u64;
+    for entry in journal {
+        if let Some(later) = behind(alloc, rest, entry)? {
+            rest = later;
+            same = same.saturating_add(1);
+        }
+    }
+    Ok(same)
 }
 
 /// Adds the text of a journal, and how many of its lines are the same where each is made by itself.
 pub(crate) fn push_texts(alloc: Global, journal: &[Entry], out: &mut String) -> Result<(), Fault> {
     let text = journal_text(alloc, journal)?;
-    match str::from_utf8(text.as_slice()) {
-        Ok(text) => out.push_str(text)?,
-        Err(_) => return Err(refuse("no text")),
-    }
-    let mut rest = text.as_slice();
-    let mut same = 0u64;
-    for entry in journal {
-        let line = reply_text(alloc, entry)?;
-        if let Some(later) = rest.strip_prefix(line.as_slice()) {
-            rest = later;
-            same = same.saturating_add(1);
-        }
-    }
-    writeln!(out, "{same} of {} lines are the same", journal.len())?;
+    push_text(text.as_slice(), out)?;
+    let same = same_lines(alloc, text.as_slice(), journal)?;
+    let lines = journal.len();
+    writeln!(out, "{same} of {lines} lines are the same")?;
     Ok(())
 }

@@ -1,27 +1,30 @@
 //! What is printed of a run.
 
+use crate::ends::push_end;
 use crate::fault::{Fault, refuse};
+use crate::printed::{push_digest_of, push_number, push_text};
 use crate::running::Run;
 use pm_disk::DiskCall;
-use pm_layout::digest;
-use pm_top::detail_text;
 use pm_types::PAGE_BYTES;
 use std::alloc::Global;
 use std::fmt::Write;
 
-// Adds bytes that are text.
-fn push_text(out: &mut String, bytes: &[u8]) -> Result<(), Fault> {
-    match str::from_utf8(bytes) {
-        Ok(text) => Ok(out.push_str(text)?),
-        Err(_) => Err(refuse("no text was written")),
-    }
-}
-
 /// Adds what a run wrote, the text of its end, and its status.
 pub(crate) fn push_run(alloc: Global, run: &Run, out: &mut String) -> Result<(), Fault> {
-    push_text(out, run.sink.written())?;
-    push_text(out, detail_text(alloc, &run.detail)?.as_slice())?;
-    writeln!(out, "status {}", run.status)?;
+    push_text(run.sink.written(), out)?;
+    push_end(alloc, &run.detail, out)?;
+    push_number("status", run.status as u64, out)
+}
+
+// Adds the lines of a text, with ` / ` between them.
+fn push_in_line(text: &str, out: &mut String) -> Result<(), Fault> {
+    for (place, line) in text.split_terminator('\n').enumerate() {
+        if place > 0 {
+            out.push_str(" / ")?;
+        }
+        out.push_str(line)?;
+    }
+    out.push('\n')?;
     Ok(())
 }
 
@@ -29,13 +32,18 @@ pub(crate) fn push_run(alloc: Global, run: &Run, out: &mut String) -> Result<(),
 pub(crate) fn push_run_in_line(alloc: Global, run: &Run, out: &mut String) -> Result<(), Fault> {
     let mut text = String::new(alloc);
     push_run(alloc, run, &mut text)?;
-    for (place, line) in text.as_str().split_terminator('\n').enumerate() {
-        if place > 0 {
-            out.push_str(" / ")?;
+    push_in_line(text.as_str(), out)
+}
+
+// Adds the last lines of a text, this number at most.
+fn push_last_lines(text: &str, count: u64, out: &mut String) -> Result<(), Fault> {
+    let lines = text.split_terminator('\n').count() as u64;
+    let passed = lines.saturating_sub(count);
+    for (place, line) in text.split_terminator('\n').enumerate() {
+        if place as u64 >= passed {
+            writeln!(out, "{line}")?;
         }
-        out.push_str(line)?;
     }
-    out.push('\n')?;
     Ok(())
 }
 
@@ -47,15 +55,8 @@ pub(crate) fn push_last(
     out: &mut String,
 ) -> Result<(), Fault> {
     let mut text = String::new(alloc);
-    push_text(&mut text, run.sink.written())?;
-    let lines = text.as_str().split_terminator('\n').count() as u64;
-    let passed = lines.saturating_sub(count);
-    for (place, line) in text.as_str().split_terminator('\n').enumerate() {
-        if place as u64 >= passed {
-            writeln!(out, "{line}")?;
-        }
-    }
-    Ok(())
+    push_text(run.sink.written(), &mut text)?;
+    push_last_lines(text.as_str(), count, out)
 }
 
 // Adds one call of the disk: its kind, and for a write the page and the byte where it begins.
@@ -83,6 +84,18 @@ fn push_calls(calls: &[DiskCall], out: &mut String) -> Result<(), Fault> {
     Ok(())
 }
 
+// The number that is known by this word of the last run.
+fn counted(run: &Run, word: &str) -> Result<u64, Fault> {
+    match word {
+        "status" => Ok(run.status as u64),
+        "written" => Ok(run.sink.written().len() as u64),
+        "finished" => Ok(run.sink.finished()),
+        "journal" => Ok(run.journal.len() as u64),
+        "bytes" => Ok(run.disk.contents().len() as u64),
+        _ => Err(refuse("nothing of that name")),
+    }
+}
+
 /// Adds what is known by this word of the last run.
 pub(crate) fn push_named(
     alloc: Global,
@@ -91,19 +104,10 @@ pub(crate) fn push_named(
     out: &mut String,
 ) -> Result<(), Fault> {
     match word {
-        "status" => writeln!(out, "status {}", run.status)?,
-        "text" => push_text(out, detail_text(alloc, &run.detail)?.as_slice())?,
-        "output" => push_text(out, run.sink.written())?,
-        "written" => writeln!(out, "written {}", run.sink.written().len())?,
-        "finished" => writeln!(out, "finished {}", run.sink.finished())?,
-        "journal" => writeln!(out, "journal {}", run.journal.len())?,
-        "calls" => push_calls(run.disk.calls(), out)?,
-        "bytes" => writeln!(out, "bytes {}", run.disk.contents().len())?,
-        "sha256" => {
-            let made = hex::encode(alloc, digest(run.disk.contents()).as_slice())?;
-            writeln!(out, "sha256 {made}")?;
-        }
-        _ => return Err(refuse("nothing of that name")),
+        "text" => push_end(alloc, &run.detail, out),
+        "output" => push_text(run.sink.written(), out),
+        "calls" => push_calls(run.disk.calls(), out),
+        "sha256" => push_digest_of(alloc, run.disk.contents(), out),
+        _ => push_number(word, counted(run, word)?, out),
     }
-    Ok(())
 }

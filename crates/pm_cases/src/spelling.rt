@@ -70,27 +70,39 @@ fn push_times(out: &mut String, piece: &str) -> Result<(), Fault> {
     Ok(())
 }
 
+// Adds the pieces behind opening braces.
+fn push_pieces(out: &mut String, pieces: &str) -> Result<(), Fault> {
+    for piece in pieces.split('{') {
+        push_times(out, piece)?;
+    }
+    Ok(())
+}
+
 /// The line with each `{N TEXT}` written out: the text N times.
 pub(crate) fn written_out(alloc: Global, line: &str) -> Result<String, Fault> {
     let Some((start, pieces)) = line.split_once('{') else {
         return Ok(String::from_str(alloc, line)?);
     };
     let mut out = String::from_str(alloc, start)?;
-    for piece in pieces.split('{') {
-        push_times(&mut out, piece)?;
-    }
+    push_pieces(&mut out, pieces)?;
     Ok(out)
 }
 
-/// The text with a number in place of each `%`.
-pub(crate) fn counted(alloc: Global, text: &str, number: u64) -> Result<String, Fault> {
-    let mut out = String::new(alloc);
+// Adds the text with a number in place of each `%`.
+fn push_counted(out: &mut String, text: &str, number: u64) -> Result<(), Fault> {
     for (place, piece) in text.split('%').enumerate() {
         if place > 0 {
             write!(out, "{number}")?;
         }
         out.push_str(piece)?;
     }
+    Ok(())
+}
+
+/// The text with a number in place of each `%`.
+pub(crate) fn counted(alloc: Global, text: &str, number: u64) -> Result<String, Fault> {
+    let mut out = String::new(alloc);
+    push_counted(&mut out, text, number)?;
     Ok(out)
 }
 

@@ -1,16 +1,15 @@
 -- The causes of ends in which no line was run.
-use Rattle.std.proofs.Common.{◌≡◌, ℕ, ◌<◌, ◌≤◌, List, [], ◌∷◌, refl, sym, ap, subst, ◌∙◌, arith}
+use Rattle.std.proofs.Common.{◌≡◌, ℕ, ◌<◌, ◌≤◌, List, [], ◌∷◌, refl, subst, ◌∙◌, arith}
 use Rattle.pm_types.specs.declared.entry.Entry.{Entry}
 use Rattle.pm_types.specs.declared.fault.OpenFault.{OpenFault}
 use Rattle.pm_types.specs.declared.fault.OpenFault.TheVariants.{NotAStore, Version, Damaged, Malformed, Broken, Disk, Memory as NoRoom}
 use Rattle.pm_types.specs.declared.fault.InitFault.{InitFault}
 use Rattle.pm_types.specs.declared.fault.InitFault.TheVariants.{NotEmpty as NotEmptied, Disk as InitDisk, Memory as InitMemory}
 use Rattle.pm_disk.specs.Made.{Made}
-use Rattle.pm_shadow.specs.Attaching.{IsAttachFault}
 use Rattle.pm_shadow.specs.Init.{IsInitFault}
-use Rattle.pm_reopen.specs.Reopening.{IsReopenFault}
+use Rattle.pm_engine.specs.Opened.{IsOpenFault}
 use Rattle.pm_top.specs.declared.ended.Detail.{Detail}
-use Rattle.pm_top.specs.declared.ended.Detail.TheVariants.{Fine, Usage, Unread, Reading, Writing, Device, NotEmpty, Refused, Memory}
+use Rattle.pm_top.specs.declared.ended.Detail.TheVariants.{Fine, Usage, Script, Reading, Writing, Device, NotEmpty, Refused, Memory}
 use Rattle.pm_top.specs.Ends.{ShowsReading, ShowsDevice, not_opened, not_made}
 use Rattle.pm_top.specs.Stages.{IsPast, unreached, the_words, the_events, the_output}
 use Rattle.pm_top.specs.Commands.{ShowsCauses}
@@ -38,7 +37,7 @@ undone_open NoRoom past = absurd (omega arith)
 pub late_past : (detail : Detail) (journal : List Entry) → the_events < unreached detail → IsPast the_words detail journal
 late_past Fine journal late = omega arith
 late_past Usage journal late = absurd (omega arith)
-late_past Unread journal late = absurd (omega arith)
+late_past (Script fault) journal late = absurd (omega arith)
 late_past (Reading before after) journal late = absurd (omega arith)
 late_past (Writing before after) journal late = omega arith
 late_past (Device before after) [] late = omega arith
@@ -49,27 +48,16 @@ late_past Memory [] late = omega arith
 late_past Memory (entry ∷ journal) late = omega arith
 
 module _ {D S K : Type 0} (disk_count : D → ℕ) (made : D → Made) (source_count : S → ℕ) (sink_count : K → ℕ) where
-  -- no header was found
-  pub attach_causes : (disk end : D) (source : S) (sink : K) (fault : OpenFault) → IsAttachFault (disk_count disk) (disk_count end) fault → (made end).past ≡ (made disk).past
+  -- no store was opened
+  pub open_causes : (disk end : D) (source : S) (sink : K) (fault : OpenFault) → IsOpenFault (disk_count disk) (disk_count end) fault → (made end).past ≡ (made disk).past
       → ShowsCauses disk_count made source_count sink_count disk end source source sink sink (not_opened fault)
-  attach_causes disk end source sink NotAStore cause reads = record { reading = refl; writing = refl; device = cause; rule = tt; reads = reads }
-  attach_causes disk end source sink (Version version) cause reads = record { reading = refl; writing = refl; device = cause; rule = tt; reads = reads }
-  attach_causes disk end source sink (Damaged page kept found) cause reads = record { reading = refl; writing = refl; device = cause; rule = tt; reads = reads }
-  attach_causes disk end source sink (Malformed page at) cause reads = record { reading = refl; writing = refl; device = cause; rule = tt; reads = reads }
-  attach_causes disk end source sink Broken cause reads = absurd cause
-  attach_causes disk end source sink (Disk before after) cause reads = record { reading = refl; writing = tt; device = cause; rule = tt; reads = reads }
-  attach_causes disk end source sink NoRoom cause reads = absurd cause
-
-  -- no copy was opened
-  pub reopen_causes : (disk end : D) (source : S) (sink : K) (fault : OpenFault) → IsReopenFault (disk_count disk) (disk_count end) fault → (made end).past ≡ (made disk).past
-      → ShowsCauses disk_count made source_count sink_count disk end source source sink sink (not_opened fault)
-  reopen_causes disk end source sink NotAStore cause reads = absurd cause
-  reopen_causes disk end source sink (Version version) cause reads = absurd cause
-  reopen_causes disk end source sink (Damaged page kept found) cause reads = record { reading = refl; writing = refl; device = cause; rule = tt; reads = reads }
-  reopen_causes disk end source sink (Malformed page at) cause reads = record { reading = refl; writing = refl; device = cause; rule = tt; reads = reads }
-  reopen_causes disk end source sink Broken cause reads = record { reading = refl; writing = refl; device = cause; rule = tt; reads = reads }
-  reopen_causes disk end source sink (Disk before after) cause reads = record { reading = refl; writing = tt; device = cause; rule = tt; reads = reads }
-  reopen_causes disk end source sink NoRoom cause reads = record { reading = refl; writing = tt; device = cause; rule = tt; reads = reads }
+  open_causes disk end source sink NotAStore cause reads = record { reading = refl; writing = refl; device = cause; rule = tt; reads = reads }
+  open_causes disk end source sink (Version version) cause reads = record { reading = refl; writing = refl; device = cause; rule = tt; reads = reads }
+  open_causes disk end source sink (Damaged page kept found) cause reads = record { reading = refl; writing = refl; device = cause; rule = tt; reads = reads }
+  open_causes disk end source sink (Malformed page at) cause reads = record { reading = refl; writing = refl; device = cause; rule = tt; reads = reads }
+  open_causes disk end source sink Broken cause reads = absurd cause
+  open_causes disk end source sink (Disk before after) cause reads = record { reading = refl; writing = tt; device = cause; rule = tt; reads = reads }
+  open_causes disk end source sink NoRoom cause reads = record { reading = refl; writing = tt; device = cause; rule = tt; reads = reads }
 
   -- no store was made
   pub init_causes : (disk end : D) (source : S) (sink : K) (fault : InitFault) → IsInitFault (disk_count disk) (disk_count end) fault → (made end).past ≡ (made disk).past

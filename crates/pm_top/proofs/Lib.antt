@@ -3,7 +3,7 @@ pub mod NotMade
 pub mod Opened
 pub mod Worded
 pub mod Stores
+pub mod UnservedLaws
 pub mod Scripts
 pub mod Faults
 pub mod Programs
-pub mod Former

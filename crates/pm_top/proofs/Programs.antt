@@ -1,42 +1,40 @@
 -- What is told of an end, and what the status says of the words.
-use Rattle.std.proofs.Common.{◌≡◌, ◌⊎◌, inl, inr, ℕ, List, [], ◌++◌, Option, Some, Ok, Err, refl, sym, ap, ◌∙◌, take}
+use Rattle.std.proofs.Common.{◌≡◌, ◌⊎◌, inl, inr, ℕ, ◌≤◌, arith, List, [], ◌++◌, length, Option, Some, Ok, Err, refl, sym, ap, ◌∙◌}
 use Rattle.std.specs.Prelude.{Result, IfOk, OnErr}
 use Rattle.std.proofs.lemmas.List.{append-nil}
 use Rattle.std.proofs.Math.Seq.{take-length}
 use Rattle.pm_base.specs.Counts.{Rose}
 use Rattle.pm_types.specs.declared.no_memory.NoMemory.{NoMemory}
 use Rattle.pm_disk.specs.Made.{Made}
-use Rattle.pm_io.specs.Streams.{AppendsPart}
-use Rattle.pm_run.specs.Writing.{WrotePart, WroteAll}
-use Rattle.pm_run.proofs.Written.{whole_part}
+use Rattle.pm_output.specs.Writing.{PutsAll, PutsPart}
 use Rattle.pm_top.specs.declared.ended.Detail.{Detail}
-use Rattle.pm_top.specs.declared.ended.Detail.TheVariants.{Fine, Usage, Unread, Reading, Writing, Device, NotEmpty, Refused, Memory}
+use Rattle.pm_top.specs.declared.ended.Detail.TheVariants.{Fine, Usage, Script, Reading, Writing, Device, NotEmpty, Refused, Memory}
 use Rattle.pm_top.specs.Words.{SpellsNothing}
 use Rattle.pm_top.specs.Ends.{status_of}
 use Rattle.pm_top.specs.Program.{Tells, Performs}
 
 module _ {E : Type 0} (written : E → Option (List ℕ)) (count : E → ℕ) where
+  whole_part : (told now : Option (List ℕ)) (line : List ℕ) → PutsAll told now line → PutsPart told now line
+  whole_part told now line all before is = record { part = length line; within = omega arith; appended = all before is ∙ ap (λ (piece : List ℕ). Some (before ++ piece)) (sym (take-length line)) }
+
   -- no line, and no call
   pub told_none : (errors : E) → Tells written count errors errors []
   told_none errors =
-      let all : (before : List ℕ) → written errors ≡ Some before → WroteAll before (written errors) [] = λ before told. told ∙ ap Some (sym (append-nil before)) in
-      record { all = λ stands. all; part = λ before told. whole_part before (written errors) [] (all before told) }
+      let all : PutsAll (written errors) (written errors) [] = λ before told. told ∙ ap Some (sym (append-nil before)) in
+      record { all = λ stands. all; part = whole_part (written errors) (written errors) [] all }
 
   -- the line was put
-  pub told_all : (old new : E) (line : List ℕ) → ((before : List ℕ) → written old ≡ Some before → written new ≡ Some (before ++ line)) → Tells written count old new line
-  told_all old new line put = record { all = λ stands. put; part = λ before told. whole_part before (written new) line (put before told) }
+  pub told_all : (old new : E) (line : List ℕ) → PutsAll (written old) (written new) line → Tells written count old new line
+  told_all old new line put = record { all = λ stands. put; part = whole_part (written old) (written new) line put }
 
   -- it failed to be
-  pub told_part : (old new : E) (line : List ℕ) → ((before : List ℕ) → written old ≡ Some before → AppendsPart before line (written new)) → Rose (count old) (count new) → Tells written count old new line
-  told_part old new line put rose = record {
-    all = λ stands. absurd (stands rose);
-    part = λ before told. let some = put before told in record { part = some.part; put = some.appended };
-  }
+  pub told_part : (old new : E) (line : List ℕ) → PutsPart (written old) (written new) line → Rose (count old) (count new) → Tells written count old new line
+  told_part old new line put rose = record { all = λ stands. absurd (stands rose); part = put }
 
 usage_one : (detail : Detail) → status_of detail ≡ 1 → detail ≡ Usage
 usage_one Fine is = absurd (cc is)
 usage_one Usage is = refl
-usage_one Unread is = absurd (cc is)
+usage_one (Script fault) is = absurd (cc is)
 usage_one (Reading before after) is = absurd (cc is)
 usage_one (Writing before after) is = absurd (cc is)
 usage_one (Device before after) is = absurd (cc is)

@@ -1,64 +1,64 @@
 -- What a run has done, in the words of its end.
-use Rattle.std.proofs.Common.{◌≡◌, ℕ, ◌<◌, ◌≤◌, zero, suc, List, [], ◌∷◌, Option, Some, None, refl, sym, ap, subst, ◌∙◌, arith}
-use Rattle.std.specs.Prelude.{slice_get}
-use Rattle.std.specs.List.{AllByRecursion}
-use Rattle.std.specs.FinMap.{get}
+use Rattle.std.proofs.Common.{◌≡◌, ◌⊎◌, inl, inr, ⊎_elim, ℕ, ◌<◌, ◌≤◌, List, [], ◌∷◌, Option, Some, None, IsSome, refl, sym, ap, subst, ◌∙◌, arith}
+use Rattle.std.proofs.Math.Logic.{∥∥₁_elim, ∥∥₁_map}
+use mathlib.Core.HLevel.{⊥_prop}
+use Rattle.std.specs.Prelude.{option_map}
 use Rattle.pm_types.specs.declared.entry.Entry.{Entry}
-use Rattle.pm_model.specs.declared.request.Request.{Request}
-use Rattle.pm_model.specs.Heap.{Object, field_of}
-use Rattle.pm_model.specs.World.{World, Copy, begin, empty_copy}
-use Rattle.pm_model.specs.Closed.{IsClosed, IsClosedCopy}
-use Rattle.pm_model.specs.Plain.{IsPlainObject, IsPlainCopy}
-use Rattle.pm_model.specs.Journal.{IsLegal, after}
-use Rattle.pm_model.proofs.ClosedLaws.{begin_closed}
-use Rattle.pm_memory.proofs.PlainLemmas.{plain_empty}
-use Rattle.pm_run.specs.declared.stop.Stop.{Stop}
-use Rattle.pm_run.specs.declared.stop.Stop.TheVariants.{Memory as StopMemory, Writing as StopWriting, Device as StopDevice}
-use Rattle.pm_run.specs.Causes.{IsDone, IsElsewhere, CountsDisk, CountsSink}
-use Rattle.pm_run.specs.Running.{AnswersLines, RunsOnDisk}
-use Rattle.pm_run.specs.Writing.{WroteRun}
-use Rattle.pm_run.specs.Storing.{Stores}
 use Rattle.pm_base.specs.Counts.{Rose, ShowsRise}
 use Rattle.pm_disk.specs.Made.{Made}
-use Rattle.pm_shadow.specs.State.{State}
+use Rattle.pm_disk.specs.declared.disk.Disk.{Ghosts}
+use Rattle.pm_disk.proofs.RunLemmas.{weaker}
+use Rattle.pm_model.specs.World.{World, begin, empty_copy}
+use Rattle.pm_model.specs.Closed.{IsClosed}
+use Rattle.pm_model.specs.Journal.{IsLegal, after}
+use Rattle.pm_model.specs.Text.{text}
+use Rattle.pm_model.proofs.ClosedLaws.{empty_closed}
+use Rattle.pm_grammar.specs.declared.line.Line.{Line}
+use Rattle.pm_view.specs.View.{Cars, SpaceView}
+use Rattle.pm_copies.specs.Listed.{copy_in}
+use Rattle.pm_saving.specs.Progress.{Progress, Saving}
+use Rattle.pm_serving.specs.Serving.{IsServed, Serving, in_progress, just_opened, numbered_copy, opening}
+use Rattle.pm_serving.specs.Images as images
+use Rattle.pm_engine.specs.declared.engine.Engine.{Engine}
+use Rattle.pm_engine.specs.Shown.{KeepsStart, disk_in, serving}
+use Rattle.pm_serial.specs.declared.stop.Stop.{Stop}
+use Rattle.pm_serial.specs.declared.stop.Stop.TheVariants.{Memory as StopMemory, Writing as StopWriting, Device as StopDevice}
+use Rattle.pm_serial.specs.Causes as causes
+use Rattle.pm_serial.specs.Causes.{IsDone, CountsDisk, CountsSink}
+use Rattle.pm_serial.specs.Running.{AnswersLines, IsFresh, RunsOnDisk}
+use Rattle.pm_serial.specs.Writing.{WroteRun}
 use Rattle.pm_top.specs.declared.ended.Detail.{Detail}
-use Rattle.pm_top.specs.declared.ended.Detail.TheVariants.{Fine, Usage, Unread, Reading, Writing, Device, NotEmpty, Refused, Memory}
-use Rattle.pm_top.specs.Ends.{stop_in, ended_by, ShowsReading, ShowsWriting, ShowsDevice, NamesRule}
-use Rattle.pm_top.specs.Stages.{IsPast, IsBefore, StopsBefore, unreached, the_words, the_script, the_events, the_output}
-use Rattle.pm_image.specs.Blank.{blank_store}
-use Rattle.pm_plain.specs.Plain.{Opens}
-use Rattle.pm_plain.proofs.PlainLaws.{blank_opens}
-use Rattle.pm_top.specs.Journals.{IsBegun}
+use Rattle.pm_top.specs.Ends.{stop_in, ended_by}
+use Rattle.pm_top.specs.Stages.{IsPast, unreached, the_events, the_output}
+use Rattle.pm_top.specs.Disks.{IsLastOf, IsOfDisk, IsOfRun}
+use Rattle.pm_top.specs.Engines.{RunsEngine}
+use Rattle.pm_top.specs.Journals.{IsBegun, ServesLines}
 use Rattle.pm_top.specs.Commands.{ShowsCauses}
+use Rattle.pm_top.proofs.Faults.{late_past}
 
--- ---- worlds in which whatever is named is an object
-
-not_null : (fields : List (Option ℕ)) (index to : ℕ) → AllByRecursion (λ (field : Option ℕ). field ≡ None) fields → slice_get fields index ≡ Some (Some to) → ⊥
-not_null [] index to all is = absurd (cc is)
-not_null (field ∷ fields) zero to all is = absurd (cc (all.0, is))
-not_null (field ∷ fields) (suc index) to all is = not_null fields index to all.1 is
-
-no_field : (object : Option Object) (index to : ℕ) → ((it : Object) → object ≡ Some it → IsPlainObject it) → field_of object index ≡ Some (Some to) → ⊥
-no_field None index to plain is = absurd (cc is)
-no_field (Some object) index to plain is = not_null object.fields index to (plain object refl).null is
-
-plain_closed : (copy : Copy) → IsPlainCopy copy → IsClosedCopy copy
-plain_closed copy plain = record {
-  first = plain.plain.first;
-  last = plain.plain.last;
-  given = plain.plain.given;
-  fields = λ from index to is. absurd (no_field (get copy.heap from) index to (λ it there. plain.plain.plain from it there) is);
-  named = plain.plain.named;
-}
-
--- a journal that is legal from the world of a copy that a store can stand for
-pub begun_by : (number : ℕ) (copy : Copy) (journal : List Entry) → (bytes : List ℕ) × Opens bytes number copy → IsPlainCopy copy → IsLegal (begin number copy) journal → IsBegun journal
-begun_by number copy journal has plain legal =
-    record { number = number; copy = copy; store = has.0; stands = has.1.stands; plain = plain; closed = begin_closed number copy (plain_closed copy plain); legal = legal }
-
--- an empty journal is one
+-- an empty journal is legal from the world of the empty copy
 pub none_begun : (journal : List Entry) → journal ≡ [] → IsBegun journal
-none_begun journal none = begun_by 0 empty_copy journal (blank_store, blank_opens) plain_empty (subst (IsLegal (begin 0 empty_copy)) (sym none) tt)
+none_begun journal none = record { number = 0; copy = empty_copy; closed = empty_closed; legal = subst (IsLegal (begin 0 empty_copy)) (sym none) tt }
+
+-- ---- an engine that was just opened
+
+none_there : (frozen : Option Cars) (progress : Option Progress) → ∥ option_map (numbered_copy frozen) progress ≡ None ∥₁ → progress ≡ None
+none_there frozen None known = refl
+none_there frozen (Some progress) known = absurd (∥∥₁_elim known ⊥_prop (λ is. cc is))
+
+served_none : (it : Serving) → it.journal ≡ [] → IsServed it → in_progress it ≡ None
+served_none it none served = sym served.saving ∙ ap (λ (j : List Entry). (after (opening it) j).saving) none
+
+-- nothing was asked of it yet, and no copy is in progress
+pub fresh_engine : {D : Type 0} {F : Type 0} {g : Ghosts D} (it : Engine D F g) (number : ℕ) (view : SpaceView) (saving : Saving) → serving it ≡ just_opened number view saving → IsFresh (serving it)
+fresh_engine it number view saving is =
+    let none = ap (λ (s : Serving). s.journal) is in
+    record {
+      journal = none;
+      events = ap (λ (s : Serving). s.events) is;
+      stopped = ap (λ (s : Serving). s.stopped) is;
+      progress = none_there (serving it).frozen (serving it).saving.progress (∥∥₁_map it.sound (λ sound. served_none (serving it) none sound.served));
+    }
 
 -- ---- ends of a run of lines
 
@@ -84,61 +84,54 @@ done_back (Some StopWriting) a b c d journal past = absurd (omega arith)
 done_back (Some StopDevice) a b c d [] past = absurd (omega arith)
 done_back (Some StopDevice) a b c d (entry ∷ journal) past = absurd (omega arith)
 
-elsewhere_back : (stop : Option Stop) (a b c d : ℕ) → StopsBefore the_output (ended_by stop a b c d) → IsElsewhere stop
-elsewhere_back None a b c d stops = absurd (omega arith)
-elsewhere_back (Some StopMemory) a b c d stops = tt
-elsewhere_back (Some StopWriting) a b c d stops = absurd (omega arith)
-elsewhere_back (Some StopDevice) a b c d stops = tt
+-- the disk failed where the run stopped for it, and no call had answered so where it did not
+disk_back : (stop : Option Stop) (stopped : Option ℕ) (a b c d : ℕ) → ((causes.IsOfDisk stop → ⊥) → stopped ≡ None) → IsSome stopped → IsOfDisk (ended_by stop a b c d)
+disk_back None stopped a b c d going some = absurd (cc (subst IsSome (going (λ no. no)) some))
+disk_back (Some StopMemory) stopped a b c d going some = absurd (cc (subst IsSome (going (λ no. no)) some))
+disk_back (Some StopWriting) stopped a b c d going some = absurd (cc (subst IsSome (going (λ no. no)) some))
+disk_back (Some StopDevice) stopped a b c d going some = tt
+
+of_run : (it : Serving) (stop : Option Stop) (a b c d : ℕ) (left : List ℕ) → ((causes.IsOfDisk stop → ⊥) → it.stopped ≡ None) → images.IsOfRun it left → IsOfRun (ended_by stop a b c d) (opening it) it.journal left
+of_run it stop a b c d left going = ⊎_elim (λ kept. inl kept) (λ begun. inr (disk_back stop it.stopped a b c d going begun.0, begun.1))
+
+of_last : (it : Serving) (stop : Option Stop) (a b c d : ℕ) (left : List ℕ) → ((causes.IsOfDisk stop → ⊥) → it.stopped ≡ None) → images.IsLast it left → IsLastOf (ended_by stop a b c d) (after (opening it) it.journal) left
+of_last it stop a b c d left going = ⊎_elim (λ kept. inl kept) (λ begun. inr (disk_back stop it.stopped a b c d going begun.0, begun.1))
 
 -- what was answered
-pub answers_end : (first start now : World) (lines : List Request) (journal whole : List Entry) (stop : Option Stop) (detail : Detail) (a b c d : ℕ) → first ≡ start → whole ≡ journal → detail ≡ ended_by stop a b c d
-    → AnswersLines first lines now journal (IsDone stop) → AnswersLines start lines (after start whole) whole (IsPast the_output detail whole)
-answers_end first start now lines journal whole stop detail a b c d same_start same is answers =
-    subst (λ (e : Detail). AnswersLines start lines (after start whole) whole (IsPast the_output e whole)) (sym is)
-    (subst (λ (j : List Entry). AnswersLines start lines (after start j) j (IsPast the_output (ended_by stop a b c d) j)) (sym same)
-    (subst (λ (w : World). AnswersLines w lines (after w journal) journal (IsPast the_output (ended_by stop a b c d) journal)) same_start
-    (record { legal = answers.legal; world = refl; rest = answers.rest; served = answers.served; all = λ past. answers.all (done_back stop a b c d journal past) })))
+pub lines_served : (lines : List Line) (it : Serving) (stop : Option Stop) (a b c d : ℕ) → AnswersLines lines it stop → ServesLines lines (ended_by stop a b c d) it.journal
+lines_served lines it stop a b c d answers =
+    let late = ended_late stop a b c d in
+    record {
+      ends = late_past (ended_by stop a b c d) it.journal late;
+      tried = omega (arith, late);
+      rest = answers.rest;
+      served = answers.served;
+      all = λ past. answers.all (done_back stop a b c d it.journal past);
+    }
 
--- the world at its end
-pub end_world : (first start now : World) (lines : List Request) (journal whole : List Entry) (stop : Option Stop) → first ≡ start → whole ≡ journal
-    → AnswersLines first lines now journal (IsDone stop) → now ≡ after start whole
-end_world first start now lines journal whole stop same_start same answers = answers.world ∙ (λ i. after (same_start i) (sym same i))
-
--- what was written
-pub replies_end : {K : Type 0} (written : K → Option (List ℕ)) (finished count : K → ℕ) (old new : K) (text : List ℕ) (journal : List Entry) (stop : Option Stop) (detail : Detail) (a b c d : ℕ) → detail ≡ ended_by stop a b c d
-    → WroteRun written finished count old new text (IsDone stop) (IsElsewhere stop) → WroteRun written finished count old new text (IsPast the_output detail journal) (StopsBefore the_output detail)
-replies_end written finished count old new text journal stop detail a b c d is wrote =
-    subst (λ (e : Detail). WroteRun written finished count old new text (IsPast the_output e journal) (StopsBefore the_output e)) (sym is)
-    (record {
-      part = wrote.part;
-      all = λ past. wrote.all (done_back stop a b c d journal past);
-      all_finished = λ past. wrote.all_finished (done_back stop a b c d journal past);
-      whole = λ stops. wrote.whole (elsewhere_back stop a b c d stops);
-    })
-
--- what it did to the disk
-pub disk_end : {D : Type 0} (contents : D → Option (List ℕ)) (image : D → List ℕ → Type 0) (moment : D → ℕ) (since : D → ℕ → List ℕ → Type 0) (count : D → ℕ) (made : D → Made) (s : State) (old new : D)
-    (first start now next : World) (journal whole : List Entry) (stop : Option Stop) (detail : Detail) (a b c d : ℕ) → first ≡ start → now ≡ next → whole ≡ journal → detail ≡ ended_by stop a b c d
-    → RunsOnDisk contents image moment since count made s old new first now journal stop → RunsOnDisk contents image moment since count made s old new start next whole (stop_in detail)
-disk_end contents image moment since count made s old new first start now next journal whole stop detail a b c d same_start same_world same is run =
-    subst (λ (e : Option Stop). RunsOnDisk contents image moment since count made s old new start next whole e) (stop_back stop a b c d ∙ ap stop_in (sym is))
-    (subst (λ (j : List Entry). RunsOnDisk contents image moment since count made s old new start next j stop) (sym same)
-    (subst (λ (w : World). RunsOnDisk contents image moment since count made s old new start w journal stop) same_world
-    (subst (λ (w : World). RunsOnDisk contents image moment since count made s old new w now journal stop) same_start run)))
+module _ {D : Type 0} {F : Type 0} {g : Ghosts D} {K : Type 0} (written : K → Option (List ℕ)) (finished count : K → ℕ) where
+  -- what it left
+  pub engine_run : (old new : Engine D F g) (sink last : K) (stop : Option Stop) (a b c d : ℕ) → RunsOnDisk old new stop → KeepsStart old new → IsClosed (opening (serving new)) → IsLegal (opening (serving new)) (serving new).journal
+      → WroteRun written finished count sink last (text (serving new).journal) stop → RunsEngine written finished count old (disk_in new) sink last (ended_by stop a b c d) (serving new).journal
+  engine_run old new sink last stop a b c d disk start closed legal wrote =
+      let detail = ended_by stop a b c d in
+      let journal = (serving new).journal in
+      record {
+        late = ended_late stop a b c d;
+        closed = subst IsClosed same closed;
+        legal = subst (λ (w : World). IsLegal w journal) same legal;
+        images = λ told.
+            weaker g.moment g.since (disk_in old) (disk_in new) (images.IsOfRun (serving new)) (IsOfRun detail (opening (serving old)) journal) (disk.leaves told)
+            (λ left it. subst (λ (w : World). IsOfRun detail w journal left) same (of_run (serving new) stop a b c d left disk.going it));
+        last = λ told left there. subst (λ (w : World). IsLastOf detail (after w journal) left) same (of_last (serving new) stop a b c d left disk.going (disk.last told left there));
+        idle = disk.idle;
+        replies = subst (λ (s : Option Stop). WroteRun written finished count sink last (text journal) s) (stop_back stop a b c d) wrote;
+      }
+    where
+      same : opening (serving new) ≡ opening (serving old)
+      same = λ i. begin (start.opening.number i) (copy_in (start.opening.opened i))
 
 -- ---- causes
-
--- a source that was not called did not fail
-pub unread_cause : (detail : Detail) (count : ℕ) → the_script < unreached detail → ShowsReading detail count count
-unread_cause Fine n late = refl
-unread_cause Usage n late = absurd (omega arith)
-unread_cause Unread n late = refl
-unread_cause (Reading before after) n late = absurd (omega arith)
-unread_cause (Writing before after) n late = refl
-unread_cause (Device before after) n late = refl
-unread_cause (NotEmpty bytes) n late = refl
-unread_cause (Refused fault) n late = refl
-unread_cause Memory n late = refl
 
 -- a count that rose between these numbers
 pub shows_rise : (before after was now : ℕ) → before ≡ was → after ≡ now → Rose was now → ShowsRise before after was now

@@ -1,51 +1,103 @@
 -- What a run answers of bytes, from what it answers of their lines; and runs that end before the store.
-use Rattle.std.proofs.Common.{◌≡◌, ℕ, ◌<◌, ◌≤◌, List, [], ◌++◌, refl, sym, ap, subst, ◌∙◌, arith}
+use Rattle.std.proofs.Common.{◌≡◌, ◌⊎◌, inl, inr, ℕ, ◌<◌, ◌≤◌, List, [], refl, ap, ◌∙◌, arith}
 use Rattle.pm_types.specs.declared.entry.Entry.{Entry}
 use Rattle.pm_disk.specs.Made.{Made}
-use Rattle.pm_model.specs.declared.request.Request.{Request}
-use Rattle.pm_model.specs.Journal.{requests_of}
-use Rattle.pm_script.specs.Script.{IsScript}
-use Rattle.pm_script.proofs.Lines.{all_served}
+use Rattle.pm_model.specs.Journal.{requests_of, commands_of}
+use Rattle.pm_grammar.specs.declared.fault.ScriptFault.{ScriptFault}
+use Rattle.pm_grammar.specs.declared.fault.ScriptFault.TheVariants.{Line as BadLine, TooManyLines, TooLong, Memory as ScriptMemory}
+use Rattle.pm_grammar.specs.declared.line.Line.{Line}
+use Rattle.pm_grammar.specs.Script.{IsScript}
+use Rattle.pm_serial.specs.Asked.{requests_asked, AreServed}
 use Rattle.pm_top.specs.declared.ended.Detail.{Detail}
-use Rattle.pm_top.specs.declared.ended.Detail.TheVariants.{Fine, Usage, Unread, Reading, Writing, Device, NotEmpty, Refused, Memory}
+use Rattle.pm_top.specs.declared.ended.Detail.TheVariants.{Fine, Usage, Script, Reading, Writing, Device, NotEmpty, Refused, Memory}
+use Rattle.pm_top.specs.Ends.{not_read}
 use Rattle.pm_top.specs.Stages.{IsPast, unreached, the_words, the_script, the_store, the_output}
-use Rattle.pm_top.specs.Journals.{ReadsScript, ServesLines}
+use Rattle.pm_top.specs.Unserved.{IsFault}
+use Rattle.pm_top.specs.Journals.{EndsFor, IsScriptEnd, ReadsScript, ServesLines}
 use Rattle.pm_top.specs.Commands.{ShowsCauses}
+use Rattle.pm_top.proofs.UnservedLaws.{one_fault, one_reading, served_well}
 
-tried_read : (detail : Detail) → the_store < unreached detail → detail ≡ Unread → ⊥
-tried_read detail tried is = let late : the_store < unreached Unread = subst (λ (d : Detail). the_store < unreached d) is tried in absurd (omega arith)
+-- a run that came to the store does not refuse the script
+tried_read : (bytes : List ℕ) (detail : Detail) → the_store < unreached detail → IsScriptEnd bytes detail
+tried_read bytes Fine tried = tt
+tried_read bytes Usage tried = tt
+tried_read bytes (Script fault) tried = absurd (omega arith)
+tried_read bytes (Reading before after) tried = tt
+tried_read bytes (Writing before after) tried = tt
+tried_read bytes (Device before after) tried = tt
+tried_read bytes (NotEmpty n) tried = tt
+tried_read bytes (Refused fault) tried = tt
+tried_read bytes Memory tried = tt
 
--- the bytes are a script of these lines
-pub script_read : (bytes : List ℕ) (lines : List Request) (detail : Detail) (journal : List Entry) → IsScript bytes lines → ServesLines lines detail journal → ReadsScript bytes detail journal
-script_read bytes lines detail journal script serves =
-    let all : IsPast the_output detail journal → IsScript bytes (requests_of journal) = λ past. subst (IsScript bytes) (sym (serves.all past)) script in
+-- the bytes are a script of these lines, which are served
+pub script_read : (bytes : List ℕ) (lines : List Line) (detail : Detail) (journal : List Entry) → IsScript bytes lines → AreServed lines → ServesLines lines detail journal → ReadsScript bytes detail journal
+script_read bytes lines detail journal script are serves =
+    let all : IsPast the_output detail journal → (others : List Line) → IsScript bytes others → requests_of journal ≡ requests_asked others =
+    λ past others other. serves.all past ∙ ap requests_asked (one_reading bytes lines others script other) in
     record {
-      unread = λ is. absurd (tried_read detail serves.tried is);
-      ran = λ past. record { lines = lines; rest = serves.rest; script = script; served = serves.served };
+      refused = tried_read bytes detail serves.tried;
+      told = λ fault is. absurd (served_well bytes lines fault script are is);
+      ran = λ past. record { lines = lines; rest = serves.rest; script = script; are_served = are; served = serves.served };
       all = all;
-      serves = λ past lines script. all_served bytes journal lines (all past) script;
+      serves = λ past others other client. ap (commands_of client) (all past others other);
     }
 
--- they are none
-pub script_unread : (bytes : List ℕ) → ((lines : List Request) → IsScript bytes lines → ⊥) → ReadsScript bytes Unread []
-script_unread bytes none = record { unread = λ is. none; ran = λ past. absurd (omega arith); all = λ past. absurd (omega arith); serves = λ past. absurd (omega arith) }
+-- they have this fault
+pub script_refused : (bytes : List ℕ) (fault : ScriptFault) → IsFault fault bytes → ReadsScript bytes (Script fault) []
+script_refused bytes fault is = record {
+  refused = is;
+  told = λ first too. one_fault bytes fault first is too;
+  ran = λ past. absurd (omega arith);
+  all = λ past. absurd (omega arith);
+  serves = λ past. absurd (omega arith);
+}
 
 -- nothing was read of them
-pub script_unknown : (bytes : List ℕ) (detail : Detail) → (detail ≡ Unread → ⊥) → (IsPast the_script detail [] → ⊥) → ReadsScript bytes detail []
-script_unknown bytes detail other none = record {
-  unread = λ is. absurd (other is);
+pub script_unknown : (bytes : List ℕ) (detail : Detail) → IsScriptEnd bytes detail → ((fault : ScriptFault) → EndsFor fault detail) → (IsPast the_script detail [] → ⊥) → ReadsScript bytes detail []
+script_unknown bytes detail refused ends none = record {
+  refused = refused;
+  told = λ fault is. ends fault;
   ran = λ past. absurd (none past);
   all = λ past. absurd (none (omega (arith, past)));
   serves = λ past. absurd (none (omega (arith, past)));
 }
 
+-- a script that is not read
+pub script_not_read : (bytes : List ℕ) (fault : ScriptFault) → (fault ≡ ScriptMemory) ⊎ IsFault fault bytes → ReadsScript bytes (not_read fault) []
+script_not_read bytes (BadLine number cause) (inl never) = absurd (cc never)
+script_not_read bytes (BadLine number cause) (inr is) = script_refused bytes (BadLine number cause) is
+script_not_read bytes TooManyLines (inl never) = absurd (cc never)
+script_not_read bytes TooManyLines (inr is) = script_refused bytes TooManyLines is
+script_not_read bytes TooLong (inl never) = absurd (cc never)
+script_not_read bytes TooLong (inr is) = script_refused bytes TooLong is
+script_not_read bytes ScriptMemory is = script_unknown bytes Memory tt (λ fault. tt) (λ past. absurd (omega arith))
+
+-- its end is one of a run, before the store
+pub ends_read : (fault : ScriptFault) → IsPast the_words (not_read fault) []
+ends_read (BadLine number cause) = omega arith
+ends_read TooManyLines = omega arith
+ends_read TooLong = omega arith
+ends_read ScriptMemory = omega arith
+
+pub past_read : (fault : ScriptFault) → the_script < unreached (not_read fault)
+past_read (BadLine number cause) = omega arith
+past_read TooManyLines = omega arith
+past_read TooLong = omega arith
+past_read ScriptMemory = omega arith
+
+pub unopened_read : (fault : ScriptFault) → IsPast the_store (not_read fault) [] → ⊥
+unopened_read (BadLine number cause) past = absurd (omega arith)
+unopened_read TooManyLines past = absurd (omega arith)
+unopened_read TooLong past = absurd (omega arith)
+unopened_read ScriptMemory past = absurd (omega arith)
+
 module _ {D S K : Type 0} (disk_count : D → ℕ) (made : D → Made) (source_count : S → ℕ) (sink_count : K → ℕ) where
   -- what was not called did not fail
-  pub unread_causes : (disk : D) (source : S) (sink : K) → ShowsCauses disk_count made source_count sink_count disk disk source source sink sink Unread
-  unread_causes disk source sink = record { reading = refl; writing = refl; device = refl; rule = tt; reads = refl }
-
   pub usage_causes : (disk : D) (source : S) (sink : K) → ShowsCauses disk_count made source_count sink_count disk disk source source sink sink Usage
   usage_causes disk source sink = record { reading = refl; writing = refl; device = refl; rule = tt; reads = refl }
 
-  pub memory_causes : (disk : D) (source : S) (sink : K) → ShowsCauses disk_count made source_count sink_count disk disk source source sink sink Memory
-  memory_causes disk source sink = record { reading = refl; writing = tt; device = refl; rule = tt; reads = refl }
+  pub read_causes : (disk : D) (source : S) (sink : K) (fault : ScriptFault) → ShowsCauses disk_count made source_count sink_count disk disk source source sink sink (not_read fault)
+  read_causes disk source sink (BadLine number cause) = record { reading = refl; writing = refl; device = refl; rule = tt; reads = refl }
+  read_causes disk source sink TooManyLines = record { reading = refl; writing = refl; device = refl; rule = tt; reads = refl }
+  read_causes disk source sink TooLong = record { reading = refl; writing = refl; device = refl; rule = tt; reads = refl }
+  read_causes disk source sink ScriptMemory = record { reading = refl; writing = tt; device = refl; rule = tt; reads = refl }

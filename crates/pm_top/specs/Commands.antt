@@ -1,12 +1,12 @@
 -- What each command does, from its start to its end, by how it ended: a record of named facts for each.
-use Rattle.std.specs.Prelude.{◌≡◌, ℕ, List, [], Option, Some}
+use Rattle.std.specs.Prelude.{◌≡◌, ℕ, ◌<◌, List, [], Option, Some}
 use Rattle.pm_types.specs.declared.entry.Entry.{Entry}
 use Rattle.pm_disk.specs.Made.{Made}
 use Rattle.pm_model.specs.Text.{text}
-use Rattle.pm_run.specs.Writing.{WroteRun}
+use Rattle.pm_serial.specs.Writing.{WroteRun}
 use Rattle.pm_top.specs.declared.ended.Detail.{Detail}
-use Rattle.pm_top.specs.Ends.{ShowsReading, ShowsWriting, ShowsDevice, NamesRule}
-use Rattle.pm_top.specs.Stages.{IsPast, IsBefore, StopsBefore, the_words, the_script, the_events, the_output}
+use Rattle.pm_top.specs.Ends.{ShowsReading, ShowsWriting, ShowsDevice, NamesRule, stop_in}
+use Rattle.pm_top.specs.Stages.{IsPast, IsBefore, unreached, the_words, the_script, the_events}
 use Rattle.pm_top.specs.Journals.{IsBegun, ReadsScript}
 use Rattle.pm_top.specs.Disks.{LeavesDisk, LeavesMade}
 
@@ -15,7 +15,7 @@ pub record ShowsCauses {D S K : Type 0} (disk_count : D → ℕ) (made : D → M
   pub reading : ShowsReading detail (source_count source) (source_count source_end)
   pub writing : ShowsWriting detail (sink_count sink) (sink_count sink_end)
   pub device : ShowsDevice detail (disk_count disk) (disk_count disk_end)
-  -- a store is refused by a rule of its bytes alone
+  -- a script and a store are refused by a rule of their bytes alone
   pub rule : NamesRule detail
   -- nobody asked for a read past the end of what the disk tells
   pub reads : (made disk_end).past ≡ (made disk).past
@@ -43,8 +43,9 @@ pub record RunsStore {D K : Type 0} (contents : D → Option (List ℕ)) (image 
   pub leaves : LeavesDisk contents image moment since disk disk_end detail journal
   -- the sink is not called where no line was run
   pub quiet : IsBefore the_events detail → sink_end ≡ sink
-  -- a first part of the journal's text is written, all of it where the run is done, or stopped for another cause
-  pub replies : WroteRun written finished sink_count sink sink_end (text journal) (IsPast the_output detail journal) (StopsBefore the_output detail)
+  -- and where lines may have been, a first part of the journal's text is written: all of it where the run is done, or
+  -- stopped for want of memory or for the disk, and the sink did not fail
+  pub replies : the_events < unreached detail → WroteRun written finished sink_count sink sink_end (text journal) (stop_in detail)
 
 -- What `run FILE serial` does: the source is read to its end, the script is read, the store is opened, and its lines
 -- are run in their order.

@@ -6,16 +6,20 @@ use Rattle.pm_types.specs.declared.fault.OpenFault.{OpenFault}
 use Rattle.pm_types.specs.declared.fault.OpenFault.TheVariants.{NotAStore, Version, Damaged, Malformed, Broken, Disk, Memory as NoRoom}
 use Rattle.pm_types.specs.declared.fault.InitFault.{InitFault}
 use Rattle.pm_types.specs.declared.fault.InitFault.TheVariants.{NotEmpty as NotEmptied, Disk as InitDisk, Memory as InitMemory}
-use Rattle.pm_run.specs.declared.stop.Stop.{Stop}
-use Rattle.pm_run.specs.declared.stop.Stop.TheVariants.{Memory as StopMemory, Writing as StopWriting, Device as StopDevice}
+use Rattle.pm_grammar.specs.declared.fault.Cause.{Cause}
+use Rattle.pm_grammar.specs.declared.fault.Cause.TheVariants as cause
+use Rattle.pm_grammar.specs.declared.fault.ScriptFault.{ScriptFault}
+use Rattle.pm_grammar.specs.declared.fault.ScriptFault.TheVariants.{Line as BadLine, TooManyLines, TooLong, Memory as ScriptMemory}
+use Rattle.pm_serial.specs.declared.stop.Stop.{Stop}
+use Rattle.pm_serial.specs.declared.stop.Stop.TheVariants.{Memory as StopMemory, Writing as StopWriting, Device as StopDevice}
 use Rattle.pm_top.specs.declared.ended.Detail.{Detail}
-use Rattle.pm_top.specs.declared.ended.Detail.TheVariants.{Fine, Usage, Unread, Reading, Writing, Device, NotEmpty, Refused, Memory}
+use Rattle.pm_top.specs.declared.ended.Detail.TheVariants.{Fine, Usage, Script, Reading, Writing, Device, NotEmpty, Refused, Memory}
 
 -- the exit status of each end
 abbrev pub status_of : Detail → ℕ
 status_of Fine = 0
 status_of Usage = 1
-status_of Unread = 2
+status_of (Script fault) = 2
 status_of (Reading before after) = 3
 status_of (Writing before after) = 4
 status_of (Device before after) = 5
@@ -33,11 +37,28 @@ refusal_line Broken = codes "pmos: store not read\n"
 refusal_line (Disk before after) = codes "pmos: disk fault\n"
 refusal_line NoRoom = codes "pmos: no memory\n"
 
+-- the word for what is wrong with a line
+abbrev pub cause_word : Cause → List ℕ
+cause_word cause.LineTooLong = codes "too-long"
+cause_word cause.Client = codes "client"
+cause_word cause.Word = codes "word"
+cause_word cause.Count = codes "count"
+cause_word cause.Number = codes "number"
+cause_word cause.Hex = codes "hex"
+cause_word cause.Name = codes "name"
+
+-- the text of a bad script, on standard error
+abbrev pub script_line : ScriptFault → List ℕ
+script_line (BadLine number cause) = codes "pmos: script line " ++ decimal number ++ codes " " ++ cause_word cause ++ codes "\n"
+script_line TooManyLines = codes "pmos: script too many lines\n"
+script_line TooLong = codes "pmos: script too long\n"
+script_line ScriptMemory = codes "pmos: no memory\n"
+
 -- the text of each end, on standard error
 abbrev pub detail_line : Detail → List ℕ
 detail_line Fine = []
 detail_line Usage = codes "pmos: usage\n"
-detail_line Unread = codes "pmos: script not read\n"
+detail_line (Script fault) = script_line fault
 detail_line (Reading before after) = codes "pmos: read fault\n"
 detail_line (Writing before after) = codes "pmos: write fault\n"
 detail_line (Device before after) = codes "pmos: disk fault\n"
@@ -63,14 +84,22 @@ abbrev pub ShowsDevice : Detail → ℕ → ℕ → Type 0
 ShowsDevice (Device before after) count_before count_after = ShowsRise before after count_before count_after
 ShowsDevice detail count_before count_after = count_after ≡ count_before
 
--- a store is refused for what stands in it: a disk that fails and want of memory are ends of their own
+-- a store is refused by a rule of its bytes: a disk that fails and want of memory are ends of their own, and there is no
+-- store that is sound and yet not opened
 abbrev pub IsOfStore : OpenFault → Type 0
+IsOfStore Broken = ⊥
 IsOfStore (Disk before after) = ⊥
 IsOfStore NoRoom = ⊥
 IsOfStore fault = Unit {0}
 
+-- a script is refused for what stands in it
+abbrev pub IsOfScript : ScriptFault → Type 0
+IsOfScript ScriptMemory = ⊥
+IsOfScript fault = Unit {0}
+
 abbrev pub NamesRule : Detail → Type 0
 NamesRule (Refused fault) = IsOfStore fault
+NamesRule (Script fault) = IsOfScript fault
 NamesRule detail = Unit {0}
 
 -- why a run of lines stopped that ended so, if it did
@@ -86,6 +115,13 @@ ended_by None disk_before disk_after sink_before sink_after = Fine
 ended_by (Some StopMemory) disk_before disk_after sink_before sink_after = Memory
 ended_by (Some StopWriting) disk_before disk_after sink_before sink_after = Writing sink_before sink_after
 ended_by (Some StopDevice) disk_before disk_after sink_before sink_after = Device disk_before disk_after
+
+-- how the program ends where a script is not read
+abbrev pub not_read : ScriptFault → Detail
+not_read (BadLine number cause) = Script (BadLine number cause)
+not_read TooManyLines = Script TooManyLines
+not_read TooLong = Script TooLong
+not_read ScriptMemory = Memory
 
 -- how the program ends where a store is not opened
 abbrev pub not_opened : OpenFault → Detail

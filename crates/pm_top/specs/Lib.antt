@@ -2,7 +2,9 @@ pub mod Words
 pub mod Walk
 pub mod Stages
 pub mod Ends
+pub mod Unserved
 pub mod Journals
 pub mod Disks
+pub mod Engines
 pub mod Commands
 pub mod Program

@@ -1,9 +1,9 @@
 -- What the whole program does, down to its status and to standard error.
-use Rattle.std.specs.Prelude.{◌≡◌, ◌↔◌, ℕ, List, ◌++◌, Option, Some}
+use Rattle.std.specs.Prelude.{◌≡◌, ◌↔◌, ℕ, List, Option}
 use Rattle.pm_base.specs.Counts.{Rose}
 use Rattle.pm_types.specs.declared.entry.Entry.{Entry}
 use Rattle.pm_disk.specs.Made.{Made}
-use Rattle.pm_run.specs.Writing.{WrotePart, WroteAll}
+use Rattle.pm_output.specs.Writing.{PutsAll, PutsPart}
 use Rattle.pm_top.specs.declared.command_line.Command.TheVariants.{Init, Run}
 use Rattle.pm_top.specs.declared.ended.Detail.{Detail}
 use Rattle.pm_top.specs.declared.ended.Detail.TheVariants.{Usage}
@@ -13,8 +13,8 @@ use Rattle.pm_top.specs.Commands.{ShowsCauses, IsUntouched, MakesStore, RunsScri
 
 -- This line was written to the sink and nothing else, or, where the sink failed, a first part of it.
 pub record Tells {E : Type 0} (written : E → Option (List ℕ)) (count : E → ℕ) (old new : E) (line : List ℕ) : Type 0 where
-  pub all : ¬ (Rose (count old) (count new)) → (before : List ℕ) → written old ≡ Some before → WroteAll before (written new) line
-  pub part : (before : List ℕ) → written old ≡ Some before → WrotePart before (written new) line
+  pub all : ¬ (Rose (count old) (count new)) → PutsAll (written old) (written new) line
+  pub part : PutsPart (written old) (written new) line
 
 -- The line of an end was told, and this is the status of that end.
 pub record TellsEnd {E : Type 0} (written : E → Option (List ℕ)) (count : E → ℕ) (old new : E) (status : ℕ) : Type 0 where

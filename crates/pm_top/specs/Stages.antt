@@ -2,7 +2,7 @@
 use Rattle.std.specs.Prelude.{◌≡◌, ℕ, ◌≤◌, List, [], ◌∷◌}
 use Rattle.pm_types.specs.declared.entry.Entry.{Entry}
 use Rattle.pm_top.specs.declared.ended.Detail.{Detail}
-use Rattle.pm_top.specs.declared.ended.Detail.TheVariants.{Fine, Usage, Unread, Reading, Writing, Device, NotEmpty, Refused, Memory}
+use Rattle.pm_top.specs.declared.ended.Detail.TheVariants.{Fine, Usage, Script, Reading, Writing, Device, NotEmpty, Refused, Memory}
 
 -- no stage
 abbrev pub at_start : ℕ
@@ -16,7 +16,7 @@ the_words = 1
 abbrev pub the_source : ℕ
 the_source = 2
 
--- its bytes are read as a script
+-- its bytes are read as a script, of lines that are served
 abbrev pub the_script : ℕ
 the_script = 3
 
@@ -40,7 +40,7 @@ at_end = 7
 abbrev pub behind : Detail → List Entry → ℕ
 behind Fine journal = the_output
 behind Usage journal = at_start
-behind Unread journal = the_words
+behind (Script fault) journal = the_words
 behind (Reading before after) journal = the_words
 behind (Writing before after) journal = the_store
 behind (Device before after) [] = the_script
@@ -54,7 +54,7 @@ behind Memory (entry ∷ journal) = the_store
 abbrev pub unreached : Detail → ℕ
 unreached Fine = at_end
 unreached Usage = the_source
-unreached Unread = the_store
+unreached (Script fault) = the_store
 unreached (Reading before after) = the_script
 unreached (Writing before after) = at_end
 unreached (Device before after) = the_output
@@ -69,7 +69,3 @@ IsPast stage detail journal = stage ≤ behind detail journal
 -- it surely did not begin this stage
 abbrev pub IsBefore : ℕ → Detail → Type 0
 IsBefore stage detail = unreached detail ≤ stage
-
--- it may have done all the stages before this one, and surely did not begin it
-abbrev pub StopsBefore : ℕ → Detail → Type 0
-StopsBefore stage detail = unreached detail ≡ stage

@@ -1,10 +1,11 @@
 ghost use Rattle.std.specs.Prelude.{◌≡◌};
-ghost use Rattle.pm_run.specs.Causes.{why};
+ghost use Rattle.pm_serial.specs.Causes.{why};
 ghost use Rattle.pm_top.specs.Ends.{status_of, ended_by};
 
 use pm_disk::Disk;
+use pm_grammar::ScriptFault;
 use pm_io::{Sink, Source};
-use pm_run::Stop;
+use pm_serial::Stop;
 use pm_types::{Entry, OpenFault};
 
 /// How the program ended.
@@ -15,8 +16,9 @@ pub enum Detail {
     Fine,
     /// The words are no command line. Status 1.
     Usage,
-    /// What was read is no script. Status 2.
-    Unread,
+    /// What was read is no script, or has a line that is not served yet, by this fault, which is the first that applies.
+    /// Status 2.
+    Script(ScriptFault),
     /// The source failed: its count of faults rose, from `before` to `after`. Status 3.
     Reading { before: u64, after: u64 },
     /// The sink failed: its count of faults rose, from `before` to `after`. Status 4.
@@ -54,7 +56,7 @@ impl Detail {
         match self {
             Detail::Fine => 0,
             Detail::Usage => 1,
-            Detail::Unread => 2,
+            Detail::Script(_) => 2,
             Detail::Reading { .. } => 3,
             Detail::Writing { .. } => 4,
             Detail::Device { .. } => 5,

@@ -7,6 +7,7 @@ use crate::texts::line_of;
 use crate::{Detail, pmos};
 use pm_disk::Disk;
 use pm_io::{Sink, Source};
+use pm_place::Placement;
 use pm_types::NoMemory;
 
 /// Writes the line of an end to the sink for errors, as far as that takes it. Where all is fine there is none, and the
@@ -26,13 +27,14 @@ pub fn tell<E: Sink>(errors: &mut E, detail: &Detail)
 /// Does what the program does, over any disk, streams and sink for errors, and answers the status with which it ends:
 /// 0 to 7. The replies go to `sink` alone, and to `errors` the line of the end, where the status is not 0. Where there
 /// was no memory for a disk it ends as for want of memory.
-pub fn program<R: AllocGlobal, D: Disk + Drop, S: Source, K: Sink, E: Sink>(
+pub fn program<R: AllocGlobal, D: Disk + Drop, S: Source, K: Sink, F: Drop, E: Sink>(
     rt: &R,
     words: &[&str],
     disk: Result<D, NoMemory>,
     source: S,
     sink: K,
     errors: &mut E,
+    place: Placement<F>,
 ) -> u8
     ensures told { TellsEnd E.written E.count errors.old errors.new result }
     ensures performs { IfOk disk (λ given. Performs D.contents D.image D.moment D.since D.count D.made S.left S.count
@@ -42,7 +44,7 @@ pub fn program<R: AllocGlobal, D: Disk + Drop, S: Source, K: Sink, E: Sink>(
 {
     match disk {
         Ok(disk) => {
-            let ended = pmos(rt, words, disk, source, sink);
+            let ended = pmos(rt, words, disk, source, sink, place);
             tell(errors, &ended.detail);
             ended.status
         }

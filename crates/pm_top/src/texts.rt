@@ -2,12 +2,14 @@
 ghost use Rattle.std.specs.Prelude.{◌≡◌, ◌+◌, ◌≤◌, ◌++◌, length, IfOk, codes, decimal};
 ghost use Rattle.hex.specs.Hex.{encode_lower};
 ghost use Rattle.arrayvec.specs.ArrayVec.{array_vec_len};
-ghost use Rattle.pm_top.specs.Ends.{detail_line, refusal_line};
+ghost use Rattle.pm_grammar.specs.declared.fault.ScriptFault.TheVariants as script_fault;
+ghost use Rattle.pm_top.specs.Ends.{cause_word, detail_line, refusal_line, script_line};
 
 use crate::Detail;
 use arrayvec::ArrayVec;
 use hex::encode_to_slice;
 use itoa::Buffer;
+use pm_grammar::{Cause, ScriptFault};
 use pm_types::{NoMemory, OpenFault};
 use std::alloc::Global;
 
@@ -69,6 +71,46 @@ fn numbered_line(words: &[u8], number: u64) -> Line
     line
 }
 
+// The word for what is wrong with a line.
+fn cause_word(cause: Cause) -> &'static [u8]
+    ensures word { result.now ≡ cause_word cause }
+    ensures short { length result.now ≤ 8 }
+{
+    match cause {
+        Cause::LineTooLong => b"too-long",
+        Cause::Client => b"client",
+        Cause::Word => b"word",
+        Cause::Count => b"count",
+        Cause::Number => b"number",
+        Cause::Hex => b"hex",
+        Cause::Name => b"name",
+    }
+}
+
+// The line of a script of which this line is the first that is bad.
+fn bad_line(number: u32, cause: Cause) -> Line
+    ensures { result.items ≡ script_line (script_fault.Line number cause) }
+{
+    let mut line = line_with(b"pmos: script line ");
+    append_number(&mut line, u64::from(number));
+    append(&mut line, b" ");
+    append(&mut line, cause_word(cause));
+    append(&mut line, b"\n");
+    line
+}
+
+// The line of a script that is bad.
+fn script_fault_of(fault: &ScriptFault) -> Line
+    ensures { result.items ≡ script_line fault.now }
+{
+    match fault {
+        ScriptFault::Line { number, cause } => bad_line(*number, *cause),
+        ScriptFault::TooManyLines => line_with(b"pmos: script too many lines\n"),
+        ScriptFault::TooLong => line_with(b"pmos: script too long\n"),
+        ScriptFault::Memory => line_with(b"pmos: no memory\n"),
+    }
+}
+
 // The line of a page that is damaged.
 fn damaged_line(page: u64, kept: &[u8; 32], found: &[u8; 32]) -> Line
     ensures { result.items ≡ refusal_line (OpenFault.Damaged page kept.now found.now) }
@@ -117,7 +159,7 @@ pub(crate) fn line_of(detail: &Detail) -> Line
     match detail {
         Detail::Fine => line_with(b""),
         Detail::Usage => line_with(b"pmos: usage\n"),
-        Detail::Unread => line_with(b"pmos: script not read\n"),
+        Detail::Script(fault) => script_fault_of(fault),
         Detail::Reading { .. } => line_with(b"pmos: read fault\n"),
         Detail::Writing { .. } => line_with(b"pmos: write fault\n"),
         Detail::Device { .. } => line_with(b"pmos: disk fault\n"),

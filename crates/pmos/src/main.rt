@@ -8,6 +8,7 @@ ghost use Rattle.pm_top.specs.Program.{TellsEnd};
 
 use pm_file::FileDisk;
 use pm_io::{Sink, StdSink, StdSource};
+use pm_place::Placement;
 use pm_top::{Detail, program, tell};
 use std::alloc::{AllocError, Global};
 use std::io::ErrorKind;
@@ -58,7 +59,9 @@ fn run<E: Sink>(rt: &HostRuntime, words: &[&str], errors: &mut E) -> u8
     let disk = FileDisk::at(*rt, rt.alloc(), path_of(words));
     let source = StdSource::new(rt.reader());
     let sink = StdSink::new(io::writer(rt));
-    program(rt, words, disk, source, sink, errors)
+    // Of the trains an object may move to it picks the first.
+    let place = Placement::new(|_: &[u64]| 0);
+    program(rt, words, disk, source, sink, errors, place)
 }
 
 // Runs the program over the words, of which the texts are lent.

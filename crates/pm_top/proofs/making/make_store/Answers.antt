@@ -1,12 +1,10 @@
-use Rattle.std.proofs.Common.{sym, subst, ap, refl, ◌∙◌, List, ℕ, []}
+use Rattle.std.proofs.Common.{sym, subst, ap, refl, ◌∙◌, List, ℕ}
 use Rattle.pm_types.specs.declared.entry.Entry.{Entry}
 use Rattle.pm_model.specs.World.{empty_copy}
 use Rattle.pm_image.specs.Blank.{blank_store}
-use Rattle.pm_plain.specs.Plain.{Opens}
-use Rattle.pm_plain.proofs.PlainLaws.{blank_opens}
+use Rattle.pm_image.specs.Stands.{Stands}
+use Rattle.pm_image.proofs.BlankLaws.{blank_stands}
 use Rattle.pm_top.specs.declared.ended.Detail.{Detail}
-use Rattle.pm_top.specs.declared.ended.Detail.TheVariants.{Fine}
-use Rattle.pm_top.specs.Ends.{not_made}
 use Rattle.pm_top.specs.Commands.{ShowsCauses, MakesStore}
 use Rattle.pm_top.proofs.NotMade.{none_made}
 use Rattle.pm_top.proofs.Faults.{init_causes}
@@ -28,7 +26,7 @@ returns-in-Ok-clause-makes g c =
     (record {
       makes = λ bytes told.
           let is = c.in-Ok.ensures.blank bytes told in
-          (c.in-Ok.ensures.empty bytes told, is, λ left now. subst (λ (image : List ℕ). Opens image 0 empty_copy) (sym (c.in-Ok.ensures.only blank_store is left now)) blank_opens);
+          (c.in-Ok.ensures.empty bytes told, is, λ left now. subst (λ (image : List ℕ). Stands image 0 empty_copy) (sym (c.in-Ok.ensures.only blank_store is left now)) blank_stands);
       source_stays = refl;
       sink_stays = refl;
       no_event = refl;

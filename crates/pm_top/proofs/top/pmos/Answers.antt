@@ -1,12 +1,11 @@
-use Rattle.std.proofs.Common.{◌≡◌, ◌<◌, ◌≤◌, ◌∙◌, ap, subst, refl, ℕ, List, [], map, Bor, arith}
+use Rattle.std.proofs.Common.{◌≡◌, ◌<◌, ◌≤◌, ◌∙◌, ap, subst, ℕ, List, map, Bor, arith}
 use Rattle.pm_types.specs.declared.entry.Entry.{Entry}
-use Rattle.pm_top.specs.declared.command_line.Command.{Command}
 use Rattle.pm_top.specs.declared.command_line.Command.TheVariants.{Init, Run}
 use Rattle.pm_top.specs.declared.ended.Detail.{Detail}
 use Rattle.pm_top.specs.declared.ended.Detail.TheVariants.{Usage}
 use Rattle.pm_top.specs.Words.{Spells}
 use Rattle.pm_top.specs.Stages.{IsPast, the_words}
-use Rattle.pm_top.specs.Commands.{ShowsCauses, IsUntouched, MakesStore}
+use Rattle.pm_top.specs.Commands.{ShowsCauses}
 use Rattle.pm_top.specs.Disks.{LeavesMade}
 use Rattle.pm_top.proofs.Stores.{at_end}
 use Rattle.pm_top.proofs.Worded.{one_command}

@@ -1,4 +1,0 @@
-pub mod Written
-pub mod Runs
-pub mod Storing
-pub mod Stepping
