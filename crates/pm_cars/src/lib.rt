@@ -14,6 +14,3 @@ pub use limits::{
     CAR_BYTES, CAR_HEAD_BYTES, FIELD_BYTES, LAST_SLOT, MOVED_BYTES, OBJECT_HEAD_BYTES,
 };
 pub use look::Look;
-
-#[cfg(test)]
-mod tests;

@@ -12,7 +12,7 @@ use Rattle.pm_base.specs.Results.{◌>>=◌}
 use Rattle.pm_image.specs.Graphs.{Graph, copy_of as copy_of_graph, entries_of, graph_of}
 use Rattle.pm_image.specs.Opening.{Current as CurrentHeader, current}
 use Rattle.pm_types.specs.declared.fault.OpenFault.{OpenFault}
-use Rattle.pm_types.specs.declared.fault.OpenFault.TheVariants.{NotAStore, Version, Damaged, Malformed, Broken, Disk, Memory}
+use Rattle.pm_types.specs.declared.fault.OpenFault.TheVariants.{NotAStore, Version, Damaged, Malformed, Disk, Memory}
 use Rattle.pm_shadow.specs.Attaching.{IsFaultOf}
 use Rattle.pm_engine.specs.Opened.{IsRefusal}
 use Rattle.pm_image.specs.Stands.{Opened, Stands, opened, pages_of}
@@ -129,7 +129,6 @@ header_refused bytes NotAStore is = refused bytes NotAStore is
 header_refused bytes (Version version) is = refused bytes (Version version) is
 header_refused bytes (Damaged page kept found) is = refused bytes (Damaged page kept found) is
 header_refused bytes (Malformed page at) is = refused bytes (Malformed page at) is
-header_refused bytes Broken is = absurd is
 header_refused bytes (Disk before after) is = tt
 header_refused bytes Memory is = absurd is
 
@@ -138,6 +137,5 @@ graph_refused bytes NotAStore is = absurd is
 graph_refused bytes (Version version) is = absurd is
 graph_refused bytes (Damaged page kept found) is = is
 graph_refused bytes (Malformed page at) is = is
-graph_refused bytes Broken is = absurd is
 graph_refused bytes (Disk before after) is = tt
 graph_refused bytes Memory is = tt

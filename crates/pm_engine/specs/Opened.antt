@@ -2,7 +2,7 @@
 use Rattle.std.specs.Prelude.{◌≡◌, ℕ, List, Err}
 use Rattle.pm_base.specs.Counts.{ShowsRise}
 use Rattle.pm_types.specs.declared.fault.OpenFault.{OpenFault}
-use Rattle.pm_types.specs.declared.fault.OpenFault.TheVariants.{NotAStore, Version, Damaged, Malformed, Broken, Disk, Memory}
+use Rattle.pm_types.specs.declared.fault.OpenFault.TheVariants.{NotAStore, Version, Damaged, Malformed, Disk, Memory}
 use Rattle.pm_image.specs.Stands.{opened}
 
 -- The bytes are refused where the fault says so: it is the first rule that fails.
@@ -11,7 +11,6 @@ IsRefusal bytes NotAStore = opened bytes ≡ Err NotAStore
 IsRefusal bytes (Version version) = opened bytes ≡ Err (Version version)
 IsRefusal bytes (Damaged page kept found) = opened bytes ≡ Err (Damaged page kept found)
 IsRefusal bytes (Malformed page at) = opened bytes ≡ Err (Malformed page at)
-IsRefusal bytes Broken = ⊥
 IsRefusal bytes (Disk before after) = Unit {0}
 IsRefusal bytes Memory = Unit {0}
 
@@ -21,6 +20,5 @@ IsOpenFault before after NotAStore = after ≡ before
 IsOpenFault before after (Version version) = after ≡ before
 IsOpenFault before after (Damaged page kept found) = after ≡ before
 IsOpenFault before after (Malformed page at) = after ≡ before
-IsOpenFault before after Broken = ⊥
 IsOpenFault before after (Disk b a) = ShowsRise b a before after
 IsOpenFault before after Memory = after ≡ before

@@ -7,7 +7,7 @@ use Rattle.std.specs.FinSet as set
 use Rattle.sha2.specs.Sha256.{sha256}
 use Rattle.pm_types.specs.declared.address.Addr.{Addr}
 use Rattle.pm_types.specs.declared.fault.OpenFault.{OpenFault}
-use Rattle.pm_types.specs.declared.fault.OpenFault.TheVariants.{Damaged, Malformed, Broken}
+use Rattle.pm_types.specs.declared.fault.OpenFault.TheVariants.{NotAStore, Damaged, Malformed}
 use Rattle.pm_types.specs.declared.object.Slot.{Slot}
 use Rattle.pm_types.specs.declared.object.Slot.TheVariants.{Live, Moved}
 use Rattle.pm_layout.specs.declared.header.Header.{Header}
@@ -46,9 +46,9 @@ abbrev pub Catalog : Type 0
 Catalog = List (ℕ × CatalogPage)
 
 -- The pages of the catalog from one page on, which has this digest, with this met before. A page is never met
--- twice, so a chain is no longer than there are pages; one that were longer than n would be broken.
+-- twice, so a chain is no longer than there are pages, and never longer than n: no answer of opening comes from there.
 unfoldable pub catalog_from : ℕ → Pages → Met → ℕ → List ℕ → Result Catalog OpenFault
-catalog_from zero pages met page kept = Err Broken
+catalog_from zero pages met page kept = Err NotAStore
 catalog_from (suc n) pages met page kept = do
   is_kept ← undamaged pages page kept
   first ← on_page page (catalog_at (Some pages.count) met (pages.page page))

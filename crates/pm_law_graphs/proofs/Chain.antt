@@ -5,7 +5,7 @@ use Rattle.std.proofs.lemmas.Bool.{eqb-true}
 use Rattle.std.proofs.lemmas.Bool.Decides.{nat_tests}
 use Rattle.sha2.specs.Sha256.{sha256}
 use Rattle.pm_types.specs.declared.fault.OpenFault.{OpenFault}
-use Rattle.pm_types.specs.declared.fault.OpenFault.TheVariants.{Broken}
+use Rattle.pm_types.specs.declared.fault.OpenFault.TheVariants.{NotAStore}
 use Rattle.pm_base.specs.Results.{◌>>=◌}
 use Rattle.pm_base.proofs.Results.{bind_ok, bound, ok_same}
 use Rattle.pm_image.specs.declared.catalog.CatalogPage.{CatalogPage}
@@ -100,31 +100,31 @@ chain_read (suc n) pages met named kept catalog whole placed is =
 -- ---- and back
 
 -- the catalog is read, or there are more pages in the chain than were allowed
-abbrev pub IsReadOrBroken : Result Catalog OpenFault → Catalog → Type 0
-IsReadOrBroken read catalog = (read ≡ Ok catalog) ⊎ (read ≡ Err Broken)
+abbrev pub IsReadOrLong : Result Catalog OpenFault → Catalog → Type 0
+IsReadOrLong read catalog = (read ≡ Ok catalog) ⊎ (read ≡ Err NotAStore)
 
 some_named : (pages : Pages) (met : Met) (next : ℕ) (digest : List ℕ) (page : ℕ × CatalogPage) (others : Catalog) → IsChainRead pages met next digest (page ∷ others) → 0 < next
 some_named pages met next digest page others read = let low = read.0.placed.0 in let same = read.0.same in omega arith
 
-tail_again : (n : ℕ) (pages : Pages) (met : Met) (next : ℕ) (digest : List ℕ) (others : Catalog) → IsChainRead pages met next digest others → IsReadOrBroken (catalog_from n pages met next digest) others ⊎ (next ≡ 0)
-    → IsReadOrBroken (if next == 0 then Ok [] else catalog_from n pages met next digest) others
+tail_again : (n : ℕ) (pages : Pages) (met : Met) (next : ℕ) (digest : List ℕ) (others : Catalog) → IsChainRead pages met next digest others → IsReadOrLong (catalog_from n pages met next digest) others ⊎ (next ≡ 0)
+    → IsReadOrLong (if next == 0 then Ok [] else catalog_from n pages met next digest) others
 tail_again n pages met next digest [] read rest = inl (ap (λ (k : ℕ). if k == 0 then Ok [] else catalog_from n pages met k digest) read.0)
 tail_again n pages met next digest (page ∷ others) read (inl rest) =
     let goes = zero_test next (some_named pages met next digest page others read) in
-    subst (λ (b : Bool). IsReadOrBroken (if b then Ok [] else catalog_from n pages met next digest) (page ∷ others)) (sym goes) rest
+    subst (λ (b : Bool). IsReadOrLong (if b then Ok [] else catalog_from n pages met next digest) (page ∷ others)) (sym goes) rest
 tail_again n pages met next digest (page ∷ others) read (inr none) = let some = some_named pages met next digest page others read in absurd (omega arith)
 
-with_first : (page : ℕ × CatalogPage) (rest : Result Catalog OpenFault) (others : Catalog) → IsReadOrBroken rest others → IsReadOrBroken (rest >>= λ those. Ok (page ∷ those)) (page ∷ others)
+with_first : (page : ℕ × CatalogPage) (rest : Result Catalog OpenFault) (others : Catalog) → IsReadOrLong rest others → IsReadOrLong (rest >>= λ those. Ok (page ∷ those)) (page ∷ others)
 with_first page rest others (inl is) = inl (ap (λ (r : Result Catalog OpenFault). r >>= λ those. Ok (page ∷ those)) is)
 with_first page rest others (inr is) = inr (ap (λ (r : Result Catalog OpenFault). r >>= λ those. Ok (page ∷ those)) is)
 
 -- the end of a chain, or its next page
 end_or : (n : ℕ) (pages : Pages) (met : Met) (next : ℕ) (digest : List ℕ) (others : Catalog) → IsChainRead pages met next digest others
-    → (0 < next → IsReadOrBroken (catalog_from n pages met next digest) others) → IsReadOrBroken (catalog_from n pages met next digest) others ⊎ (next ≡ 0)
+    → (0 < next → IsReadOrLong (catalog_from n pages met next digest) others) → IsReadOrLong (catalog_from n pages met next digest) others ⊎ (next ≡ 0)
 end_or n pages met next digest [] read again = inr read.0
 end_or n pages met next digest (page ∷ others) read again = inl (again (some_named pages met next digest page others read))
 
-pub chain_again : (n : ℕ) (pages : Pages) (met : Met) (named : ℕ) (kept : List ℕ) (catalog : Catalog) → 0 < named → IsChainRead pages met named kept catalog → IsReadOrBroken (catalog_from n pages met named kept) catalog
+pub chain_again : (n : ℕ) (pages : Pages) (met : Met) (named : ℕ) (kept : List ℕ) (catalog : Catalog) → 0 < named → IsChainRead pages met named kept catalog → IsReadOrLong (catalog_from n pages met named kept) catalog
 unfolding catalog_from
 chain_again zero pages met named kept catalog some read = inr refl
 chain_again (suc n) pages met named kept [] some read = let none = read.0 in absurd (omega arith)
@@ -140,5 +140,5 @@ chain_again (suc n) pages met named kept (page ∷ others) some read =
     let same : catalog_from (suc n) pages met page.0 kept ≡ (rest >>= λ those. Ok (page ∷ those)) =
     bound _ _ tt _ (undamaged_again pages page.0 kept here.digest)
     (bound _ _ first _ (ap (on_page page.0) reads) refl) in
-    subst (λ (k : ℕ). IsReadOrBroken (catalog_from (suc n) pages met k kept) (page ∷ others)) here.same
-    (subst (λ (r : Result Catalog OpenFault). IsReadOrBroken r (page ∷ others)) (sym same) whole)
+    subst (λ (k : ℕ). IsReadOrLong (catalog_from (suc n) pages met k kept) (page ∷ others)) here.same
+    (subst (λ (r : Result Catalog OpenFault). IsReadOrLong r (page ∷ others)) (sym same) whole)

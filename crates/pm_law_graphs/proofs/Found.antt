@@ -5,7 +5,7 @@ use Rattle.std.specs.Ordering.{nat_cmp}
 use Rattle.std.specs.FinSet as set
 use Rattle.std.proofs.lemmas.Bool.{ltb-true, leb-true}
 use Rattle.pm_types.specs.declared.limits.TheConstants.{FIELDS, OLD_FIELDS, OLD_VERSION, PAGE_BYTES}
-use Rattle.pm_types.specs.declared.fault.OpenFault.TheVariants.{Broken}
+use Rattle.pm_types.specs.declared.fault.OpenFault.TheVariants.{NotAStore}
 use Rattle.pm_layout.specs.declared.header.Header.{Header}
 use Rattle.pm_layout.specs.Headers.{most_fields}
 use Rattle.pm_layout.proofs.Numbers.{IsBytes-drop, IsBytes-take}
@@ -28,7 +28,7 @@ use Rattle.pm_law_graphs.proofs.Lists.{all_back, all_both, all_follow, all_front
 use Rattle.pm_law_graphs.proofs.Sets.{AreNew, apart_new, new_apart, new_more, new_others}
 use Rattle.pm_law_graphs.proofs.Cars.{are_below, are_in_range, are_new, are_spelled, cars_again, cars_found, spelled_read}
 use Rattle.pm_law_graphs.proofs.Order.{IsPlaced, entries_in_order, ordered_again}
-use Rattle.pm_law_graphs.proofs.Chain.{IsReadOrBroken, chain_again, chain_read}
+use Rattle.pm_law_graphs.proofs.Chain.{IsReadOrLong, chain_again, chain_read}
 use Rattle.pm_law_graphs.proofs.Whole.{IsWhole, numbers_of, later_pages, page_by_page, chain_whole}
 use Rattle.pm_law_graphs.proofs.Leads.{all_linked}
 
@@ -110,9 +110,9 @@ few_fields version = by (version == OLD_VERSION)
     by true = omega arith
     by false = omega arith
 
-or_broken : (pages : Pages) (header : Header) (catalog : Catalog) → pages.count ≤ 2 ^ 64 → is_placed pages.count header ≡ true → IsReadOrBroken (catalog_of pages header) catalog → catalog_of pages header ≡ Ok catalog
-or_broken pages header catalog few placed (inl is) = is
-or_broken pages header catalog few placed (inr is) = absurd (catalog_fault pages header Broken few placed is)
+or_long : (pages : Pages) (header : Header) (catalog : Catalog) → pages.count ≤ 2 ^ 64 → is_placed pages.count header ≡ true → IsReadOrLong (catalog_of pages header) catalog → catalog_of pages header ≡ Ok catalog
+or_long pages header catalog few placed (inl is) = is
+or_long pages header catalog few placed (inr is) = absurd (catalog_fault pages header NotAStore few placed is)
 
 -- the pages after the first are apart from it and from each other
 later_new : (header : Header) (catalog : Catalog) → 0 < header.first → (pages : Pages) → IsChain pages header.first header.digest catalog → AreApart (numbers_of catalog ++ listed_pages (entries_of catalog)) → AreNew (begun header).pages (later_pages catalog)
@@ -144,7 +144,7 @@ graph_found pages header graph few placed spells =
       new = new;
     } in
     let read = page_by_page pages (begun header) header.first header.digest catalog there in
-    let catalog_read = or_broken pages header catalog few placed (chain_again most_pages pages (begun header) header.first header.digest catalog (omega arith) read) in
+    let catalog_read = or_long pages header catalog few placed (chain_again most_pages pages (begun header) header.first header.digest catalog (omega arith) read) in
     let cars_read = spelled_read most header.next pages set.empty cars spells.cars spells.in_range.cars spells.own_identities.within (apart_new (identities_of cars) spells.own_identities.apart) in
     bound _ _ catalog _ catalog_read
     (bound _ _ cars _ (cars_again most header.next pages set.empty (entries_of catalog) cars (few_fields header.version) spells.listed cars_read)

@@ -7,7 +7,6 @@ pub mod Answer
 pub mod Journal
 pub mod Text
 pub mod Oracles
-pub mod Plain
 pub mod Frames
 pub mod Closed
 pub mod Lasting

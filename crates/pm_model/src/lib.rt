@@ -11,8 +11,6 @@ mod registers;
 mod request;
 mod roots;
 mod telling;
-#[cfg(test)]
-mod tests;
 
 pub use graph::Graph;
 pub use lasting::{a_stored_field_is_loaded, commands_leave_the_rest, worlds_stay_closed};

@@ -16,9 +16,6 @@ use pm_types::{
 use std::alloc::Global;
 use std::marker::Model;
 
-#[cfg(test)]
-mod tests;
-
 /// The world as a plain slow program: ordered maps, and each command as it is defined.
 #[derive(Drop)]
 pub struct Oracle {

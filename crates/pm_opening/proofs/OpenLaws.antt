@@ -4,7 +4,7 @@ use Rattle.std.specs.Prelude.{All, Contains}
 use Rattle.std.specs.List.{AllByRecursion}
 use Rattle.std.proofs.lemmas.List.Elements.{Contains-append_left, Contains-append_right, All-nil, All-cons, All-contains}
 use Rattle.pm_types.specs.declared.fault.OpenFault.{OpenFault}
-use Rattle.pm_types.specs.declared.fault.OpenFault.TheVariants.{NotAStore, Version, Damaged, Malformed, Broken, Disk, Memory}
+use Rattle.pm_types.specs.declared.fault.OpenFault.TheVariants.{NotAStore, Version, Damaged, Malformed, Disk, Memory}
 use Rattle.pm_layout.specs.declared.header.Header.{Header}
 use Rattle.pm_base.specs.Results.{◌>>=◌}
 use Rattle.pm_base.proofs.Results.{bound}
@@ -157,7 +157,6 @@ module _ (s : State) (bytes : List ℕ) (images : List ℕ → Type 0) (sound : 
   refused_by (Version version) there counted is = absurd is
   refused_by (Damaged page kept damaged) there counted is = refused (Damaged page kept damaged) there counted is
   refused_by (Malformed page at) there counted is = refused (Malformed page at) there counted is
-  refused_by Broken there counted is = absurd is
   refused_by (Disk before after) there counted is = tt
   refused_by Memory there counted is = tt
 
@@ -174,7 +173,6 @@ module _ (s : State) (bytes : List ℕ) (images : List ℕ → Type 0) (sound : 
   kept_by (Version version) graph read is = absurd is
   kept_by (Damaged page kept damaged) graph read is = absurd (cc (read, is))
   kept_by (Malformed page at) graph read is = absurd (cc (read, is))
-  kept_by Broken graph read is = absurd is
   kept_by (Disk before after) graph read is = tt
   kept_by Memory graph read is = tt
 

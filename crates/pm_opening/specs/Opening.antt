@@ -2,7 +2,7 @@
 use Rattle.std.specs.Prelude.{◌≡◌, ◌≤◌, ℕ, List, None, Err, true, false}
 use Rattle.std.specs.List.{AllByRecursion}
 use Rattle.pm_types.specs.declared.fault.OpenFault.{OpenFault}
-use Rattle.pm_types.specs.declared.fault.OpenFault.TheVariants.{NotAStore, Version, Damaged, Malformed, Broken, Disk, Memory}
+use Rattle.pm_types.specs.declared.fault.OpenFault.TheVariants.{NotAStore, Version, Damaged, Malformed, Disk, Memory}
 use Rattle.pm_image.specs.declared.settled.KeptPage.{KeptPage}
 use Rattle.pm_image.specs.Opening.{page_count}
 use Rattle.pm_image.specs.declared.catalog.CatEntry.{CatEntry}
@@ -59,7 +59,6 @@ IsRefusedBy bytes NotAStore = ⊥
 IsRefusedBy bytes (Version version) = ⊥
 IsRefusedBy bytes (Damaged page kept found) = opened bytes ≡ Err (Damaged page kept found)
 IsRefusedBy bytes (Malformed page at) = opened bytes ≡ Err (Malformed page at)
-IsRefusedBy bytes Broken = ⊥
 IsRefusedBy bytes (Disk before after) = Unit {0}
 IsRefusedBy bytes Memory = Unit {0}
 
@@ -69,7 +68,6 @@ IsNoRefusal NotAStore = ⊥
 IsNoRefusal (Version version) = ⊥
 IsNoRefusal (Damaged page kept found) = ⊥
 IsNoRefusal (Malformed page at) = ⊥
-IsNoRefusal Broken = ⊥
 IsNoRefusal (Disk before after) = Unit {0}
 IsNoRefusal Memory = Unit {0}
 

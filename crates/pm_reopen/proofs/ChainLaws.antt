@@ -6,7 +6,7 @@ use Rattle.std.proofs.lemmas.Bool.Decides.{nat_tests}
 use Rattle.std.specs.FinSet as set
 use Rattle.pm_types.specs.declared.limits.TheConstants.{ROOTS, PAGE_BYTES}
 use Rattle.pm_types.specs.declared.fault.OpenFault.{OpenFault}
-use Rattle.pm_types.specs.declared.fault.OpenFault.TheVariants.{Broken}
+use Rattle.pm_types.specs.declared.fault.OpenFault.TheVariants.{NotAStore}
 use Rattle.pm_image.specs.declared.catalog.CatEntry.{CatEntry}
 use Rattle.pm_image.specs.declared.catalog.CatEntry.TheVariants.{Car, Root}
 use Rattle.pm_image.specs.declared.catalog.CatalogPage.{CatalogPage}
@@ -51,8 +51,8 @@ placed_in count header low high =
     λ i. from_2 i && below i
 
 -- a chain that is too long is none: no answer of the rules says so
-pub never_long : (store : Store) (header : Header) → store.count ≤ 2 ^ 64 → IsThere store.count header.first → catalog_of store header ≡ Err Broken → ⊥
-never_long store header few there is = catalog_fault store header Broken few (placed_in store.count header there.from_2 there.there) is
+pub never_long : (store : Store) (header : Header) → store.count ≤ 2 ^ 64 → IsThere store.count header.first → catalog_of store header ≡ Err NotAStore → ⊥
+never_long store header few there is = catalog_fault store header NotAStore few (placed_in store.count header there.from_2 there.there) is
 
 -- one of two steps failed
 fails_pair : {A B C : Type 0} (first : Result A OpenFault) (second : Result B OpenFault) (rest : B → Result C OpenFault) (fault : OpenFault)
@@ -98,7 +98,7 @@ module _ (store : Store) (i : ℕ) (met : Met) (page : ℕ) (kept : List ℕ) (f
       subst (λ (r : Result Catalog OpenFault). Fails {X = Catalog} fault r) (rest_of lt so_far) (link_fails (most_pages - (i + 1)) store met page kept front fault is)
 
   -- there are more pages than any store has
-  pub chain_long : most_pages ≤ i → with_front front (catalog_from (most_pages - i) store met page kept) ≡ total → total ≡ Err Broken
+  pub chain_long : most_pages ≤ i → with_front front (catalog_from (most_pages - i) store met page kept) ≡ total → total ≡ Err NotAStore
   unfolding catalog_from
   chain_long le so_far =
       let k : most_pages - i ≡ 0 = omega arith in

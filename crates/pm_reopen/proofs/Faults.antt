@@ -1,18 +1,17 @@
 -- A fault of one step is one of all.
 use Rattle.std.proofs.Common.{◌≡◌, Result, Ok, Err, ap}
 use Rattle.pm_types.specs.declared.fault.OpenFault.{OpenFault}
-use Rattle.pm_types.specs.declared.fault.OpenFault.TheVariants.{Damaged, Malformed as MalformedAt, Broken}
+use Rattle.pm_types.specs.declared.fault.OpenFault.TheVariants.{Damaged, Malformed as MalformedAt}
 use Rattle.pm_base.specs.Results.{◌>>=◌}
 use Rattle.pm_base.proofs.Results.{bound}
 use Rattle.pm_reopen.specs.declared.fault.ReadFault.{ReadFault}
-use Rattle.pm_reopen.specs.declared.fault.ReadFault.TheVariants.{Damaged as DamagedPage, Malformed as MalformedPage, Unheld, Failed, Memory}
+use Rattle.pm_reopen.specs.declared.fault.ReadFault.TheVariants.{Damaged as DamagedPage, Malformed as MalformedPage, Failed, Memory}
 use Rattle.pm_reopen.specs.Reading.{Fails}
 
 -- what fails so too
 pub fails_too : {A B : Type 0} (fault : ReadFault) (a : Result A OpenFault) (b : Result B OpenFault) → ((e : OpenFault) → a ≡ Err e → b ≡ Err e) → Fails {X = A} fault a → Fails {X = B} fault b
 fails_too (DamagedPage page kept found) a b on is = on (Damaged page kept found) is
 fails_too (MalformedPage page at) a b on is = on (MalformedAt page at) is
-fails_too Unheld a b on is = on Broken is
 fails_too Failed a b on is = tt
 fails_too Memory a b on is = tt
 

@@ -1,9 +1,12 @@
 -- What is kept of the slots of cars says what their lists say.
 use Rattle.std.proofs.Common.{◌≡◌, ℕ, Bool, true, false, cond, ◌==◌, ◌+◌, ◌-◌, ◌<◌, ◌≤◌, List, [], ◌∷◌, length, get_or, drop, Option, Some, None, is_some, Err, refl, sym, ap, ◌∙◌, arith, if◌then◌else◌}
 use Rattle.std.specs.Option.{option_map}
-use Rattle.std.specs.Cmp.{nat_cmp_total}
-use Rattle.std.specs.Ordering.{nat_cmp}
+use Rattle.std.specs.Cmp.{nat_cmp_total, ranked}
+use Rattle.std.specs.Ordering.{nat_cmp, eq_by_cmp, is_eq, MatchOrdering}
+use Rattle.std.specs.declared.cmp.Ordering.{Ordering}
+use Rattle.std.specs.declared.cmp.Ordering.TheVariants.{Less, Equal, Greater}
 use Rattle.std.specs.FinMap.{get, insert, get-empty, get-insert}
+use Rattle.std.proofs.lemmas.Bool.Decides.{nat_tests}
 use Rattle.pm_types.specs.declared.address.Addr.{Addr}
 use Rattle.pm_types.specs.declared.fault.OpenFault.TheVariants.{Malformed}
 use Rattle.pm_types.specs.declared.object.Slot.{Slot}
@@ -11,8 +14,15 @@ use Rattle.pm_types.specs.declared.object.Slot.TheVariants.{Live, Moved}
 use Rattle.pm_image.specs.declared.settled.KeptPage.{KeptPage}
 use Rattle.pm_image.specs.Graphs.{images_of, Site, slot_in, slot_named, is_live, leads, linked}
 use Rattle.pm_reopen.proofs.Lists.{drop_here}
-use Rattle.pm_reopen.proofs.BuiltLaws.{tied_test}
 use Rattle.pm_reopen.specs.Linking.{identity_of, Held, held_slots, held_cars, held_of, held_at, is_object, may_name, linked_by}
+
+tied_test : (k q : ℕ) → eq_by_cmp nat_cmp q k ≡ (k == q)
+tied_test k q = by (nat_cmp q k) (ranked q k (nat_cmp q k) refl)
+  where
+    by : (r : Ordering) → MatchOrdering r (q < k) (q ≡ k) (k < q) → is_eq r ≡ (k == q)
+    by Less lt = let no : (k == q) ≡ false = grind (arith, nat_tests) in sym no
+    by Equal is = let yes : (k == q) ≡ true = grind (arith, nat_tests) in sym yes
+    by Greater lt = let no : (k == q) ≡ false = grind (arith, nat_tests) in sym no
 
 slot_found : (slots : List (ℕ × Slot)) (number : ℕ) → get (held_slots slots) number ≡ option_map identity_of (slot_in slots number)
 slot_found [] number = get-empty nat_cmp number

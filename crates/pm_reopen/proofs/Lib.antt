@@ -1,6 +1,3 @@
-pub mod Back
-pub mod Built
-pub mod BuiltLaws
 pub mod Faults
 pub mod ReadLaws
 pub mod Lists
@@ -9,5 +6,4 @@ pub mod ChainLaws
 pub mod HeldLaws
 pub mod Walks
 pub mod GraphLaws
-pub mod KnownLaws
 pub mod OpenLaws

@@ -1,4 +1,3 @@
 pub mod Reading
 pub mod Linking
-pub mod Building
 pub mod Reopening

@@ -7,7 +7,7 @@ use Rattle.pm_base.specs.Counts.{Rose}
 use Rattle.pm_types.specs.declared.limits.TheConstants.{FIELDS, ROOTS, PAGE_BYTES}
 use Rattle.pm_types.specs.Names.{IsName}
 use Rattle.pm_types.specs.declared.fault.OpenFault.{OpenFault}
-use Rattle.pm_types.specs.declared.fault.OpenFault.TheVariants.{Damaged, Malformed as MalformedAt, Broken}
+use Rattle.pm_types.specs.declared.fault.OpenFault.TheVariants.{Damaged, Malformed as MalformedAt}
 use Rattle.pm_disk.specs.declared.disk.Disk.{Ghosts}
 use Rattle.pm_disk.specs.Disk.{IfTold}
 use Rattle.pm_layout.specs.declared.header.Header.{Header}
@@ -26,24 +26,22 @@ use Rattle.pm_image.specs.CarAnswers.{a_car}
 use Rattle.pm_image.specs.CatalogPages.{Met, is_next_name, catalog_at, catalog_used}
 use Rattle.pm_image.specs.Opening.{page_of}
 use Rattle.pm_image.specs.Graphs.{images_of, Pages as Store, Graph, Catalog, undamaged, on_page, entries_of, with_identities, linked, sites_of, graph_of, used_pages, copy_of}
-use Rattle.pm_plain.specs.Plain.{is_plain}
 use Rattle.pm_shadow.specs.declared.pages.Pages.{Pages}
 use Rattle.pm_shadow.specs.Pages.{state, disk_of}
 use Rattle.pm_shadow.specs.Runs.{OnlyLooks}
 use Rattle.pm_reopen.specs.declared.fault.ReadFault.{ReadFault}
-use Rattle.pm_reopen.specs.declared.fault.ReadFault.TheVariants.{Damaged as DamagedPage, Malformed as MalformedPage, Unheld, Failed, Memory}
+use Rattle.pm_reopen.specs.declared.fault.ReadFault.TheVariants.{Damaged as DamagedPage, Malformed as MalformedPage, Failed, Memory}
 
 -- a fault of a page
 abbrev pub of_page : ℕ → PageFault → ReadFault
 of_page page (Malformed at) = MalformedPage page at
 of_page page NoPageMemory = Memory
 
--- The page that is at fault is the first that the definition refuses, and so is the place; what the map cannot hold is
--- broken. Where the disk or memory failed nothing is said.
+-- The page that is at fault is the first that the definition refuses, and so is the place. Where the disk or memory
+-- failed nothing is said.
 abbrev pub Fails : {X : Type 0} → ReadFault → Result X OpenFault → Type 0
 Fails (DamagedPage page kept found) read = read ≡ Err (Damaged page kept found)
 Fails (MalformedPage page at) read = read ≡ Err (MalformedAt page at)
-Fails Unheld read = read ≡ Err Broken
 Fails Failed read = Unit {0}
 Fails Memory read = Unit {0}
 
@@ -52,32 +50,13 @@ abbrev pub Gives : {X : Type 0} → Result X ReadFault → Result X OpenFault �
 Gives (Ok x) read = read ≡ Ok x
 Gives (Err fault) read = Fails fault read
 
--- A failure of the disk has raised its count, which stands still otherwise. No reader of pages asks what the map can
--- hold.
+-- A failure of the disk has raised its count, which stands still otherwise.
 abbrev pub Counts : {X : Type 0} → ℕ → ℕ → Result X ReadFault → Type 0
 Counts before after (Ok x) = after ≡ before
 Counts before after (Err (DamagedPage page kept found)) = after ≡ before
 Counts before after (Err (MalformedPage page at)) = after ≡ before
-Counts before after (Err Unheld) = ⊥
 Counts before after (Err Failed) = Rose before after
 Counts before after (Err Memory) = after ≡ before
-
--- the same, where it was asked what the map can hold
-abbrev pub CountsOrUnheld : {X : Type 0} → ℕ → ℕ → Result X ReadFault → Type 0
-CountsOrUnheld before after (Ok x) = after ≡ before
-CountsOrUnheld before after (Err (DamagedPage page kept found)) = after ≡ before
-CountsOrUnheld before after (Err (MalformedPage page at)) = after ≡ before
-CountsOrUnheld before after (Err Unheld) = after ≡ before
-CountsOrUnheld before after (Err Failed) = Rose before after
-CountsOrUnheld before after (Err Memory) = after ≡ before
-
--- the map cannot hold the copy, or memory ran out
-abbrev pub IsNotHeld : ReadFault → Type 0
-IsNotHeld (DamagedPage page kept found) = ⊥
-IsNotHeld (MalformedPage page at) = ⊥
-IsNotHeld Unheld = Unit {0}
-IsNotHeld Failed = ⊥
-IsNotHeld Memory = Unit {0}
 
 -- the pages of a store are as they were, and nothing was written
 pub record Looked {D : Type 0} {g : Ghosts D} (old new : Pages D g) : Type 0 where
@@ -211,14 +190,3 @@ pub record IsWhole (count next : ℕ) (catalog : Catalog) (cars : List KeptPage)
 pub record IsMeasured (kept : KeptPage) : Type 0 where
   pub fits : car_used kept.image.slots ≤ PAGE_BYTES
   pub within : AllByRecursion (λ (entry : ℕ × Slot). IsWithinLimits FIELDS entry.1) kept.image.slots
-
--- What was read of a copy: the pages that it stands on, among them the one that the header names, and the copy itself,
--- whose fields are null. Where the contents of the disk are told it is the copy that stands behind the header.
-pub record IsRead (count : ℕ) (header : Header) (contents : Option (List ℕ)) (used : List ℕ) (copy : Copy) : Type 0 where
-  pub graph : Graph
-  pub used_are : used ≡ used_pages graph
-  pub first : Contains used header.first
-  pub there : AllByRecursion (IsThere count) used
-  pub plain : is_plain graph ≡ true
-  pub is_copy : copy ≡ copy_of header.next graph
-  pub found : IfTold contents (λ bytes. graph_of (store_of count bytes) header ≡ Ok graph)

@@ -26,8 +26,6 @@ pub(crate) enum ReadFault {
         /// The place of the field's first byte in the page.
         at: u32,
     },
-    /// The store stands for a copy, which the map in memory cannot hold.
-    Unheld,
     /// The disk failed.
     Failed,
     /// Memory ran out.

@@ -4,7 +4,7 @@ use Rattle.std.specs.Prelude.{nat_lt, not, ◌==◌, ◌&&◌, if◌then◌else�
 use Rattle.std.proofs.lemmas.Bool.{lt-ltb, le-ltb, cases_lt}
 use Rattle.pm_types.specs.declared.limits.TheConstants.{PAGE_BYTES}
 use Rattle.pm_types.specs.declared.fault.OpenFault.{OpenFault}
-use Rattle.pm_types.specs.declared.fault.OpenFault.TheVariants.{NotAStore, Version, Damaged, Malformed, Broken, Disk, Memory}
+use Rattle.pm_types.specs.declared.fault.OpenFault.TheVariants.{NotAStore, Version, Damaged, Malformed, Disk, Memory}
 use Rattle.pm_layout.specs.declared.header.Header.{Header}
 use Rattle.pm_layout.specs.declared.header.HeaderFault.{HeaderFault}
 use Rattle.pm_layout.specs.declared.header.HeaderFault.TheVariants.{Magic, Version as OtherVersion, Digest, Next}
@@ -189,7 +189,6 @@ fault_of_rule bytes NotAStore kind is = is
 fault_of_rule bytes (Version version) kind is = is
 fault_of_rule bytes (Damaged page kept found) kind is = is
 fault_of_rule bytes (Malformed page at) kind is = is
-fault_of_rule bytes Broken kind is = absurd kind
 fault_of_rule bytes (Disk before after) kind is = absurd kind
 fault_of_rule bytes Memory kind is = absurd kind
 
@@ -198,6 +197,5 @@ cause_of_rule before after NotAStore kind is = is
 cause_of_rule before after (Version version) kind is = is
 cause_of_rule before after (Damaged page kept found) kind is = is
 cause_of_rule before after (Malformed page at) kind is = is
-cause_of_rule before after Broken kind is = absurd kind
 cause_of_rule before after (Disk b a) kind is = absurd kind
 cause_of_rule before after Memory kind is = absurd kind

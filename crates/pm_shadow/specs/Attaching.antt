@@ -3,7 +3,7 @@ use Rattle.std.specs.Prelude.{◌≡◌, ℕ, ◌*◌, ◌<◌, ◌≤◌, Bool,
 use Rattle.pm_base.specs.Counts.{ShowsRise}
 use Rattle.pm_types.specs.declared.limits.TheConstants.{PAGE_BYTES}
 use Rattle.pm_types.specs.declared.fault.OpenFault.{OpenFault}
-use Rattle.pm_types.specs.declared.fault.OpenFault.TheVariants.{NotAStore, Version, Damaged, Malformed, Broken, Disk, Memory}
+use Rattle.pm_types.specs.declared.fault.OpenFault.TheVariants.{NotAStore, Version, Damaged, Malformed, Disk, Memory}
 use Rattle.pm_layout.specs.Headers.{header_at}
 use Rattle.pm_layout.specs.Reading.{number_from}
 use Rattle.pm_image.specs.Opening.{Current, current, greater_slot, sound_header, open_gate, is_open, gate_place, header_body_of, page_count}
@@ -19,7 +19,6 @@ IsOfHeader NotAStore = Unit {0}
 IsOfHeader (Version version) = Unit {0}
 IsOfHeader (Damaged page kept found) = Unit {0}
 IsOfHeader (Malformed page at) = Unit {0}
-IsOfHeader Broken = ⊥
 IsOfHeader (Disk before after) = ⊥
 IsOfHeader Memory = ⊥
 
@@ -29,7 +28,6 @@ IsFaultOf bytes NotAStore = current bytes ≡ Err NotAStore
 IsFaultOf bytes (Version version) = current bytes ≡ Err (Version version)
 IsFaultOf bytes (Damaged page kept found) = current bytes ≡ Err (Damaged page kept found)
 IsFaultOf bytes (Malformed page at) = current bytes ≡ Err (Malformed page at)
-IsFaultOf bytes Broken = ⊥
 IsFaultOf bytes (Disk before after) = Unit {0}
 IsFaultOf bytes Memory = ⊥
 
@@ -40,7 +38,6 @@ IsAttachFault before after NotAStore = after ≡ before
 IsAttachFault before after (Version version) = after ≡ before
 IsAttachFault before after (Damaged page kept found) = after ≡ before
 IsAttachFault before after (Malformed page at) = after ≡ before
-IsAttachFault before after Broken = ⊥
 IsAttachFault before after (Disk b a) = ShowsRise b a before after
 IsAttachFault before after Memory = ⊥
 

@@ -2,7 +2,7 @@
 use Rattle.std.proofs.Common.{◌≡◌, ℕ, ◌<◌, ◌≤◌, List, [], ◌∷◌, refl, subst, ◌∙◌, arith}
 use Rattle.pm_types.specs.declared.entry.Entry.{Entry}
 use Rattle.pm_types.specs.declared.fault.OpenFault.{OpenFault}
-use Rattle.pm_types.specs.declared.fault.OpenFault.TheVariants.{NotAStore, Version, Damaged, Malformed, Broken, Disk, Memory as NoRoom}
+use Rattle.pm_types.specs.declared.fault.OpenFault.TheVariants.{NotAStore, Version, Damaged, Malformed, Disk, Memory as NoRoom}
 use Rattle.pm_types.specs.declared.fault.InitFault.{InitFault}
 use Rattle.pm_types.specs.declared.fault.InitFault.TheVariants.{NotEmpty as NotEmptied, Disk as InitDisk, Memory as InitMemory}
 use Rattle.pm_disk.specs.Made.{Made}
@@ -20,7 +20,6 @@ ends_open NotAStore = omega arith
 ends_open (Version version) = omega arith
 ends_open (Damaged page kept found) = omega arith
 ends_open (Malformed page at) = omega arith
-ends_open Broken = omega arith
 ends_open (Disk before after) = omega arith
 ends_open NoRoom = omega arith
 
@@ -29,7 +28,6 @@ undone_open NotAStore past = absurd (omega arith)
 undone_open (Version version) past = absurd (omega arith)
 undone_open (Damaged page kept found) past = absurd (omega arith)
 undone_open (Malformed page at) past = absurd (omega arith)
-undone_open Broken past = absurd (omega arith)
 undone_open (Disk before after) past = absurd (omega arith)
 undone_open NoRoom past = absurd (omega arith)
 
@@ -55,7 +53,6 @@ module _ {D S K : Type 0} (disk_count : D → ℕ) (made : D → Made) (source_c
   open_causes disk end source sink (Version version) cause reads = record { reading = refl; writing = refl; device = cause; rule = tt; reads = reads }
   open_causes disk end source sink (Damaged page kept found) cause reads = record { reading = refl; writing = refl; device = cause; rule = tt; reads = reads }
   open_causes disk end source sink (Malformed page at) cause reads = record { reading = refl; writing = refl; device = cause; rule = tt; reads = reads }
-  open_causes disk end source sink Broken cause reads = absurd cause
   open_causes disk end source sink (Disk before after) cause reads = record { reading = refl; writing = tt; device = cause; rule = tt; reads = reads }
   open_causes disk end source sink NoRoom cause reads = record { reading = refl; writing = tt; device = cause; rule = tt; reads = reads }
 

@@ -2,7 +2,7 @@
 use Rattle.std.proofs.Common.{◌≡◌, ◌⊎◌, inl, inr, ℕ, ◌<◌, ◌≤◌, List, [], Option, Some, Result, Ok, Err, refl, sym, ap, subst, ◌∙◌, arith}
 use Rattle.pm_types.specs.declared.entry.Entry.{Entry}
 use Rattle.pm_types.specs.declared.fault.OpenFault.{OpenFault}
-use Rattle.pm_types.specs.declared.fault.OpenFault.TheVariants.{NotAStore, Version, Damaged, Malformed, Broken, Disk, Memory as NoRoom}
+use Rattle.pm_types.specs.declared.fault.OpenFault.TheVariants.{NotAStore, Version, Damaged, Malformed, Disk, Memory as NoRoom}
 use Rattle.pm_disk.specs.Disk.{LeavesOnly}
 use Rattle.pm_disk.proofs.RunLemmas.{started, weaker, joined}
 use Rattle.pm_model.specs.World.{World, Copy, begin}
@@ -37,7 +37,6 @@ none_opened NotAStore past = absurd (omega arith)
 none_opened (Version version) past = absurd (omega arith)
 none_opened (Damaged page kept found) past = absurd (omega arith)
 none_opened (Malformed page at) past = absurd (omega arith)
-none_opened Broken past = absurd (omega arith)
 none_opened (Disk before after) past = absurd (omega arith)
 none_opened NoRoom past = absurd (omega arith)
 
@@ -47,7 +46,6 @@ tried_open NotAStore = omega arith
 tried_open (Version version) = omega arith
 tried_open (Damaged page kept found) = omega arith
 tried_open (Malformed page at) = omega arith
-tried_open Broken = omega arith
 tried_open (Disk before after) = omega arith
 tried_open NoRoom = omega arith
 
@@ -63,7 +61,6 @@ refused_for bytes NotAStore is = is
 refused_for bytes (Version version) is = is
 refused_for bytes (Damaged page kept found) is = is
 refused_for bytes (Malformed page at) is = is
-refused_for bytes Broken is = absurd is
 refused_for bytes (Disk before after) is = tt
 refused_for bytes NoRoom is = tt
 

@@ -3,7 +3,7 @@ use Rattle.std.specs.Prelude.{◌≡◌, ℕ, codes, decimal, List, [], ◌++◌
 use Rattle.hex.specs.Hex.{encode_lower}
 use Rattle.pm_base.specs.Counts.{ShowsRise}
 use Rattle.pm_types.specs.declared.fault.OpenFault.{OpenFault}
-use Rattle.pm_types.specs.declared.fault.OpenFault.TheVariants.{NotAStore, Version, Damaged, Malformed, Broken, Disk, Memory as NoRoom}
+use Rattle.pm_types.specs.declared.fault.OpenFault.TheVariants.{NotAStore, Version, Damaged, Malformed, Disk, Memory as NoRoom}
 use Rattle.pm_types.specs.declared.fault.InitFault.{InitFault}
 use Rattle.pm_types.specs.declared.fault.InitFault.TheVariants.{NotEmpty as NotEmptied, Disk as InitDisk, Memory as InitMemory}
 use Rattle.pm_grammar.specs.declared.fault.Cause.{Cause}
@@ -33,7 +33,6 @@ refusal_line NotAStore = codes "pmos: not a store\n"
 refusal_line (Version version) = codes "pmos: version " ++ decimal version ++ codes "\n"
 refusal_line (Damaged page kept found) = codes "pmos: damaged page " ++ decimal page ++ codes " kept " ++ encode_lower kept ++ codes " found " ++ encode_lower found ++ codes "\n"
 refusal_line (Malformed page at) = codes "pmos: malformed page " ++ decimal page ++ codes " at " ++ decimal at ++ codes "\n"
-refusal_line Broken = codes "pmos: store not read\n"
 refusal_line (Disk before after) = codes "pmos: disk fault\n"
 refusal_line NoRoom = codes "pmos: no memory\n"
 
@@ -87,7 +86,6 @@ ShowsDevice detail count_before count_after = count_after ≡ count_before
 -- a store is refused by a rule of its bytes: a disk that fails and want of memory are ends of their own, and there is no
 -- store that is sound and yet not opened
 abbrev pub IsOfStore : OpenFault → Type 0
-IsOfStore Broken = ⊥
 IsOfStore (Disk before after) = ⊥
 IsOfStore NoRoom = ⊥
 IsOfStore fault = Unit {0}
@@ -129,7 +127,6 @@ not_opened NotAStore = Refused NotAStore
 not_opened (Version version) = Refused (Version version)
 not_opened (Damaged page kept found) = Refused (Damaged page kept found)
 not_opened (Malformed page at) = Refused (Malformed page at)
-not_opened Broken = Refused Broken
 not_opened (Disk before after) = Device before after
 not_opened NoRoom = Memory
 

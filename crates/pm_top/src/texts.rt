@@ -146,7 +146,6 @@ fn refusal_of(fault: &OpenFault) -> Line
         OpenFault::Version(version) => numbered_line(b"pmos: version ", u64::from(*version)),
         OpenFault::Damaged { page, kept, found } => damaged_line(*page, kept, found),
         OpenFault::Malformed { page, at } => malformed_line(*page, *at),
-        OpenFault::Broken => line_with(b"pmos: store not read\n"),
         OpenFault::Disk { .. } => line_with(b"pmos: disk fault\n"),
         OpenFault::Memory => line_with(b"pmos: no memory\n"),
     }

@@ -31,9 +31,6 @@ pub enum OpenFault {
         /// page's end has none of its bytes there.
         at: u32,
     },
-    /// The header is sound, and no copy that this program reads stands behind it.
-    #[error("store not read")]
-    Broken,
     /// The disk failed: its count of failed calls rose.
     #[error("disk fault")]
     Disk {

@@ -1,4 +1,0 @@
-pub mod Laying
-pub mod Laid
-pub mod Plain
-pub mod Kept
