@@ -3,6 +3,7 @@ use Rattle.std.specs.Prelude.{ℕ, List, [], ◌∷◌, ◌++◌, codes, decimal
 use Rattle.std.specs.List.{flat_map}
 use Rattle.hex.specs.Hex.{encode_lower}
 use Rattle.pm_types.specs.declared.entry.Entry.{Entry}
+use Rattle.pm_types.specs.declared.event.WatchLine.{WatchLine}
 use Rattle.pm_types.specs.declared.reply.Reply.{Reply}
 use Rattle.pm_types.specs.declared.reply.Reply.TheVariants.{Done, Ident, Null, Shown, Begun, Saved, Watching, TooLarge, IdsSpent, NoHandle, NoField, OutOfRange, TooManyRoots, NoRoot, Busy, SavesSpent, Idle, TooManyWatches, Dropped, Held}
 
@@ -41,3 +42,16 @@ reply_line entry = decimal entry.client ++ codes " " ++ reply_words entry.reply 
 -- the text of a journal: the line of each entry, in order
 abbrev pub text : List Entry → List ℕ
 text journal = flat_map reply_line journal
+
+-- the line at the end of a run: how many events of the collector were made, how many collections were completed, and how
+-- many objects stand
+abbrev pub end_line : ℕ → ℕ → ℕ → List ℕ
+end_line steps completed standing = codes "end " ++ decimal steps ++ codes " " ++ decimal completed ++ codes " " ++ decimal standing ++ codes "\n"
+
+-- the line of a watch
+abbrev pub watch_line : WatchLine → List ℕ
+watch_line line = codes "watch " ++ decimal line.number ++ codes " bound " ++ decimal line.bound ++ codes " done " ++ decimal line.done ++ codes " old " ++ decimal line.old ++ codes "\n"
+
+-- the lines behind the replies: the end line, and that of each watch, in order
+abbrev pub tail : ℕ → ℕ → ℕ → List WatchLine → List ℕ
+tail steps completed standing lines = end_line steps completed standing ++ flat_map watch_line lines

@@ -1,4 +1,4 @@
-//! What the collector's events and the events that write pages answer, and what a watch keeps.
+//! What the collector's events and the events that write pages answer, what a watch keeps, and what is told of it.
 
 use crate::Id;
 
@@ -71,7 +71,7 @@ pub enum Flushed {
 
 /// What was noted when a watch was set: after how many collections everything is gone that nothing
 /// reached then.
-#[derive(Clone, Copy, Debug, PartialEq, Eq)]
+#[derive(Clone, Copy, Debug, Default, PartialEq, Eq)]
 pub struct Watch {
     /// How many entries the journal had before the watch's own.
     pub position: u64,
@@ -83,4 +83,18 @@ pub struct Watch {
     pub bound: u128,
     /// How many collections were completed.
     pub completed: u64,
+}
+
+/// What is told of a watch at the end of a run. Where `done` has reached the bound, `old` is 0, and everything is gone that
+/// nothing reached when the watch was set.
+#[derive(Clone, Copy, Debug, Default, PartialEq, Eq)]
+pub struct WatchLine {
+    /// The watch's number, from 1.
+    pub number: u32,
+    /// After so many collections no object stands that stood when the watch was set and was not reached then.
+    pub bound: u128,
+    /// How many collections were completed since the watch was set.
+    pub done: u64,
+    /// How many objects stand in the trains that were not younger than the open one then.
+    pub old: u64,
 }

@@ -21,7 +21,7 @@ pub use address::Addr;
 pub use bytes::Bytes;
 pub use command::Cmd;
 pub use entry::Entry;
-pub use event::{Flushed, Step, Watch};
+pub use event::{Flushed, Step, Watch, WatchLine};
 pub use fault::{EngineFault, InitFault, OpenFault};
 pub use law::{
     addresses_are_ordered, limits_of_clients, limits_of_stores, names_are_ordered,

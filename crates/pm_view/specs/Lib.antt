@@ -14,3 +14,4 @@ pub mod Candidates
 pub mod Collecting
 pub mod Events
 pub mod Work
+pub mod Watches
