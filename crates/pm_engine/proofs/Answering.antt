@@ -1,17 +1,17 @@
 -- What each command's answer makes of what holds.
-use Rattle.std.proofs.Common.{◌≡◌, ◌⊎◌, ⊎_elim, inl, inr, ℕ, ◌<◌, ◌≤◌, ◌+◌, true, false, List, [], ◌∷◌, ◌++◌, Option, Some, None, option_map, IfSome, refl, sym, ap, subst, ◌∙◌}
+use Rattle.std.proofs.Common.{◌≡◌, ◌⊎◌, ⊎_elim, inl, inr, ℕ, ◌<◌, ◌≤◌, ◌+◌, true, false, List, [], ◌∷◌, ◌++◌, length, Option, Some, None, option_map, IfSome, refl, sym, ap, subst, ◌∙◌, arith}
 use Rattle.std.proofs.lemmas.List.Elements.{Contains-append_left, Contains-append_right}
 use Rattle.pm_types.specs.declared.command.Cmd.{Cmd}
 use Rattle.pm_types.specs.declared.command.Cmd.TheVariants.{Save, Settle, Unsave, Watch, New, Load, Store, Clear, Show, Put, Copy, IdOf, Forget, Bind, Unbind, Find, Swap, Close}
 use Rattle.pm_types.specs.declared.entry.Entry.{Entry}
 use Rattle.pm_types.specs.declared.limits.TheConstants.{LAST_COPY}
 use Rattle.pm_types.specs.declared.reply.Reply.{Reply}
-use Rattle.pm_types.specs.declared.reply.Reply.TheVariants.{Begun, Busy, Dropped, Idle, Saved, SavesSpent}
+use Rattle.pm_types.specs.declared.reply.Reply.TheVariants.{Begun, Busy, Dropped, Idle, Saved, SavesSpent, TooManyWatches, Watching}
 use Rattle.pm_disk.specs.declared.disk.Disk.{Ghosts}
 use Rattle.pm_disk.specs.Disk.{IfTold, LeavesOnly}
 use Rattle.pm_model.specs.World.{World}
 use Rattle.pm_model.specs.Answer.{answer}
-use Rattle.pm_model.specs.Frames.{is_settle, saves, sets_watch}
+use Rattle.pm_model.specs.Frames.{is_settle, saves}
 use Rattle.pm_shadow.specs.declared.pages.Pages.{Pages}
 use Rattle.pm_shadow.specs.Pages.{disk_of}
 use Rattle.pm_model.specs.Journal.{after, chain, settled_in, says_saved}
@@ -19,7 +19,9 @@ use Rattle.pm_model.proofs.AnswerLaws.{leaves_saving}
 use Rattle.pm_model.proofs.ChainLaws.{chain_more, saved}
 use Rattle.pm_model.proofs.Members.{at_first}
 use Rattle.pm_image.specs.Stands.{Stands}
-use Rattle.pm_view.specs.View.{Cars}
+use Rattle.pm_view.specs.View.{Cars, SpaceView}
+use Rattle.pm_view.specs.Work.{work}
+use Rattle.pm_law_work.specs.Raises.{raises}
 use Rattle.pm_view.specs.Law.{HeapLaw}
 use Rattle.pm_view.specs.Commands.{is_act}
 use Rattle.pm_saving.specs.Progress.{Progress, cars_or_none, copy_of}
@@ -28,15 +30,15 @@ use Rattle.pm_saving.specs.Tied.{HasCopy}
 use Rattle.pm_saver.specs.Answers.{TellsOn}
 use Rattle.pm_saver.specs.Settling.{SparesEither}
 use Rattle.pm_serving.specs.Serving.{IsServed, numbered_copy, opening, world}
-use Rattle.pm_serving.specs.Events.{Serves}
+use Rattle.pm_serving.specs.Events.{Appends, Serves}
 use Rattle.pm_serving.specs.Images.{IsSettled, IsStored, IsTold}
 use Rattle.pm_law_serving.proofs.Following as law
 use Rattle.pm_law_serving.proofs.Images.{acknowledged, failed}
 use Rattle.pm_engine.specs.declared.opening.Opening.{Opening}
 use Rattle.pm_engine.specs.declared.works.Works.{Works}
-use Rattle.pm_engine.specs.Working.{Acts, Adds, Answers, IsTiedIn, LeavesEither, Rests, Saves, SettlesCopy, SettlesIt, StaysStill, Unsaves, contents_in, disk_at, frozen_in, saving_in, state_in, view_in}
+use Rattle.pm_engine.specs.Working.{Acts, Adds, Answers, IsTiedIn, LeavesEither, Rests, Saves, SetsWatch, SettlesCopy, SettlesIt, StaysStill, Unsaves, Watches, contents_in, disk_at, frozen_in, room_in, saving_in, state_in, view_in, watches_in}
 use Rattle.pm_engine.specs.Seen.{IsSound, disk_then, seen}
-use Rattle.pm_engine.proofs.Going.{answers_sound, appends, serves_on, settled_there}
+use Rattle.pm_engine.proofs.Going.{answers_sound, appends, appends_so, serves_on, settled_there}
 use Rattle.pm_engine.proofs.Kept.{pages_last, spares_still}
 
 -- only `settle` says that a copy settled
@@ -53,7 +55,7 @@ module _ {D : Type 0} {F : Type 0} {g : Ghosts D} (start : Opening D F g) (old n
   act_served client cmd reply served act acts =
       let w = world (seen start None old) in
       let is = acts.served w served.represents (law.fresh (seen start None old) served) in
-      let appended = appends start old new client cmd reply acts.adds in (
+      let appended = appends start old new client cmd reply (law.sets_none (seen start None old) cmd reply (law.unwatching cmd act)) acts.adds in (
         record { appends = appended; reply_is = is.reply },
         law.acted client cmd (seen start None old) (seen start None new) reply served act appended is.reply is.world acts.frozen acts.saving,
       )
@@ -70,22 +72,59 @@ module _ {D : Type 0} {F : Type 0} {g : Ghosts D} (start : Opening D F g) (old n
       → Serves client Save (seen start None old) (seen start None new) reply × IsServed (seen start None new)
   save_served client (Busy number) served heap at is =
       back client Save Busy number is.begun.number is.number_is
-      (law.busy client (seen start None old) (seen start None new) is.begun served is.is_begun (appends start old new client Save (Busy is.begun.number) (numbered client Save Busy number is.begun.number is.number_is is.adds)) is.keeps.view is.keeps.frozen is.keeps.saving)
+      (law.busy client (seen start None old) (seen start None new) is.begun served is.is_begun (appends start old new client Save (Busy is.begun.number) refl (numbered client Save Busy number is.begun.number is.number_is is.adds)) is.keeps.view is.keeps.frozen is.keeps.saving)
   save_served client SavesSpent served heap at is =
-      law.spent client (seen start None old) (seen start None new) served is.none (sym at ∙ is.last) (appends start old new client Save SavesSpent is.adds) is.keeps.view is.keeps.frozen is.keeps.saving
+      law.spent client (seen start None old) (seen start None new) served is.none (sym at ∙ is.last) (appends start old new client Save SavesSpent refl is.adds) is.keeps.view is.keeps.frozen is.keeps.saving
   save_served client (Begun number) served heap at is =
       back client Save Begun number is.begun.number is.number_is
       (law.begins client (seen start None old) (seen start None new) is.begun served heap is.none (subst (λ (n : ℕ). n < LAST_COPY) at is.below) (is.next ∙ ap (λ (n : ℕ). n + 1) at)
-      (appends start old new client Save (Begun is.begun.number) (numbered client Save Begun number is.begun.number is.number_is is.adds)) is.view is.is_begun is.copy)
+      (appends start old new client Save (Begun is.begun.number) refl (numbered client Save Begun number is.begun.number is.number_is is.adds)) is.view is.is_begun is.copy)
   save_served client reply served heap at is = absurd is
 
   pub unsave_served : (client : ℕ) (reply : Reply) → IsServed (seen start None old) → Unsaves client old new reply → Serves client Unsave (seen start None old) (seen start None new) reply × IsServed (seen start None new)
   unsave_served client Idle served is =
-      law.undropped client (seen start None old) (seen start None new) served is.none (appends start old new client Unsave Idle is.adds) is.keeps.view is.keeps.frozen is.keeps.saving
+      law.undropped client (seen start None old) (seen start None new) served is.none (appends start old new client Unsave Idle refl is.adds) is.keeps.view is.keeps.frozen is.keeps.saving
   unsave_served client (Dropped number) served is =
       back client Unsave Dropped number is.begun.number is.number_is
-      (law.drops client (seen start None old) (seen start None new) is.begun served is.is_begun (appends start old new client Unsave (Dropped is.begun.number) (numbered client Unsave Dropped number is.begun.number is.number_is is.adds)) is.view is.none)
+      (law.drops client (seen start None old) (seen start None new) is.begun served is.is_begun (appends start old new client Unsave (Dropped is.begun.number) refl (numbered client Unsave Dropped number is.begun.number is.number_is is.adds)) is.view is.none)
   unsave_served client reply served is = absurd is
+
+-- ---- watches
+
+module _ {D : Type 0} {F : Type 0} {g : Ghosts D} (start : Opening D F g) (stopped : Option ℕ) (old new : Works D F g) (client : ℕ) where
+  abbrev entry_of : ℕ → Entry
+  entry_of number = record { client = client; cmd = Watch; reply = Watching number }
+
+  -- the entry of a watch that was set, with another name for its number
+  set_appends : (number other : ℕ) → number ≡ other → SetsWatch client old new number → Appends client Watch (seen start stopped old) (seen start stopped new) (Watching other)
+  set_appends number other same is = record {
+    opening = record { number = refl; opened = refl };
+    journal = is.journal ∙ ap (λ (n : ℕ). old.journal.items ++ entry_of n ∷ []) same;
+    watches = is.watches;
+    events = is.events;
+    steps = is.steps;
+    stopped = refl;
+  }
+
+  pub watch_appends : (reply : Reply) → Watches client old new reply → Appends client Watch (seen start stopped old) (seen start stopped new) reply
+  watch_appends TooManyWatches is = appends_so start old new stopped client Watch TooManyWatches refl is.adds
+  watch_appends (Watching number) is = set_appends number number refl is
+  watch_appends reply is = absurd is
+
+module _ {D : Type 0} {F : Type 0} {g : Ghosts D} (start : Opening D F g) (old new : Works D F g) where
+  pub watch_served : (client : ℕ) (reply : Reply) → IsServed (seen start None old) → Watches client old new reply → Serves client Watch (seen start None old) (seen start None new) reply × IsServed (seen start None new)
+  watch_served client TooManyWatches served is =
+      let full = is.full in
+      law.watches_full client (seen start None old) (seen start None new) served (omega (arith, full)) (appends start old new client Watch TooManyWatches refl is.adds) is.keeps.view is.keeps.frozen is.keeps.saving
+  watch_served client (Watching number) served is =
+      subst (λ (n : ℕ). Serves client Watch (seen start None old) (seen start None new) (Watching n) × IsServed (seen start None new)) (sym is.number_is)
+      (law.watches_set client (seen start None old) (seen start None new) served is.few (set_appends start None old new client number (length (watches_in old) + 1) is.number_is is) is.keeps.view is.keeps.frozen is.keeps.saving)
+  watch_served client reply served is = absurd is
+
+watch_other : {D F : Type 0} {g : Ghosts D} (client : ℕ) (old new : Works D F g) (reply : Reply) → Watches client old new reply → says_saved reply ≡ false
+watch_other client old new TooManyWatches is = refl
+watch_other client old new (Watching number) is = refl
+watch_other client old new reply is = absurd is
 
 -- the number of a copy stays while its pages are written
 pub written_number : (cars : Cars) (pages : List ℕ) (progress : Progress) → (written_on cars pages progress).number ≡ progress.number
@@ -126,7 +165,7 @@ module _ {D : Type 0} {F : Type 0} {g : Ghosts D} (start : Opening D F g) (old n
       let OS = seen start None old in
       let NS = seen start None new in
       let adds = subst (λ (n : ℕ). Adds client Settle (Saved n) old new) is.settles.number_is is.adds in
-      let all = law.settles client OS NS progress sound.served is.settles.is_progress (appends start old new client Settle (Saved progress.number) adds) is.view (ap (λ s. s.progress) is.settles.saving) in
+      let all = law.settles client OS NS progress sound.served is.settles.is_progress (appends start old new client Settle (Saved progress.number) refl adds) is.view (ap (λ s. s.progress) is.settles.saving) in
       let copied : (world NS).settled_copy ≡ copy_of cars progress = all.3 in
       let w = opening OS in
       let entry : Entry = record { client = client; cmd = Settle; reply = Saved progress.number } in
@@ -169,7 +208,7 @@ module _ {D : Type 0} {F : Type 0} {g : Ghosts D} (start : Opening D F g) (old n
       let saving : (world OS).saving ≡ Some (progress.number, copy_of cars progress) =
       sound.served.saving ∙ ap (option_map (numbered_copy (frozen_in old))) is in
       record {
-        served = serves_on start old new (Some count) sound.served rests.nothing.journal rests.view rests.frozen rests.progress;
+        served = serves_on start old new (Some count) sound.served rests.nothing.journal rests.nothing.watches rests.view rests.frozen rests.progress;
         stored = λ none. absurd (cc none);
         images = failed g.contents g.image g.moment g.since (disk_then start) OS (disk_at old) (disk_at new) (λ image. IsSettled (world OS) image ⊎ Stands image progress.number (copy_of cars progress)) refl sound.images
             (leaves_either start old new (sound.stored refl) sound.images.told progress is spares) tells counts NS refl (ap (after w) rests.nothing.journal) (ap (chain w) rests.nothing.journal) (settled_there OS sound.served)
@@ -214,7 +253,7 @@ module _ {D : Type 0} {F : Type 0} {g : Ghosts D} (start : Opening D F g) (old n
   settle_answered : (client : ℕ) (reply : Reply) → Told Settle old new → SettlesIt client old new reply → Result_of client Settle reply
   settle_answered client Idle all is =
       stays client Settle Idle all.tied (record { disk = ap (λ (p : Pages D g). disk_of p) is.pages; lasts = pages_last old new is.pages }) all.told all.counts all.only_now refl
-      (law.idle client (seen start None old) (seen start None new) sound.served is.none (appends start old new client Settle Idle is.adds) is.keeps.view is.keeps.frozen is.keeps.saving)
+      (law.idle client (seen start None old) (seen start None new) sound.served is.none (appends start old new client Settle Idle refl is.adds) is.keeps.view is.keeps.frozen is.keeps.saving)
   settle_answered client (Saved number) all is = settled_sound start old new sound all.counts all.told client number is all.tied (all.leaves refl).either
   settle_answered client reply all is = absurd is
 
@@ -225,29 +264,31 @@ module _ {D : Type 0} {F : Type 0} {g : Ghosts D} (start : Opening D F g) (old n
       (not_saved (world (seen start None old)) client cmd reply both.0.reply_is (law.acts cmd act)) both
 
   -- each command
-  pub answered : (client : ℕ) (cmd : Cmd) (reply : Reply) → sets_watch cmd ≡ false → Told cmd old new → Answers client cmd old new reply → Result_of client cmd reply
-  answered client Save reply known all is =
+  pub answered : (client : ℕ) (cmd : Cmd) (reply : Reply) → Told cmd old new → Answers client cmd old new reply → Result_of client cmd reply
+  answered client Save reply all is =
       stays client Save reply all.tied (all.still refl) all.told all.counts all.only_now (save_other client old new reply is)
       (save_served start old new client reply sound.served all.heap (sound.stored refl).numbered is)
-  answered client Settle reply known all is = settle_answered client reply all is
-  answered client Unsave reply known all is =
+  answered client Settle reply all is = settle_answered client reply all is
+  answered client Unsave reply all is =
       stays client Unsave reply all.tied (all.still refl) all.told all.counts all.only_now (unsave_other client old new reply is)
       (unsave_served start old new client reply sound.served is)
-  answered client Watch reply known all is = absurd (cc known)
-  answered client (New reg count bytes) reply known all is = act_answered client (New reg count bytes) reply refl all refl is
-  answered client (Load to reg index) reply known all is = act_answered client (Load to reg index) reply refl all refl is
-  answered client (Store reg index value) reply known all is = act_answered client (Store reg index value) reply refl all refl is
-  answered client (Clear reg index) reply known all is = act_answered client (Clear reg index) reply refl all refl is
-  answered client (Show reg) reply known all is = act_answered client (Show reg) reply refl all refl is
-  answered client (Put reg at bytes) reply known all is = act_answered client (Put reg at bytes) reply refl all refl is
-  answered client (Copy to reg) reply known all is = act_answered client (Copy to reg) reply refl all refl is
-  answered client (IdOf reg) reply known all is = act_answered client (IdOf reg) reply refl all refl is
-  answered client (Forget reg) reply known all is = act_answered client (Forget reg) reply refl all refl is
-  answered client (Bind name reg) reply known all is = act_answered client (Bind name reg) reply refl all refl is
-  answered client (Unbind name) reply known all is = act_answered client (Unbind name) reply refl all refl is
-  answered client (Find to name) reply known all is = act_answered client (Find to name) reply refl all refl is
-  answered client (Swap reg index before value) reply known all is = act_answered client (Swap reg index before value) reply refl all refl is
-  answered client Close reply known all is = act_answered client Close reply refl all refl is
+  answered client Watch reply all is =
+      stays client Watch reply all.tied (all.still refl) all.told all.counts all.only_now (watch_other client old new reply is)
+      (watch_served start old new client reply sound.served is)
+  answered client (New reg count bytes) reply all is = act_answered client (New reg count bytes) reply refl all refl is
+  answered client (Load to reg index) reply all is = act_answered client (Load to reg index) reply refl all refl is
+  answered client (Store reg index value) reply all is = act_answered client (Store reg index value) reply refl all refl is
+  answered client (Clear reg index) reply all is = act_answered client (Clear reg index) reply refl all refl is
+  answered client (Show reg) reply all is = act_answered client (Show reg) reply refl all refl is
+  answered client (Put reg at bytes) reply all is = act_answered client (Put reg at bytes) reply refl all refl is
+  answered client (Copy to reg) reply all is = act_answered client (Copy to reg) reply refl all refl is
+  answered client (IdOf reg) reply all is = act_answered client (IdOf reg) reply refl all refl is
+  answered client (Forget reg) reply all is = act_answered client (Forget reg) reply refl all refl is
+  answered client (Bind name reg) reply all is = act_answered client (Bind name reg) reply refl all refl is
+  answered client (Unbind name) reply all is = act_answered client (Unbind name) reply refl all refl is
+  answered client (Find to name) reply all is = act_answered client (Find to name) reply refl all refl is
+  answered client (Swap reg index before value) reply all is = act_answered client (Swap reg index before value) reply refl all refl is
+  answered client Close reply all is = act_answered client Close reply refl all refl is
 
 -- ---- the entry of an answer
 
@@ -267,8 +308,58 @@ settle_adds client old new Idle is = is.adds
 settle_adds client old new (Saved number) is = is.adds
 settle_adds client old new reply is = absurd is
 
-pub adds_of : {D F : Type 0} {g : Ghosts D} (client : ℕ) (cmd : Cmd) (old new : Works D F g) (reply : Reply) → Answers client cmd old new reply → Adds client cmd reply old new
-adds_of client Save old new reply is = save_adds client old new reply is
-adds_of client Settle old new reply is = settle_adds client old new reply is
-adds_of client Unsave old new reply is = unsave_adds client old new reply is
-adds_of client cmd old new reply is = is.adds
+module _ {D : Type 0} {F : Type 0} {g : Ghosts D} (start : Opening D F g) (stopped : Option ℕ) (old new : Works D F g) where
+  -- entry, watches and counts once a command was answered
+  pub appends_of : (client : ℕ) (cmd : Cmd) (reply : Reply) → Answers client cmd old new reply → Appends client cmd (seen start stopped old) (seen start stopped new) reply
+  appends_of client Save reply is = appends_so start old new stopped client Save reply refl (save_adds client old new reply is)
+  appends_of client Settle reply is = appends_so start old new stopped client Settle reply refl (settle_adds client old new reply is)
+  appends_of client Unsave reply is = appends_so start old new stopped client Unsave reply refl (unsave_adds client old new reply is)
+  appends_of client Watch reply is = watch_appends start stopped old new client reply is
+  appends_of client cmd reply is = appends_so start old new stopped client cmd reply refl is.adds
+
+-- ---- room and work
+
+watch_room : {D F : Type 0} {g : Ghosts D} (client : ℕ) (old new : Works D F g) (reply : Reply) → Watches client old new reply → room_in old ≤ room_in new + 1
+watch_room client old new TooManyWatches is = is.adds.room
+watch_room client old new (Watching number) is = is.room
+watch_room client old new reply is = absurd is
+
+-- an entry takes the room of one
+pub room_of : {D F : Type 0} {g : Ghosts D} (client : ℕ) (cmd : Cmd) (old new : Works D F g) (reply : Reply) → Answers client cmd old new reply → room_in old ≤ room_in new + 1
+room_of client Save old new reply is = (save_adds client old new reply is).room
+room_of client Settle old new reply is = (settle_adds client old new reply is).room
+room_of client Unsave old new reply is = (unsave_adds client old new reply is).room
+room_of client Watch old new reply is = watch_room client old new reply is
+room_of client cmd old new reply is = is.adds.room
+
+save_view : {D F : Type 0} {g : Ghosts D} (client : ℕ) (old new : Works D F g) (reply : Reply) → Saves client old new reply → view_in new ≡ view_in old
+save_view client old new (Busy number) is = is.keeps.view
+save_view client old new SavesSpent is = is.keeps.view
+save_view client old new (Begun number) is = is.view
+save_view client old new reply is = absurd is
+
+settle_view : {D F : Type 0} {g : Ghosts D} (client : ℕ) (old new : Works D F g) (reply : Reply) → SettlesIt client old new reply → view_in new ≡ view_in old
+settle_view client old new Idle is = is.keeps.view
+settle_view client old new (Saved number) is = is.view
+settle_view client old new reply is = absurd is
+
+unsave_view : {D F : Type 0} {g : Ghosts D} (client : ℕ) (old new : Works D F g) (reply : Reply) → Unsaves client old new reply → view_in new ≡ view_in old
+unsave_view client old new Idle is = is.keeps.view
+unsave_view client old new (Dropped number) is = is.view
+unsave_view client old new reply is = absurd is
+
+watch_view : {D F : Type 0} {g : Ghosts D} (client : ℕ) (old new : Works D F g) (reply : Reply) → Watches client old new reply → view_in new ≡ view_in old
+watch_view client old new TooManyWatches is = is.keeps.view
+watch_view client old new (Watching number) is = is.keeps.view
+watch_view client old new reply is = absurd is
+
+pub still_works : (old new : SpaceView) (more : ℕ) → new ≡ old → work new ≤ work old + more
+still_works old new more same = let is = ap work same in omega (arith, is)
+
+-- a command adds little work
+pub work_of : {D F : Type 0} {g : Ghosts D} (client : ℕ) (cmd : Cmd) (old new : Works D F g) (reply : Reply) → Answers client cmd old new reply → work (view_in new) ≤ work (view_in old) + raises cmd
+work_of client Save old new reply is = still_works (view_in old) (view_in new) (raises Save) (save_view client old new reply is)
+work_of client Settle old new reply is = still_works (view_in old) (view_in new) (raises Settle) (settle_view client old new reply is)
+work_of client Unsave old new reply is = still_works (view_in old) (view_in new) (raises Unsave) (unsave_view client old new reply is)
+work_of client Watch old new reply is = still_works (view_in old) (view_in new) (raises Watch) (watch_view client old new reply is)
+work_of client cmd old new reply is = is.work

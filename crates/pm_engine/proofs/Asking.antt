@@ -13,7 +13,6 @@ use Rattle.pm_disk.proofs.RunLemmas.{weaker}
 use Rattle.pm_model.specs.World.{World, Copy, begin, copy_code}
 use Rattle.pm_model.specs.Closed.{IsClosed}
 use Rattle.pm_model.specs.Answer.{answer}
-use Rattle.pm_model.specs.Frames.{sets_watch}
 use Rattle.pm_image.specs.Stands.{Stands}
 use Rattle.pm_copies.specs.Listed.{copy_in}
 use Rattle.pm_saving.specs.Progress.{Progress, cars_or_none, copy_of}
@@ -25,6 +24,8 @@ use Rattle.pm_serving.specs.Images.{IsInProgress, IsSettled, IsStored, IsTold, K
 use Rattle.pm_model.specs.Journal.{IsLegal}
 use Rattle.pm_types.specs.declared.entry.Entry.{Entry}
 use Rattle.pm_types.specs.declared.event.Flushed.{Flushed}
+use Rattle.pm_types.specs.declared.event.Watch.{Watch}
+use Rattle.arrayvec.specs.ArrayVec.{ArrayVec}
 use Rattle.pm_shadow.specs.Pages.{current_kept, disk_of, state}
 use Rattle.pm_shadow.specs.declared.pages.Pages.{Pages}
 use Rattle.pm_space.specs.Shown.{view}
@@ -38,7 +39,7 @@ use Rattle.pm_engine.specs.Working.{Answers, FlushesOn, IsTiedIn, LastsIn, Rests
 use Rattle.pm_engine.specs.Seen.{IsSound, disk_then, seen}
 use Rattle.pm_engine.proofs.Going.{failed_still, leaves, rests_sound}
 use Rattle.pm_engine.proofs.Flushed.{flush_sound}
-use Rattle.pm_engine.proofs.Answering.{Told, adds_of, answered, failed_sound, leaves_either}
+use Rattle.pm_engine.proofs.Answering.{Told, answered, appends_of, failed_sound, leaves_either}
 
 splits_told : (contents : Option (List ℕ)) → ∥ IsTold contents ∥₁ → IsTold contents
 splits_told (Some bytes) known = (bytes, refl)
@@ -61,20 +62,16 @@ module _ {D : Type 0} {F : Type 0} {g : Ghosts D} (start : Opening D F g) (stopp
 
   module _ (new : Works D F g) where
     -- a command was answered
-    pub ask_sound : (client : ℕ) (cmd : Cmd) (reply : Reply) → sets_watch cmd ≡ false → Told cmd old new → Answers client cmd old new reply → ∥ IsSound start stopped new ∥₁
-    ask_sound client cmd reply quiet told is = subst (λ (o : Option ℕ). ∥ IsSound start o new ∥₁) (sym none) (∥∥₁_map at_none (λ sound. (answered start old new sound client cmd reply quiet told is).1))
+    pub ask_sound : (client : ℕ) (cmd : Cmd) (reply : Reply) → Told cmd old new → Answers client cmd old new reply → ∥ IsSound start stopped new ∥₁
+    ask_sound client cmd reply told is = subst (λ (o : Option ℕ). ∥ IsSound start o new ∥₁) (sym none) (∥∥₁_map at_none (λ sound. (answered start old new sound client cmd reply told is).1))
 
     -- the reply is the world's
-    pub ask_reply : (client : ℕ) (cmd : Cmd) (reply : Reply) → sets_watch cmd ≡ false → Told cmd old new → Answers client cmd old new reply → reply ≡ (answer (world (seen start None old)) client cmd).0
-    ask_reply client cmd reply quiet told is = splits_once (Coded-set reply_type.the_row.coded _ _) (∥∥₁_map at_none (λ sound. (answered start old new sound client cmd reply quiet told is).0.reply_is))
+    pub ask_reply : (client : ℕ) (cmd : Cmd) (reply : Reply) → Told cmd old new → Answers client cmd old new reply → reply ≡ (answer (world (seen start None old)) client cmd).0
+    ask_reply client cmd reply told is = splits_once (Coded-set reply_type.the_row.coded _ _) (∥∥₁_map at_none (λ sound. (answered start old new sound client cmd reply told is).0.reply_is))
 
-    pub ask_serves : (client : ℕ) (cmd : Cmd) (reply : Reply) → sets_watch cmd ≡ false → Told cmd old new → Answers client cmd old new reply → Serves client cmd (seen start stopped old) (seen start stopped new) reply
-    ask_serves client cmd reply quiet told is =
-        let adds = adds_of client cmd old new reply is in
-        record {
-          appends = record { opening = record { number = refl; opened = refl }; journal = adds.journal; events = adds.events; stopped = refl };
-          reply_is = ask_reply client cmd reply quiet told is;
-        }
+    pub ask_serves : (client : ℕ) (cmd : Cmd) (reply : Reply) → Told cmd old new → Answers client cmd old new reply → Serves client cmd (seen start stopped old) (seen start stopped new) reply
+    ask_serves client cmd reply told is =
+        record { appends = appends_of start stopped old new client cmd reply is; reply_is = ask_reply client cmd reply told is }
 
     -- memory ran out
     pub rest_sound : Rests old new → IsTiedIn new → LastsIn old new → TellsOn (contents_in old) (contents_in new) → Spares g.contents g.moment g.since (state_in old) (disk_at old) (disk_at new)
@@ -133,12 +130,12 @@ splits_legal start (entry ∷ rest) known =
     (splits_once (Coded-set reply_type.the_row.coded _ _) (∥∥₁_map known (λ legal. legal.0)), splits_legal (answer start entry.client entry.cmd).1 rest (∥∥₁_map known (λ legal. legal.1)))
 
 -- the journal has more room
-pub kept_journal : {D F : Type 0} {g : Ghosts D} (start : Opening D F g) (stopped : Option ℕ) (old new : Works D F g) → new.journal.items ≡ old.journal.items → new.events ≡ old.events → new.space ≡ old.space → new.saver ≡ old.saver → new.pages ≡ old.pages
+pub kept_journal : {D F : Type 0} {g : Ghosts D} (start : Opening D F g) (stopped : Option ℕ) (old new : Works D F g) → new.journal.items ≡ old.journal.items → new.watches ≡ old.watches → new.events ≡ old.events → new.steps ≡ old.steps → new.space ≡ old.space → new.saver ≡ old.saver → new.pages ≡ old.pages
     → ∥ IsSound start stopped old ∥₁ → ∥ IsSound start stopped new ∥₁
-kept_journal {D} {F} {g} start stopped old new journal events space saver pages known =
+kept_journal {D} {F} {g} start stopped old new journal watches events steps space saver pages known =
     let it : Serving = seen start stopped old in
     let same : it ≡ seen start stopped new =
-    (λ i. record { number = it.number; opened = it.opened; view = view ((sym space i).parts); frozen = frozen_of ((sym space i).parts); saving = saving (sym saver i); journal = sym journal i; events = sym events i; stopped = stopped }) in
+    (λ i. record { number = it.number; opened = it.opened; view = view ((sym space i).parts); frozen = frozen_of ((sym space i).parts); saving = saving (sym saver i); journal = sym journal i; watches = sym (ap (λ (w : ArrayVec Watch). w.items) watches) i; events = sym events i; steps = sym steps i; stopped = stopped }) in
     let P : Serving × Pages D g → Type 0 = λ both.
     IsServed both.0 × (stopped ≡ None → IsStored both.0 (state both.1) (g.contents (disk_then start)) (g.contents (disk_of both.1))) × KeepsImages g.contents g.image g.moment g.since (disk_then start) both.0 (disk_of both.1) in
     let moved : (it, old.pages) ≡ (seen start stopped new, new.pages) = (λ i. (same i, sym pages i)) in

@@ -12,7 +12,7 @@ use Rattle.pm_disk.specs.Disk.{IfTold, LeavesOnly}
 use Rattle.pm_disk.proofs.RunLemmas.{weaker}
 use Rattle.pm_model.specs.World.{World, Copy as Copied}
 use Rattle.pm_model.specs.Answer.{answer}
-use Rattle.pm_model.specs.Frames.{is_settle, sets_watch}
+use Rattle.pm_model.specs.Frames.{is_settle}
 use Rattle.pm_model.specs.Journal.{after, settled_in, says_saved}
 use Rattle.pm_model.proofs.ChainLaws.{after_more, saved}
 use Rattle.pm_image.specs.Stands.{Stands}
@@ -74,25 +74,25 @@ module _ {D : Type 0} {F : Type 0} {g : Ghosts D} (start : Opening D F g) (stopp
     acted_never : (cmd : Cmd) → is_act cmd ≡ true → Serves client cmd (seen start None old) (seen start None new) (Saved number) → ⊥
     acted_never cmd act serves = never_acts (world (seen start None old)) client cmd number act serves.reply_is
 
-    pub settles_copy : (cmd : Cmd) → sets_watch cmd ≡ false → Serves client cmd (seen start None old) (seen start None new) (Saved number) → Answers client cmd old new (Saved number) → SettlesCopy client old new number
-    settles_copy Settle quiet serves is = is
-    settles_copy Save quiet serves is = absurd is
-    settles_copy Unsave quiet serves is = absurd is
-    settles_copy Watch quiet serves is = absurd (cc quiet)
-    settles_copy (New reg count bytes) quiet serves is = absurd (acted_never (New reg count bytes) refl serves)
-    settles_copy (Load to reg index) quiet serves is = absurd (acted_never (Load to reg index) refl serves)
-    settles_copy (Store reg index value) quiet serves is = absurd (acted_never (Store reg index value) refl serves)
-    settles_copy (Clear reg index) quiet serves is = absurd (acted_never (Clear reg index) refl serves)
-    settles_copy (Show reg) quiet serves is = absurd (acted_never (Show reg) refl serves)
-    settles_copy (Put reg at bytes) quiet serves is = absurd (acted_never (Put reg at bytes) refl serves)
-    settles_copy (Copy to reg) quiet serves is = absurd (acted_never (Copy to reg) refl serves)
-    settles_copy (IdOf reg) quiet serves is = absurd (acted_never (IdOf reg) refl serves)
-    settles_copy (Forget reg) quiet serves is = absurd (acted_never (Forget reg) refl serves)
-    settles_copy (Bind name reg) quiet serves is = absurd (acted_never (Bind name reg) refl serves)
-    settles_copy (Unbind name) quiet serves is = absurd (acted_never (Unbind name) refl serves)
-    settles_copy (Find to name) quiet serves is = absurd (acted_never (Find to name) refl serves)
-    settles_copy (Swap reg index before value) quiet serves is = absurd (acted_never (Swap reg index before value) refl serves)
-    settles_copy Close quiet serves is = absurd (acted_never Close refl serves)
+    pub settles_copy : (cmd : Cmd) → Serves client cmd (seen start None old) (seen start None new) (Saved number) → Answers client cmd old new (Saved number) → SettlesCopy client old new number
+    settles_copy Settle serves is = is
+    settles_copy Save serves is = absurd is
+    settles_copy Unsave serves is = absurd is
+    settles_copy Watch serves is = absurd is
+    settles_copy (New reg count bytes) serves is = absurd (acted_never (New reg count bytes) refl serves)
+    settles_copy (Load to reg index) serves is = absurd (acted_never (Load to reg index) refl serves)
+    settles_copy (Store reg index value) serves is = absurd (acted_never (Store reg index value) refl serves)
+    settles_copy (Clear reg index) serves is = absurd (acted_never (Clear reg index) refl serves)
+    settles_copy (Show reg) serves is = absurd (acted_never (Show reg) refl serves)
+    settles_copy (Put reg at bytes) serves is = absurd (acted_never (Put reg at bytes) refl serves)
+    settles_copy (Copy to reg) serves is = absurd (acted_never (Copy to reg) refl serves)
+    settles_copy (IdOf reg) serves is = absurd (acted_never (IdOf reg) refl serves)
+    settles_copy (Forget reg) serves is = absurd (acted_never (Forget reg) refl serves)
+    settles_copy (Bind name reg) serves is = absurd (acted_never (Bind name reg) refl serves)
+    settles_copy (Unbind name) serves is = absurd (acted_never (Unbind name) refl serves)
+    settles_copy (Find to name) serves is = absurd (acted_never (Find to name) refl serves)
+    settles_copy (Swap reg index before value) serves is = absurd (acted_never (Swap reg index before value) refl serves)
+    settles_copy Close serves is = absurd (acted_never Close refl serves)
 
     module _ (cmd : Cmd) (serves : Serves client cmd (seen start None old) (seen start None new) (Saved number)) (is : SettlesCopy client old new number) where
       world_is : world (seen start None new) ≡ (answer (world (seen start None old)) client cmd).1

@@ -1,5 +1,5 @@
 -- What holds of an engine goes on through each of its calls.
-use Rattle.std.proofs.Common.{◌≡◌, ℕ, ◌≤◌, Bool, true, false, if◌then◌else◌, option_map, List, [], ◌∷◌, ◌++◌, Option, Some, None, Contains, refl, sym, ap, subst, ◌∙◌, arith}
+use Rattle.std.proofs.Common.{◌≡◌, ℕ, ◌≤◌, Bool, true, false, if◌then◌else◌, option_map, List, [], ◌∷◌, ◌++◌, length, Option, Some, None, Contains, refl, sym, ap, subst, ◌∙◌, arith}
 use Rattle.pm_types.specs.declared.command.Cmd.{Cmd}
 use Rattle.pm_types.specs.declared.entry.Entry.{Entry}
 use Rattle.pm_types.specs.declared.reply.Reply.{Reply}
@@ -17,12 +17,12 @@ use Rattle.pm_saving.specs.Progress.{Progress, cars_or_none}
 use Rattle.pm_saving.specs.Tied.{GoesOn, HasCopy}
 use Rattle.pm_saver.specs.Answers.{Spares, TellsOn}
 use Rattle.pm_serving.specs.Serving.{IsServed, Serving, numbered_copy, opening, world}
-use Rattle.pm_serving.specs.Events.{Appends, Serves, StaysBegun}
+use Rattle.pm_serving.specs.Events.{Appends, Serves, StaysBegun, watched}
 use Rattle.pm_serving.specs.Images.{IsSettled, IsStored, IsTold}
 use Rattle.pm_law_serving.proofs.Images.{spared}
 use Rattle.pm_engine.specs.declared.opening.Opening.{Opening}
 use Rattle.pm_engine.specs.declared.works.Works.{Works}
-use Rattle.pm_engine.specs.Working.{Adds, IsTiedIn, LastsIn, Rests, contents_in, disk_at, frozen_in, saving_in, state_in, view_in}
+use Rattle.pm_engine.specs.Working.{Adds, IsTiedIn, LastsIn, Rests, contents_in, disk_at, frozen_in, saving_in, state_in, view_in, watches_in}
 use Rattle.pm_engine.specs.Seen.{IsSound, disk_then, seen}
 
 -- ---- the copy that settled last is one of the chain
@@ -68,13 +68,25 @@ module _ {D : Type 0} {F : Type 0} {g : Ghosts D} (start : Opening D F g) (old n
   abbrev later : Serving
   later = seen start None new
 
-  pub appends : (client : ℕ) (cmd : Cmd) (reply : Reply) → Adds client cmd reply old new → Appends client cmd (seen start None old) (seen start None new) reply
-  appends client cmd reply adds = record { opening = record { number = refl; opened = refl }; journal = adds.journal; events = adds.events; stopped = refl }
+  -- the entry of a command that sets no watch
+  pub appends_so : (stopped : Option ℕ) (client : ℕ) (cmd : Cmd) (reply : Reply) → watched (seen start stopped old) cmd reply ≡ watches_in old → Adds client cmd reply old new
+      → Appends client cmd (seen start stopped old) (seen start stopped new) reply
+  appends_so stopped client cmd reply none adds = record {
+    opening = record { number = refl; opened = refl };
+    journal = adds.journal;
+    watches = adds.watches ∙ sym none;
+    events = adds.events;
+    steps = adds.steps;
+    stopped = refl;
+  }
 
-  -- the journal stays, and so does what is seen of the space, and the copies but for their pages
-  pub serves_on : (stopped : Option ℕ) → IsServed (seen start None old) → new.journal.items ≡ old.journal.items → view_in new ≡ view_in old → frozen_in new ≡ frozen_in old
+  pub appends : (client : ℕ) (cmd : Cmd) (reply : Reply) → watched (seen start None old) cmd reply ≡ watches_in old → Adds client cmd reply old new → Appends client cmd (seen start None old) (seen start None new) reply
+  appends = appends_so None
+
+  -- the journal stays, and so do the watches, what is seen of the space, and the copies but for their pages
+  pub serves_on : (stopped : Option ℕ) → IsServed (seen start None old) → new.journal.items ≡ old.journal.items → watches_in new ≡ watches_in old → view_in new ≡ view_in old → frozen_in new ≡ frozen_in old
       → StaysBegun (saving_in old).progress (saving_in new).progress → IsServed (seen start stopped new)
-  serves_on stopped served journal view frozen stays =
+  serves_on stopped served journal watches view frozen stays =
       let w = opening (seen start None old) in
       record {
         closed = served.closed;
@@ -83,6 +95,7 @@ module _ {D : Type 0} {F : Type 0} {g : Ghosts D} (start : Opening D F g) (old n
         saving = ap (λ (entries : List Entry). (after w entries).saving) journal ∙ served.saving
             ∙ stays_begun (frozen_in old) (saving_in old).progress (saving_in new).progress stays
             ∙ ap (λ (f : Option Cars). option_map (numbered_copy f) (saving_in new).progress) (sym frozen);
+        watching = ap (λ (entries : List Entry). (after w entries).watches) journal ∙ served.watching ∙ sym (ap length watches);
       }
 
   -- at each moment of the call the current copy stood
@@ -124,7 +137,7 @@ module _ {D : Type 0} {F : Type 0} {g : Ghosts D} (start : Opening D F g) (old n
     pub rests_sound : Rests old new → IsTiedIn new → LastsIn old new → TellsOn (contents_in old) (contents_in new) → Spares g.contents g.moment g.since (state_in old) (disk_at old) (disk_at new) → IsSound start None new
     rests_sound rests =
         let w = opening (seen start None old) in
-        lasts (serves_on None sound.served rests.nothing.journal rests.view rests.frozen rests.progress)
+        lasts (serves_on None sound.served rests.nothing.journal rests.nothing.watches rests.view rests.frozen rests.progress)
         (ap (λ (entries : List Entry). settled_in (after w entries)) rests.nothing.journal)
         (ap (chain w) rests.nothing.journal)
 
@@ -144,7 +157,7 @@ module _ {D : Type 0} {F : Type 0} {g : Ghosts D} (start : Opening D F g) (old n
     failed_still count rests told spares =
         let w = opening (seen start None old) in
         record {
-          served = serves_on (Some count) sound.served rests.nothing.journal rests.view rests.frozen rests.progress;
+          served = serves_on (Some count) sound.served rests.nothing.journal rests.nothing.watches rests.view rests.frozen rests.progress;
           stored = λ none. absurd (cc none);
           images = spared g.contents g.image g.moment g.since (disk_then start) (seen start None old) (disk_at old) (disk_at new) (IsSettled (world (seen start None old))) refl sound.images (leaves stored sound.images.told spares) (tells told) counts
               (seen start (Some count) new) (ap (λ (entries : List Entry). settled_in (after w entries)) rests.nothing.journal) (ap (chain w) rests.nothing.journal) (settled_there (seen start None old) sound.served) (λ left is. is);

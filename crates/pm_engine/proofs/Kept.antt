@@ -1,5 +1,5 @@
 -- What holds between calls, where only the journal changes.
-use Rattle.std.proofs.Common.{◌≡◌, ⊎_elim, inl, inr, ℕ, false, List, Option, Some, None, refl, sym, ap, subst, arith}
+use Rattle.std.proofs.Common.{◌≡◌, ⊎_elim, inl, inr, ℕ, ◌≤◌, false, List, Option, Some, None, refl, sym, ap, subst, arith}
 use Rattle.pm_disk.specs.declared.disk.Disk.{Ghosts}
 use Rattle.pm_image.specs.declared.settled.KeptPage.{KeptPage}
 use Rattle.pm_shadow.specs.declared.pages.Pages.{Pages}
@@ -19,7 +19,7 @@ use Rattle.pm_serving.specs.Events.{StaysBegun}
 use Rattle.pm_saver.specs.declared.saver.Saver.{Saver}
 use Rattle.pm_saver.specs.Shown.{frozen_of, saving}
 use Rattle.pm_engine.specs.declared.works.Works.{Works}
-use Rattle.pm_engine.specs.Working.{IsTiedIn, KeepsStore, LastsIn, LastsSo, Rests, disk_at, frozen_in, saving_in, state_in, view_in}
+use Rattle.pm_engine.specs.Working.{IsTiedIn, KeepsStore, LastsIn, LastsSo, Rests, disk_at, frozen_in, room_in, saving_in, state_in, view_in, watches_in}
 
 module _ {D : Type 0} {F : Type 0} {g : Ghosts D} where
   pub tied_kept : (old new : Works D F g) → KeepsStore old new → IsTiedIn old → IsTiedIn new
@@ -70,9 +70,9 @@ module _ {D : Type 0} {F : Type 0} {g : Ghosts D} where
   lasts_so old new only_now tied also still lasts = record { tied = also; lasts = lasts; spares = spares_still old new only_now still tied.sound }
 
   -- a fault of a settle leaves the copy in progress
-  pub rests_on : (old new : Works D F g) → new.journal.items ≡ old.journal.items → new.events ≡ old.events → view_in new ≡ view_in old → frozen_in new ≡ frozen_in old → StaysOn (saving_in old) (saving_in new) → Rests old new
-  rests_on old new journal events view frozen stays = record {
-    nothing = record { journal = journal; events = events };
+  pub rests_on : (old new : Works D F g) → new.journal.items ≡ old.journal.items → watches_in new ≡ watches_in old → new.events ≡ old.events → new.steps ≡ old.steps → room_in old ≤ room_in new → view_in new ≡ view_in old → frozen_in new ≡ frozen_in old → StaysOn (saving_in old) (saving_in new) → Rests old new
+  rests_on old new journal watches events steps room view frozen stays = record {
+    nothing = record { journal = journal; watches = watches; events = events; steps = steps; room = room };
     view = view;
     frozen = frozen;
     settled = ap (λ (it : Saving). it.settled) stays.saving;

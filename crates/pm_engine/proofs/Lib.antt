@@ -7,3 +7,4 @@ pub mod Crashing
 pub mod Settled
 pub mod Begun
 pub mod Telling
+pub mod Collected

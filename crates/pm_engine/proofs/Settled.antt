@@ -1,10 +1,9 @@
 -- What has settled once `settle` was answered so.
-use Rattle.std.proofs.Common.{◌≡◌, ℕ, false, Option, None, subst}
+use Rattle.std.proofs.Common.{◌≡◌, ℕ, Option, None, subst}
 use Rattle.pm_types.specs.declared.command.Cmd.{Cmd}
 use Rattle.pm_types.specs.declared.reply.Reply.{Reply}
 use Rattle.pm_types.specs.declared.reply.Reply.TheVariants.{Saved}
 use Rattle.pm_disk.specs.declared.disk.Disk.{Ghosts}
-use Rattle.pm_model.specs.Frames.{sets_watch}
 use Rattle.pm_serving.specs.Events.{Serves}
 use Rattle.pm_engine.specs.declared.engine.Engine.{Engine}
 use Rattle.pm_engine.specs.declared.works.Works.{Works}
@@ -13,13 +12,13 @@ use Rattle.pm_engine.specs.Seen.{IsSound, seen}
 use Rattle.pm_engine.specs.Calls.{IsSettled}
 use Rattle.pm_engine.proofs.Crashing.{settled_images, settled_number, settles_copy}
 
-module _ {D : Type 0} {F : Type 0} {g : Ghosts D} (old : Engine D F g) (new : Works D F g) (sound : ∥ IsSound old.opening old.stopped new ∥₁) (none : old.stopped ≡ None) (client : ℕ) (cmd : Cmd) (quiet : sets_watch cmd ≡ false) where
+module _ {D : Type 0} {F : Type 0} {g : Ghosts D} (old : Engine D F g) (new : Works D F g) (sound : ∥ IsSound old.opening old.stopped new ∥₁) (none : old.stopped ≡ None) (client : ℕ) (cmd : Cmd) where
   pub settled_all : (reply : Reply) → Serves client cmd (seen old.opening old.stopped old.works) (seen old.opening old.stopped new) reply → Answers client cmd old.works new reply
       → IsSettled old (record { works = new; opening = old.opening; stopped = old.stopped; sound = sound }) reply
   settled_all (Saved number) serves is =
       let start = old.opening in
       let serves0 = subst (λ (o : Option ℕ). Serves client cmd (seen start o old.works) (seen start o new) (Saved number)) none serves in
-      let copy = settles_copy start old.stopped old.works none old.sound new client number cmd quiet serves0 is in
+      let copy = settles_copy start old.stopped old.works none old.sound new client number cmd serves0 is in
       record {
         number_is = settled_number start old.stopped old.works none old.sound new client number cmd serves0 copy;
         now = settled_images start old.stopped old.works none old.sound new client number cmd serves0 copy;

@@ -1,22 +1,24 @@
 -- What is told of a call beside what holds between calls.
-use Rattle.std.proofs.Common.{◌≡◌, ℕ, Bool, true, false, Option, Some, None, Err, refl, sym, subst}
+use Rattle.std.proofs.Common.{◌≡◌, ℕ, Bool, true, false, List, Option, Some, None, Err, refl, sym, subst, arith}
+use Rattle.std.specs.Borrow.{Bor}
+use Rattle.std.specs.Fn.{Shared}
 use Rattle.pm_base.specs.Counts.{Rose, ShowsRise}
 use Rattle.pm_types.specs.Replies.{IsShortReply}
 use Rattle.pm_types.specs.declared.command.Cmd.{Cmd}
-use Rattle.pm_types.specs.declared.command.Cmd.TheVariants.{Save, Settle, Unsave}
+use Rattle.pm_types.specs.declared.command.Cmd.TheVariants.{Save, Settle, Unsave, Watch}
 use Rattle.pm_types.specs.declared.fault.EngineFault.TheVariants.{Reopen}
 use Rattle.pm_types.specs.declared.reply.Reply.{Reply}
-use Rattle.pm_types.specs.declared.reply.Reply.TheVariants.{Begun, Busy, Dropped, Idle, Saved, SavesSpent}
+use Rattle.pm_types.specs.declared.reply.Reply.TheVariants.{Begun, Busy, Dropped, Idle, Saved, SavesSpent, TooManyWatches, Watching}
 use Rattle.pm_disk.specs.declared.disk.Disk.{Ghosts}
 use Rattle.pm_model.specs.Frames.{is_settle, saves}
 use Rattle.pm_space.specs.Shown.{view}
 use Rattle.pm_serving.specs.Events.{ServesNothing}
 use Rattle.pm_engine.specs.declared.opening.Opening.{Opening}
 use Rattle.pm_engine.specs.declared.works.Works.{Works}
-use Rattle.pm_engine.specs.Working.{Answers, IsLeft, LeavesEither, Rests, Saves, SettlesIt, StaysStill, Unsaves, disk_at, saving_in}
+use Rattle.pm_engine.specs.Working.{Answers, IsLeft, LeavesEither, Rests, Saves, SettlesIt, StaysStill, Unsaves, Watches, disk_at, saving_in}
 use Rattle.pm_engine.specs.Seen.{seen}
 use Rattle.pm_engine.specs.declared.engine.Engine.{Engine}
-use Rattle.pm_engine.specs.Calls.{AnswersClient, AnswersFlush, KeepsCopies}
+use Rattle.pm_engine.specs.Calls.{AnswersClient, AnswersCollect, AnswersFlush, KeepsCopies}
 
 -- ---- a reply shows at most an object's bytes
 
@@ -36,18 +38,30 @@ settle_short client old new Idle is = tt
 settle_short client old new (Saved number) is = tt
 settle_short client old new reply is = absurd is
 
+watch_short : {D F : Type 0} {g : Ghosts D} (client : ℕ) (old new : Works D F g) (reply : Reply) → Watches client old new reply → IsShortReply reply
+watch_short client old new TooManyWatches is = tt
+watch_short client old new (Watching number) is = tt
+watch_short client old new reply is = absurd is
+
 pub short_of : {D F : Type 0} {g : Ghosts D} (client : ℕ) (cmd : Cmd) (old new : Works D F g) (reply : Reply) → Answers client cmd old new reply → IsShortReply reply
 short_of client Save old new reply is = save_short client old new reply is
 short_of client Settle old new reply is = settle_short client old new reply is
 short_of client Unsave old new reply is = unsave_short client old new reply is
+short_of client Watch old new reply is = watch_short client old new reply is
 short_of client cmd old new reply is = is.short
 
 module _ {D : Type 0} {F : Type 0} {g : Ghosts D} (start : Opening D F g) (stopped : Option ℕ) (old new : Works D F g) where
+  watch_copies : (client : ℕ) (reply : Reply) → Watches client old new reply → KeepsCopies (seen start stopped old) (seen start stopped new)
+  watch_copies client TooManyWatches is = record { saving = is.keeps.saving; frozen = is.keeps.frozen }
+  watch_copies client (Watching number) is = record { saving = is.keeps.saving; frozen = is.keeps.frozen }
+  watch_copies client reply is = absurd is
+
   -- a command that neither begins, settles nor drops a copy leaves the copies
   pub copies_of : (client : ℕ) (cmd : Cmd) (reply : Reply) → saves cmd ≡ false → Answers client cmd old new reply → KeepsCopies (seen start stopped old) (seen start stopped new)
   copies_of client Save reply other is = absurd (cc other)
   copies_of client Settle reply other is = absurd (cc other)
   copies_of client Unsave reply other is = absurd (cc other)
+  copies_of client Watch reply other is = watch_copies client reply is
   copies_of client cmd reply other is = record { saving = is.saving; frozen = is.frozen }
 
   -- all of it stays
@@ -60,7 +74,9 @@ module _ {D : Type 0} {F : Type 0} {g : Ghosts D} (start : Opening D F g) (stopp
         frozen = left.keeps.frozen i;
         saving = left.keeps.saving i;
         journal = left.nothing.journal i;
+        watches = left.nothing.watches i;
         events = left.nothing.events i;
+        steps = left.nothing.steps i;
         stopped = stopped;
       })
 
@@ -73,7 +89,9 @@ module _ {D : Type 0} {F : Type 0} {g : Ghosts D} (start : Opening D F g) (stopp
     settled = rests.settled;
     progress = rests.progress;
     journal = rests.nothing.journal;
+    watches = rests.nothing.watches;
     events = rests.nothing.events;
+    steps = rests.nothing.steps;
   }
 
   -- where no copy is in progress the disk is not called
@@ -109,6 +127,8 @@ module _ {D : Type 0} {F : Type 0} {g : Ghosts D} (it : Engine D F g) (count : �
     lasts = λ _. tt;
     idle = λ _. refl;
     past = refl;
+    work = omega arith;
+    room = omega arith;
   }
 
   pub flush_reopens : AnswersFlush it it (Err (Reopen count))
@@ -123,4 +143,17 @@ module _ {D : Type 0} {F : Type 0} {g : Ghosts D} (it : Engine D F g) (count : �
     fault = tt;
     idle = λ _. refl;
     past = refl;
+    room = omega arith;
+  }
+
+  pub collect_reopens : (calls : Shared F (Bor (List ℕ) × Unit {0}) ℕ) → AnswersCollect calls it it (Err (Reopen count))
+  collect_reopens calls = record {
+    event = tt;
+    collects = tt;
+    fails = (refl, is, refl);
+    running = tt;
+    reopen = refl;
+    still = record { disk = refl; none = tt };
+    memory = tt;
+    room = omega arith;
   }

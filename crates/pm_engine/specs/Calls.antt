@@ -1,8 +1,11 @@
 -- What the calls of an engine do, beside its journal.
-use Rattle.std.specs.Prelude.{◌≡◌, ◌⊎◌, ℕ, ◌<◌, true, false, List, Option, None, Result, MatchResult, IfOk, IfErr, OnOk}
+use Rattle.std.specs.Prelude.{◌≡◌, ◌⊎◌, ℕ, ◌+◌, ◌<◌, ◌≤◌, true, false, List, Option, None, Result, MatchResult, IfOk, IfErr, OnOk}
+use Rattle.std.specs.Borrow.{Bor}
+use Rattle.std.specs.Fn.{Shared}
 use Rattle.pm_types.specs.declared.command.Cmd.{Cmd}
 use Rattle.pm_types.specs.Replies.{IsShortReply}
 use Rattle.pm_types.specs.declared.event.Flushed.{Flushed}
+use Rattle.pm_types.specs.declared.event.Step.{Step}
 use Rattle.pm_types.specs.declared.fault.EngineFault.{EngineFault}
 use Rattle.pm_types.specs.declared.fault.EngineFault.TheVariants.{Memory, Disk, Reopen}
 use Rattle.pm_types.specs.declared.reply.Reply.{Reply}
@@ -11,16 +14,19 @@ use Rattle.pm_disk.specs.declared.disk.Disk.{Ghosts}
 use Rattle.pm_disk.specs.Disk.{LeavesOnly}
 use Rattle.pm_model.specs.Frames.{is_settle, saves}
 use Rattle.pm_shadow.specs.State.{State}
+use Rattle.pm_view.specs.Work.{work}
+use Rattle.pm_law_work.specs.Raises.{raises}
+use Rattle.pm_evac.specs.Steps.{IsMade}
 use Rattle.pm_saving.specs.Paging.{left_of}
 use Rattle.pm_saving.specs.Tied.{Settles}
 use Rattle.pm_saving.specs.Progress.{cars_or_none}
 use Rattle.pm_saver.specs.Answers.{IsFlushed}
 use Rattle.pm_serving.specs.Serving.{Serving, world}
-use Rattle.pm_serving.specs.Events.{FailsAs, Flushes, Serves}
+use Rattle.pm_serving.specs.Events.{Collects, FailsAs, Flushes, Serves}
 use Rattle.pm_serving.specs.Images as images
 use Rattle.pm_serving.specs.Images.{IsInProgress, IsTold}
 use Rattle.pm_engine.specs.declared.engine.Engine.{Engine}
-use Rattle.pm_engine.specs.Shown.{disk_in, opened_disk, pages_in, room, serving}
+use Rattle.pm_engine.specs.Shown.{chooser, disk_in, opened_disk, pages_in, room, serving}
 
 -- the fault is none of the disk
 abbrev pub IsNoDisk : EngineFault → Type 0
@@ -77,7 +83,7 @@ module _ {D : Type 0} {F : Type 0} {g : Ghosts D} where
   StaysWhole old new (Reopen count) = new ≡ old
 
   -- no call of the disk was made, and no fault is one of it
-  pub record CallsNoDisk (old new : Engine D F g) (result : Result Reply EngineFault) : Type 0 where
+  pub record CallsNoDisk {T : Type 0} (old new : Engine D F g) (result : Result T EngineFault) : Type 0 where
     pub disk : disk_in new ≡ disk_in old
     pub none : IfErr result IsNoDisk
 
@@ -144,6 +150,10 @@ module _ {D : Type 0} {F : Type 0} {g : Ghosts D} where
     pub idle : IsIdle old new
     -- no read is made past the end of what the disk told
     pub past : ReadsWithin old new
+    -- little is added to the work that is left of a collection
+    pub work : work (serving new).view ≤ work (serving old).view + raises cmd
+    -- an entry takes the room of one
+    pub room : MatchResult result (λ _. room old ≤ room new + 1) (λ _. room old ≤ room new)
 
   -- What `flush` does, whatever it answers.
   pub record AnswersFlush (old new : Engine D F g) (result : Result Flushed EngineFault) : Type 0 where
@@ -167,3 +177,24 @@ module _ {D : Type 0} {F : Type 0} {g : Ghosts D} where
     pub idle : IsIdle old new
     -- no read is made past the end of what the disk told
     pub past : ReadsWithin old new
+    -- there is room for as many entries
+    pub room : room old ≤ room new
+
+  -- What `collect` does, whatever it answers. The calls are those of the chooser.
+  pub record AnswersCollect (calls : Shared F (Bor (List ℕ) × Unit {0}) ℕ) (old new : Engine D F g) (result : Result Step EngineFault) : Type 0 where
+    -- the next event was made, with the chooser's pick; it moves one object at most, and lowers the work that is left
+    pub event : IfOk result (IsMade calls (chooser old) (serving old).view (serving new).view)
+    -- journal, watches and copies stay, and with them the world; one event more was made, by the collector
+    pub collects : OnOk result (Collects (serving old) (serving new))
+    -- why nothing was answered
+    pub fails : IfErr result (FailsAs (serving old) (serving new) (g.count (disk_in old)) (g.count (disk_in new)))
+    -- it is answered only while no call has answered that the disk failed
+    pub running : OnOk result (IsRunning old new)
+    -- and else all stays
+    pub reopen : IfErr result (StaysWhole old new)
+    -- the disk is not called
+    pub still : CallsNoDisk old new result
+    -- after want of memory nothing has changed
+    pub memory : IfErr result (IfMemory (serving new ≡ serving old))
+    -- there is room for as many entries
+    pub room : room old ≤ room new

@@ -1,14 +1,16 @@
 -- What contracts see of an engine.
 use Rattle.std.specs.Prelude.{◌≡◌, ℕ, List, length}
 use Rattle.pm_types.specs.declared.entry.Entry.{Entry}
+use Rattle.pm_types.specs.declared.event.WatchLine.{WatchLine}
 use Rattle.pm_disk.specs.declared.disk.Disk.{Ghosts}
 use Rattle.pm_shadow.specs.State.{State}
 use Rattle.pm_view.specs.Counts.{standing}
+use Rattle.pm_view.specs.Watches.{lines_from}
 use Rattle.pm_space.specs.Counted.{capped}
 use Rattle.pm_serving.specs.Serving.{KeepsOpening, Serving}
 use Rattle.pm_engine.specs.declared.engine.Engine.{Engine}
 use Rattle.pm_engine.specs.declared.tally.Tally.{Tally}
-use Rattle.pm_engine.specs.Working.{disk_at, room_in, state_in}
+use Rattle.pm_engine.specs.Working.{disk_at, place_in, room_in, state_in}
 use Rattle.pm_engine.specs.Seen.{disk_then, seen}
 
 module _ {D : Type 0} {F : Type 0} {g : Ghosts D} where
@@ -34,23 +36,47 @@ module _ {D : Type 0} {F : Type 0} {g : Ghosts D} where
   abbrev pub room : Engine D F g → ℕ
   room it = room_in it.works
 
-  -- the opening stays: the number and the space, the disk as it was, and its count
+  -- the chooser of the space
+  abbrev pub chooser : Engine D F g → F
+  chooser it = place_in it.works
+
+  -- the opening stays: the number and the space, the disk as it was, and its count; and so does the chooser
   pub record KeepsStart (old new : Engine D F g) : Type 0 where
     pub opening : KeepsOpening (serving old) (serving new)
     pub disk : opened_disk new ≡ opened_disk old
     pub count : opened_count new ≡ opened_count old
+    pub chooser : chooser new ≡ chooser old
 
--- What an engine came to: how many entries its journal has, how many events were made, how many objects stand, and the
--- journal.
+-- What an engine came to: how many entries its journal has, how many events were made, and how many of them by the
+-- collector, how many collections were completed, how many objects stand, what is told of the watches, and the journal.
 pub record Total : Type 0 where
   pub entries : ℕ
   pub events : ℕ
+  pub steps : ℕ
+  pub completed : ℕ
   pub standing : ℕ
+  pub lines : List WatchLine
   pub journal : List Entry
 
 abbrev pub tally_of : Tally → Total
-tally_of it = record { entries = it.entries; events = it.events; standing = it.standing; journal = it.journal.value.items }
+tally_of it = record {
+  entries = it.entries;
+  events = it.events;
+  steps = it.steps;
+  completed = it.completed;
+  standing = it.standing;
+  lines = it.lines.items;
+  journal = it.journal.value.items;
+}
 
 -- what an engine comes to
 abbrev pub tally_in : Serving → Total
-tally_in it = record { entries = length it.journal; events = it.events; standing = capped (standing it.view); journal = it.journal }
+tally_in it = record {
+  entries = length it.journal;
+  events = it.events;
+  steps = it.steps;
+  completed = it.view.completed;
+  standing = capped (standing it.view);
+  lines = lines_from it.view 1 it.watches;
+  journal = it.journal;
+}

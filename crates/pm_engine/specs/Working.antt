@@ -1,16 +1,20 @@
 -- What calls do to what an engine works with.
-use Rattle.std.specs.Prelude.{◌≡◌, ◌⊎◌, ℕ, ◌+◌, ◌-◌, ◌<◌, Bool, true, IsSome, List, [], ◌∷◌, ◌++◌, Option, Some, None, vec_len, vec_capacity}
+use Rattle.std.specs.Prelude.{◌≡◌, ◌⊎◌, ℕ, ◌+◌, ◌-◌, ◌<◌, ◌≤◌, Bool, true, IsSome, List, [], ◌∷◌, ◌++◌, length, Option, Some, None, vec_len, vec_capacity}
 use Rattle.pm_types.specs.Replies.{IsShortReply}
-use Rattle.pm_types.specs.declared.limits.TheConstants.{LAST_COPY}
+use Rattle.pm_types.specs.declared.limits.TheConstants.{LAST_COPY, WATCHES}
 use Rattle.pm_types.specs.declared.command.Cmd.{Cmd}
+use Rattle.pm_types.specs.declared.command.Cmd.TheVariants as cmds
 use Rattle.pm_types.specs.declared.command.Cmd.TheVariants.{Save, Settle, Unsave}
 use Rattle.pm_types.specs.declared.event.Flushed.{Flushed}
+use Rattle.pm_types.specs.declared.event.Watch.{Watch}
 use Rattle.pm_types.specs.declared.reply.Reply.{Reply}
-use Rattle.pm_types.specs.declared.reply.Reply.TheVariants.{Begun, Busy, Dropped, Idle, Saved, SavesSpent}
+use Rattle.pm_types.specs.declared.reply.Reply.TheVariants.{Begun, Busy, Dropped, Idle, Saved, SavesSpent, TooManyWatches, Watching}
 use Rattle.pm_disk.specs.declared.disk.Disk.{Ghosts}
 use Rattle.pm_shadow.specs.State.{State}
 use Rattle.pm_shadow.specs.Pages.{state, disk_of}
 use Rattle.pm_view.specs.View.{Cars, SpaceView}
+use Rattle.pm_view.specs.Watches.{watch_in}
+use Rattle.pm_view.specs.Work.{work}
 use Rattle.pm_space.specs.Shown.{view}
 use Rattle.pm_copies.specs.Listed.{copy_in}
 use Rattle.pm_saving.specs.Progress.{Progress, Saving, cars_or_none, copy_of}
@@ -24,6 +28,7 @@ use Rattle.pm_saver.specs.Settling.{SparesEither, StandsThen}
 use Rattle.pm_serving.specs.Serving.{one_more}
 use Rattle.pm_serving.specs.Events.{StaysBegun}
 use Rattle.pm_mutate.specs.Acts as mutate
+use Rattle.pm_law_work.specs.Raises.{raises}
 use Rattle.pm_engine.specs.declared.works.Works.{Works}
 
 module _ {D : Type 0} {F : Type 0} {g : Ghosts D} where
@@ -46,14 +51,26 @@ module _ {D : Type 0} {F : Type 0} {g : Ghosts D} where
   abbrev pub contents_in : Works D F g → Option (List ℕ)
   contents_in it = g.contents (disk_of it.pages)
 
+  -- the chooser
+  abbrev pub place_in : Works D F g → F
+  place_in it = it.space.parts.place
+
+  -- the watches that are set
+  abbrev pub watches_in : Works D F g → List Watch
+  watches_in it = it.watches.items
+
   -- so many entries more take no memory
   abbrev pub room_in : Works D F g → ℕ
   room_in it = vec_capacity it.journal - vec_len it.journal
 
-  -- the entry of a command is at the journal's end, and one event more was made
+  -- The entry of a command is at the journal's end, and one event more was made, which is none of the collector. The
+  -- watches stay, and there is room for one entry less.
   pub record Adds (client : ℕ) (cmd : Cmd) (reply : Reply) (old new : Works D F g) : Type 0 where
     pub journal : new.journal.items ≡ old.journal.items ++ record { client = client; cmd = cmd; reply = reply } ∷ []
+    pub watches : watches_in new ≡ watches_in old
     pub events : new.events ≡ one_more old.events
+    pub steps : new.steps ≡ old.steps
+    pub room : room_in old ≤ room_in new + 1
 
   -- space, saver and pages stay
   pub record KeepsStore (old new : Works D F g) : Type 0 where
@@ -67,10 +84,13 @@ module _ {D : Type 0} {F : Type 0} {g : Ghosts D} where
     pub frozen : frozen_in new ≡ frozen_in old
     pub saving : saving_in new ≡ saving_in old
 
-  -- the journal stays, and no event was made
+  -- the journal stays, and so do the watches, no event was made, and there is room for as many entries
   pub record AddsNothing (old new : Works D F g) : Type 0 where
     pub journal : new.journal.items ≡ old.journal.items
+    pub watches : watches_in new ≡ watches_in old
     pub events : new.events ≡ old.events
+    pub steps : new.steps ≡ old.steps
+    pub room : room_in old ≤ room_in new
 
   -- all of it stays
   pub record IsLeft (old new : Works D F g) : Type 0 where
@@ -91,6 +111,7 @@ module _ {D : Type 0} {F : Type 0} {g : Ghosts D} where
     pub frozen : frozen_in new ≡ frozen_in old
     pub saving : saving_in new ≡ saving_in old
     pub short : IsShortReply reply
+    pub work : work (view_in new) ≤ work (view_in old) + raises cmd
 
   -- ---- copies
 
@@ -144,6 +165,30 @@ module _ {D : Type 0} {F : Type 0} {g : Ghosts D} where
     pub settles : Settles (saving_in old) (saving_in new) (cars_or_none (frozen_in old)) (state_in old) (state_in new) (contents_in old) (contents_in new) number
     pub now : StandsThen g.contents g.image (saving_in old).progress (cars_or_none (frozen_in old)) (state_in new) (disk_at old) (disk_at new) number
 
+  -- ---- watches
+
+  -- As many watches are set as may be.
+  pub record IsFull (client : ℕ) (old new : Works D F g) : Type 0 where
+    pub adds : Adds client cmds.Watch TooManyWatches old new
+    pub keeps : Keeps old new
+    pub full : length (watches_in old) ≡ WATCHES
+
+  -- One more watch is set, with what is to be noted of the space and the journal as they were.
+  pub record SetsWatch (client : ℕ) (old new : Works D F g) (number : ℕ) : Type 0 where
+    pub journal : new.journal.items ≡ old.journal.items ++ record { client = client; cmd = cmds.Watch; reply = Watching number } ∷ []
+    pub watches : watches_in new ≡ watches_in old ++ watch_in (view_in old) (length old.journal.items) ∷ []
+    pub events : new.events ≡ one_more old.events
+    pub steps : new.steps ≡ old.steps
+    pub room : room_in old ≤ room_in new + 1
+    pub keeps : Keeps old new
+    pub number_is : number ≡ length (watches_in old) + 1
+    pub few : length (watches_in old) < WATCHES
+
+  abbrev pub Watches : ℕ → Works D F g → Works D F g → Reply → Type 0
+  Watches client old new TooManyWatches = IsFull client old new
+  Watches client old new (Watching number) = SetsWatch client old new number
+  Watches client old new reply = ⊥
+
   abbrev pub Saves : ℕ → Works D F g → Works D F g → Reply → Type 0
   Saves client old new (Busy number) = IsBusy client old new number
   Saves client old new SavesSpent = IsSpent client old new
@@ -165,6 +210,7 @@ module _ {D : Type 0} {F : Type 0} {g : Ghosts D} where
   Answers client Save old new reply = Saves client old new reply
   Answers client Settle old new reply = SettlesIt client old new reply
   Answers client Unsave old new reply = Unsaves client old new reply
+  Answers client cmds.Watch old new reply = Watches client old new reply
   Answers client cmd old new reply = Acts client cmd old new reply
 
   -- ---- what holds between calls, and what is left of it
@@ -211,10 +257,22 @@ module _ {D : Type 0} {F : Type 0} {g : Ghosts D} where
   -- The next page of the copy in progress was written, or none was left; one event more was made.
   pub record FlushesOn (old new : Works D F g) (answer : Flushed) : Type 0 where
     pub journal : new.journal.items ≡ old.journal.items
+    pub watches : watches_in new ≡ watches_in old
     pub events : new.events ≡ one_more old.events
+    pub steps : new.steps ≡ old.steps
     pub space : new.space ≡ old.space
     pub flushed : IsFlushed (saving_in old) (saving_in new) (cars_or_none (frozen_in old)) (state_in old) (state_in new) (contents_in old) (contents_in new) answer
 
   -- some of the copy in progress is left to be written, or there is no room for an entry
   abbrev pub IsShort : Works D F g → Type 0
   IsShort it = (0 < left_of (saving_in it).progress) ⊎ (room_in it ≡ 0)
+
+  -- An event of the collector was made: all but the space stays, and of that the frozen cars and the chooser.
+  pub record CollectsOn (old new : Works D F g) : Type 0 where
+    pub pages : new.pages ≡ old.pages
+    pub saver : new.saver ≡ old.saver
+    pub frozen : frozen_in new ≡ frozen_in old
+    pub journal : new.journal.items ≡ old.journal.items
+    pub watches : watches_in new ≡ watches_in old
+    pub events : new.events ≡ one_more old.events
+    pub steps : new.steps ≡ one_more old.steps

@@ -9,13 +9,12 @@ use pm_types::{Cmd, EngineFault, Reply};
 use std::alloc::Global;
 
 impl<D: Disk, F: Drop> Engine<D, F> {
-    ghost use Rattle.std.specs.Prelude.{◌≡◌, ◌<◌, false, None};
-    ghost use Rattle.pm_model.specs.Frames.{sets_watch};
+    ghost use Rattle.std.specs.Prelude.{◌≡◌, ◌<◌, None};
     ghost use Rattle.pm_engine.specs.Shown.{KeepsStart, serving};
     ghost use Rattle.pm_engine.specs.Calls.{AnswersClient};
 
     /// Answers a client's command: the reply and the next world are those of the world at the journal's end, and one entry
-    /// is appended. Only `settle` calls the disk. The command is none of a watch.
+    /// is appended. Only `settle` calls the disk.
     ///
     /// # Errors
     ///
@@ -23,7 +22,6 @@ impl<D: Disk, F: Drop> Engine<D, F> {
     /// the engine is stopped. `Reopen` where an earlier call answered `Disk`, with the count then.
     pub fn client(&mut self, alloc: Global, client: u32, cmd: &Cmd) -> Result<Reply, EngineFault>
         requires client { client < CLIENTS }
-        requires known { sets_watch cmd.now ≡ false }
         ensures call { AnswersClient client cmd.now self.old self.new result }
         ensures start { KeepsStart self.old self.new }
     {
@@ -36,7 +34,6 @@ impl<D: Disk, F: Drop> Engine<D, F> {
     /// The same, while no call has answered that the disk failed.
     fn ask(&mut self, alloc: Global, client: u32, cmd: &Cmd) -> Result<Reply, EngineFault>
         requires client { client < CLIENTS }
-        requires known { sets_watch cmd.now ≡ false }
         requires running { (serving self.old).stopped ≡ None }
         ensures call { AnswersClient client cmd.now self.old self.new result }
         ensures start { KeepsStart self.old self.new }

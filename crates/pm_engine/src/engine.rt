@@ -5,8 +5,10 @@ ghost use Rattle.pm_engine.specs.Seen.{IsSound};
 use crate::Tally;
 use crate::opening::Opening;
 use crate::works::Works;
+use arrayvec::ArrayVec;
 use pm_disk::Disk;
-use pm_types::{Entry, NoMemory};
+use pm_types::{Entry, NoMemory, Watch, WatchLine};
+use pm_watch::{WATCH_ROOM, tell_watches};
 use std::snapshot::Snapshot;
 
 /// A space, the pages of its store on a disk, the saver between them, and the journal: one value, which is changed by one
@@ -22,11 +24,17 @@ pub struct Engine<D: Disk, F> {
 }
 
 impl<D: Disk, F: Drop> Engine<D, F> {
-    ghost use Rattle.std.specs.Prelude.{◌≡◌, ◌≤◌, ◌<◌, ℕ, List, None, OnOk, OnErr};
+    ghost use Rattle.std.specs.Prelude.{◌≡◌, ◌≤◌, ◌<◌, ℕ, List, length, nat_eq, None, OnOk, OnErr};
+    ghost use Rattle.std.specs.List.{AllByRecursion, IsDistinct};
+    ghost use Rattle.pm_model.specs.Reachability.{IsReachable};
+    ghost use Rattle.pm_view.specs.Represents.{IsHeld};
     ghost use Rattle.pm_model.specs.Closed.{IsClosed};
     ghost use Rattle.pm_model.specs.Journal.{IsLegal};
     ghost use Rattle.pm_serving.specs.Serving.{opening, world};
     ghost use Rattle.pm_serving.specs.Images.{IsSettled, IsTold, KeepsImages};
+    ghost use Rattle.pm_view.specs.Counts.{old, standing};
+    ghost use Rattle.pm_view.specs.Watches.{lines_from};
+    ghost use Rattle.pm_space.specs.Counted.{capped};
     ghost use Rattle.pm_engine.specs.Shown.{KeepsStart, disk_in, opened_disk, room, serving, tally_in, tally_of};
 
     /// What was asked and answered since the opening, in order.
@@ -36,11 +44,53 @@ impl<D: Disk, F: Drop> Engine<D, F> {
         self.works.journal.as_slice()
     }
 
-    /// How many events were made: calls of `client` and `flush` that were answered Ok.
+    /// How many events were made: calls of `client`, `collect` and `flush` that were answered Ok.
     pub fn events(&self) -> u64
         ensures { result ≡ (serving self.now).events }
     {
         self.works.events
+    }
+
+    /// How many events of the collector were made: calls of `collect` that were answered Ok.
+    pub fn steps(&self) -> u64
+        ensures { result ≡ (serving self.now).steps }
+    {
+        self.works.steps
+    }
+
+    /// How many collections were completed.
+    pub fn completed(&self) -> u64
+        ensures { result ≡ (serving self.now).view.completed }
+    {
+        self.works.space.completed()
+    }
+
+    /// How many objects stand. It looks at each car once.
+    pub fn standing(&self) -> u64
+        ensures { result ≡ capped (standing (serving self.now).view) }
+    {
+        self.works.space.standing()
+    }
+
+    /// How many objects stand in the trains that are numbered up to this one. It looks at each of their cars once.
+    pub fn old(&self, youngest: u64) -> u64
+        ensures { result ≡ capped (old (serving self.now).view youngest) }
+    {
+        self.works.space.old(youngest)
+    }
+
+    /// The watches that are set, in order.
+    pub fn watches(&self) -> &[Watch]
+        ensures { result.now ≡ (serving self.now).watches }
+    {
+        self.works.watches.as_slice()
+    }
+
+    /// What is told of the watches now, in order. It takes no memory.
+    pub fn lines(&self) -> ArrayVec<WatchLine, WATCH_ROOM>
+        ensures { result.items ≡ lines_from (serving self.now).view 1 (serving self.now).watches }
+    {
+        tell_watches(&self.works.space, self.works.watches.as_slice())
     }
 
     /// Makes room for so many further entries of the journal, so that they take no memory. Where memory runs out all is
@@ -71,15 +121,19 @@ impl<D: Disk, F: Drop> Engine<D, F> {
         let tally = Tally {
             entries,
             events: works.events,
+            steps: works.steps,
+            completed: works.space.completed(),
             standing,
+            lines: tell_watches(&works.space, works.watches.as_slice()),
             journal: Snapshot::of(&works.journal),
         };
         (works.pages.into_disk(), works.journal, tally)
     }
 
     /// A law of the engine at any time: in the world that was opened whatever is named is an object, the journal is legal
-    /// from it, and each image since then is one that may be; while no call has answered that the disk failed, each image now stands for the last acknowledged
-    /// copy.
+    /// from it, and each image since then is one that may be; while no call has answered that the disk failed, each image
+    /// now stands for the last acknowledged copy. So many watches are set as in the world at the journal's end, and
+    /// different identities that its names and registers reach are no more than the objects that stand.
     pub fn keep_their_images(&self)
         ensures closed { IsClosed (opening (serving self.now)) }
         ensures legal { IsLegal (opening (serving self.now)) (serving self.now).journal }
@@ -87,5 +141,9 @@ impl<D: Disk, F: Drop> Engine<D, F> {
             (disk_in self.now) ∥₁ }
         ensures settled { (serving self.now).stopped ≡ None → IsTold (D.contents (opened_disk self.now))
             → (left : List ℕ) → D.image (disk_in self.now) left → IsSettled (world (serving self.now)) left }
+        ensures watching { (world (serving self.now)).watches ≡ length (serving self.now).watches }
+        ensures standing { (ids : List ℕ) → IsDistinct nat_eq ids
+            → AllByRecursion (IsReachable (world (serving self.now)).heap (IsHeld (world (serving self.now)))) ids
+            → length ids ≤ standing (serving self.now).view }
     {}
 }

@@ -1,7 +1,9 @@
-//! The engine: clients' commands and checkpoints over one space and one disk, with the journal of what was answered.
+//! The engine: clients' commands, events of the collector and checkpoints over one space and one disk, with the journal of
+//! what was answered.
 #![tactic(auto)]
 
 mod again;
+mod collecting;
 mod commands;
 mod engine;
 mod flushing;
@@ -9,7 +11,9 @@ mod opening;
 mod saving;
 mod settling;
 mod starting;
+mod stepping;
 mod tally;
+mod watching;
 mod works;
 mod writing;
 

@@ -8,7 +8,7 @@ use pm_types::{Cmd, LAST_COPY, NoMemory, Reply};
 use std::alloc::Global;
 
 impl<D: Disk, F: Drop> Works<D, F> {
-    ghost use Rattle.pm_engine.specs.Working.{IsIdle, IsLeft, IsTiedIn, LastsIn, Saves, Unsaves, disk_at, saving_in};
+    ghost use Rattle.pm_engine.specs.Working.{IsIdle, IsLeft, IsTiedIn, LastsIn, Saves, Unsaves, disk_at, place_in, saving_in};
 
     /// `save`: the copy of the space at this moment is begun, where none is in progress and a number is left. After want
     /// of memory all is as it was.
@@ -18,6 +18,7 @@ impl<D: Disk, F: Drop> Works<D, F> {
         ensures tied { IsTiedIn self.new }
         ensures err { OnErr result (IsLeft self.old self.new) }
         ensures pages { self.new.pages ≡ self.old.pages }
+        ensures place { place_in self.new ≡ place_in self.old }
     {
         self.journal.reserve(1)?;
         if let Some(number) = self.saver.number() {
@@ -42,6 +43,7 @@ impl<D: Disk, F: Drop> Works<D, F> {
         ensures lasts { LastsIn self.old self.new }
         ensures err { OnErr result (IsLeft self.old self.new) }
         ensures disk { disk_at self.new ≡ disk_at self.old }
+        ensures place { place_in self.new ≡ place_in self.old }
     {
         self.journal.reserve(1)?;
         if self.saver.number().is_none() {

@@ -12,8 +12,8 @@ impl<D: Disk, F: Drop> Works<D, F> {
     ghost use Rattle.pm_types.specs.declared.limits.TheConstants.{CLIENTS};
     ghost use Rattle.pm_saver.specs.Answers.{OnMemory, TellsOn, UnlessDisk};
     ghost use Rattle.pm_saver.specs.Settling.{IsCausedBy};
-    ghost use Rattle.pm_model.specs.Frames.{is_settle, sets_watch};
-    ghost use Rattle.pm_engine.specs.Working.{Answers, IsFaultFor, IsLeft, IsShort, IsTiedIn, LastsSo, LeavesEither, Rests, SettlesIt, StaysStill, contents_in, disk_at};
+    ghost use Rattle.pm_model.specs.Frames.{is_settle};
+    ghost use Rattle.pm_engine.specs.Working.{Answers, IsFaultFor, IsLeft, IsShort, IsTiedIn, LastsSo, LeavesEither, Rests, SettlesIt, StaysStill, contents_in, disk_at, place_in};
 
     /// `settle`: the copy in progress is written to its end and published, if there is one. Its entry takes no memory
     /// where there is room for it.
@@ -33,6 +33,7 @@ impl<D: Disk, F: Drop> Works<D, F> {
         ensures told { TellsOn (contents_in self.old) (contents_in self.new) }
         ensures causes { IsCausedBy (D.count (disk_at self.old)) (D.count (disk_at self.new)) (D.made (disk_at self.old))
             (D.made (disk_at self.new)) result }
+        ensures place { place_in self.new ≡ place_in self.old }
     {
         self.pages.keep_the_current_copy();
         self.journal.reserve(1)?;
@@ -45,25 +46,26 @@ impl<D: Disk, F: Drop> Works<D, F> {
         Ok(Reply::Saved(number))
     }
 
-    /// Answers a command that calls no disk: every one but `settle` and `watch`. After want of memory all is as it was.
+    /// Answers a command that calls no disk: every one but `settle`. After want of memory all is as it was.
     fn answer_still(&mut self, alloc: Global, client: u32, cmd: &Cmd) -> Result<Reply, NoMemory>
         requires client { client < CLIENTS }
-        requires known { sets_watch cmd.now ≡ false }
         requires other { is_settle cmd.now ≡ false }
         requires tied { IsTiedIn self.old }
         ensures answers { IfOk result (Answers client cmd.now self.old self.new) }
         ensures tied { IsTiedIn self.new }
         ensures err { OnErr result (IsLeft self.old self.new) }
         ensures still { StaysStill self.old self.new }
+        ensures place { place_in self.new ≡ place_in self.old }
     {
         match cmd {
             Cmd::Save => self.save(alloc, client),
             Cmd::Unsave => self.unsave(client),
+            Cmd::Watch => self.watch(client),
             _ => self.act(alloc, client, cmd),
         }
     }
 
-    /// Answers a command of a client, which is none of a watch. Only `settle` calls the disk.
+    /// Answers a command of a client. Only `settle` calls the disk.
     ///
     /// # Errors
     ///
@@ -75,7 +77,6 @@ impl<D: Disk, F: Drop> Works<D, F> {
         cmd: &Cmd,
     ) -> Result<Reply, SaveFault>
         requires client { client < CLIENTS }
-        requires known { sets_watch cmd.now ≡ false }
         requires tied { IsTiedIn self.old }
         ensures answers { IfOk result (Answers client cmd.now self.old self.new) }
         ensures tied { UnlessDisk result (IsTiedIn self.new) }
@@ -89,6 +90,7 @@ impl<D: Disk, F: Drop> Works<D, F> {
         ensures told { TellsOn (contents_in self.old) (contents_in self.new) }
         ensures causes { IsCausedBy (D.count (disk_at self.old)) (D.count (disk_at self.new)) (D.made (disk_at self.old))
             (D.made (disk_at self.new)) result }
+        ensures place { place_in self.new ≡ place_in self.old }
     {
         match cmd {
             Cmd::Settle => self.settle(alloc, client),

@@ -3,6 +3,7 @@
 use crate::Engine;
 use crate::opening::Opening;
 use crate::works::Works;
+use arrayvec::ArrayVec;
 use pm_disk::Disk;
 use pm_opening::open_space;
 use pm_place::Placement;
@@ -13,13 +14,13 @@ use std::alloc::Global;
 use std::snapshot::Snapshot;
 
 impl<D: Disk, F: Drop> Engine<D, F> {
-    ghost use Rattle.std.specs.Prelude.{◌≡◌, ℕ, List, IfOk, IfErr, MatchResult};
+    ghost use Rattle.std.specs.Prelude.{◌≡◌, ℕ, List, None, IfOk, IfErr, MatchResult};
     ghost use Rattle.pm_disk.specs.Disk.{IfTold, LeavesOnly};
     ghost use Rattle.pm_disk.specs.Made.{with_sync};
     ghost use Rattle.pm_image.specs.Stands.{Stands};
     ghost use Rattle.pm_copies.specs.Listed.{copy_in};
     ghost use Rattle.pm_serving.specs.Serving.{just_opened};
-    ghost use Rattle.pm_engine.specs.Shown.{disk_in, opened_count, opened_disk, serving};
+    ghost use Rattle.pm_engine.specs.Shown.{chooser, disk_in, opened_count, opened_disk, serving};
     ghost use Rattle.pm_engine.specs.Opened.{IsOpenFault, IsRefusal};
 
     /// Opens the copy for which the bytes of a disk stand: its world has no register, no watch and no copy in progress.
@@ -38,9 +39,12 @@ impl<D: Disk, F: Drop> Engine<D, F> {
         // The bytes stand for the copy in the space that was opened, under its number,
         ensures stands { IfOk result (λ it. IfTold (D.contents disk) (λ bytes.
             Stands bytes (serving it).number (copy_in (serving it).opened))) }
-        // and nothing was asked yet.
+        // and nothing was asked yet, nor is a copy in progress.
         ensures begins { IfOk result (λ it.
             serving it ≡ just_opened (serving it).number (serving it).opened (serving it).saving) }
+        ensures idle { IfOk result (λ it. (serving it).saving.progress ≡ None) }
+        // An object moves to the train that this chooser picks.
+        ensures chooser { IfOk result (λ it. chooser it ≡ place) }
         // The disk is as it was opened, and a crash leaves what it holds.
         ensures opening { IfOk result (λ it. opened_disk it ≡ disk_in it) }
         ensures only { IfOk result (λ it. IfTold (D.contents disk) (λ bytes.
@@ -70,7 +74,9 @@ impl<D: Disk, F: Drop> Engine<D, F> {
                     space,
                     saver: Saver::new(settled),
                     journal: Vec::new(alloc),
+                    watches: ArrayVec::new(),
                     events: 0,
+                    steps: 0,
                 },
                 stopped: None,
             }),

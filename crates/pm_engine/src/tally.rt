@@ -2,7 +2,9 @@
 
 ghost use Rattle.std.specs.Prelude.{◌≡◌};
 
-use pm_types::Entry;
+use arrayvec::ArrayVec;
+use pm_types::{Entry, WatchLine};
+use pm_watch::WATCH_ROOM;
 use std::snapshot::Snapshot;
 
 /// What an engine came to. It is made where an engine is taken apart, and nothing changes it.
@@ -10,7 +12,10 @@ use std::snapshot::Snapshot;
 pub struct Tally {
     pub(crate) entries: u64,
     pub(crate) events: u64,
+    pub(crate) steps: u64,
+    pub(crate) completed: u64,
     pub(crate) standing: u64,
+    pub(crate) lines: ArrayVec<WatchLine, WATCH_ROOM>,
     /// The journal that it was made with, which tells it from the tally of another engine.
     pub(crate) journal: Snapshot<Vec<Entry>>,
 }
@@ -30,6 +35,27 @@ impl Tally {
         ensures { result ≡ (tally_of self.now).events }
     {
         self.events
+    }
+
+    /// How many of the events were the collector's.
+    pub fn steps(&self) -> u64
+        ensures { result ≡ (tally_of self.now).steps }
+    {
+        self.steps
+    }
+
+    /// How many collections were completed.
+    pub fn completed(&self) -> u64
+        ensures { result ≡ (tally_of self.now).completed }
+    {
+        self.completed
+    }
+
+    /// What is told of the watches, in order.
+    pub fn lines(&self) -> &[WatchLine]
+        ensures { result.now ≡ (tally_of self.now).lines }
+    {
+        self.lines.as_slice()
     }
 
     /// How many objects stand.

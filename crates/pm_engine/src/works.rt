@@ -5,26 +5,31 @@ ghost use Rattle.pm_types.specs.declared.limits.TheConstants.{CLIENTS};
 ghost use Rattle.pm_types.specs.Replies.{IsShortReply};
 ghost use Rattle.pm_view.specs.Commands.{is_act};
 ghost use Rattle.pm_space.specs.Shown.{view, KeepsRest};
-ghost use Rattle.pm_mutate.specs.Acts.{Serves};
+ghost use Rattle.pm_mutate.specs.Acts.{AddsLittleWork, Serves};
 
 use crate::again::again;
+use arrayvec::ArrayVec;
 use pm_disk::Disk;
 use pm_mutate::act;
 use pm_saver::Saver;
 use pm_shadow::Pages;
 use pm_space::Space;
-use pm_types::{Cmd, Entry, NoMemory, Reply};
+use pm_types::{Cmd, Entry, NoMemory, Reply, Watch};
+use pm_watch::WATCH_ROOM;
 use std::alloc::Global;
 
 /// A space, the pages of its store on a disk, the saver between them, the journal of what was asked and answered, in
-/// order, and how many events were made.
+/// order, the watches that are set, and how many events were made.
 #[derive(Drop)]
 pub(crate) struct Works<D: Disk, F> {
     pub(crate) pages: Pages<D>,
     pub(crate) space: Space<F>,
     pub(crate) saver: Saver,
     pub(crate) journal: Vec<Entry>,
+    pub(crate) watches: ArrayVec<Watch, WATCH_ROOM>,
     pub(crate) events: u64,
+    /// How many of the events were the collector's.
+    pub(crate) steps: u64,
 }
 
 /// A command on the space: its reply, and the same reply again. Only that of `data` takes memory for it, and `data`
@@ -40,6 +45,7 @@ fn act_twice<F: Drop>(
     ensures served { IfOk result (λ told. Serves (view space.old.parts) client cmd.now told.0 (view space.new.parts)) }
     ensures same { IfOk result (λ told. told.1 ≡ told.0) }
     ensures short { IfOk result (λ told. IsShortReply told.0) }
+    ensures work { AddsLittleWork (view space.old.parts) cmd.now (view space.new.parts) }
     ensures err { OnErr result (view space.new.parts ≡ view space.old.parts) }
     ensures rest { KeepsRest space.old.parts space.new.parts }
 {
@@ -49,7 +55,7 @@ fn act_twice<F: Drop>(
 }
 
 impl<D: Disk, F: Drop> Works<D, F> {
-    ghost use Rattle.pm_engine.specs.Working.{Adds, Acts, IsLeft, IsTiedIn, KeepsStore};
+    ghost use Rattle.pm_engine.specs.Working.{Adds, Acts, IsLeft, IsTiedIn, KeepsStore, place_in};
 
     /// Puts an entry at the journal's end, which has room for it.
     pub(crate) fn append(&mut self, client: u32, cmd: Cmd, reply: Reply)
@@ -71,6 +77,7 @@ impl<D: Disk, F: Drop> Works<D, F> {
         ensures tied { IsTiedIn self.new }
         ensures err { OnErr result (IsLeft self.old self.new) }
         ensures pages { self.new.pages ≡ self.old.pages }
+        ensures place { place_in self.new ≡ place_in self.old }
     {
         self.journal.reserve(1)?;
         let kept = cmd.copy(alloc)?;

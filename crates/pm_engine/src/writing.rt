@@ -12,7 +12,7 @@ impl<D: Disk, F: Drop> Works<D, F> {
     ghost use Rattle.pm_saving.specs.Paging.{left_of};
     ghost use Rattle.pm_saver.specs.Answers.{OnMemory, Spares, TellsOn, UnlessDisk};
     ghost use Rattle.pm_saver.specs.Settling.{IsCausedBy};
-    ghost use Rattle.pm_engine.specs.Working.{FlushesOn, IsAsItWas, IsTiedIn, LastsIn, Rests, contents_in, disk_at, saving_in, state_in};
+    ghost use Rattle.pm_engine.specs.Working.{FlushesOn, IsAsItWas, IsTiedIn, LastsIn, Rests, contents_in, disk_at, place_in, room_in, saving_in, state_in};
 
     /// Writes the next page of the copy in progress, if one is left.
     ///
@@ -32,6 +32,8 @@ impl<D: Disk, F: Drop> Works<D, F> {
         ensures memory { OnMemory result (IsAsItWas self.old self.new) }
         ensures fault { OnErr result (0 < left_of (saving_in self.old).progress) }
         ensures idle { (saving_in self.old).progress ≡ None → disk_at self.new ≡ disk_at self.old }
+        ensures place { place_in self.new ≡ place_in self.old }
+        ensures room { room_in self.new ≡ room_in self.old }
     {
         if self.saver.number().is_none() {
             self.events = self.events.saturating_add(1);

@@ -1,5 +1,9 @@
 //! Lines of a script over an engine.
 
+ghost use Rattle.std.specs.Prelude.{◌≡◌};
+ghost use Rattle.pm_place.specs.Choosers.{IsChooser};
+ghost use Rattle.pm_engine.specs.Shown.{chooser};
+
 use crate::fault::Fault;
 use pm_disk::Disk;
 use pm_engine::{Engine, Tally};
@@ -36,8 +40,10 @@ fn push_answer<D: Disk, F: Drop>(
     client: u32,
     cmd: &Cmd,
     out: &mut String,
-) -> Result<(), Fault> {
-    if client >= CLIENTS || matches!(cmd, Cmd::Watch) {
+) -> Result<(), Fault>
+    ensures { chooser engine.new ≡ chooser engine.old }
+{
+    if client >= CLIENTS {
         return Err(Fault::Step);
     }
     engine.client(alloc, client, cmd)?;
@@ -53,7 +59,9 @@ fn push_flushes<D: Disk, F: Drop>(
     engine: &mut Engine<D, F>,
     count: u32,
     out: &mut String,
-) -> Result<(), Fault> {
+) -> Result<(), Fault>
+    ensures { chooser engine.new ≡ chooser engine.old }
+{
     for _ in 0..count {
         let flushed = engine.flush(alloc)?;
         write!(out, " / {flushed:?}")?;
@@ -61,17 +69,37 @@ fn push_flushes<D: Disk, F: Drop>(
     Ok(())
 }
 
+// Makes so many events of the collector, and adds what each of them answered.
+fn push_steps<D: Disk, F: Fn(&[u64]) -> usize + Drop>(
+    alloc: Global,
+    engine: &mut Engine<D, F>,
+    count: u32,
+    out: &mut String,
+) -> Result<(), Fault>
+    requires { IsChooser F.Fn (chooser engine.old) }
+    ensures { chooser engine.new ≡ chooser engine.old }
+{
+    for _ in 0..count {
+        let step = engine.collect(alloc)?;
+        write!(out, " / {step:?}")?;
+    }
+    Ok(())
+}
+
 // Runs a line, and adds what that gave.
-fn push_line<D: Disk, F: Drop>(
+fn push_line<D: Disk, F: Fn(&[u64]) -> usize + Drop>(
     alloc: Global,
     engine: &mut Engine<D, F>,
     line: &Line,
     out: &mut String,
-) -> Result<(), Fault> {
+) -> Result<(), Fault>
+    requires { IsChooser F.Fn (chooser engine.old) }
+    ensures { chooser engine.new ≡ chooser engine.old }
+{
     match line {
         Line::Client { client, cmd } => push_answer(alloc, engine, *client, cmd, out),
         Line::Flush(count) => push_flushes(alloc, engine, *count, out),
-        Line::Gc(_) => Err(Fault::Step),
+        Line::Gc(count) => push_steps(alloc, engine, *count, out),
     }
 }
 
@@ -86,13 +114,15 @@ fn push_fault(fault: Fault, out: &mut String) -> Result<(), Fault> {
 }
 
 // Runs the lines, and adds what each of them gave.
-fn push_lines<D: Disk, F: Drop>(
+fn push_lines<D: Disk, F: Fn(&[u64]) -> usize + Drop>(
     alloc: Global,
     engine: &mut Engine<D, F>,
     lines: &[Line],
     after: AfterFault,
     out: &mut String,
-) -> Result<(), Fault> {
+) -> Result<(), Fault>
+    requires { IsChooser F.Fn (chooser engine.old) }
+{
     for line in lines {
         if let Err(fault) = push_line(alloc, engine, line, out) {
             push_fault(fault, out)?;
@@ -105,28 +135,32 @@ fn push_lines<D: Disk, F: Drop>(
 }
 
 // Adds the number of the copy that was found, and runs the lines.
-fn push_copy<D: Disk, F: Drop>(
+fn push_copy<D: Disk, F: Fn(&[u64]) -> usize + Drop>(
     alloc: Global,
     engine: &mut Engine<D, F>,
     number: u32,
     lines: &[Line],
     after: AfterFault,
     out: &mut String,
-) -> Result<(), Fault> {
+) -> Result<(), Fault>
+    requires { IsChooser F.Fn (chooser engine.old) }
+{
     write!(out, "copy {number}")?;
     push_lines(alloc, engine, lines, after, out)
 }
 
 // Runs the lines over an engine that was opened, and adds what they gave and, where it goes on after a fault, what the
 // engine came to.
-fn push_served<D: Disk + Drop, F: Drop>(
+fn push_served<D: Disk + Drop, F: Fn(&[u64]) -> usize + Drop>(
     alloc: Global,
     mut engine: Engine<D, F>,
     number: u32,
     lines: &[Line],
     after: AfterFault,
     out: &mut String,
-) -> Result<D, Fault> {
+) -> Result<D, Fault>
+    requires { IsChooser F.Fn (chooser engine) }
+{
     let said = push_copy(alloc, &mut engine, number, lines, after, out);
     let (disk, _journal, tally) = engine.into_parts();
     said?;
@@ -140,11 +174,16 @@ fn push_served<D: Disk + Drop, F: Drop>(
 fn push_tally(tally: &Tally, out: &mut String) -> Result<(), Fault> {
     let entries = tally.entries();
     let events = tally.events();
+    let steps = tally.steps();
+    let completed = tally.completed();
     let standing = tally.standing();
     write!(
         out,
-        " / {entries} entries, {events} events, {standing} standing"
+        " / {entries} entries, {events} events, {steps} steps, {completed} completed, {standing} standing"
     )?;
+    for line in tally.lines() {
+        write!(out, " / {line:?}")?;
+    }
     Ok(())
 }
 

@@ -105,4 +105,5 @@ begins_served number list catalog next view saving ok opened none =
       legal = tt;
       represents = subst (λ copy. Represents view (begin number copy)) (sym same) (stands list catalog next view ok opened number);
       saving = sym (ap (λ progress. option_map (numbered_copy None) progress) none);
+      watching = refl;
     }

@@ -1,12 +1,13 @@
 //! What an engine serves, call by call. Each function's contract is a law, and the function does nothing.
 
-ghost use Rattle.std.specs.Prelude.{◌≡◌, ◌<◌, ◌+◌, ℕ, List, Option, Some, None, true};
+ghost use Rattle.std.specs.Prelude.{◌≡◌, ◌<◌, ◌≤◌, ◌+◌, ℕ, List, length, Option, Some, None, true};
 ghost use Rattle.std.specs.FinMap.{get};
-ghost use Rattle.pm_types.specs.declared.limits.TheConstants.{LAST_COPY};
+ghost use Rattle.pm_types.specs.declared.limits.TheConstants.{LAST_COPY, WATCHES};
 ghost use Rattle.pm_types.specs.declared.command.Cmd.{Cmd};
-ghost use Rattle.pm_types.specs.declared.command.Cmd.TheVariants.{Save, Settle, Unsave};
+ghost use Rattle.pm_types.specs.declared.command.Cmd.TheVariants.{Save, Settle, Unsave, Watch};
 ghost use Rattle.pm_types.specs.declared.reply.Reply.{Reply};
-ghost use Rattle.pm_types.specs.declared.reply.Reply.TheVariants.{Begun, Busy, SavesSpent, Saved, Idle, Dropped};
+ghost use Rattle.pm_types.specs.declared.reply.Reply.TheVariants.{Begun, Busy, SavesSpent, Saved, Idle, Dropped, TooManyWatches, Watching};
+ghost use Rattle.pm_model.specs.World.{World};
 ghost use Rattle.pm_model.specs.Answer.{answer};
 ghost use Rattle.pm_image.specs.declared.catalog.CatEntry.{CatEntry};
 ghost use Rattle.pm_view.specs.View.{SpaceView};
@@ -20,7 +21,7 @@ ghost use Rattle.pm_saving.specs.Progress.{Progress, Saving, cars_or_none, copy_
 ghost use Rattle.pm_shadow.specs.State.{State};
 ghost use Rattle.pm_serving.specs.Serving.{IsServed, Serving, just_opened, world};
 ghost use Rattle.pm_serving.specs.Images.{IsStored};
-ghost use Rattle.pm_serving.specs.Events.{Appends, Serves};
+ghost use Rattle.pm_serving.specs.Events.{Appends, Collects, Serves};
 
 /// A law of serving: the engine of a space that was just opened serves the world of the copy in it.
 pub fn an_engine_begins_to_serve()
@@ -68,6 +69,21 @@ pub fn a_served_command_goes_on()
         → old.saving.progress ≡ Some begun → Appends client Unsave old new (Dropped begun.number)
         → new.view ≡ old.view → new.saving.progress ≡ None
         → Serves client Unsave old new (Dropped begun.number) × IsServed new }
+    // `watch`: one more is set, or as many are as may be.
+    ensures watching { (client : ℕ) (old new : Serving) → IsServed old → length old.watches < WATCHES
+        → Appends client Watch old new (Watching (length old.watches + 1)) → new.view ≡ old.view
+        → new.frozen ≡ old.frozen → new.saving ≡ old.saving
+        → Serves client Watch old new (Watching (length old.watches + 1)) × IsServed new }
+    ensures full { (client : ℕ) (old new : Serving) → IsServed old → WATCHES ≤ length old.watches
+        → Appends client Watch old new TooManyWatches → new.view ≡ old.view
+        → new.frozen ≡ old.frozen → new.saving ≡ old.saving
+        → Serves client Watch old new TooManyWatches × IsServed new }
+{}
+
+/// A law of serving: an event of the collector that leaves the worlds for which the space stands leaves what is served.
+pub fn an_event_leaves_what_is_served()
+    ensures { (old new : Serving) → IsServed old → Collects old new
+        → ((world : World) → Represents old.view world → Represents new.view world) → IsServed new }
 {}
 
 /// A law of serving: where it is known in some way that what is stored fits, it does.

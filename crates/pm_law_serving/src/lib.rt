@@ -3,4 +3,7 @@
 
 mod laws;
 
-pub use laws::{a_served_command_goes_on, an_engine_begins_to_serve, what_is_stored_is_told};
+pub use laws::{
+    a_served_command_goes_on, an_engine_begins_to_serve, an_event_leaves_what_is_served,
+    what_is_stored_is_told,
+};

@@ -1,20 +1,32 @@
 -- What the calls of an engine do.
-use Rattle.std.specs.Prelude.{◌≡◌, ℕ, [], ◌∷◌, ◌++◌, Option, Some, None}
+use Rattle.std.specs.Prelude.{◌≡◌, ℕ, List, [], ◌∷◌, ◌++◌, length, Option, Some, None}
 use Rattle.pm_types.specs.declared.command.Cmd.{Cmd}
+use Rattle.pm_types.specs.declared.command.Cmd.TheVariants as cmds
+use Rattle.pm_types.specs.declared.event.Watch.{Watch}
 use Rattle.pm_types.specs.declared.reply.Reply.{Reply}
+use Rattle.pm_types.specs.declared.reply.Reply.TheVariants.{Watching}
 use Rattle.pm_types.specs.declared.fault.EngineFault.{EngineFault}
 use Rattle.pm_types.specs.declared.fault.EngineFault.TheVariants.{Memory, Disk, Reopen}
 use Rattle.pm_base.specs.Counts.{ShowsRise}
 use Rattle.pm_model.specs.Answer.{answer}
+use Rattle.pm_view.specs.Watches.{watch_in}
 use Rattle.pm_saving.specs.Progress.{Progress}
 use Rattle.pm_saving.specs.Tied.{GoesOn}
 use Rattle.pm_serving.specs.Serving.{Serving, KeepsOpening, one_more, world}
 
--- A command's entry, with this reply, was put at the journal's end, and one event more was made. The opening stays.
+-- The watches once a command was answered so: where it is one that sets a watch, that watch is the last.
+abbrev pub watched : Serving → Cmd → Reply → List Watch
+watched it cmds.Watch (Watching number) = it.watches ++ watch_in it.view (length it.journal) ∷ []
+watched it cmd reply = it.watches
+
+-- A command's entry, with this reply, was put at the journal's end, and one event more was made, which is none of the
+-- collector. The opening stays.
 pub record Appends (client : ℕ) (cmd : Cmd) (old new : Serving) (reply : Reply) : Type 0 where
   pub opening : KeepsOpening old new
   pub journal : new.journal ≡ old.journal ++ record { client = client; cmd = cmd; reply = reply } ∷ []
+  pub watches : new.watches ≡ watched old cmd reply
   pub events : new.events ≡ one_more old.events
+  pub steps : new.steps ≡ old.steps
   pub stopped : new.stopped ≡ old.stopped
 
 -- A command was answered: the reply is the world's, and its entry is at the journal's end.
@@ -29,7 +41,20 @@ pub record Flushes (old new : Serving) : Type 0 where
   pub frozen : new.frozen ≡ old.frozen
   pub settled : new.saving.settled ≡ old.saving.settled
   pub journal : new.journal ≡ old.journal
+  pub watches : new.watches ≡ old.watches
   pub events : new.events ≡ one_more old.events
+  pub steps : new.steps ≡ old.steps
+  pub stopped : new.stopped ≡ old.stopped
+
+-- An event of the collector was made: journal, watches and copies stay. What it did to the space is said apart.
+pub record Collects (old new : Serving) : Type 0 where
+  pub opening : KeepsOpening old new
+  pub frozen : new.frozen ≡ old.frozen
+  pub saving : new.saving ≡ old.saving
+  pub journal : new.journal ≡ old.journal
+  pub watches : new.watches ≡ old.watches
+  pub events : new.events ≡ one_more old.events
+  pub steps : new.steps ≡ one_more old.steps
   pub stopped : new.stopped ≡ old.stopped
 
 -- the copy in progress is the same, of which more pages may have been written
@@ -39,8 +64,8 @@ StaysBegun None (Some after) = ⊥
 StaysBegun (Some before) None = ⊥
 StaysBegun (Some before) (Some after) = GoesOn before after
 
--- Nothing was answered: journal, space and copies stay, and no event was made. More pages of the copy in progress may have
--- been written.
+-- Nothing was answered: journal, space, watches and copies stay, and no event was made. More pages of the copy in progress
+-- may have been written.
 pub record ServesNothing (old new : Serving) : Type 0 where
   pub opening : KeepsOpening old new
   pub view : new.view ≡ old.view
@@ -48,7 +73,9 @@ pub record ServesNothing (old new : Serving) : Type 0 where
   pub settled : new.saving.settled ≡ old.saving.settled
   pub progress : StaysBegun old.saving.progress new.saving.progress
   pub journal : new.journal ≡ old.journal
+  pub watches : new.watches ≡ old.watches
   pub events : new.events ≡ old.events
+  pub steps : new.steps ≡ old.steps
 
 -- What a fault says. Memory: no call has answered that the disk failed. Disk: its count of failed calls rose in this call,
 -- as told, and from now on the engine is stopped. Reopen: the engine was stopped before, with this count, and nothing

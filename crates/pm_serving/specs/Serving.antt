@@ -1,7 +1,8 @@
 -- What contracts see of an engine, beside its disk.
-use Rattle.std.specs.Prelude.{◌≡◌, ℕ, ◌+◌, min, List, [], Option, Some, None, option_map}
+use Rattle.std.specs.Prelude.{◌≡◌, ℕ, ◌+◌, min, List, [], length, Option, Some, None, option_map}
 use Rattle.pm_base.specs.Counts.{greatest_count}
 use Rattle.pm_types.specs.declared.entry.Entry.{Entry}
+use Rattle.pm_types.specs.declared.event.Watch.{Watch}
 use Rattle.pm_model.specs.World.{World, Copy, begin}
 use Rattle.pm_model.specs.Closed.{IsClosed}
 use Rattle.pm_model.specs.Journal.{IsLegal, after}
@@ -11,8 +12,8 @@ use Rattle.pm_copies.specs.Listed.{copy_in}
 use Rattle.pm_saving.specs.Progress.{Progress, Saving, cars_or_none, copy_of}
 
 -- An engine: the number of the copy that was opened, and the space as it was opened; the space now, and its cars as they
--- were frozen, if they are; the saver; the journal; how many events were made; and, where a call answered that the disk
--- failed, the disk's count of failed calls then.
+-- were frozen, if they are; the saver; the journal; the watches that are set; how many events were made, and how many of
+-- them by the collector; and, where a call answered that the disk failed, the disk's count of failed calls then.
 pub record Serving : Type 0 where
   pub number : ℕ
   pub opened : SpaceView
@@ -20,7 +21,9 @@ pub record Serving : Type 0 where
   pub frozen : Option Cars
   pub saving : Saving
   pub journal : List Entry
+  pub watches : List Watch
   pub events : ℕ
+  pub steps : ℕ
   pub stopped : Option ℕ
 
 -- one event more; at its greatest value the count stands still
@@ -44,12 +47,14 @@ abbrev pub in_progress : Serving → Option (ℕ × Copy)
 in_progress it = option_map (numbered_copy it.frozen) it.saving.progress
 
 -- What holds of an engine at every moment: in the world that was opened whatever is named is an object, the journal is
--- legal from it, the space stands for the world at the journal's end, and the copy in progress is that of this world.
+-- legal from it, the space stands for the world at the journal's end, the copy in progress is that of this world, and so
+-- many watches are set in it.
 pub record IsServed (it : Serving) : Type 0 where
   pub closed : IsClosed (opening it)
   pub legal : IsLegal (opening it) it.journal
   pub represents : Represents it.view (world it)
   pub saving : (world it).saving ≡ in_progress it
+  pub watching : (world it).watches ≡ length it.watches
 
 -- the opening stays
 pub record KeepsOpening (old new : Serving) : Type 0 where
@@ -65,6 +70,8 @@ just_opened number view saving = record {
   frozen = None;
   saving = saving;
   journal = [];
+  watches = [];
   events = 0;
+  steps = 0;
   stopped = None;
 }

@@ -1,5 +1,5 @@
 use Rattle.pm_law_serving.proofs.laws.a_served_command_goes_on.Goals as goal
-use Rattle.pm_law_serving.proofs.Following.{fresh, acted, busy, spent, begins, idle, settles, undropped, drops}
+use Rattle.pm_law_serving.proofs.Following.{fresh, acted, busy, spent, begins, idle, settles, undropped, drops, watches_set, watches_full}
 
 pub returns-clause-fresh : goal.returns-clause-fresh
 returns-clause-fresh c = fresh
@@ -27,3 +27,9 @@ returns-clause-undropped c = undropped
 
 pub returns-clause-dropped : goal.returns-clause-dropped
 returns-clause-dropped c = drops
+
+pub returns-clause-watching : goal.returns-clause-watching
+returns-clause-watching c = watches_set
+
+pub returns-clause-full : goal.returns-clause-full
+returns-clause-full c = watches_full

@@ -4,11 +4,12 @@ use Rattle.pm_types.specs.declared.fault.EngineFault.TheVariants.{Memory}
 use Rattle.pm_model.specs.Frames.{is_settle}
 use Rattle.pm_saver.specs.declared.fault.SaveFault.{SaveFault}
 use Rattle.pm_saver.specs.Answers.{IfMemory, IsFaultOf, OnMemory}
-use Rattle.pm_engine.specs.Working.{IsFaultFor, IsLeft, IsShort, LastsSo, disk_at, saving_in}
+use Rattle.pm_engine.specs.Working.{IsFaultFor, IsLeft, IsShort, LastsSo, disk_at, saving_in, view_in}
 use Rattle.pm_engine.proofs.engine.Engine.ask.Goals as goal
 use Rattle.pm_engine.proofs.Asking.{ask_serves, ask_sound, fail_sound, rest_sound, stored}
 use Rattle.pm_engine.proofs.Crashing.{leaves_answered, leaves_failed, progress_of, settled_alone}
-use Rattle.pm_engine.proofs.Answering.{Told}
+use Rattle.pm_law_work.specs.Raises.{raises}
+use Rattle.pm_engine.proofs.Answering.{Told, room_of, still_works, work_of}
 use Rattle.pm_engine.proofs.Settled.{settled_all}
 use Rattle.pm_engine.proofs.Telling.{copies_of, idle_of, left_alone, nothing_served, short_of, shows_rise}
 
@@ -31,7 +32,7 @@ invariant_of-self g c =
       counts = g.met.D.Disk.counts_now (disk_at new);
       only_now = g.met.D.Disk.only_now (disk_at self.works);
     } in
-    record { sound = ask_sound self.opening self.stopped self.works c.requires.running self.sound new c.args.client c.args.cmd.now c.in-Ok.reply c.requires.known told c.in-Ok.ensures.answers }
+    record { sound = ask_sound self.opening self.stopped self.works c.requires.running self.sound new c.args.client c.args.cmd.now c.in-Ok.reply told c.in-Ok.ensures.answers }
 
 pub invariant_of-self-in-Err-Memory : goal.invariant_of-self-in-Err-Memory
 invariant_of-self-in-Err-Memory g c =
@@ -61,8 +62,8 @@ returns-in-Ok-clause-call g c =
       counts = g.met.D.Disk.counts_now (disk_at new);
       only_now = g.met.D.Disk.only_now (disk_at self.works);
     } in
-    let sound = ask_sound self.opening self.stopped self.works c.requires.running self.sound new c.args.client c.args.cmd.now c.in-Ok.reply c.requires.known told c.in-Ok.ensures.answers in
-    let serves = ask_serves self.opening self.stopped self.works c.requires.running self.sound new c.args.client c.args.cmd.now c.in-Ok.reply c.requires.known told c.in-Ok.ensures.answers in
+    let sound = ask_sound self.opening self.stopped self.works c.requires.running self.sound new c.args.client c.args.cmd.now c.in-Ok.reply told c.in-Ok.ensures.answers in
+    let serves = ask_serves self.opening self.stopped self.works c.requires.running self.sound new c.args.client c.args.cmd.now c.in-Ok.reply told c.in-Ok.ensures.answers in
     record {
       serves = serves;
       fails = tt;
@@ -70,13 +71,15 @@ returns-in-Ok-clause-call g c =
       reopen = tt;
       still = λ other. record { disk = (c.answer.ensures.still other).disk; none = tt };
       leaves = λ none. leaves_answered self.opening self.stopped self.works none self.sound new c.args.cmd.now c.in-Ok.reply (g.met.D.Disk.only_now (disk_at self.works)) c.answer.ensures.still c.answer.ensures.leaves;
-      settled = settled_all self new sound c.requires.running c.args.client c.args.cmd.now c.requires.known c.in-Ok.reply serves c.in-Ok.ensures.answers;
+      settled = settled_all self new sound c.requires.running c.args.client c.args.cmd.now c.in-Ok.reply serves c.in-Ok.ensures.answers;
       short = tt;
       shown = short_of c.args.client c.args.cmd.now self.works new c.in-Ok.reply c.in-Ok.ensures.answers;
       copies = λ other. copies_of self.opening self.stopped self.works new c.args.client c.args.cmd.now c.in-Ok.reply other c.in-Ok.ensures.answers;
       lasts = λ _. tt;
       idle = idle_of self.opening self.stopped self.works new c.args.cmd.now c.answer.ensures.still c.answer.ensures.leaves;
       past = c.in-Ok.ensures.causes.past;
+      work = work_of c.args.client c.args.cmd.now self.works new c.in-Ok.reply c.in-Ok.ensures.answers;
+      room = room_of c.args.client c.args.cmd.now self.works new c.in-Ok.reply c.in-Ok.ensures.answers;
     }
 
 pub returns-in-Err-Memory-clause-call : goal.returns-in-Err-Memory-clause-call
@@ -100,6 +103,8 @@ returns-in-Err-Memory-clause-call g c =
       lasts = λ other. left_alone self.opening self.stopped self.works new (subst (λ (result : Result Reply SaveFault). OnErr result (IsLeft self.works new)) arm.is (c.answer.ensures.left other));
       idle = idle_of self.opening self.stopped self.works new c.args.cmd.now c.answer.ensures.still c.answer.ensures.leaves;
       past = arm.ensures.causes.past;
+      work = still_works (view_in self.works) (view_in new) (raises c.args.cmd.now) arm.ensures.rests.view;
+      room = arm.ensures.rests.nothing.room;
     }
 
 pub returns-in-Err-Disk-clause-call : goal.returns-in-Err-Disk-clause-call
@@ -129,4 +134,6 @@ returns-in-Err-Disk-clause-call g c =
       lasts = λ _. tt;
       idle = idle_of self.opening self.stopped self.works new c.args.cmd.now c.answer.ensures.still c.answer.ensures.leaves;
       past = arm.ensures.causes.past;
+      work = still_works (view_in self.works) (view_in new) (raises c.args.cmd.now) arm.ensures.rests.view;
+      room = arm.ensures.rests.nothing.room;
     }

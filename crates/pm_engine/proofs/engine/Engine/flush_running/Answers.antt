@@ -1,4 +1,4 @@
-use Rattle.std.proofs.Common.{ℕ, Some, ap, subst}
+use Rattle.std.proofs.Common.{ℕ, Some, ap, subst, arith}
 use Rattle.pm_saver.specs.declared.fault.SaveFault.{SaveFault}
 use Rattle.pm_saver.specs.Answers.{IfMemory, IsFaultOf}
 use Rattle.pm_engine.specs.Working.{IsAsItWas, IsTiedIn, LastsIn, disk_at}
@@ -45,6 +45,7 @@ returns-in-Ok-clause-call g c =
       fault = tt;
       idle = c.flush.ensures.idle;
       past = c.in-Ok.ensures.causes.past;
+      room = let same = c.flush.ensures.room in omega (arith, same);
     }
 
 pub returns-in-Err-Memory-clause-call : goal.returns-in-Err-Memory-clause-call
@@ -65,6 +66,7 @@ returns-in-Err-Memory-clause-call g c =
       fault = arm.ensures.fault;
       idle = c.flush.ensures.idle;
       past = arm.ensures.causes.past;
+      room = let same = c.flush.ensures.room in omega (arith, same);
     }
 
 pub returns-in-Err-Disk-clause-call : goal.returns-in-Err-Disk-clause-call
@@ -89,4 +91,5 @@ returns-in-Err-Disk-clause-call g c =
       fault = arm.ensures.fault;
       idle = c.flush.ensures.idle;
       past = arm.ensures.causes.past;
+      room = let same = c.flush.ensures.room in omega (arith, same);
     }

@@ -1,4 +1,16 @@
+use Rattle.std.proofs.Common.{◌≡◌, ℕ, ◌≤◌, ◌==◌, ◌||◌, Bool, true, false, List, [], ◌∷◌, IsTrue, refl, sym, ap, subst, ◌∙◌}
+use Rattle.std.specs.List.{AllByRecursion}
+use Rattle.std.proofs.lemmas.Bool.{eqb-true}
+use Rattle.std.specs.Coded.{Coded-set, coded_ℕ}
 use Rattle.std.proofs.Math.Logic.{∥∥₁_map}
+use Rattle.std.proofs.Props.{props}
+use Rattle.pm_trains.specs.Trains.{is_among}
+use Rattle.pm_model.specs.Reachability.{IsReachable}
+use Rattle.pm_view.specs.Represents.{IsHeld}
+use Rattle.pm_serving.specs.Serving.{world}
+use Rattle.pm_law_course.proofs.Counting.{few_stand}
+use Rattle.pm_engine.specs.Working.{view_in}
+use Rattle.pm_law_serving.proofs.Splitting.{splits_once}
 use Rattle.pm_engine.specs.Shown.{serving}
 use Rattle.pm_engine.proofs.engine.Engine.keep_their_images.Goals as goal
 use Rattle.pm_engine.proofs.Asking.{settled_now, splits_closed, splits_legal}
@@ -12,5 +24,27 @@ returns-clause-legal g c = splits_legal _ _ (∥∥₁_map c.args.self.now.sound
 pub returns-clause-images : goal.returns-clause-images
 returns-clause-images g c = ∥∥₁_map c.args.self.now.sound (λ sound. sound.images)
 
+pub returns-clause-watching : goal.returns-clause-watching
+returns-clause-watching g c = splits_once (Coded-set coded_ℕ _ _) (∥∥₁_map c.args.self.now.sound (λ sound. sound.served.watching))
+
 pub returns-clause-settled : goal.returns-clause-settled
 returns-clause-settled g c = λ none. settled_now c.args.self.now.opening c.args.self.now.stopped c.args.self.now.works none c.args.self.now.sound
+
+at_most_once : (a b : ℕ) → IsProp (a ≤ b)
+at_most_once a b = hlevel props
+
+-- what holds of all of a list holds of each that is among it
+of_each : (P : ℕ → Type 0) (ids : List ℕ) (id : ℕ) → AllByRecursion P ids → IsTrue (is_among id ids) → P id
+of_each P [] id all among = absurd (cc among)
+of_each P (first ∷ ids) id all among = by (first == id) refl (λ (others : IsTrue (is_among id ids)). of_each P ids id all.1 others)
+  where
+    by : (b : Bool) → (first == id) ≡ b → (IsTrue (is_among id ids) → P id) → P id
+    by true is rest = subst P (eqb-true first id is) all.0
+    by false is rest = rest (sym (ap (λ (b : Bool). b || is_among id ids) is) ∙ among)
+
+pub returns-clause-standing : goal.returns-clause-standing
+returns-clause-standing g c = λ ids distinct reached.
+    let it = c.args.self.now in
+    let w = world (serving it) in
+    splits_once (at_most_once _ _) (∥∥₁_map it.sound (λ sound. few_stand (view_in it.works) ids it.works.space.kept distinct (λ id among.
+    sound.served.represents.reached id (of_each (IsReachable w.heap (IsHeld w)) ids id reached among))))

@@ -21,7 +21,7 @@ pub invariant_of-result : goal.invariant_of-result
 invariant_of-result g c =
     let first = c.in_ok-pages.pages in
     let last = c.open_space.new.pages in
-    let works : Works g.row.D.Denot g.row.F.Denot g.D.Disk = record { pages = last; space = c.in-Ok.space; saver = c.new.result; journal = c.new-in-Ok.result; events = 0 } in
+    let works : Works g.row.D.Denot g.row.F.Denot g.D.Disk = record { pages = last; space = c.in-Ok.space; saver = c.new.result; journal = c.new-in-Ok.result; watches = c.new-in-Ok-2.result; events = 0; steps = 0 } in
     let start : Opening g.row.D.Denot g.row.F.Denot g.D.Disk = record { number = c.header.result.now.epoch; space = c.of.result; pages = c.of-in-Ok.result; count = c.faults.result } in
     let attached_is = c.in_ok-pages.ensures.state in
     let unknown = ap (λ (s : State). s.known) attached_is in
@@ -33,7 +33,7 @@ invariant_of-result g c =
     record {
       sound = ∣ start_sound start works (state first) c.args.place c.in-Ok.settled unknown knows makes fine last.within c.in-Ok.ensures.opened stay
           (λ bytes told. g.met.D.Disk.leaves_bytes disk (g.D.Disk.moment disk) bytes (g.met.D.Disk.counts_now disk (g.D.Disk.moment disk) bytes (omega arith) (stay bytes told)))
-          (ap (option_map (mapped car_of)) makes.unfrozen.frozen) c.new.ensures c.new-in-Ok.ensures.items refl (ap (λ h. h.epoch) c.header.ensures) c.of.ensures c.of-in-Ok.ensures (g.met.D.Disk.only_now disk)
+          (ap (option_map (mapped car_of)) makes.unfrozen.frozen) c.new.ensures c.new-in-Ok.ensures.items c.new-in-Ok-2.ensures refl refl (ap (λ h. h.epoch) c.header.ensures) c.of.ensures c.of-in-Ok.ensures (g.met.D.Disk.only_now disk)
           (λ bytes left told here. c.in_ok-pages.ensures.only bytes (sym c.in_ok-pages.ensures.told ∙ sym c.open_space.ensures.looks.told ∙ told) left (c.open_space.ensures.looks.images.no_more left here)) ∣₁;
     }
 
@@ -41,7 +41,7 @@ pub returns-in-Ok-clause-stands : goal.returns-in-Ok-clause-stands
 returns-in-Ok-clause-stands g c =
     let first = c.in_ok-pages.pages in
     let last = c.open_space.new.pages in
-    let works : Works g.row.D.Denot g.row.F.Denot g.D.Disk = record { pages = last; space = c.in-Ok.space; saver = c.new.result; journal = c.new-in-Ok.result; events = 0 } in
+    let works : Works g.row.D.Denot g.row.F.Denot g.D.Disk = record { pages = last; space = c.in-Ok.space; saver = c.new.result; journal = c.new-in-Ok.result; watches = c.new-in-Ok-2.result; events = 0; steps = 0 } in
     let start : Opening g.row.D.Denot g.row.F.Denot g.D.Disk = record { number = c.header.result.now.epoch; space = c.of.result; pages = c.of-in-Ok.result; count = c.faults.result } in
     let attached_is = c.in_ok-pages.ensures.state in
     let unknown = ap (λ (s : State). s.known) attached_is in

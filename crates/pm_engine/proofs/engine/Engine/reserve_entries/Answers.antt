@@ -5,4 +5,4 @@ use Rattle.pm_engine.proofs.Asking.{kept_journal}
 pub invariant_of-self : goal.invariant_of-self
 invariant_of-self g c =
     let old = c.args.self.now.works in
-    record { sound = kept_journal c.args.self.now.opening c.args.self.now.stopped old (record old { journal = c.reserve.new.self }) c.reserve.ensures.items refl refl refl refl c.args.self.now.sound }
+    record { sound = kept_journal c.args.self.now.opening c.args.self.now.stopped old (record old { journal = c.reserve.new.self }) c.reserve.ensures.items refl refl refl refl refl refl c.args.self.now.sound }

@@ -1,6 +1,6 @@
-use Rattle.std.proofs.Common.{rules, refl}
+use Rattle.std.proofs.Common.{rules, ◌≤◌, refl, arith}
 use Rattle.pm_saving.specs.Progress.{cars_or_none}
-use Rattle.pm_engine.specs.Working.{disk_at, frozen_in, saving_in, state_in}
+use Rattle.pm_engine.specs.Working.{disk_at, frozen_in, room_in, saving_in, state_in}
 use Rattle.pm_engine.proofs.works.Works.settle.Goals as goal
 use Rattle.pm_engine.proofs.Kept.{either_of, lasts_so, pages_last, rests_on, spares_still}
 
@@ -23,5 +23,7 @@ pub returns-in_err-number-clause-rests : goal.returns-in_err-number-clause-rests
 returns-in_err-number-clause-rests g c =
     let old = c.args.self.now in
     let new = record old { pages = c.settle.new.pages; space = c.settle.new.space; saver = c.settle.new.self; journal = c.reserve.new.self } in
-    let rests = rests_on old new c.reserve.ensures.items refl c.settle.ensures.space.view c.in_err-number.ensures.space.frozen c.in_err-number.ensures.goes in
+    let grown = c.reserve.ensures in
+    let room : room_in old ≤ room_in new = first_of (search rules, omega (arith, grown)) in
+    let rests = rests_on old new c.reserve.ensures.items refl refl refl room c.settle.ensures.space.view c.in_err-number.ensures.space.frozen c.in_err-number.ensures.goes in
     search (rules, rests)

@@ -1,0 +1,49 @@
+use Rattle.std.proofs.Common.{ℕ, ap, arith}
+use Rattle.pm_engine.specs.Working.{disk_at}
+use Rattle.pm_engine.proofs.engine.Engine.collect_running.Goals as goal
+use Rattle.pm_engine.proofs.Asking.{stored}
+use Rattle.pm_engine.proofs.Collected.{collects, left_rests, same_disk, tried_sound}
+use Rattle.pm_engine.proofs.Telling.{left_alone, nothing_served}
+
+pub collect-requires-clause-tied : goal.collect-requires-clause-tied
+collect-requires-clause-tied g c = (stored c.args.self.now.opening c.args.self.now.stopped c.args.self.now.works c.requires.running c.args.self.now.sound).tied
+
+pub invariant_of-self : goal.invariant_of-self
+invariant_of-self g c =
+    let self = c.args.self.now in
+    let new = c.collect.new.self in
+    record {
+      sound = tried_sound self.opening self.stopped self.works new c.requires.running self.sound c.collect.result c.collect.ensures.collects c.collect.ensures.err c.collect.ensures.worlds c.collect.ensures.pages c.collect.ensures.tied
+          (g.met.D.Disk.counts_now (disk_at new)) (g.met.D.Disk.only_now (disk_at self.works));
+    }
+
+pub returns-in-Ok-clause-call : goal.returns-in-Ok-clause-call
+returns-in-Ok-clause-call g c =
+    let self = c.args.self.now in
+    let new = c.collect.new.self in
+    record {
+      event = c.in-Ok.ensures.event;
+      collects = collects self.opening self.stopped self.works new c.in-Ok.ensures.collects;
+      fails = tt;
+      running = record { running = c.requires.running; count = ap g.D.Disk.count (same_disk self.works new c.collect.ensures.pages) };
+      reopen = tt;
+      still = record { disk = same_disk self.works new c.collect.ensures.pages; none = tt };
+      memory = tt;
+      room = let same = c.collect.ensures.room in omega (arith, same);
+    }
+
+pub returns-in-Err-clause-call : goal.returns-in-Err-clause-call
+returns-in-Err-clause-call g c =
+    let self = c.args.self.now in
+    let new = c.collect.new.self in
+    let disk = same_disk self.works new c.collect.ensures.pages in
+    record {
+      event = tt;
+      collects = tt;
+      fails = (nothing_served self.opening self.stopped self.works new self.stopped (left_rests self.works new c.in-Err.ensures.err), c.requires.running, c.requires.running, ap g.D.Disk.count disk);
+      running = tt;
+      reopen = tt;
+      still = record { disk = disk; none = tt };
+      memory = left_alone self.opening self.stopped self.works new c.in-Err.ensures.err;
+      room = let same = c.collect.ensures.room in omega (arith, same);
+    }
