@@ -38,6 +38,15 @@ fn put_line(bytes: &mut [u8], used: usize, entry: &Entry) -> usize
     reply_into(entry, &mut bytes[used..])
 }
 
+// Puts a line behind the first `used` bytes.
+fn put_bytes(bytes: &mut [u8], used: usize, line: &[u8])
+    requires { used + length line.now ≤ length bytes.old }
+    ensures text { take (used + length line.now) bytes.new ≡ take used bytes.old ++ line.now }
+    ensures len { length bytes.new ≡ length bytes.old }
+{
+    bytes[used..used + line.len()].copy_from_slice(line);
+}
+
 impl Output {
     ghost use Rattle.std.specs.Prelude.{◌≡◌, ◌+◌, ◌≤◌, ◌<◌, ◌++◌, List, ℕ, [], length, OnOk, OnErr};
     ghost use Rattle.pm_base.specs.Counts.{Rose};
@@ -109,6 +118,27 @@ impl Output {
     {
         self.make_room(sink)?;
         self.used += put_line(&mut self.bytes, self.used, entry);
+        Ok(())
+    }
+
+    /// Gathers a line that has no more bytes than a reply line may have, which are 8,195. What was gathered before goes
+    /// to the sink first where there is no room for one more reply line.
+    ///
+    /// # Errors
+    ///
+    /// The sink failed: it has a first part of what was gathered before.
+    pub fn add_line<K: Sink>(&mut self, sink: &mut K, line: &[u8]) -> Result<(), Failed>
+        requires short { length line.now ≤ REPLY_BYTES }
+        ensures adds { OnOk result (GoesOn line.now (K.written sink.old) (K.written sink.new)
+            (gathered self.old) (gathered self.new)) }
+        ensures part { OnErr result (PutsPart (K.written sink.old) (K.written sink.new) (gathered self.old)) }
+        ensures finish_stays { K.finished sink.new ≡ K.finished sink.old }
+        ensures counted { OnOk result (K.count sink.new ≡ K.count sink.old) }
+        ensures cause { OnErr result (Rose (K.count sink.old) (K.count sink.new)) }
+    {
+        self.make_room(sink)?;
+        put_bytes(&mut self.bytes, self.used, line);
+        self.used += line.len();
         Ok(())
     }
 
