@@ -85,7 +85,7 @@ printf '0 find 1 a\n0 data 1\n' >"$work/find.script"
     "$pmos" run "$work/settled" serial <"$work/settle.script" >"$work/settle.replies" &&
     cp "$work/settled" "$work/found" && "$pmos" run "$work/found" serial <"$work/find.script" >"$work/find.replies"
 came=$?
-row "an ordinary run" "0 ok 1,ok,begun 1,saved 1,ok 1,cafe" \
+row "an ordinary run" "0 ok 1,ok,begun 1,saved 1,0 0 1,ok 1,cafe,0 0 1" \
     "$came $(cat "$work/settle.replies" "$work/find.replies" | cut -d' ' -f2- | paste -sd,)"
 
 # Tells which of the stores above a file is, byte for byte.
@@ -197,7 +197,7 @@ else
         cut -d' ' -f1-4 >"$work/err"
     came+=", ${PIPESTATUS[0]} $(cat "$work/err")"
     [ $((SECONDS - seconds)) -le 10 ] || came+=", slowly"
-    row "a store of 1 GiB" "0 ok 1,cafe, 6 pmos: damaged page 3" "$came"
+    row "a store of 1 GiB" "0 ok 1,cafe,0 0 1, 6 pmos: damaged page 3" "$came"
     rm -f "$work/long.store"
 fi
 rm -f "$work/grown"

@@ -1,8 +1,8 @@
 #!/usr/bin/env bash
 # Makes a store, runs the first script on it and then the second. Then it shows what a crash leaves: the third script ends
 # with a copy that is written and not settled, and the second one finds the copy of before; and a copy of the file that was
-# taken before the first settle holds the empty copy. It takes the program that was proved and built, where there is one,
-# and else builds one without proof.
+# taken before the first settle holds the empty copy. Last, the collector takes away what nothing reaches any more. It takes
+# the program that was proved and built, where there is one, and else builds one without proof.
 set -euo pipefail
 cd "$(dirname "$0")/.."
 
@@ -44,3 +44,6 @@ show examples/second.script store.pmos
 echo
 echo "On the copy of the file that was taken before the first settle:"
 show examples/second.script before.pmos
+echo
+echo "The collector, on the store that holds the copy:"
+show examples/fourth.script store.pmos

@@ -1,12 +1,13 @@
 -- What goes to the sink, one part of a run behind another.
-use Rattle.std.proofs.Common.{◌≡◌, ◌⊎◌, ⊎_elim, inl, inr, ℕ, ◌+◌, ◌≤◌, length, take, arith, List, [], ◌++◌, Option, Some, None, refl, ap, sym, subst, ◌∙◌, append_assoc}
-use Rattle.std.proofs.lemmas.List.{append-nil, length-append, take-append-le}
-use Rattle.std.proofs.Math.Seq.{take-append-add, take-length}
+use Rattle.std.proofs.Common.{◌≡◌, ◌⊎◌, ⊎_elim, inl, inr, ℕ, length, arith, List, [], ◌++◌, Option, Some, None, refl, ap, sym, subst, ◌∙◌, append_assoc}
+use Rattle.std.proofs.Math.Seq.{take-length}
+use Rattle.std.proofs.lemmas.List.{append-nil}
 use Rattle.pm_base.specs.Counts.{Rose}
 use Rattle.pm_types.specs.declared.entry.Entry.{Entry}
 use Rattle.pm_io.specs.Streams.{AppendsPart}
 use Rattle.pm_model.specs.Text.{text}
 use Rattle.pm_output.specs.Writing.{GoesOn, IsDivided, PutsAll, PutsPart}
+use Rattle.pm_output.proofs.Gathering.{empty_piece, goes_then, part_behind, part_longer, part_then}
 use Rattle.pm_serial.specs.declared.stop.Stop.{Stop}
 use Rattle.pm_serial.specs.declared.stop.Stop.TheVariants.{Memory, Writing, Device}
 use Rattle.pm_serial.specs.Causes.{CountsSink, IsDone, IsElsewhere}
@@ -25,33 +26,46 @@ not_both (Some Memory) is of = of
 not_both (Some Writing) is of = is
 not_both (Some Device) is of = of
 
--- nothing was put behind what stood there
-empty_piece : (told : Option (List ℕ)) (gathered : List ℕ) → GoesOn [] told told gathered gathered
-empty_piece told gathered bytes known = record { done = []; put = known ∙ ap Some (sym (append-nil bytes)); rest = sym (append-nil gathered) }
+-- none of it was put
+no_part : (bytes piece : List ℕ) (now : Option (List ℕ)) → now ≡ Some bytes → AppendsPart bytes piece now
+no_part bytes piece now is = record { part = 0; within = omega arith; appended = is ∙ ap Some (sym (append-nil bytes)) }
 
--- a first part of the one is a first part of both
-longer_part : (bytes one two : List ℕ) (now : Option (List ℕ)) → AppendsPart bytes one now → AppendsPart bytes (one ++ two) now
-longer_part bytes one two now some =
-    let within = some.within in
-    let both = length-append one two in
-    record {
-      part = some.part;
-      within = omega (arith, within, both);
-      appended = some.appended ∙ ap (λ (more : List ℕ). Some (bytes ++ more)) (sym (take-append-le some.part one two within));
-    }
+-- the whole is a first part
+pub whole_part : (text : List ℕ) (told now : Option (List ℕ)) → PutsAll told now text → PutsPart told now text
+whole_part text told now all bytes known = record { part = length text; within = omega arith; appended = all bytes known ∙ ap (λ (t : List ℕ). Some (bytes ++ t)) (sym (take-length text)) }
 
--- what was put in two parts
-part_behind : (bytes done more whole : List ℕ) (now : Option (List ℕ)) → done ++ more ≡ whole → AppendsPart (bytes ++ done) more now → AppendsPart bytes whole now
-part_behind bytes done more whole now is some =
-    let within = some.within in
-    let both : length whole ≡ length done + length more = sym (ap length is) ∙ length-append done more in
-    record {
-      part = length done + some.part;
-      within = omega (arith, within, both);
-      appended =
-          some.appended ∙ ap Some (append_assoc bytes done (take some.part more)
-          ∙ ap (λ (rest : List ℕ). bytes ++ rest) (sym (take-append-add done more some.part) ∙ ap (take (length done + some.part)) is));
-    }
+-- all was put behind a piece that was gathered
+all_behind : (bytes done rest whole : List ℕ) → done ++ rest ≡ whole → (bytes ++ done) ++ rest ≡ bytes ++ whole
+all_behind bytes done rest whole is = append_assoc bytes done rest ∙ ap (λ (t : List ℕ). bytes ++ t) is
+
+pub all_then : (piece : List ℕ) (told mid now : Option (List ℕ)) (gathered later : List ℕ) → GoesOn piece told mid gathered later → PutsAll mid now later → PutsAll told now (gathered ++ piece)
+all_then piece told mid now gathered later on all bytes known =
+    let was = on bytes known in
+    all (bytes ++ was.done) was.put ∙ ap Some (all_behind bytes was.done later (gathered ++ piece) was.rest)
+
+-- and it is finished
+pub finished_then : (piece : List ℕ) (told mid : Option (List ℕ)) (gathered later : List ℕ) (finished : ℕ) → GoesOn piece told mid gathered later
+    → ((bytes : List ℕ) → mid ≡ Some bytes → finished ≡ length (bytes ++ later)) → (bytes : List ℕ) → told ≡ Some bytes → finished ≡ length (bytes ++ (gathered ++ piece))
+finished_then piece told mid gathered later finished on all bytes known =
+    let was = on bytes known in
+    all (bytes ++ was.done) was.put ∙ ap length (all_behind bytes was.done later (gathered ++ piece) was.rest)
+
+-- or a first part of it
+pub some_then : (piece : List ℕ) (told mid now : Option (List ℕ)) (gathered later : List ℕ) → GoesOn piece told mid gathered later → PutsPart mid now later → PutsPart told now (gathered ++ piece)
+some_then piece told mid now gathered later on some bytes known =
+    let was = on bytes known in
+    part_behind bytes was.done later (gathered ++ piece) now was.rest (some (bytes ++ was.done) was.put)
+
+-- where the run stopped elsewhere
+elsewhere_cause : (stop : Stop) (before after : ℕ) → IsElsewhere (Some stop) → CountsSink (Some stop) before after
+elsewhere_cause Memory before after is = tt
+elsewhere_cause Writing before after is = absurd is
+elsewhere_cause Device before after is = tt
+
+elsewhere_not : (stop : Stop) → IsElsewhere (Some stop) → IsOfSink (Some stop) → ⊥
+elsewhere_not Memory is of = of
+elsewhere_not Writing is of = is
+elsewhere_not Device is of = of
 
 module _ {K : Type 0} (written : K → Option (List ℕ)) (finished count : K → ℕ) where
   -- neither journal nor sink changed
@@ -82,7 +96,7 @@ module _ {K : Type 0} (written : K → Option (List ℕ)) (finished count : K �
     piece = piece;
     text_is = is;
     on = λ of. absurd of;
-    part = λ _ bytes told. longer_part bytes gathered piece (written new) (part bytes told);
+    part = λ _. part_longer piece (written old) (written new) gathered part;
     cause = rose;
   }
 
@@ -95,21 +109,39 @@ module _ {K : Type 0} (written : K → Option (List ℕ)) (finished count : K �
   sink_then old mid new gathered between later before journal after stop one two = record {
     piece = one.piece ++ two.piece;
     text_is = two.text_is ∙ ap (λ (t : List ℕ). t ++ two.piece) one.text_is ∙ append_assoc (text before) one.piece two.piece;
-    on = λ is bytes told.
-        let first = one.on tt bytes told in
-        let second = two.on is (bytes ++ first.done) first.put in
-        record {
-          done = first.done ++ second.done;
-          put = second.put ∙ ap Some (append_assoc bytes first.done second.done);
-          rest = append_assoc first.done second.done later ∙ ap (λ (more : List ℕ). first.done ++ more) second.rest ∙ sym (append_assoc first.done between two.piece)
-              ∙ ap (λ (more : List ℕ). more ++ two.piece) first.rest ∙ append_assoc gathered one.piece two.piece;
-        };
-    part = λ is bytes told.
-        let first = one.on tt bytes told in
-        part_behind bytes first.done (between ++ two.piece) (gathered ++ (one.piece ++ two.piece)) (written new)
-        (sym (append_assoc first.done between two.piece) ∙ ap (λ (more : List ℕ). more ++ two.piece) first.rest ∙ append_assoc gathered one.piece two.piece)
-        (two.part is (bytes ++ first.done) first.put);
+    on = λ is. goes_then one.piece two.piece (written old) (written mid) (written new) gathered between later (one.on tt) (two.on is);
+    part = λ is. part_then one.piece two.piece (written old) (written mid) (written new) gathered between (one.on tt) (two.part is);
     cause = counted_then stop (count old) (count mid) (count new) one.cause two.cause;
+  }
+
+  -- ---- the end
+
+  -- all was put and finished
+  pub ends_well : (old new : K) (gathered tail : List ℕ) (ran : Option Stop) → ran ≡ None → PutsAll (written old) (written new) (gathered ++ tail)
+      → ((bytes : List ℕ) → written old ≡ Some bytes → finished new ≡ length (bytes ++ (gathered ++ tail))) → count new ≡ count old → EndsSink written finished count old new gathered tail ran None
+  ends_well old new gathered tail ran is all whole counted = record {
+    why = inl (sym is);
+    none = λ of. absurd (subst IsOfSink is of);
+    part = λ _. whole_part (gathered ++ tail) (written old) (written new) all;
+    all = λ _. all;
+    all_finished = λ _. whole;
+    part_of_gathered = λ elsewhere. absurd elsewhere;
+    whole = λ elsewhere. absurd elsewhere;
+    cause = λ _. counted;
+  }
+
+  -- what was gathered was put, as far as the sink took it
+  pub ends_elsewhere : (old new : K) (gathered tail : List ℕ) (ran : Option Stop) (stop : Stop) → ran ≡ Some stop → IsElsewhere (Some stop) → (¬ (Rose (count old) (count new)) → PutsAll (written old) (written new) gathered)
+      → PutsPart (written old) (written new) gathered → EndsSink written finished count old new gathered tail ran (Some stop)
+  ends_elsewhere old new gathered tail ran stop is elsewhere whole part = record {
+    why = inl (sym is);
+    none = λ of. absurd (elsewhere_not stop elsewhere (subst IsOfSink is of));
+    part = λ _. part_longer tail (written old) (written new) gathered part;
+    all = λ done. absurd done;
+    all_finished = λ done. absurd done;
+    part_of_gathered = λ _. part;
+    whole = λ _. whole;
+    cause = λ _. elsewhere_cause stop (count old) (count new) elsewhere;
   }
 
   -- ---- the whole run
@@ -124,32 +156,46 @@ module _ {K : Type 0} (written : K → Option (List ℕ)) (finished count : K �
   gathered_where (Some Writing) after why is =
       ⊎_elim (λ (same : after ≡ Some Writing). absurd (⊎_elim (λ done. subst IsDone same done) (λ other. subst IsElsewhere same other) is)) (λ both. let never : Some Writing ≡ None = both.0 in absurd (cc never)) why
 
-  -- what was put of a run that began with nothing gathered
-  module _ (old mid new : K) (gathered later : List ℕ) (journal longer : List Entry) (before after : Option Stop) (none : gathered ≡ []) (first : text journal ≡ []) (run : SinkGoesOn written count old mid gathered later journal longer before)
-      (end : EndsSink written finished count mid new later before after) where
+  -- what was put of a run that began with nothing gathered, with this tail behind its text
+  module _ (old mid new : K) (gathered later tail : List ℕ) (journal longer : List Entry) (before after : Option Stop) (none : gathered ≡ []) (first : text journal ≡ []) (run : SinkGoesOn written count old mid gathered later journal longer before)
+      (end : EndsSink written finished count mid new later tail before after) where
     is_text : gathered ++ run.piece ≡ text longer
     is_text = ap (λ (g : List ℕ). g ++ run.piece) none ∙ sym (run.text_is ∙ ap (λ (t : List ℕ). t ++ run.piece) first)
 
     divided : IsGathered before → (bytes : List ℕ) → written old ≡ Some bytes → IsDivided bytes (text longer) (written mid) later
     divided is bytes told = let was = run.on is bytes told in record { done = was.done; put = was.put; rest = was.rest ∙ is_text }
 
-    all_put : IsGathered before → PutsAll (written mid) (written new) later → PutsAll (written old) (written new) (text longer)
-    all_put is all bytes told =
-        let was = divided is bytes told in
-        all (bytes ++ was.done) was.put ∙ ap Some (append_assoc bytes was.done later ∙ ap (λ (t : List ℕ). bytes ++ t) was.rest)
+    -- what comes behind the part that was put makes it the whole
+    abbrev Completes : List ℕ → List ℕ → Type 0
+    Completes rest whole = (done : List ℕ) → done ++ later ≡ text longer → done ++ rest ≡ whole
 
-    ahead : IsGathered before → PutsPart (written old) (written new) (text longer)
-    ahead is bytes told =
-        let was = divided is bytes told in
-        part_behind bytes was.done later (text longer) (written new) was.rest (end.part is (bytes ++ was.done) was.put)
+    alone : Completes later (text longer)
+    alone done is = is
 
-    part_put : (stop : Option Stop) → stop ≡ before → PutsPart (written old) (written new) (text longer)
-    part_put None is bytes told = ahead (subst IsGathered is tt) bytes told
-    part_put (Some Memory) is bytes told = ahead (subst IsGathered is tt) bytes told
-    part_put (Some Device) is bytes told = ahead (subst IsGathered is tt) bytes told
-    part_put (Some Writing) is bytes told =
+    with_tail : Completes (later ++ tail) (text longer ++ tail)
+    with_tail done is = sym (append_assoc done later tail) ∙ ap (λ (t : List ℕ). t ++ tail) is
+
+    all_put : (rest whole : List ℕ) → Completes rest whole → IsGathered before → PutsAll (written mid) (written new) rest → PutsAll (written old) (written new) whole
+    all_put rest whole completes is all bytes told =
+        let was = divided is bytes told in
+        all (bytes ++ was.done) was.put ∙ ap Some (all_behind bytes was.done rest whole (completes was.done was.rest))
+
+    some_put : (rest whole : List ℕ) → Completes rest whole → IsGathered before → PutsPart (written mid) (written new) rest → PutsPart (written old) (written new) whole
+    some_put rest whole completes is some bytes told =
+        let was = divided is bytes told in
+        part_behind bytes was.done rest whole (written new) (completes was.done was.rest) (some (bytes ++ was.done) was.put)
+
+    ahead : IsGathered before → PutsPart (written old) (written new) (text longer ++ tail)
+    ahead is = some_put (later ++ tail) (text longer ++ tail) with_tail is (end.part is)
+
+    part_put : (stop : Option Stop) → stop ≡ before → PutsPart (written old) (written new) (text longer ++ tail)
+    part_put None is = ahead (subst IsGathered is tt)
+    part_put (Some Memory) is = ahead (subst IsGathered is tt)
+    part_put (Some Device) is = ahead (subst IsGathered is tt)
+    part_put (Some Writing) is =
         let of : IsOfSink before = subst IsOfSink is tt in
-        subst (λ (now : K). AppendsPart bytes (text longer) (written now)) (sym (end.none of)) (subst (λ (t : List ℕ). AppendsPart bytes t (written mid)) is_text (run.part of bytes told))
+        let some : PutsPart (written old) (written mid) (text longer) = subst (PutsPart (written old) (written mid)) is_text (run.part of) in
+        subst (λ (now : K). PutsPart (written old) (written now) (text longer ++ tail)) (sym (end.none of)) (part_longer tail (written old) (written mid) (text longer) some)
 
     stood : IsGathered before → count mid ≡ count old
     stood is = counted_mid before is run.cause
@@ -171,25 +217,27 @@ module _ {K : Type 0} (written : K → Option (List ℕ)) (finished count : K �
         subst (λ (s : Option Stop). CountsSink s (count old) (count new)) (sym stops)
         (subst (λ (now : K). Rose (count old) (count now)) (sym (end.none of)) (subst (λ (s : Option Stop). CountsWriting s (count old) (count mid)) (sym is) rose))
 
-    pub wrote_run : WroteRun written finished count old new (text longer) after
+    pub wrote_run : WroteRun written finished count old new (text longer) tail after
     wrote_run = record {
       part = part_put before refl;
-      all = λ done. all_put (gathered_where before after end.why (inl done)) (end.all done);
+      all = λ done. all_put (later ++ tail) (text longer ++ tail) with_tail (gathered_where before after end.why (inl done)) (end.all done);
       all_finished = λ done bytes told.
           let was = divided (gathered_where before after end.why (inl done)) bytes told in
-          end.all_finished done (bytes ++ was.done) was.put ∙ ap length (append_assoc bytes was.done later ∙ ap (λ (t : List ℕ). bytes ++ t) was.rest);
+          end.all_finished done (bytes ++ was.done) was.put ∙ ap length (all_behind bytes was.done (later ++ tail) (text longer ++ tail) (with_tail was.done was.rest));
+      part_of_text = λ elsewhere. some_put later (text longer) alone (gathered_where before after end.why (inr elsewhere)) (end.part_of_gathered elsewhere);
       whole = λ elsewhere stands.
           let is = gathered_where before after end.why (inr elsewhere) in
-          all_put is (end.whole elsewhere (λ rose. stands (subst (λ (n : ℕ). Rose n (count new)) (stood is) rose)));
+          all_put later (text longer) alone is (end.whole elsewhere (λ rose. stands (subst (λ (n : ℕ). Rose n (count new)) (stood is) rose)));
       cause = counts before refl;
     }
 
   -- nothing was run
-  pub wrote_none : (sink : K) (journal : List Entry) → text journal ≡ [] → WroteRun written finished count sink sink (text journal) (Some Memory)
-  wrote_none sink journal none = record {
-    part = λ bytes told. record { part = 0; within = omega arith; appended = told ∙ ap Some (sym (append-nil bytes)) };
+  pub wrote_none : (sink : K) (journal : List Entry) (tail : List ℕ) → text journal ≡ [] → WroteRun written finished count sink sink (text journal) tail (Some Memory)
+  wrote_none sink journal tail none = record {
+    part = λ bytes told. no_part bytes (text journal ++ tail) (written sink) told;
     all = λ done. absurd done;
     all_finished = λ done. absurd done;
+    part_of_text = λ elsewhere bytes told. no_part bytes (text journal) (written sink) told;
     whole = λ elsewhere stands bytes told. told ∙ ap Some (sym (append-nil bytes) ∙ ap (λ (t : List ℕ). bytes ++ t) (sym none));
     cause = tt;
   }

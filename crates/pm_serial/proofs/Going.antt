@@ -1,5 +1,5 @@
 -- What parts of a run do to engine and disk, one behind another.
-use Rattle.std.proofs.Common.{◌≡◌, ◌⊎◌, ⊎_elim, inl, inr, ℕ, ◌≤◌, Bool, true, false, List, [], ◌∷◌, ◌++◌, Option, Some, None, Result, Ok, Err, refl, ap, sym, subst, ◌∙◌}
+use Rattle.std.proofs.Common.{◌≡◌, ◌⊎◌, ⊎_elim, inl, inr, ℕ, ◌+◌, ◌<◌, ◌≤◌, length, length-append, arith, true, false, List, [], ◌∷◌, ◌++◌, Option, Some, None, Ok, Err, refl, ap, sym, subst, ◌∙◌}
 use Rattle.std.specs.List.{Contains}
 use Rattle.std.specs.Option.{IsSome, is_some}
 use Rattle.pm_base.specs.Counts.{Rose, ShowsRise}
@@ -21,19 +21,20 @@ use Rattle.pm_model.proofs.ChainLaws.{after_more, legal_more}
 use Rattle.pm_image.specs.Stands.{Stands}
 use Rattle.pm_view.specs.View.{Cars}
 use Rattle.pm_shadow.specs.State.{State}
+use Rattle.pm_saving.specs.Paging.{left_of}
 use Rattle.pm_saving.specs.Progress.{Progress, Saving}
 use Rattle.pm_saver.specs.Answers.{IsFlushed}
 use Rattle.pm_serving.specs.Serving.{KeepsOpening, Serving, opening, world}
 use Rattle.pm_serving.specs.Images.{IsInProgress, IsLast, IsOfChain, IsOfRun, IsSettled, IsTold}
-use Rattle.pm_serving.specs.Events.{Appends, FailsAs, Flushes, Serves, ServesNothing, StaysBegun}
+use Rattle.pm_serving.specs.Events.{Collects, FailsAs, Flushes, Serves, ServesNothing, StaysBegun}
 use Rattle.pm_engine.specs.declared.engine.Engine.{Engine}
-use Rattle.pm_engine.specs.Shown.{KeepsStart, disk_in, opened_disk, serving}
-use Rattle.pm_engine.specs.Calls.{IsOfDisk as IsDiskFault, IsRunning, LeavesCopies, LeavesCopy, MayStand}
+use Rattle.pm_engine.specs.Shown.{KeepsStart, disk_in, opened_disk, room, serving}
+use Rattle.pm_engine.specs.Calls.{IsOfDisk as IsDiskFault, IsRunning, LeavesCopies, LeavesCopy, MayRunOut, MayStand}
 use Rattle.pm_serial.specs.declared.stop.Stop.{Stop}
 use Rattle.pm_serial.specs.declared.stop.Stop.TheVariants.{Memory, Writing, Device}
-use Rattle.pm_serial.specs.Causes.{CountsDisk, IsOfDisk}
+use Rattle.pm_serial.specs.Causes.{CountsDisk}
 use Rattle.pm_serial.specs.Running.{IsFresh, RunsOnDisk}
-use Rattle.pm_serial.specs.Stepping.{EngineGoesOn, WasIdle, stop_of}
+use Rattle.pm_serial.specs.Stepping.{EngineGoesOn, IsShort, KeepsCounts, WasIdle, stop_of}
 use Rattle.pm_serial.proofs.Journals.{chain_longer, end_in_chain, no_end, settled_next}
 
 -- ---- what is served
@@ -112,12 +113,23 @@ rose_of b a before later shows = subst (λ (both : ℕ × ℕ). Rose both.0 both
 abbrev MayStandAt : EngineFault → Serving → List ℕ → Type 0
 MayStandAt fault it left = IsSettled (world it) left ⊎ (IsDiskFault fault × IsInProgress (world it) left)
 
+-- an entry took the room of one
+room_of_one : (room_old room_new : ℕ) (old new : List Entry) (entry : Entry) → new ≡ old ++ entry ∷ [] → room_old ≤ room_new + 1 → room_old + length old ≤ room_new + length new
+room_of_one room_old room_new old new entry is within =
+    let long : length new ≡ length old + 1 = ap length is ∙ length-append old (entry ∷ []) in
+    omega (arith, long, within)
+
+-- and none took any
+room_of_none : (room_old room_new : ℕ) (old new : List Entry) → new ≡ old → room_old ≤ room_new → room_old + length old ≤ room_new + length new
+room_of_none room_old room_new old new is within = let long = ap length is in omega (arith, long, within)
+
 module _ {D : Type 0} {F : Type 0} {g : Ghosts D} (old new : Engine D F g) (start : KeepsStart old new) (legal : IsLegal (opening (serving old)) (serving old).journal) (past : (g.made (disk_in new)).past ≡ (g.made (disk_in old)).past)
     (idle : (serving old).saving.progress ≡ None → disk_in new ≡ disk_in old) where
   -- a command was answered
-  pub answered : (client : ℕ) (cmd : Cmd) (reply : Reply) → Serves client cmd (serving old) (serving new) reply → IsRunning old new → LeavesCopies cmd old new (Ok reply) → EngineGoesOn old new None
-  answered client cmd reply serves runs leaves = record {
+  pub answered : (client : ℕ) (cmd : Cmd) (reply : Reply) → Serves client cmd (serving old) (serving new) reply → IsRunning old new → LeavesCopies cmd old new (Ok reply) → room old ≤ room new + 1 → EngineGoesOn old new None
+  answered client cmd reply serves runs leaves within = record {
     start = start;
+    room = room_of_one (room old) (room new) (serving old).journal (serving new).journal (record { client = client; cmd = cmd; reply = reply }) serves.appends.journal within;
     grows = more_chain client cmd (serving old) (serving new) reply legal serves;
     leaves = λ told. weaker g.moment g.since (disk_in old) (disk_in new) (MayStand cmd (serving old) (Ok reply)) (IsOfRun (serving new)) (leaves runs.running told) (answered_of_run client cmd (serving old) (serving new) reply legal serves);
     last = λ of. absurd of;
@@ -127,99 +139,137 @@ module _ {D : Type 0} {F : Type 0} {g : Ghosts D} (old new : Engine D F g) (star
     idle = λ none. absurd (no_end (serving old).journal (record { client = client; cmd = cmd; reply = reply }) (sym serves.appends.journal ∙ none));
   }
 
-  -- a flush event was made
-  pub flushed : (answer : Flushed) (cars : Cars) (s t : State) (was now : Option (List ℕ)) → Flushes (serving old) (serving new) → IsFlushed (serving old).saving (serving new).saving cars s t was now answer
-      → IsRunning old new → LeavesCopy old new → EngineGoesOn old new None
-  flushed answer cars s t was now flushes is runs leaves =
-      let same = same_chain (serving old) (serving new) flushes.opening flushes.journal in
-      record {
-        start = start;
-        grows = same;
-        leaves = λ told. weaker g.moment g.since (disk_in old) (disk_in new) (IsSettled (world (serving old))) (IsOfRun (serving new)) (leaves runs.running told) (settled_of_run (serving old) (serving new) legal same);
-        last = λ of. absurd of;
-        going = λ _. flushes.stopped ∙ runs.running;
-        cause = runs.count;
-        past = past;
-        idle = λ none. record { none = sym flushes.journal ∙ none; still = none_flushed (serving old).saving (serving new).saving cars s t was now answer is; disk = idle };
-      }
-
-  -- where nothing was answered
-  module _ (nothing : ServesNothing (serving old) (serving new)) where
-    same_members : (kept : ℕ × Copy) → Contains (chain (opening (serving old)) (serving old).journal) kept → Contains (chain (opening (serving new)) (serving new).journal) kept
-    same_members = same_chain (serving old) (serving new) nothing.opening nothing.journal
-
-    in_world : (left : List ℕ) → IsInProgress (world (serving old)) left → IsInProgress (world (serving new)) left
-    in_world left begun = subst (λ (w : World). IsInProgress w left) (sym (same_world (serving old) (serving new) nothing.opening nothing.journal)) begun
-
-    was_idle : (serving new).journal ≡ [] → WasIdle (serving old) (serving new) (disk_in old) (disk_in new)
-    was_idle none = record { none = sym nothing.journal ∙ none; still = none_begun (serving old).saving.progress (serving new).saving.progress nothing.progress; disk = idle }
-
-    no_room : (before after : ℕ) → (serving new).stopped ≡ None → g.count (disk_in new) ≡ g.count (disk_in old)
-        → (IsTold (g.contents (opened_disk old)) → LeavesOnly g.moment g.since (disk_in old) (disk_in new) (MayStandAt NoRoom (serving old))) → EngineGoesOn old new (Some Memory)
-    no_room before after going counted leaves = record {
-      start = start;
-      grows = same_members;
-      leaves = λ told.
-          weaker g.moment g.since (disk_in old) (disk_in new) (MayStandAt NoRoom (serving old)) (IsOfRun (serving new)) (leaves told)
-          (λ left may. ⊎_elim (settled_of_run (serving old) (serving new) legal same_members left) (λ never. absurd never.0) may);
-      last = λ of. absurd of;
-      going = λ _. going;
-      cause = counted;
-      past = past;
-      idle = was_idle;
-    }
-
-    device : (before after count : ℕ) → (serving new).stopped ≡ Some count → Rose (g.count (disk_in old)) (g.count (disk_in new))
-        → ((left : List ℕ) → g.image (disk_in new) left → g.moment (disk_in old) ≤ g.moment (disk_in new) → g.since (disk_in new) (g.moment (disk_in old)) left)
-        → (IsTold (g.contents (opened_disk old)) → LeavesOnly g.moment g.since (disk_in old) (disk_in new) (MayStandAt (Disk before after) (serving old))) → EngineGoesOn old new (Some Device)
-    device before after count stopped rose counts leaves =
-        let some : IsSome (serving new).stopped = ap is_some stopped in
+  -- there is room for as many entries
+  module _ (within : room old ≤ room new) where
+    -- an event was made that answers nothing, and begins no copy
+    eventful : KeepsOpening (serving old) (serving new) → (serving new).journal ≡ (serving old).journal → (serving new).stopped ≡ (serving old).stopped → ((serving old).saving.progress ≡ None → (serving new).saving.progress ≡ None)
+        → IsRunning old new → LeavesCopy old new → EngineGoesOn old new None
+    eventful keeps journal stopped still runs leaves =
+        let same = same_chain (serving old) (serving new) keeps journal in
         record {
           start = start;
-          grows = same_members;
-          leaves = λ told.
-              weaker g.moment g.since (disk_in old) (disk_in new) (MayStandAt (Disk before after) (serving old)) (IsOfRun (serving new)) (leaves told)
-              (λ left may. ⊎_elim (settled_of_run (serving old) (serving new) legal same_members left) (λ begun. inr (some, in_world left begun.1)) may);
-          last = λ of told left here.
-              let each = leaves told in
-              ⊎_elim
-              (λ (settled : IsSettled (world (serving old)) left). inl (subst (λ (w : World). IsSettled w left) (sym (same_world (serving old) (serving new) nothing.opening nothing.journal)) settled))
-              (λ begun. inr (some, in_world left begun.1))
-              (each.each left (counts left here each.later));
-          going = λ not. absurd (not tt);
-          cause = rose;
+          room = room_of_none (room old) (room new) (serving old).journal (serving new).journal journal within;
+          grows = same;
+          leaves = λ told. weaker g.moment g.since (disk_in old) (disk_in new) (IsSettled (world (serving old))) (IsOfRun (serving new)) (leaves runs.running told) (settled_of_run (serving old) (serving new) legal same);
+          last = λ of. absurd of;
+          going = λ _. stopped ∙ runs.running;
+          cause = runs.count;
           past = past;
-          idle = was_idle;
+          idle = λ none. record { none = sym journal ∙ none; still = still; disk = idle };
         }
 
-  -- a call failed
-  pub failed : (fault : EngineFault) → FailsAs (serving old) (serving new) (g.count (disk_in old)) (g.count (disk_in new)) fault → (serving old).stopped ≡ None
-      → ((left : List ℕ) → g.image (disk_in new) left → g.moment (disk_in old) ≤ g.moment (disk_in new) → g.since (disk_in new) (g.moment (disk_in old)) left)
-      → (IsTold (g.contents (opened_disk old)) → LeavesOnly g.moment g.since (disk_in old) (disk_in new) (MayStandAt fault (serving old))) → EngineGoesOn old new (Some (stop_of fault))
-  failed NoRoom fails none counts leaves = no_room fails.0 0 0 fails.2 fails.3 leaves
-  failed (Disk b a) fails none counts leaves = device fails.0 b a (g.count (disk_in new)) fails.2 (rose_of b a (g.count (disk_in old)) (g.count (disk_in new)) fails.3) counts leaves
-  failed (Reopen count) fails none counts leaves = let stopped = fails.1 in absurd (cc (none, stopped))
+    -- an event that writes a page was made
+    pub flushed : (answer : Flushed) (cars : Cars) (s t : State) (was now : Option (List ℕ)) → Flushes (serving old) (serving new) → IsFlushed (serving old).saving (serving new).saving cars s t was now answer
+        → IsRunning old new → LeavesCopy old new → EngineGoesOn old new None
+    flushed answer cars s t was now flushes is runs leaves = eventful flushes.opening flushes.journal flushes.stopped (none_flushed (serving old).saving (serving new).saving cars s t was now answer is) runs leaves
 
-  pub client_failed : (cmd : Cmd) (fault : EngineFault) → FailsAs (serving old) (serving new) (g.count (disk_in old)) (g.count (disk_in new)) fault → (serving old).stopped ≡ None
-      → ((left : List ℕ) → g.image (disk_in new) left → g.moment (disk_in old) ≤ g.moment (disk_in new) → g.since (disk_in new) (g.moment (disk_in old)) left)
-      → LeavesCopies cmd old new (Err fault) → EngineGoesOn old new (Some (stop_of fault))
-  client_failed cmd fault fails none counts leaves =
-      failed fault fails none counts
-      (λ told. weaker g.moment g.since (disk_in old) (disk_in new) (MayStand cmd (serving old) (Err fault)) (MayStandAt fault (serving old)) (leaves none told)
-      (λ left may. ⊎_elim (λ settled. inl settled) (λ begun. inr (begun.1, begun.2)) may))
+    -- an event of the collector was made
+    pub collected : Collects (serving old) (serving new) → IsRunning old new → LeavesCopy old new → EngineGoesOn old new None
+    collected collects runs leaves = eventful collects.opening collects.journal collects.stopped (λ none. ap (λ (it : Saving). it.progress) collects.saving ∙ none) runs leaves
 
-  pub flush_failed : (fault : EngineFault) → FailsAs (serving old) (serving new) (g.count (disk_in old)) (g.count (disk_in new)) fault → (serving old).stopped ≡ None
-      → ((left : List ℕ) → g.image (disk_in new) left → g.moment (disk_in old) ≤ g.moment (disk_in new) → g.since (disk_in new) (g.moment (disk_in old)) left)
-      → LeavesCopy old new → EngineGoesOn old new (Some (stop_of fault))
-  flush_failed fault fails none counts leaves =
-      failed fault fails none counts
-      (λ told. weaker g.moment g.since (disk_in old) (disk_in new) (IsSettled (world (serving old))) (MayStandAt fault (serving old)) (leaves none told) (λ left settled. inl settled))
+    -- where nothing was answered
+    module _ (nothing : ServesNothing (serving old) (serving new)) where
+      same_members : (kept : ℕ × Copy) → Contains (chain (opening (serving old)) (serving old).journal) kept → Contains (chain (opening (serving new)) (serving new).journal) kept
+      same_members = same_chain (serving old) (serving new) nothing.opening nothing.journal
 
--- a call that failed leaves the journal
-pub journal_stays : (old new : Serving) (before after : ℕ) (fault : EngineFault) → FailsAs old new before after fault → new.journal ≡ old.journal
-journal_stays old new before after NoRoom fails = fails.0.journal
-journal_stays old new before after (Disk b a) fails = fails.0.journal
-journal_stays old new before after (Reopen count) fails = ap (λ (it : Serving). it.journal) fails.0
+      in_world : (left : List ℕ) → IsInProgress (world (serving old)) left → IsInProgress (world (serving new)) left
+      in_world left begun = subst (λ (w : World). IsInProgress w left) (sym (same_world (serving old) (serving new) nothing.opening nothing.journal)) begun
+
+      was_idle : (serving new).journal ≡ [] → WasIdle (serving old) (serving new) (disk_in old) (disk_in new)
+      was_idle none = record { none = sym nothing.journal ∙ none; still = none_begun (serving old).saving.progress (serving new).saving.progress nothing.progress; disk = idle }
+
+      no_room : (before after : ℕ) → (serving new).stopped ≡ None → g.count (disk_in new) ≡ g.count (disk_in old)
+          → (IsTold (g.contents (opened_disk old)) → LeavesOnly g.moment g.since (disk_in old) (disk_in new) (MayStandAt NoRoom (serving old))) → EngineGoesOn old new (Some Memory)
+      no_room before after going counted leaves = record {
+        start = start;
+        room = room_of_none (room old) (room new) (serving old).journal (serving new).journal nothing.journal within;
+        grows = same_members;
+        leaves = λ told.
+            weaker g.moment g.since (disk_in old) (disk_in new) (MayStandAt NoRoom (serving old)) (IsOfRun (serving new)) (leaves told)
+            (λ left may. ⊎_elim (settled_of_run (serving old) (serving new) legal same_members left) (λ never. absurd never.0) may);
+        last = λ of. absurd of;
+        going = λ _. going;
+        cause = counted;
+        past = past;
+        idle = was_idle;
+      }
+
+      device : (before after count : ℕ) → (serving new).stopped ≡ Some count → Rose (g.count (disk_in old)) (g.count (disk_in new))
+          → ((left : List ℕ) → g.image (disk_in new) left → g.moment (disk_in old) ≤ g.moment (disk_in new) → g.since (disk_in new) (g.moment (disk_in old)) left)
+          → (IsTold (g.contents (opened_disk old)) → LeavesOnly g.moment g.since (disk_in old) (disk_in new) (MayStandAt (Disk before after) (serving old))) → EngineGoesOn old new (Some Device)
+      device before after count stopped rose counts leaves =
+          let some : IsSome (serving new).stopped = ap is_some stopped in
+          record {
+            start = start;
+            room = room_of_none (room old) (room new) (serving old).journal (serving new).journal nothing.journal within;
+            grows = same_members;
+            leaves = λ told.
+                weaker g.moment g.since (disk_in old) (disk_in new) (MayStandAt (Disk before after) (serving old)) (IsOfRun (serving new)) (leaves told)
+                (λ left may. ⊎_elim (settled_of_run (serving old) (serving new) legal same_members left) (λ begun. inr (some, in_world left begun.1)) may);
+            last = λ of told left here.
+                let each = leaves told in
+                ⊎_elim
+                (λ (settled : IsSettled (world (serving old)) left). inl (subst (λ (w : World). IsSettled w left) (sym (same_world (serving old) (serving new) nothing.opening nothing.journal)) settled))
+                (λ begun. inr (some, in_world left begun.1))
+                (each.each left (counts left here each.later));
+            going = λ not. absurd (not tt);
+            cause = rose;
+            past = past;
+            idle = was_idle;
+          }
+
+    -- a call failed
+    pub failed : (fault : EngineFault) → FailsAs (serving old) (serving new) (g.count (disk_in old)) (g.count (disk_in new)) fault → (serving old).stopped ≡ None
+        → ((left : List ℕ) → g.image (disk_in new) left → g.moment (disk_in old) ≤ g.moment (disk_in new) → g.since (disk_in new) (g.moment (disk_in old)) left)
+        → (IsTold (g.contents (opened_disk old)) → LeavesOnly g.moment g.since (disk_in old) (disk_in new) (MayStandAt fault (serving old))) → EngineGoesOn old new (Some (stop_of fault))
+    failed NoRoom fails none counts leaves = no_room fails.0 0 0 fails.2 fails.3 leaves
+    failed (Disk b a) fails none counts leaves = device fails.0 b a (g.count (disk_in new)) fails.2 (rose_of b a (g.count (disk_in old)) (g.count (disk_in new)) fails.3) counts leaves
+    failed (Reopen count) fails none counts leaves = let stopped = fails.1 in absurd (cc (none, stopped))
+
+    pub client_failed : (cmd : Cmd) (fault : EngineFault) → FailsAs (serving old) (serving new) (g.count (disk_in old)) (g.count (disk_in new)) fault → (serving old).stopped ≡ None
+        → ((left : List ℕ) → g.image (disk_in new) left → g.moment (disk_in old) ≤ g.moment (disk_in new) → g.since (disk_in new) (g.moment (disk_in old)) left)
+        → LeavesCopies cmd old new (Err fault) → EngineGoesOn old new (Some (stop_of fault))
+    client_failed cmd fault fails none counts leaves =
+        failed fault fails none counts
+        (λ told. weaker g.moment g.since (disk_in old) (disk_in new) (MayStand cmd (serving old) (Err fault)) (MayStandAt fault (serving old)) (leaves none told)
+        (λ left may. ⊎_elim (λ settled. inl settled) (λ begun. inr (begun.1, begun.2)) may))
+
+    -- and calls no disk, or only to write a page
+    pub event_failed : (fault : EngineFault) → FailsAs (serving old) (serving new) (g.count (disk_in old)) (g.count (disk_in new)) fault → (serving old).stopped ≡ None
+        → ((left : List ℕ) → g.image (disk_in new) left → g.moment (disk_in old) ≤ g.moment (disk_in new) → g.since (disk_in new) (g.moment (disk_in old)) left)
+        → LeavesCopy old new → EngineGoesOn old new (Some (stop_of fault))
+    event_failed fault fails none counts leaves =
+        failed fault fails none counts
+        (λ told. weaker g.moment g.since (disk_in old) (disk_in new) (IsSettled (world (serving old))) (MayStandAt fault (serving old)) (leaves none told) (λ left settled. inl settled))
+
+-- a call that failed leaves journal and counts
+pub counts_stay : (old new : Serving) (before after : ℕ) (fault : EngineFault) → FailsAs old new before after fault → KeepsCounts old new
+counts_stay old new before after NoRoom fails = record { journal = fails.0.journal; events = fails.0.events }
+counts_stay old new before after (Disk b a) fails = record { journal = fails.0.journal; events = fails.0.events }
+counts_stay old new before after (Reopen count) fails = record { journal = ap (λ (it : Serving). it.journal) fails.0; events = ap (λ (it : Serving). it.events) fails.0 }
+
+-- a copy of which something was left is in progress still
+begun_still : (old new : Option Progress) → StaysBegun old new → 0 < left_of old → IsSome new
+begun_still None None stays some = absurd (omega (arith, some))
+begun_still None (Some after) stays some = refl
+begun_still (Some before) None stays some = absurd stays
+begun_still (Some before) (Some after) stays some = refl
+
+module _ {D : Type 0} {F : Type 0} {g : Ghosts D} (old new : Engine D F g) where
+  -- where there was room for the entry, and memory ran out in `settle`
+  pub unfinished : (cmd : Cmd) (fault : EngineFault) → FailsAs (serving old) (serving new) (g.count (disk_in old)) (g.count (disk_in new)) fault → MayRunOut cmd old fault → 0 < room old → IsShort cmd (serving old) (serving new) (Some (stop_of fault))
+  unfinished cmd NoRoom fails may within =
+      (fails.0.events, λ settles. ⊎_elim (begun_still (serving old).saving.progress (serving new).saving.progress fails.0.progress) (λ none. absurd (omega (arith, none, within))) (may settles))
+  unfinished cmd (Disk b a) fails may within = tt
+  unfinished cmd (Reopen count) fails may within = tt
+
+  -- where the disk was not called what stood may stand
+  pub leaves_still : disk_in new ≡ disk_in old
+      → ((serving old).stopped ≡ None → IsTold (g.contents (opened_disk old)) → (left : List ℕ) → g.image (disk_in old) left → IsSettled (world (serving old)) left)
+      → ((left : List ℕ) → g.since (disk_in old) (g.moment (disk_in old)) left → g.image (disk_in old) left) → LeavesCopy old new
+  leaves_still same settled now none told =
+      subst (λ (d : D). LeavesOnly g.moment g.since (disk_in old) d (IsSettled (world (serving old)))) (sym same)
+      (started g.moment g.since (disk_in old) (IsSettled (world (serving old))) (λ left there. settled none told left (now left there)))
 
 -- ---- one part behind another
 
@@ -231,6 +281,7 @@ keeps_then old mid new one two = record {
   opening = record { number = two.opening.number ∙ one.opening.number; opened = two.opening.opened ∙ one.opening.opened };
   disk = two.disk ∙ one.disk;
   count = two.count ∙ one.count;
+  chooser = two.chooser ∙ one.chooser;
 }
 
 module _ {D : Type 0} {F : Type 0} {g : Ghosts D} where
@@ -242,7 +293,8 @@ module _ {D : Type 0} {F : Type 0} {g : Ghosts D} where
       → (IsTold (g.contents (opened_disk old)) → (left : List ℕ) → g.image (disk_in old) left → IsSettled (world (serving old)) left)
       → ((left : List ℕ) → g.since (disk_in old) (g.moment (disk_in old)) left → g.image (disk_in old) left) → EngineGoesOn old old None
   goes_first old none legal settled now = record {
-    start = record { opening = record { number = refl; opened = refl }; disk = refl; count = refl };
+    start = record { opening = record { number = refl; opened = refl }; disk = refl; count = refl; chooser = refl };
+    room = omega arith;
     grows = λ kept there. there;
     leaves = λ told. started g.moment g.since (disk_in old) (IsOfRun (serving old)) (λ left there. settled_of_run (serving old) (serving old) legal (λ kept in_chain. in_chain) left (settled told left (now left there)));
     last = λ of. absurd of;
@@ -253,13 +305,14 @@ module _ {D : Type 0} {F : Type 0} {g : Ghosts D} where
   }
 
   -- nothing was done but that room was made
-  pub goes_still : (old new : Engine D F g) → KeepsStart old new → serving new ≡ serving old → disk_in new ≡ disk_in old → (serving old).stopped ≡ None → IsLegal (opening (serving old)) (serving old).journal
+  pub goes_still : (old new : Engine D F g) → KeepsStart old new → room old ≤ room new → serving new ≡ serving old → disk_in new ≡ disk_in old → (serving old).stopped ≡ None → IsLegal (opening (serving old)) (serving old).journal
       → (IsTold (g.contents (opened_disk old)) → (left : List ℕ) → g.image (disk_in old) left → IsSettled (world (serving old)) left)
       → ((left : List ℕ) → g.since (disk_in old) (g.moment (disk_in old)) left → g.image (disk_in old) left) → EngineGoesOn old new None
-  goes_still old new start same disk none legal settled now =
+  goes_still old new start within same disk none legal settled now =
       let first = goes_first old none legal settled now in
       record {
         start = start;
+        room = room_of_none (room old) (room new) (serving old).journal (serving new).journal (ap (λ (it : Serving). it.journal) same) within;
         grows = λ kept there. subst (λ (it : Serving). Contains (chain (opening it) it.journal) kept) (sym same) there;
         leaves = λ told. subst (λ (both : D × Serving). LeavesOnly g.moment g.since (disk_in old) both.0 (IsOfRun both.1)) (λ i. (sym disk i, sym same i)) (first.leaves told);
         last = λ of. absurd of;
@@ -272,6 +325,7 @@ module _ {D : Type 0} {F : Type 0} {g : Ghosts D} where
   pub goes_then : (old mid new : Engine D F g) (stop : Option Stop) → EngineGoesOn old mid None → EngineGoesOn mid new stop → EngineGoesOn old new stop
   goes_then old mid new stop one two = record {
     start = keeps_then old mid new one.start two.start;
+    room = let first = one.room in let second = two.room in omega (arith, first, second);
     grows = λ kept there. two.grows kept (one.grows kept there);
     leaves = λ told.
         joined g.moment g.since (disk_in old) (disk_in mid) (disk_in new) (IsOfRun (serving new))
@@ -290,12 +344,12 @@ module _ {D : Type 0} {F : Type 0} {g : Ghosts D} where
   -- what went well goes on so where the sink fails
   pub goes_unwritten : (old new : Engine D F g) → EngineGoesOn old new None → EngineGoesOn old new (Some Writing)
   goes_unwritten old new goes =
-      record { start = goes.start; grows = goes.grows; leaves = goes.leaves; last = λ of. absurd of; going = goes.going; cause = goes.cause; past = goes.past; idle = goes.idle }
+      record { start = goes.start; room = goes.room; grows = goes.grows; leaves = goes.leaves; last = λ of. absurd of; going = goes.going; cause = goes.cause; past = goes.past; idle = goes.idle }
 
   -- and where memory ran out before anything was asked
   pub goes_short : (old new : Engine D F g) → EngineGoesOn old new None → EngineGoesOn old new (Some Memory)
   goes_short old new goes =
-      record { start = goes.start; grows = goes.grows; leaves = goes.leaves; last = λ of. absurd of; going = goes.going; cause = goes.cause; past = goes.past; idle = goes.idle }
+      record { start = goes.start; room = goes.room; grows = goes.grows; leaves = goes.leaves; last = λ of. absurd of; going = goes.going; cause = goes.cause; past = goes.past; idle = goes.idle }
 
   -- the end of a run stops it only where nothing else did
   pub goes_ended : (old new : Engine D F g) (before after : Option Stop) → (after ≡ before) ⊎ ((before ≡ None) × (after ≡ Some Writing)) → EngineGoesOn old new before → EngineGoesOn old new after

@@ -1,4 +1,5 @@
 pub mod Journals
 pub mod Answering
+pub mod Cutting
 pub mod Gathering
 pub mod Going

@@ -1,8 +1,7 @@
 -- What the lines of a script ask.
-use Rattle.std.specs.Prelude.{◌≡◌, ℕ, ◌+◌, Bool, true, false, not, List, [], ◌∷◌}
-use Rattle.std.specs.List.{AllByRecursion, flat_map}
+use Rattle.std.specs.Prelude.{ℕ, ◌+◌, List, [], ◌∷◌, length}
+use Rattle.std.specs.List.{flat_map, sum_by}
 use Rattle.pm_model.specs.declared.request.Request.{Request}
-use Rattle.pm_model.specs.Frames.{sets_watch}
 use Rattle.pm_grammar.specs.declared.line.Line.{Line}
 use Rattle.pm_grammar.specs.declared.line.Line.TheVariants.{Client, Gc, Flush}
 
@@ -16,22 +15,26 @@ request_of (Flush count) = []
 abbrev pub requests_asked : List Line → List Request
 requests_asked lines = flat_map request_of lines
 
--- how many events a line asks for
-abbrev pub events_of : Line → ℕ
-events_of (Client client cmd) = 1
-events_of (Gc count) = count
-events_of (Flush count) = count
+-- how many events of the collector a line asks for
+abbrev pub steps_of : Line → ℕ
+steps_of (Client client cmd) = 0
+steps_of (Gc count) = count
+steps_of (Flush count) = 0
 
--- how many events lines ask for
+-- how many of them lines ask for
+abbrev pub steps_asked : List Line → ℕ
+steps_asked lines = sum_by steps_of lines
+
+-- how many events that write pages a line asks for
+abbrev pub flushes_of : Line → ℕ
+flushes_of (Client client cmd) = 0
+flushes_of (Gc count) = 0
+flushes_of (Flush count) = count
+
+-- how many of them lines ask for
+abbrev pub flushes_asked : List Line → ℕ
+flushes_asked lines = sum_by flushes_of lines
+
+-- how many events lines ask for: one for each command, and those of the two other kinds
 abbrev pub events_asked : List Line → ℕ
-events_asked [] = 0
-events_asked (line ∷ lines) = events_of line + events_asked lines
-
--- a run serves the line: it is neither a watch nor one of the collector's
-abbrev pub is_served : Line → Bool
-is_served (Client client cmd) = not (sets_watch cmd)
-is_served (Gc count) = false
-is_served (Flush count) = true
-
-abbrev pub AreServed : List Line → Type 0
-AreServed lines = AllByRecursion (λ line. is_served line ≡ true) lines
+events_asked lines = length (requests_asked lines) + steps_asked lines + flushes_asked lines

@@ -1,23 +1,28 @@
 -- A run of lines over an engine.
-use Rattle.std.specs.Prelude.{◌≡◌, ℕ, ◌+◌, min, List, [], ◌++◌, Option, None}
+use Rattle.std.specs.Prelude.{◌≡◌, ◌⊎◌, ℕ, ◌<◌, min, List, [], ◌∷◌, ◌++◌, IsSome, Option, Some, None}
 use Rattle.pm_base.specs.Counts.{greatest_count}
 use Rattle.pm_disk.specs.declared.disk.Disk.{Ghosts}
 use Rattle.pm_disk.specs.Disk.{LeavesOnly}
+use Rattle.pm_types.specs.declared.command.Cmd.TheVariants.{Settle}
 use Rattle.pm_model.specs.declared.request.Request.{Request}
 use Rattle.pm_model.specs.Journal.{requests_of}
 use Rattle.pm_grammar.specs.declared.line.Line.{Line}
+use Rattle.pm_grammar.specs.declared.line.Line.TheVariants.{Client}
 use Rattle.pm_serving.specs.Serving.{Serving}
 use Rattle.pm_serving.specs.Images.{IsLast, IsOfRun, IsTold}
 use Rattle.pm_engine.specs.declared.engine.Engine.{Engine}
 use Rattle.pm_engine.specs.Shown.{disk_in, opened_disk, serving}
 use Rattle.pm_serial.specs.declared.stop.Stop.{Stop}
-use Rattle.pm_serial.specs.Asked.{events_asked, requests_asked}
+use Rattle.pm_serial.specs.declared.stop.Stop.TheVariants.{Memory}
+use Rattle.pm_serial.specs.Asked.{events_asked, requests_asked, steps_asked}
 use Rattle.pm_serial.specs.Causes.{CountsDisk, IsDone, IsOfDisk}
 
 -- Nothing was asked of the engine yet, and no call has answered that the disk failed.
 pub record IsFresh (it : Serving) : Type 0 where
   pub journal : it.journal ≡ []
+  pub watches : it.watches ≡ []
   pub events : it.events ≡ 0
+  pub steps : it.steps ≡ 0
   pub stopped : it.stopped ≡ None
   pub progress : it.saving.progress ≡ None
 
@@ -26,9 +31,14 @@ pub record AnswersLines (lines : List Line) (new : Serving) (stop : Option Stop)
   -- a first part of what the lines ask was answered, which may be none or all
   pub rest : List Request
   pub served : requests_of new.journal ++ rest ≡ requests_asked lines
-  -- where the run is done, it is all, and every event that the lines ask for was made
+  -- where the run is done, it is all, and every event that the lines ask for was made, each by the call for its kind
   pub all : IsDone stop → requests_of new.journal ≡ requests_asked lines
   pub events : IsDone stop → new.events ≡ min (events_asked lines) greatest_count
+  pub steps : IsDone stop → new.steps ≡ min (steps_asked lines) greatest_count
+  -- where memory runs out in a `settle`, a copy is in progress, unless no event was made at all: it is that event which was
+  -- not made, where as many events were made as the lines before it ask for
+  pub short : stop ≡ Some Memory → (done more : List Line) (client : ℕ) → lines ≡ done ++ Client client Settle ∷ more → new.events ≡ events_asked done → events_asked done < greatest_count
+      → (new.events ≡ 0) ⊎ IsSome new.saving.progress
 
 module _ {D : Type 0} {F : Type 0} {g : Ghosts D} where
   -- How a run of lines leaves the disk, by why it stopped, if it did. What is said of images is said of a disk that told

@@ -1,14 +1,20 @@
-//! The end of a run: what is gathered goes to the sink.
+//! The end of a run: the lines behind the last reply, and what is gathered goes to the sink.
 
+ghost use Rattle.std.specs.Prelude.{◌≡◌, ◌++◌, ℕ, List, Some, length, OnOk, OnErr};
 ghost use Rattle.pm_base.specs.Counts.{Rose};
 ghost use Rattle.pm_output.specs.Gathered.{gathered};
-ghost use Rattle.pm_output.specs.Writing.{PutsAll, PutsPart};
+ghost use Rattle.pm_output.specs.Writing.{GoesOn, PutsAll, PutsPart};
+ghost use Rattle.pm_engine.specs.Shown.{serving, tally_in};
 ghost use Rattle.pm_serial.specs.Causes.{why};
 ghost use Rattle.pm_serial.specs.Stepping.{EndsSink};
+ghost use Rattle.pm_serial.specs.Writing.{tail_of};
 
 use crate::stop::Stop;
-use pm_io::Sink;
+use pm_disk::Disk;
+use pm_engine::Engine;
+use pm_io::{Failed, Sink};
 use pm_output::Output;
+use pm_tail::add_tail;
 
 // Puts what is gathered, as far as the sink takes it: the run ends for another cause.
 fn put_what_goes<K: Sink>(output: &mut Output, sink: &mut K)
@@ -22,16 +28,59 @@ fn put_what_goes<K: Sink>(output: &mut Output, sink: &mut K)
     }
 }
 
-/// Ends a run: what is gathered is put, and finished where the run came to its end.
-pub(crate) fn end<K: Sink>(
+// Gathers the lines of what the engine came to behind the last reply.
+fn add_last_lines<D: Disk, F: Drop, K: Sink>(
+    engine: &Engine<D, F>,
+    output: &mut Output,
+    sink: &mut K,
+) -> Result<(), Failed>
+    ensures adds { OnOk result (GoesOn (tail_of (tally_in (serving engine.now)))
+        (K.written sink.old) (K.written sink.new) (gathered output.old) (gathered output.new)) }
+    ensures part { OnErr result (PutsPart (K.written sink.old) (K.written sink.new)
+        (gathered output.old ++ tail_of (tally_in (serving engine.now)))) }
+    ensures counted { OnOk result (K.count sink.new ≡ K.count sink.old) }
+    ensures cause { OnErr result (Rose (K.count sink.old) (K.count sink.new)) }
+{
+    let steps = engine.steps();
+    let completed = engine.completed();
+    let standing = engine.standing();
+    let lines = engine.lines();
+    add_tail(output, sink, steps, completed, standing, lines.as_slice())
+}
+
+// Puts what is gathered and the lines of what the engine came to, and finishes the sink.
+fn finish_run<D: Disk, F: Drop, K: Sink>(
+    engine: &Engine<D, F>,
+    output: &mut Output,
+    sink: &mut K,
+) -> Result<(), Failed>
+    ensures all { OnOk result (PutsAll (K.written sink.old) (K.written sink.new)
+        (gathered output.old ++ tail_of (tally_in (serving engine.now)))) }
+    ensures finished { OnOk result ((bytes : List ℕ) → K.written sink.old ≡ Some bytes
+        → K.finished sink.new
+        ≡ length (bytes ++ (gathered output.old ++ tail_of (tally_in (serving engine.now))))) }
+    ensures part { OnErr result (PutsPart (K.written sink.old) (K.written sink.new)
+        (gathered output.old ++ tail_of (tally_in (serving engine.now)))) }
+    ensures counted { OnOk result (K.count sink.new ≡ K.count sink.old) }
+    ensures cause { OnErr result (Rose (K.count sink.old) (K.count sink.new)) }
+{
+    add_last_lines(engine, output, sink)?;
+    output.finish(sink)
+}
+
+/// Ends a run: what is gathered is put; where the run came to its end, with the lines of what the engine came to behind
+/// it, and all is finished.
+pub(crate) fn end<D: Disk, F: Drop, K: Sink>(
     ran: Result<(), Stop>,
+    engine: &Engine<D, F>,
     output: &mut Output,
     sink: &mut K,
 ) -> Result<(), Stop>
-    ensures { EndsSink K.written K.finished K.count sink.old sink.new (gathered output.old) (why ran) (why result) }
+    ensures { EndsSink K.written K.finished K.count sink.old sink.new (gathered output.old)
+        (tail_of (tally_in (serving engine.now))) (why ran) (why result) }
 {
     match ran {
-        Ok(()) => match output.finish(sink) {
+        Ok(()) => match finish_run(engine, output, sink) {
             Ok(()) => Ok(()),
             Err(_) => Err(Stop::Writing),
         },

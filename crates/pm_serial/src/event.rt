@@ -1,12 +1,13 @@
-//! Events: a client's command, and a page of the copy in progress.
+//! Events: a client's command, a step of the collector, and a page of the copy in progress.
 
-ghost use Rattle.std.specs.Prelude.{◌≡◌, ◌<◌, [], ◌∷◌, None, false, OnOk, OnErr};
+ghost use Rattle.std.specs.Prelude.{◌≡◌, ◌<◌, [], ◌∷◌, None, OnOk, OnErr};
 ghost use Rattle.pm_types.specs.declared.limits.TheConstants.{CLIENTS};
-ghost use Rattle.pm_model.specs.Frames.{sets_watch};
+ghost use Rattle.pm_place.specs.Choosers.{IsChooser};
 ghost use Rattle.pm_output.specs.Gathered.{gathered};
-ghost use Rattle.pm_engine.specs.Shown.{serving};
+ghost use Rattle.pm_engine.specs.Shown.{chooser, room, serving};
 ghost use Rattle.pm_serial.specs.Causes.{why};
-ghost use Rattle.pm_serial.specs.Stepping.{Adds, AnswersPart, EngineGoesOn, IsGathered, SinkGoesOn, stop_of};
+ghost use Rattle.pm_serial.specs.Stepping.{Adds, AnswersPart, EngineGoesOn, IsCut, IsGathered};
+ghost use Rattle.pm_serial.specs.Stepping.{IsShort, KeepsCounts, SinkGoesOn, stop_of};
 
 use crate::stop::Stop;
 use pm_disk::Disk;
@@ -26,7 +27,7 @@ fn stop_of(fault: EngineFault) -> Stop
     }
 }
 
-// Gives a client's command to the engine.
+// Gives a client's command to the engine, which has room for its entry.
 fn ask<D: Disk, F: Drop>(
     alloc: Global,
     engine: &mut Engine<D, F>,
@@ -34,10 +35,11 @@ fn ask<D: Disk, F: Drop>(
     cmd: &Cmd,
 ) -> Result<(), Stop>
     requires client { client < CLIENTS }
-    requires known { sets_watch cmd.now ≡ false }
+    requires room { 0 < room engine.old }
     requires running { (serving engine.old).stopped ≡ None }
     ensures adds { OnOk result (Adds client cmd.now (serving engine.old) (serving engine.new)) }
-    ensures stays { OnErr result ((serving engine.new).journal ≡ (serving engine.old).journal) }
+    ensures stays { OnErr result (KeepsCounts (serving engine.old) (serving engine.new)) }
+    ensures short { IsShort cmd.now (serving engine.old) (serving engine.new) (why result) }
     ensures engine { EngineGoesOn engine.old engine.new (why result) }
     ensures unwritten { IsGathered (why result) }
 {
@@ -48,7 +50,7 @@ fn ask<D: Disk, F: Drop>(
     }
 }
 
-/// Answers a client's command, and gathers its reply.
+/// Answers a client's command, for whose entry there is room, and gathers its reply.
 pub(crate) fn answer_client<D: Disk, F: Drop, K: Sink>(
     alloc: Global,
     engine: &mut Engine<D, F>,
@@ -58,12 +60,14 @@ pub(crate) fn answer_client<D: Disk, F: Drop, K: Sink>(
     sink: &mut K,
 ) -> Result<(), Stop>
     requires client { client < CLIENTS }
-    requires known { sets_watch cmd.now ≡ false }
+    requires room { 0 < room engine.old }
     requires running { (serving engine.old).stopped ≡ None }
-    ensures answers { AnswersPart (record { client = client; cmd = cmd.now } ∷ []) 1 (serving engine.old)
-        (serving engine.new) (why result) }
+    ensures answers { AnswersPart (record { client = client; cmd = cmd.now } ∷ []) 1 0
+        (serving engine.old) (serving engine.new) (why result) }
+    ensures short { IsShort cmd.now (serving engine.old) (serving engine.new) (why result) }
     ensures engine { EngineGoesOn engine.old engine.new (why result) }
-    ensures sink { SinkGoesOn K.written K.count sink.old sink.new (gathered output.old) (gathered output.new)
+    ensures sink { SinkGoesOn K.written K.count sink.old sink.new
+        (gathered output.old) (gathered output.new)
         (serving engine.old).journal (serving engine.new).journal (why result) }
 {
     match ask(alloc, engine, client, cmd) {
@@ -79,11 +83,57 @@ pub(crate) fn answer_client<D: Disk, F: Drop, K: Sink>(
     }
 }
 
-// Makes a flush event.
+// Makes an event of the collector.
+fn collect_once<D: Disk, F: Fn(&[u64]) -> usize + Drop>(
+    alloc: Global,
+    engine: &mut Engine<D, F>,
+) -> Result<(), Stop>
+    requires running { (serving engine.old).stopped ≡ None }
+    requires chooser { IsChooser F.Fn (chooser engine.old) }
+    ensures answers { AnswersPart [] 1 1 (serving engine.old) (serving engine.new) (why result) }
+    ensures stays { (serving engine.new).journal ≡ (serving engine.old).journal }
+    ensures counts { OnErr result (KeepsCounts (serving engine.old) (serving engine.new)) }
+    ensures engine { EngineGoesOn engine.old engine.new (why result) }
+    ensures unwritten { IsGathered (why result) }
+{
+    engine.keep_their_images();
+    match engine.collect(alloc) {
+        Ok(_) => Ok(()),
+        Err(fault) => Err(stop_of(fault)),
+    }
+}
+
+/// Makes so many events of the collector.
+pub(crate) fn make_steps<D: Disk, F: Fn(&[u64]) -> usize + Drop>(
+    alloc: Global,
+    engine: &mut Engine<D, F>,
+    count: u32,
+) -> Result<(), Stop>
+    requires running { (serving engine.old).stopped ≡ None }
+    requires chooser { IsChooser F.Fn (chooser engine.old) }
+    ensures answers { AnswersPart [] count count
+        (serving engine.old) (serving engine.new) (why result) }
+    ensures stays { (serving engine.new).journal ≡ (serving engine.old).journal }
+    ensures cut { OnErr result (IsCut count (serving engine.old) (serving engine.new)) }
+    ensures engine { EngineGoesOn engine.old engine.new (why result) }
+    ensures unwritten { IsGathered (why result) }
+{
+    engine.keep_their_images();
+    for _ in 0..count {
+        match collect_once(alloc, engine) {
+            Ok(()) => {}
+            Err(stop) => return Err(stop),
+        }
+    }
+    Ok(())
+}
+
+// Makes an event that writes a page.
 fn flush_once<D: Disk, F: Drop>(alloc: Global, engine: &mut Engine<D, F>) -> Result<(), Stop>
     requires running { (serving engine.old).stopped ≡ None }
-    ensures answers { AnswersPart [] 1 (serving engine.old) (serving engine.new) (why result) }
+    ensures answers { AnswersPart [] 1 0 (serving engine.old) (serving engine.new) (why result) }
     ensures stays { (serving engine.new).journal ≡ (serving engine.old).journal }
+    ensures counts { OnErr result (KeepsCounts (serving engine.old) (serving engine.new)) }
     ensures engine { EngineGoesOn engine.old engine.new (why result) }
     ensures unwritten { IsGathered (why result) }
 {
@@ -94,15 +144,17 @@ fn flush_once<D: Disk, F: Drop>(alloc: Global, engine: &mut Engine<D, F>) -> Res
     }
 }
 
-/// Makes so many flush events.
+/// Makes so many events that write a page.
 pub(crate) fn make_flushes<D: Disk, F: Drop>(
     alloc: Global,
     engine: &mut Engine<D, F>,
     count: u32,
 ) -> Result<(), Stop>
     requires running { (serving engine.old).stopped ≡ None }
-    ensures answers { AnswersPart [] count (serving engine.old) (serving engine.new) (why result) }
+    ensures answers { AnswersPart [] count 0
+        (serving engine.old) (serving engine.new) (why result) }
     ensures stays { (serving engine.new).journal ≡ (serving engine.old).journal }
+    ensures cut { OnErr result (IsCut count (serving engine.old) (serving engine.new)) }
     ensures engine { EngineGoesOn engine.old engine.new (why result) }
     ensures unwritten { IsGathered (why result) }
 {

@@ -1,5 +1,5 @@
-//! A serial run: the lines of a script, one after another, over an engine. Each command is answered and its reply is written;
-//! each flush event is made.
+//! A serial run: the lines of a script, one after another, over an engine. Each command is answered and its reply is
+//! written; each event of the collector and each flush event is made.
 #![tactic(auto)]
 
 mod ending;

@@ -1,15 +1,18 @@
 //! The lines of a script, one after another, through a buffer that has its room.
 
-ghost use Rattle.std.specs.Prelude.{◌≡◌, ◌≤◌, length, None, true};
+ghost use Rattle.std.specs.Prelude.{◌≡◌, ◌≤◌, length, None};
+ghost use Rattle.pm_place.specs.Choosers.{IsChooser};
 ghost use Rattle.pm_grammar.specs.Script.{AreLines, first_of};
 ghost use Rattle.pm_grammar.specs.Words.{IsFirst};
 ghost use Rattle.pm_output.specs.Gathered.{gathered};
-ghost use Rattle.pm_engine.specs.Shown.{room, serving};
-ghost use Rattle.pm_serial.specs.Asked.{AreServed, events_asked, events_of, is_served, request_of, requests_asked};
+ghost use Rattle.pm_engine.specs.Shown.{chooser, room, serving};
+ghost use Rattle.pm_serial.specs.Asked.{events_asked, request_of, requests_asked};
+ghost use Rattle.pm_serial.specs.Asked.{steps_asked, steps_of};
 ghost use Rattle.pm_serial.specs.Causes.{why};
-ghost use Rattle.pm_serial.specs.Stepping.{AnswersPart, EngineGoesOn, SinkGoesOn};
+ghost use Rattle.pm_serial.specs.Stepping.{AnswersPart, CutsLine, CutsLines, EngineGoesOn};
+ghost use Rattle.pm_serial.specs.Stepping.{OnMemory, SinkGoesOn, events_of};
 
-use crate::event::{answer_client, make_flushes};
+use crate::event::{answer_client, make_flushes, make_steps};
 use crate::stop::Stop;
 use pm_disk::Disk;
 use pm_engine::Engine;
@@ -18,8 +21,8 @@ use pm_io::Sink;
 use pm_output::Output;
 use std::alloc::Global;
 
-// Runs a line.
-fn run_line<D: Disk, F: Drop, K: Sink>(
+// Runs a line, for whose entry there is room.
+fn run_line<D: Disk, F: Fn(&[u64]) -> usize + Drop, K: Sink>(
     alloc: Global,
     line: &Line,
     engine: &mut Engine<D, F>,
@@ -27,23 +30,27 @@ fn run_line<D: Disk, F: Drop, K: Sink>(
     sink: &mut K,
 ) -> Result<(), Stop>
     requires client { IsFirst (first_of line.now) }
-    requires served { is_served line.now ≡ true }
+    requires room { length (request_of line.now) ≤ room engine.old }
     requires running { (serving engine.old).stopped ≡ None }
-    ensures answers { AnswersPart (request_of line.now) (events_of line.now) (serving engine.old)
-        (serving engine.new) (why result) }
+    requires chooser { IsChooser F.Fn (chooser engine.old) }
+    ensures answers { AnswersPart (request_of line.now) (events_of line.now) (steps_of line.now)
+        (serving engine.old) (serving engine.new) (why result) }
+    ensures short { OnMemory (why result)
+        (CutsLine line.now (serving engine.old) (serving engine.new)) }
     ensures engine { EngineGoesOn engine.old engine.new (why result) }
-    ensures sink { SinkGoesOn K.written K.count sink.old sink.new (gathered output.old) (gathered output.new)
+    ensures sink { SinkGoesOn K.written K.count sink.old sink.new
+        (gathered output.old) (gathered output.new)
         (serving engine.old).journal (serving engine.new).journal (why result) }
 {
     match line {
         Line::Client { client, cmd } => answer_client(alloc, engine, *client, cmd, output, sink),
+        Line::Gc(count) => make_steps(alloc, engine, *count),
         Line::Flush(count) => make_flushes(alloc, engine, *count),
-        Line::Gc(_) => unreachable!(),
     }
 }
 
 /// Runs the lines, once the room of all their entries is taken.
-pub(crate) fn run_all<D: Disk, F: Drop, K: Sink>(
+pub(crate) fn run_all<D: Disk, F: Fn(&[u64]) -> usize + Drop, K: Sink>(
     alloc: Global,
     lines: &[Line],
     engine: &mut Engine<D, F>,
@@ -51,13 +58,16 @@ pub(crate) fn run_all<D: Disk, F: Drop, K: Sink>(
     sink: &mut K,
 ) -> Result<(), Stop>
     requires clients { AreLines lines.now }
-    requires served { AreServed lines.now }
     requires room { length (requests_asked lines.now) ≤ room engine.old }
     requires running { (serving engine.old).stopped ≡ None }
-    ensures answers { AnswersPart (requests_asked lines.now) (events_asked lines.now) (serving engine.old)
-        (serving engine.new) (why result) }
+    requires chooser { IsChooser F.Fn (chooser engine.old) }
+    ensures answers { AnswersPart (requests_asked lines.now) (events_asked lines.now)
+        (steps_asked lines.now) (serving engine.old) (serving engine.new) (why result) }
+    ensures short { OnMemory (why result)
+        (CutsLines lines.now (serving engine.old) (serving engine.new)) }
     ensures engine { EngineGoesOn engine.old engine.new (why result) }
-    ensures sink { SinkGoesOn K.written K.count sink.old sink.new (gathered output.old) (gathered output.new)
+    ensures sink { SinkGoesOn K.written K.count sink.old sink.new
+        (gathered output.old) (gathered output.new)
         (serving engine.old).journal (serving engine.new).journal (why result) }
 {
     engine.keep_their_images();

@@ -1,14 +1,15 @@
 //! The lines of a script, one after another.
 
 ghost use Rattle.std.specs.Prelude.{◌≡◌, ◌≤◌, [], length, OnOk, IfOk, nat_eq};
+ghost use Rattle.pm_place.specs.Choosers.{IsChooser};
 ghost use Rattle.pm_model.specs.Text.{text};
 ghost use Rattle.pm_grammar.specs.Script.{AreLines};
 ghost use Rattle.pm_output.specs.Gathered.{gathered};
-ghost use Rattle.pm_engine.specs.Shown.{KeepsStart, disk_in, room, serving};
-ghost use Rattle.pm_serial.specs.Asked.{AreServed, requests_asked};
+ghost use Rattle.pm_engine.specs.Shown.{KeepsStart, chooser, disk_in, room, serving, tally_in};
+ghost use Rattle.pm_serial.specs.Asked.{requests_asked};
 ghost use Rattle.pm_serial.specs.Causes.{why};
 ghost use Rattle.pm_serial.specs.Running.{AnswersLines, IsFresh, RunsOnDisk};
-ghost use Rattle.pm_serial.specs.Writing.{WroteRun};
+ghost use Rattle.pm_serial.specs.Writing.{WroteRun, tail_of};
 
 use crate::ending::end;
 use crate::line::run_all;
@@ -45,6 +46,7 @@ fn take_room<D: Disk, F: Drop>(
     ensures serving { serving engine.new ≡ serving engine.old }
     ensures disk { disk_in engine.new ≡ disk_in engine.old }
     ensures start { KeepsStart engine.old engine.new }
+    ensures grows { room engine.old ≤ room engine.new }
 {
     let output = Output::new(alloc)?;
     engine.reserve_entries(count_entries(lines))?;
@@ -52,27 +54,27 @@ fn take_room<D: Disk, F: Drop>(
 }
 
 /// Runs the lines in their order over an engine that was just opened. Each reply is written after its event, through a
-/// buffer whose room, with that of all entries of the journal, is taken before the first event. The lines are none of a
-/// watch or of the collector.
+/// buffer whose room, with that of all entries of the journal, is taken before the first event. Behind the last reply
+/// come the end line and a line for each watch.
 ///
 /// # Errors
 ///
-/// The first cause that ends the run. The journal has what was answered until then, and every reply of it is written, unless
-/// the sink fails.
-pub fn run_lines<D: Disk, F: Drop, K: Sink>(
+/// The first cause that ends the run. The journal has what was answered until then, and every reply of it is written,
+/// unless the sink fails.
+pub fn run_lines<D: Disk, F: Fn(&[u64]) -> usize + Drop, K: Sink>(
     alloc: Global,
     lines: &[Line],
     engine: &mut Engine<D, F>,
     sink: &mut K,
 ) -> Result<(), Stop>
     requires clients { AreLines lines.now }
-    requires served { AreServed lines.now }
     requires fresh { IsFresh (serving engine.old) }
+    requires chooser { IsChooser F.Fn (chooser engine.old) }
     ensures answers { AnswersLines lines.now (serving engine.new) (why result) }
     // What a crash at any moment leaves, and what it leaves at the end.
     ensures disk { RunsOnDisk engine.old engine.new (why result) }
-    ensures sink { WroteRun K.written K.finished K.count sink.old sink.new (text (serving engine.new).journal)
-        (why result) }
+    ensures sink { WroteRun K.written K.finished K.count sink.old sink.new
+        (text (serving engine.new).journal) (tail_of (tally_in (serving engine.new))) (why result) }
     ensures start { KeepsStart engine.old engine.new }
 {
     engine.keep_their_images();
@@ -81,5 +83,5 @@ pub fn run_lines<D: Disk, F: Drop, K: Sink>(
     };
     let ran = run_all(alloc, lines, engine, &mut output, sink);
     engine.keep_their_images();
-    end(ran, &mut output, sink)
+    end(ran, engine, &mut output, sink)
 }

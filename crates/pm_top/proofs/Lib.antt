@@ -1,9 +1,11 @@
+pub mod Tallied
+pub mod Counted
 pub mod Ran
 pub mod NotMade
 pub mod Opened
 pub mod Worded
 pub mod Stores
-pub mod UnservedLaws
 pub mod Scripts
 pub mod Faults
+pub mod Complete
 pub mod Programs

@@ -50,7 +50,7 @@ tried_open (Disk before after) = omega arith
 tried_open NoRoom = omega arith
 
 -- bytes that stand for a copy break no rule
-never_shut : (bytes : List ℕ) (number : ℕ) (copy : Copy) (fault : OpenFault) → Stands bytes number copy → opened bytes ≡ Err fault → ⊥
+pub never_shut : (bytes : List ℕ) (number : ℕ) (copy : Copy) (fault : OpenFault) → Stands bytes number copy → opened bytes ≡ Err fault → ⊥
 never_shut bytes number copy fault stands shut =
     let same : ◌≡◌ {A = Result Opened OpenFault} (Ok stands.found) (Err fault) = sym stands.is_found ∙ shut in
     cc same

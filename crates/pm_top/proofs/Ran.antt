@@ -1,8 +1,5 @@
 -- What a run has done, in the words of its end.
-use Rattle.std.proofs.Common.{◌≡◌, ◌⊎◌, inl, inr, ⊎_elim, ℕ, ◌<◌, ◌≤◌, List, [], ◌∷◌, Option, Some, None, IsSome, refl, sym, ap, subst, ◌∙◌, arith}
-use Rattle.std.proofs.Math.Logic.{∥∥₁_elim, ∥∥₁_map}
-use mathlib.Core.HLevel.{⊥_prop}
-use Rattle.std.specs.Prelude.{option_map}
+use Rattle.std.proofs.Common.{◌≡◌, ◌⊎◌, inl, inr, ⊎_elim, ℕ, ◌<◌, ◌≤◌, List, [], ◌∷◌, Option, Some, None, IsSome, length, refl, sym, ap, subst, ◌∙◌, arith}
 use Rattle.pm_types.specs.declared.entry.Entry.{Entry}
 use Rattle.pm_base.specs.Counts.{Rose, ShowsRise}
 use Rattle.pm_disk.specs.Made.{Made}
@@ -14,51 +11,48 @@ use Rattle.pm_model.specs.Journal.{IsLegal, after}
 use Rattle.pm_model.specs.Text.{text}
 use Rattle.pm_model.proofs.ClosedLaws.{empty_closed}
 use Rattle.pm_grammar.specs.declared.line.Line.{Line}
-use Rattle.pm_view.specs.View.{Cars, SpaceView}
+use Rattle.pm_view.specs.View.{SpaceView}
+use Rattle.pm_view.specs.Counts.{standing}
 use Rattle.pm_copies.specs.Listed.{copy_in}
-use Rattle.pm_saving.specs.Progress.{Progress, Saving}
-use Rattle.pm_serving.specs.Serving.{IsServed, Serving, in_progress, just_opened, numbered_copy, opening}
+use Rattle.pm_saving.specs.Progress.{Saving}
+use Rattle.pm_serving.specs.Serving.{Serving, just_opened, opening, world}
 use Rattle.pm_serving.specs.Images as images
 use Rattle.pm_engine.specs.declared.engine.Engine.{Engine}
-use Rattle.pm_engine.specs.Shown.{KeepsStart, disk_in, serving}
+use Rattle.pm_engine.specs.declared.tally.Tally.{Tally}
+use Rattle.pm_engine.specs.Shown.{KeepsStart, Total, disk_in, serving, tally_in, tally_of}
 use Rattle.pm_serial.specs.declared.stop.Stop.{Stop}
 use Rattle.pm_serial.specs.declared.stop.Stop.TheVariants.{Memory as StopMemory, Writing as StopWriting, Device as StopDevice}
 use Rattle.pm_serial.specs.Causes as causes
 use Rattle.pm_serial.specs.Causes.{IsDone, CountsDisk, CountsSink}
 use Rattle.pm_serial.specs.Running.{AnswersLines, IsFresh, RunsOnDisk}
-use Rattle.pm_serial.specs.Writing.{WroteRun}
+use Rattle.pm_serial.specs.Writing.{WroteRun, tail_of}
 use Rattle.pm_top.specs.declared.ended.Detail.{Detail}
 use Rattle.pm_top.specs.Ends.{stop_in, ended_by}
 use Rattle.pm_top.specs.Stages.{IsPast, unreached, the_events, the_output}
 use Rattle.pm_top.specs.Disks.{IsLastOf, IsOfDisk, IsOfRun}
+use Rattle.pm_top.specs.Tallies.{ComesTo, ReachesAtMost}
 use Rattle.pm_top.specs.Engines.{RunsEngine}
 use Rattle.pm_top.specs.Journals.{IsBegun, ServesLines}
 use Rattle.pm_top.specs.Commands.{ShowsCauses}
 use Rattle.pm_top.proofs.Faults.{late_past}
+use Rattle.pm_top.proofs.Tallied.{engine_comes}
 
 -- an empty journal is legal from the world of the empty copy
-pub none_begun : (journal : List Entry) → journal ≡ [] → IsBegun journal
-none_begun journal none = record { number = 0; copy = empty_copy; closed = empty_closed; legal = subst (IsLegal (begin 0 empty_copy)) (sym none) tt }
+pub none_begun : IsBegun []
+none_begun = record { number = 0; copy = empty_copy; closed = empty_closed; legal = tt }
 
 -- ---- an engine that was just opened
 
-none_there : (frozen : Option Cars) (progress : Option Progress) → ∥ option_map (numbered_copy frozen) progress ≡ None ∥₁ → progress ≡ None
-none_there frozen None known = refl
-none_there frozen (Some progress) known = absurd (∥∥₁_elim known ⊥_prop (λ is. cc is))
-
-served_none : (it : Serving) → it.journal ≡ [] → IsServed it → in_progress it ≡ None
-served_none it none served = sym served.saving ∙ ap (λ (j : List Entry). (after (opening it) j).saving) none
-
 -- nothing was asked of it yet, and no copy is in progress
-pub fresh_engine : {D : Type 0} {F : Type 0} {g : Ghosts D} (it : Engine D F g) (number : ℕ) (view : SpaceView) (saving : Saving) → serving it ≡ just_opened number view saving → IsFresh (serving it)
-fresh_engine it number view saving is =
-    let none = ap (λ (s : Serving). s.journal) is in
-    record {
-      journal = none;
-      events = ap (λ (s : Serving). s.events) is;
-      stopped = ap (λ (s : Serving). s.stopped) is;
-      progress = none_there (serving it).frozen (serving it).saving.progress (∥∥₁_map it.sound (λ sound. served_none (serving it) none sound.served));
-    }
+pub fresh_engine : {D : Type 0} {F : Type 0} {g : Ghosts D} (it : Engine D F g) (number : ℕ) (view : SpaceView) (saving : Saving) → serving it ≡ just_opened number view saving → (serving it).saving.progress ≡ None → IsFresh (serving it)
+fresh_engine it number view saving is idle = record {
+  journal = ap (λ (s : Serving). s.journal) is;
+  watches = ap (λ (s : Serving). s.watches) is;
+  events = ap (λ (s : Serving). s.events) is;
+  steps = ap (λ (s : Serving). s.steps) is;
+  stopped = ap (λ (s : Serving). s.stopped) is;
+  progress = idle;
+}
 
 -- ---- ends of a run of lines
 
@@ -98,25 +92,31 @@ of_last : (it : Serving) (stop : Option Stop) (a b c d : ℕ) (left : List ℕ) 
 of_last it stop a b c d left going = ⊎_elim (λ kept. inl kept) (λ begun. inr (disk_back stop it.stopped a b c d going begun.0, begun.1))
 
 -- what was answered
-pub lines_served : (lines : List Line) (it : Serving) (stop : Option Stop) (a b c d : ℕ) → AnswersLines lines it stop → ServesLines lines (ended_by stop a b c d) it.journal
-lines_served lines it stop a b c d answers =
+pub lines_served : (lines : List Line) (it : Serving) (tally : Tally) (stop : Option Stop) (detail : Detail) (a b c d : ℕ) → detail ≡ ended_by stop a b c d → tally_of tally ≡ tally_in it → AnswersLines lines it stop → ServesLines lines detail it.journal (Some tally)
+lines_served lines it tally stop detail a b c d ends is answers =
     let late = ended_late stop a b c d in
-    record {
+    subst (λ (e : Detail). ServesLines lines e it.journal (Some tally)) (sym ends)
+    (record {
       ends = late_past (ended_by stop a b c d) it.journal late;
       tried = omega (arith, late);
       rest = answers.rest;
       served = answers.served;
       all = λ past. answers.all (done_back stop a b c d it.journal past);
-    }
+      steps = λ past. ap (λ (total : Total). total.steps) is ∙ answers.steps (done_back stop a b c d it.journal past);
+      events = λ past. ap (λ (total : Total). total.events) is ∙ answers.events (done_back stop a b c d it.journal past);
+    })
 
 module _ {D : Type 0} {F : Type 0} {g : Ghosts D} {K : Type 0} (written : K → Option (List ℕ)) (finished count : K → ℕ) where
   -- what it left
-  pub engine_run : (old new : Engine D F g) (sink last : K) (stop : Option Stop) (a b c d : ℕ) → RunsOnDisk old new stop → KeepsStart old new → IsClosed (opening (serving new)) → IsLegal (opening (serving new)) (serving new).journal
-      → WroteRun written finished count sink last (text (serving new).journal) stop → RunsEngine written finished count old (disk_in new) sink last (ended_by stop a b c d) (serving new).journal
-  engine_run old new sink last stop a b c d disk start closed legal wrote =
+  pub engine_run : (old new : Engine D F g) (tally : Tally) (sink last : K) (stop : Option Stop) (ending : Detail) (a b c d : ℕ) → ending ≡ ended_by stop a b c d → RunsOnDisk old new stop → KeepsStart old new → IsClosed (opening (serving new)) → IsLegal (opening (serving new)) (serving new).journal
+      → (world (serving new)).watches ≡ length (serving new).watches → ReachesAtMost (world (serving new)) (standing (serving new).view) → tally_of tally ≡ tally_in (serving new)
+      → WroteRun written finished count sink last (text (serving new).journal) (tail_of (tally_in (serving new))) stop
+      → RunsEngine written finished count old (disk_in new) sink last ending (serving new).journal (Some tally)
+  engine_run old new tally sink last stop ending a b c d ends disk start closed legal watching few is wrote =
       let detail = ended_by stop a b c d in
       let journal = (serving new).journal in
-      record {
+      subst (λ (e : Detail). RunsEngine written finished count old (disk_in new) sink last e journal (Some tally)) (sym ends)
+      (record {
         late = ended_late stop a b c d;
         closed = subst IsClosed same closed;
         legal = subst (λ (w : World). IsLegal w journal) same legal;
@@ -125,8 +125,12 @@ module _ {D : Type 0} {F : Type 0} {g : Ghosts D} {K : Type 0} (written : K → 
             (λ left it. subst (λ (w : World). IsOfRun detail w journal left) same (of_run (serving new) stop a b c d left disk.going it));
         last = λ told left there. subst (λ (w : World). IsLastOf detail (after w journal) left) same (of_last (serving new) stop a b c d left disk.going (disk.last told left there));
         idle = disk.idle;
-        replies = subst (λ (s : Option Stop). WroteRun written finished count sink last (text journal) s) (stop_back stop a b c d) wrote;
-      }
+        there = refl;
+        comes_to = subst (ComesTo (opening (serving old)) journal) (sym is) (subst (λ (w : World). ComesTo w journal (tally_in (serving new))) same (engine_comes (serving new) watching few));
+        replies =
+            subst (λ (total : Total). WroteRun written finished count sink last (text journal) (tail_of total) (stop_in detail)) (sym is)
+            (subst (λ (s : Option Stop). WroteRun written finished count sink last (text journal) (tail_of (tally_in (serving new))) s) (stop_back stop a b c d) wrote);
+      })
     where
       same : opening (serving new) ≡ opening (serving old)
       same = λ i. begin (start.opening.number i) (copy_in (start.opening.opened i))

@@ -1,21 +1,26 @@
 -- What a run answers of bytes, from what it answers of their lines; and runs that end before the store.
-use Rattle.std.proofs.Common.{◌≡◌, ◌⊎◌, inl, inr, ℕ, ◌<◌, ◌≤◌, List, [], refl, ap, ◌∙◌, arith}
+use Rattle.std.proofs.Common.{◌≡◌, ◌⊎◌, inl, inr, ℕ, ◌<◌, ◌≤◌, List, [], Option, Some, None, refl, ap, subst, ◌∙◌, arith}
+use Rattle.std.specs.Prelude.{IfSome}
 use Rattle.pm_types.specs.declared.entry.Entry.{Entry}
 use Rattle.pm_disk.specs.Made.{Made}
 use Rattle.pm_model.specs.Journal.{requests_of, commands_of}
 use Rattle.pm_grammar.specs.declared.fault.ScriptFault.{ScriptFault}
 use Rattle.pm_grammar.specs.declared.fault.ScriptFault.TheVariants.{Line as BadLine, TooManyLines, TooLong, Memory as ScriptMemory}
 use Rattle.pm_grammar.specs.declared.line.Line.{Line}
+use Rattle.pm_grammar.specs.Bad.{IsBad}
 use Rattle.pm_grammar.specs.Script.{IsScript}
-use Rattle.pm_serial.specs.Asked.{requests_asked, AreServed}
+use Rattle.pm_grammar.proofs.BadLaws.{no_fault, one_fault}
+use Rattle.pm_grammar.proofs.ScriptLaws.{one_reading}
+use Rattle.pm_engine.specs.declared.tally.Tally.{Tally}
+use Rattle.pm_engine.specs.Shown.{tally_of}
+use Rattle.pm_serial.specs.Asked.{requests_asked}
 use Rattle.pm_top.specs.declared.ended.Detail.{Detail}
 use Rattle.pm_top.specs.declared.ended.Detail.TheVariants.{Fine, Usage, Script, Reading, Writing, Device, NotEmpty, Refused, Memory}
 use Rattle.pm_top.specs.Ends.{not_read}
 use Rattle.pm_top.specs.Stages.{IsPast, unreached, the_words, the_script, the_store, the_output}
-use Rattle.pm_top.specs.Unserved.{IsFault}
-use Rattle.pm_top.specs.Journals.{EndsFor, IsScriptEnd, ReadsScript, ServesLines}
+use Rattle.pm_top.specs.Journals.{EndsFor, IsScriptEnd, MakesAll, ReadsScript, ServesLines}
 use Rattle.pm_top.specs.Commands.{ShowsCauses}
-use Rattle.pm_top.proofs.UnservedLaws.{one_fault, one_reading, served_well}
+use Rattle.pm_top.proofs.Counted.{made_all}
 
 -- a run that came to the store does not refuse the script
 tried_read : (bytes : List ℕ) (detail : Detail) → the_store < unreached detail → IsScriptEnd bytes detail
@@ -29,41 +34,50 @@ tried_read bytes (NotEmpty n) tried = tt
 tried_read bytes (Refused fault) tried = tt
 tried_read bytes Memory tried = tt
 
--- the bytes are a script of these lines, which are served
-pub script_read : (bytes : List ℕ) (lines : List Line) (detail : Detail) (journal : List Entry) → IsScript bytes lines → AreServed lines → ServesLines lines detail journal → ReadsScript bytes detail journal
-script_read bytes lines detail journal script are serves =
+-- every event was made
+made : (bytes : List ℕ) (lines : List Line) (detail : Detail) (journal : List Entry) (tally : Option Tally) → IsScript bytes lines → ServesLines lines detail journal tally → IsPast the_output detail journal
+    → IfSome tally (λ it. MakesAll lines journal (tally_of it))
+made bytes lines detail journal None script serves past = tt
+made bytes lines detail journal (Some tally) script serves past = made_all bytes lines journal (tally_of tally) script (serves.all past) (serves.steps past) (serves.events past)
+
+-- the bytes are a script of these lines
+pub script_read : (bytes : List ℕ) (lines : List Line) (detail : Detail) (journal : List Entry) (tally : Option Tally) → IsScript bytes lines → ServesLines lines detail journal tally → ReadsScript bytes detail journal tally
+script_read bytes lines detail journal tally script serves =
     let all : IsPast the_output detail journal → (others : List Line) → IsScript bytes others → requests_of journal ≡ requests_asked others =
     λ past others other. serves.all past ∙ ap requests_asked (one_reading bytes lines others script other) in
     record {
       refused = tried_read bytes detail serves.tried;
-      told = λ fault is. absurd (served_well bytes lines fault script are is);
-      ran = λ past. record { lines = lines; rest = serves.rest; script = script; are_served = are; served = serves.served };
+      told = λ fault is. absurd (no_fault bytes fault lines is script);
+      ran = λ past. record { lines = lines; rest = serves.rest; script = script; served = serves.served };
       all = all;
       serves = λ past others other client. ap (commands_of client) (all past others other);
+      made = λ past others other. subst (λ (ls : List Line). IfSome tally (λ it. MakesAll ls journal (tally_of it))) (one_reading bytes lines others script other) (made bytes lines detail journal tally script serves past);
     }
 
 -- they have this fault
-pub script_refused : (bytes : List ℕ) (fault : ScriptFault) → IsFault fault bytes → ReadsScript bytes (Script fault) []
+pub script_refused : (bytes : List ℕ) (fault : ScriptFault) → IsBad fault bytes → ReadsScript bytes (Script fault) [] None
 script_refused bytes fault is = record {
   refused = is;
   told = λ first too. one_fault bytes fault first is too;
   ran = λ past. absurd (omega arith);
   all = λ past. absurd (omega arith);
   serves = λ past. absurd (omega arith);
+  made = λ past. absurd (omega arith);
 }
 
 -- nothing was read of them
-pub script_unknown : (bytes : List ℕ) (detail : Detail) → IsScriptEnd bytes detail → ((fault : ScriptFault) → EndsFor fault detail) → (IsPast the_script detail [] → ⊥) → ReadsScript bytes detail []
+pub script_unknown : (bytes : List ℕ) (detail : Detail) → IsScriptEnd bytes detail → ((fault : ScriptFault) → EndsFor fault detail) → (IsPast the_script detail [] → ⊥) → ReadsScript bytes detail [] None
 script_unknown bytes detail refused ends none = record {
   refused = refused;
   told = λ fault is. ends fault;
   ran = λ past. absurd (none past);
   all = λ past. absurd (none (omega (arith, past)));
   serves = λ past. absurd (none (omega (arith, past)));
+  made = λ past. absurd (none (omega (arith, past)));
 }
 
 -- a script that is not read
-pub script_not_read : (bytes : List ℕ) (fault : ScriptFault) → (fault ≡ ScriptMemory) ⊎ IsFault fault bytes → ReadsScript bytes (not_read fault) []
+pub script_not_read : (bytes : List ℕ) (fault : ScriptFault) → (fault ≡ ScriptMemory) ⊎ IsBad fault bytes → ReadsScript bytes (not_read fault) [] None
 script_not_read bytes (BadLine number cause) (inl never) = absurd (cc never)
 script_not_read bytes (BadLine number cause) (inr is) = script_refused bytes (BadLine number cause) is
 script_not_read bytes TooManyLines (inl never) = absurd (cc never)

@@ -2,9 +2,10 @@ pub mod Words
 pub mod Walk
 pub mod Stages
 pub mod Ends
-pub mod Unserved
 pub mod Journals
 pub mod Disks
+pub mod Tallies
 pub mod Engines
 pub mod Commands
+pub mod Needs
 pub mod Program

@@ -16,7 +16,7 @@ the_words = 1
 abbrev pub the_source : ℕ
 the_source = 2
 
--- its bytes are read as a script, of lines that are served
+-- its bytes are read as a script
 abbrev pub the_script : ℕ
 the_script = 3
 

@@ -1,12 +1,14 @@
-ghost use Rattle.std.specs.Prelude.{◌≡◌};
+ghost use Rattle.std.specs.Prelude.{◌≡◌, [], None};
 ghost use Rattle.pm_serial.specs.Causes.{why};
 ghost use Rattle.pm_top.specs.Ends.{status_of, ended_by};
 
 use pm_disk::Disk;
+use pm_engine::Tally;
 use pm_grammar::ScriptFault;
 use pm_io::{Sink, Source};
 use pm_serial::Stop;
 use pm_types::{Entry, OpenFault};
+use std::alloc::Global;
 
 /// How the program ended.
 #[derive(Clone, Copy, Debug, PartialEq, Eq)]
@@ -16,8 +18,7 @@ pub enum Detail {
     Fine,
     /// The words are no command line. Status 1.
     Usage,
-    /// What was read is no script, or has a line that is not served yet, by this fault, which is the first that applies.
-    /// Status 2.
+    /// What was read is no script, by this fault, which is the first that applies. Status 2.
     Script(ScriptFault),
     /// The source failed: its count of faults rose, from `before` to `after`. Status 3.
     Reading { before: u64, after: u64 },
@@ -33,15 +34,17 @@ pub enum Detail {
     Memory,
 }
 
-/// What the program leaves: its status, how it ended, the journal of its events, and the disk, the source and the
-/// sink.
+/// What the program leaves: its status, how it ended, the journal of its commands, what the engine came to, and the
+/// disk, the source and the sink.
 #[derive(Drop)]
 pub struct Ended<D: Disk, S: Source, K: Sink> {
     /// The status with which the program ends: 0 to 7.
     pub status: u8,
     pub detail: Detail,
-    /// One entry for each event, in their order.
+    /// One entry for each command that was answered, in their order.
     pub journal: Vec<Entry>,
+    /// What the engine came to. It is there where a store was opened for a script.
+    pub tally: Option<Tally>,
     pub disk: D,
     pub source: S,
     pub sink: K,
@@ -94,6 +97,7 @@ pub(crate) fn ended_by(
 pub(crate) fn end_with<D: Disk, S: Source, K: Sink>(
     detail: Detail,
     journal: Vec<Entry>,
+    tally: Option<Tally>,
     disk: D,
     source: S,
     sink: K,
@@ -101,6 +105,7 @@ pub(crate) fn end_with<D: Disk, S: Source, K: Sink>(
     ensures status { result.status ≡ status_of detail }
     ensures detail { result.detail ≡ detail }
     ensures journal { result.journal ≡ journal }
+    ensures tally { result.tally ≡ tally }
     ensures disk { result.disk ≡ disk }
     ensures source { result.source ≡ source }
     ensures sink { result.sink ≡ sink }
@@ -109,8 +114,28 @@ pub(crate) fn end_with<D: Disk, S: Source, K: Sink>(
         status: detail.status(),
         detail,
         journal,
+        tally,
         disk,
         source,
         sink,
     }
+}
+
+/// The end of the program where no store was opened for a script.
+pub(crate) fn end_unopened<D: Disk, S: Source, K: Sink>(
+    alloc: Global,
+    detail: Detail,
+    disk: D,
+    source: S,
+    sink: K,
+) -> Ended<D, S, K>
+    ensures status { result.status ≡ status_of detail }
+    ensures detail { result.detail ≡ detail }
+    ensures journal { result.journal.items ≡ [] }
+    ensures tally { result.tally ≡ None }
+    ensures disk { result.disk ≡ disk }
+    ensures source { result.source ≡ source }
+    ensures sink { result.sink ≡ sink }
+{
+    end_with(detail, Vec::new(alloc), None, disk, source, sink)
 }

@@ -10,7 +10,6 @@ mod opening;
 mod shell;
 mod texts;
 mod top;
-mod unserved;
 
 pub use command_line::{Command, command_of};
 pub use ended::{Detail, Ended};

@@ -3,7 +3,7 @@ ghost use Rattle.std.specs.Prelude.{◌≡◌};
 ghost use Rattle.pm_top.specs.Ends.{status_of, not_made};
 ghost use Rattle.pm_top.specs.Commands.{ShowsCauses, MakesStore};
 
-use crate::ended::end_with;
+use crate::ended::end_unopened;
 use crate::{Detail, Ended};
 use pm_disk::Disk;
 use pm_io::{Sink, Source};
@@ -33,10 +33,10 @@ pub(crate) fn make_store<D: Disk, S: Source, K: Sink>(
     ensures causes { ShowsCauses D.count D.made S.count K.count disk result.disk source result.source
         sink result.sink result.detail }
     ensures makes { MakesStore D.contents D.image disk result.disk source result.source
-        sink result.sink result.detail result.journal.items }
+        sink result.sink result.detail result.journal.items result.tally }
 {
     match init(alloc, &mut disk) {
-        Ok(()) => end_with(Detail::Fine, Vec::new(alloc), disk, source, sink),
-        Err(fault) => end_with(not_made(fault), Vec::new(alloc), disk, source, sink),
+        Ok(()) => end_unopened(alloc, Detail::Fine, disk, source, sink),
+        Err(fault) => end_unopened(alloc, not_made(fault), disk, source, sink),
     }
 }

@@ -1,16 +1,15 @@
 //! A run: the store is opened, and the lines are run over its copy.
-ghost use Rattle.std.specs.Prelude.{◌≡◌, ◌<◌, ◌≤◌};
+ghost use Rattle.std.specs.Prelude.{◌≡◌};
 ghost use Rattle.pm_grammar.specs.Script.{AreLines};
-ghost use Rattle.pm_engine.specs.Shown.{disk_in, serving};
-ghost use Rattle.pm_serial.specs.Asked.{AreServed};
+ghost use Rattle.pm_place.specs.Choosers.{IsChooser};
+ghost use Rattle.pm_engine.specs.Shown.{chooser, disk_in, serving};
 ghost use Rattle.pm_serial.specs.Running.{IsFresh};
 ghost use Rattle.pm_top.specs.Ends.{status_of, not_opened};
-ghost use Rattle.pm_top.specs.Stages.{unreached, the_events};
 ghost use Rattle.pm_top.specs.Journals.{ServesLines};
 ghost use Rattle.pm_top.specs.Commands.{ShowsCauses, RunsStore};
 ghost use Rattle.pm_top.specs.Engines.{RunsEngine};
 
-use crate::ended::{end_with, ended_by};
+use crate::ended::{end_unopened, end_with, ended_by};
 use crate::{Detail, Ended};
 use pm_disk::Disk;
 use pm_engine::Engine;
@@ -33,7 +32,7 @@ fn not_opened(fault: OpenFault) -> Detail
 }
 
 // Runs the lines over an engine that was just opened, on a disk with this count of failed calls.
-fn run_engine<D: Disk, F: Drop, S: Source, K: Sink>(
+fn run_engine<D: Disk, F: Fn(&[u64]) -> usize + Drop, S: Source, K: Sink>(
     alloc: Global,
     lines: &[Line],
     disk_before: u64,
@@ -42,14 +41,14 @@ fn run_engine<D: Disk, F: Drop, S: Source, K: Sink>(
     mut sink: K,
 ) -> Ended<D, S, K>
     requires clients { AreLines lines.now }
-    requires served { AreServed lines.now }
     requires fresh { IsFresh (serving engine) }
+    requires chooser { IsChooser F.Fn (chooser engine) }
     requires count { disk_before ≡ D.count (disk_in engine) }
     ensures status { result.status ≡ status_of result.detail }
     ensures source { result.source ≡ source }
-    ensures serves { ServesLines lines.now result.detail result.journal.items }
+    ensures serves { ServesLines lines.now result.detail result.journal.items result.tally }
     ensures runs { RunsEngine K.written K.finished K.count engine result.disk sink result.sink
-        result.detail result.journal.items }
+        result.detail result.journal.items result.tally }
     ensures causes { ShowsCauses D.count D.made S.count K.count (disk_in engine) result.disk source result.source
         sink result.sink result.detail }
 {
@@ -57,13 +56,13 @@ fn run_engine<D: Disk, F: Drop, S: Source, K: Sink>(
     let outcome = run_lines(alloc, lines, &mut engine, &mut sink);
     let sink_after = sink.faults();
     engine.keep_their_images();
-    let (disk, journal, _) = engine.into_parts();
+    let (disk, journal, tally) = engine.into_parts();
     let detail = ended_by(outcome, disk_before, disk.faults(), sink_before, sink_after);
-    end_with(detail, journal, disk, source, sink)
+    end_with(detail, journal, Some(tally), disk, source, sink)
 }
 
 /// Opens the store on the disk, and runs the lines over its copy.
-pub(crate) fn open_and_run<D: Disk, F: Drop, S: Source, K: Sink>(
+pub(crate) fn open_and_run<D: Disk, F: Fn(&[u64]) -> usize + Drop, S: Source, K: Sink>(
     alloc: Global,
     lines: &[Line],
     disk: D,
@@ -72,18 +71,18 @@ pub(crate) fn open_and_run<D: Disk, F: Drop, S: Source, K: Sink>(
     sink: K,
 ) -> Ended<D, S, K>
     requires clients { AreLines lines.now }
-    requires served { AreServed lines.now }
+    requires chooser { IsChooser F.Fn place }
     ensures status { result.status ≡ status_of result.detail }
     ensures source { result.source ≡ source }
-    ensures serves { ServesLines lines.now result.detail result.journal.items }
+    ensures serves { ServesLines lines.now result.detail result.journal.items result.tally }
     ensures store { RunsStore D.contents D.image D.moment D.since K.written K.finished K.count
-        disk result.disk sink result.sink result.detail result.journal.items }
+        disk result.disk sink result.sink result.detail result.journal.items result.tally }
     ensures causes { ShowsCauses D.count D.made S.count K.count disk result.disk source result.source
         sink result.sink result.detail }
 {
     let before = disk.faults();
     match Engine::open_store(alloc, disk, place) {
         Ok(engine) => run_engine(alloc, lines, before, engine, source, sink),
-        Err((disk, fault)) => end_with(not_opened(fault), Vec::new(alloc), disk, source, sink),
+        Err((disk, fault)) => end_unopened(alloc, not_opened(fault), disk, source, sink),
     }
 }

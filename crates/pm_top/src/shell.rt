@@ -1,5 +1,6 @@
 //! The program, down to its status and to standard error.
 ghost use Rattle.std.specs.Prelude.{◌≡◌, map, IfOk, OnErr};
+ghost use Rattle.pm_place.specs.Choosers.{IsChooser};
 ghost use Rattle.pm_top.specs.Ends.{status_of, detail_line};
 ghost use Rattle.pm_top.specs.Program.{Tells, TellsEnd, Performs};
 
@@ -27,7 +28,14 @@ pub fn tell<E: Sink>(errors: &mut E, detail: &Detail)
 /// Does what the program does, over any disk, streams and sink for errors, and answers the status with which it ends:
 /// 0 to 7. The replies go to `sink` alone, and to `errors` the line of the end, where the status is not 0. Where there
 /// was no memory for a disk it ends as for want of memory.
-pub fn program<R: AllocGlobal, D: Disk + Drop, S: Source, K: Sink, F: Drop, E: Sink>(
+pub fn program<
+    R: AllocGlobal,
+    D: Disk + Drop,
+    S: Source,
+    K: Sink,
+    F: Fn(&[u64]) -> usize + Drop,
+    E: Sink,
+>(
     rt: &R,
     words: &[&str],
     disk: Result<D, NoMemory>,
@@ -36,6 +44,7 @@ pub fn program<R: AllocGlobal, D: Disk + Drop, S: Source, K: Sink, F: Drop, E: S
     errors: &mut E,
     place: Placement<F>,
 ) -> u8
+    requires chooser { IsChooser F.Fn place }
     ensures told { TellsEnd E.written E.count errors.old errors.new result }
     ensures performs { IfOk disk (λ given. Performs D.contents D.image D.moment D.since D.count D.made S.left S.count
         K.written K.finished K.count (map (λ word. word.now) words.now) given source sink result

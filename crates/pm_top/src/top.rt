@@ -1,19 +1,27 @@
 //! All that the program does but for its shell.
-ghost use Rattle.std.specs.Prelude.{◌≡◌, ◌<◌, ◌≤◌, ◌↔◌, List, ℕ, [], length, map, Some};
+ghost use Rattle.std.specs.Prelude.{◌≡◌, ◌<◌, ◌≤◌, ◌⊎◌, ◌↔◌, List, ℕ, length, map, IfOk, IfErr, Ok, Err};
+ghost use Rattle.pm_grammar.specs.declared.fault.ScriptFault.{ScriptFault as Fault};
+ghost use Rattle.pm_grammar.specs.declared.fault.ScriptFault.TheVariants as script_fault;
+ghost use Rattle.pm_grammar.specs.declared.line.Line.{Line as Says};
+ghost use Rattle.pm_grammar.specs.Bad.{IsBad};
+ghost use Rattle.pm_grammar.specs.Reading.{Answers};
+ghost use Rattle.pm_grammar.specs.Script.{IsScript};
+ghost use Rattle.pm_place.specs.Choosers.{IsChooser};
+ghost use Rattle.pm_top.specs.declared.command_line.Command.{Command as Asked};
 ghost use Rattle.pm_top.specs.Words.{Spells, SpellsNothing};
 ghost use Rattle.pm_top.specs.Ends.{status_of, not_read};
 ghost use Rattle.pm_top.specs.Stages.{IsPast, unreached, the_words, the_script};
 ghost use Rattle.pm_top.specs.Journals.{ReadsScript};
 ghost use Rattle.pm_top.specs.Commands.{ShowsCauses, IsUntouched, MakesStore, RunsStore, RunsScript};
+ghost use Rattle.pm_top.specs.Needs.{HasNeeds, NothingFails};
 
 use crate::command_line::{Command, command_of};
-use crate::ended::end_with;
+use crate::ended::end_unopened;
 use crate::making::make_store;
 use crate::opening::open_and_run;
-use crate::unserved::read_served;
 use crate::{Detail, Ended};
 use pm_disk::Disk;
-use pm_grammar::ScriptFault;
+use pm_grammar::{Script, ScriptFault, read_script};
 use pm_io::{ReadAll, Sink, Source, read_all};
 use pm_place::Placement;
 use pm_types::SOURCE_BYTES;
@@ -29,61 +37,71 @@ fn not_read(fault: ScriptFault) -> Detail
     }
 }
 
-// Reads a script, opens the store, and runs the script over its copy.
-fn run_bytes<D: Disk, F: Drop, S: Source, K: Sink>(
+// The lines that the bytes spell, by the clauses of `read_script`. The bytes are let go.
+fn read_lines(alloc: Global, bytes: Vec<u8>) -> Result<Script, ScriptFault>
+    requires { length bytes.items ≤ SOURCE_BYTES }
+    ensures found { IfOk result (λ script. IsScript bytes.items script) }
+    ensures only { (lines : List Says) → IsScript bytes.items lines → Answers result (Ok lines) }
+    ensures bad { IfErr result (λ fault. (fault ≡ script_fault.Memory) ⊎ IsBad fault bytes.items) }
+    ensures told { (fault : Fault) → IsBad fault bytes.items → Answers result (Err fault) }
+{
+    read_script(alloc, bytes.as_slice())
+}
+
+// Reads a script, opens the store, and runs the script over its copy. The script's bytes are not kept meanwhile.
+fn run_bytes<D: Disk, F: Fn(&[u64]) -> usize + Drop, S: Source, K: Sink>(
     alloc: Global,
-    bytes: &[u8],
+    bytes: Vec<u8>,
     disk: D,
     place: Placement<F>,
     source: S,
     sink: K,
 ) -> Ended<D, S, K>
-    requires { length bytes.now ≤ SOURCE_BYTES }
+    requires bytes { length bytes.items ≤ SOURCE_BYTES }
+    requires chooser { IsChooser F.Fn place }
     ensures status { result.status ≡ status_of result.detail }
     ensures source { result.source ≡ source }
     ensures ends { IsPast the_words result.detail result.journal.items }
     ensures past { the_script < unreached result.detail }
-    ensures script { ReadsScript bytes.now result.detail result.journal.items }
+    ensures script { ReadsScript bytes.items result.detail result.journal.items result.tally }
     ensures store { RunsStore D.contents D.image D.moment D.since K.written K.finished K.count
-        disk result.disk sink result.sink result.detail result.journal.items }
+        disk result.disk sink result.sink result.detail result.journal.items result.tally }
     ensures causes { ShowsCauses D.count D.made S.count K.count disk result.disk source result.source
         sink result.sink result.detail }
 {
-    match read_served(alloc, bytes) {
+    match read_lines(alloc, bytes) {
         Ok(script) => open_and_run(alloc, script.as_slice(), disk, place, source, sink),
-        Err(fault) => end_with(not_read(fault), Vec::new(alloc), disk, source, sink),
+        Err(fault) => end_unopened(alloc, not_read(fault), disk, source, sink),
     }
 }
 
 // Reads the source to its end, and runs what it held.
-fn run_source<D: Disk, F: Drop, S: Source, K: Sink>(
+fn run_source<D: Disk, F: Fn(&[u64]) -> usize + Drop, S: Source, K: Sink>(
     alloc: Global,
     disk: D,
     place: Placement<F>,
     mut source: S,
     sink: K,
 ) -> Ended<D, S, K>
+    requires chooser { IsChooser F.Fn place }
     ensures status { result.status ≡ status_of result.detail }
     ensures runs { RunsScript D.contents D.image D.moment D.since S.left K.written K.finished K.count
-        disk result.disk source result.source sink result.sink result.detail result.journal.items }
+        disk result.disk source result.source sink result.sink result.detail result.journal.items result.tally }
     ensures causes { ShowsCauses D.count D.made S.count K.count disk result.disk source result.source
         sink result.sink result.detail }
 {
     let before = source.faults();
     match read_all(alloc, &mut source) {
-        Ok(bytes) => run_bytes(alloc, bytes.as_slice(), disk, place, source, sink),
-        Err(ReadAll::TooLong) => end_with(
-            Detail::Script(ScriptFault::TooLong),
-            Vec::new(alloc),
-            disk,
-            source,
-            sink,
-        ),
-        Err(ReadAll::Memory) => end_with(Detail::Memory, Vec::new(alloc), disk, source, sink),
+        Ok(bytes) => run_bytes(alloc, bytes, disk, place, source, sink),
+        Err(ReadAll::TooLong) => {
+            let detail = Detail::Script(ScriptFault::TooLong);
+            end_unopened(alloc, detail, disk, source, sink)
+        }
+        Err(ReadAll::Memory) => end_unopened(alloc, Detail::Memory, disk, source, sink),
         Err(ReadAll::Failed) => {
             let after = source.faults();
             let detail = Detail::Reading { before, after };
-            end_with(detail, Vec::new(alloc), disk, source, sink)
+            end_unopened(alloc, detail, disk, source, sink)
         }
     }
 }
@@ -94,14 +112,15 @@ fn run_source<D: Disk, F: Drop, S: Source, K: Sink>(
 /// source nor the sink.
 ///
 /// `run FILE serial` reads the source to its end, reads the script, opens the store, runs the script's lines in their
-/// order over an engine, which begins as the copy that was opened, and writes a reply line for each command. `save` begins
-/// a copy of what the roots reach, and `settle` puts that copy on the disk. A line of a watch or of the collector is not
-/// served yet, and counts as one with a bad word.
+/// order over an engine, which begins as the copy that was opened, and writes a reply line for each command. `save`
+/// begins a copy of what the roots reach, and `settle` puts that copy on the disk. `! gc N` makes N events of the
+/// collector, and `! flush N` makes N that write a page of that copy each, while one is left. Behind the last reply come
+/// the end line and a line for each watch.
 ///
 /// An object moves to the train that the chooser of `place` picks.
 ///
 /// What the disk and the source hold and what the sink has is said where they tell it.
-pub fn pmos<R: AllocGlobal, D: Disk, S: Source, K: Sink, F: Drop>(
+pub fn pmos<R: AllocGlobal, D: Disk, S: Source, K: Sink, F: Fn(&[u64]) -> usize + Drop>(
     rt: &R,
     words: &[&str],
     disk: D,
@@ -109,6 +128,7 @@ pub fn pmos<R: AllocGlobal, D: Disk, S: Source, K: Sink, F: Drop>(
     sink: K,
     place: Placement<F>,
 ) -> Ended<D, S, K>
+    requires chooser { IsChooser F.Fn place }
     ensures status { result.status ≡ status_of result.detail }
 
     // Whatever the words are, an end has its cause, which is the first. Want of memory alone may come at any time.
@@ -118,20 +138,26 @@ pub fn pmos<R: AllocGlobal, D: Disk, S: Source, K: Sink, F: Drop>(
     // Words that are no command's are refused, and no others, and all is as it was.
     ensures usage { (result.detail ≡ Detail.Usage) ↔ SpellsNothing (map (λ word. word.now) words.now) }
     ensures untouched { result.detail ≡ Detail.Usage
-        → IsUntouched disk result.disk source result.source sink result.sink result.journal.items }
+        → IsUntouched disk result.disk source result.source sink result.sink result.journal.items result.tally }
 
     // What each command does.
     ensures init { Spells (map (λ word. word.now) words.now) Command.Init
         → MakesStore D.contents D.image disk result.disk source result.source sink result.sink
-        result.detail result.journal.items }
+        result.detail result.journal.items result.tally }
     ensures run { Spells (map (λ word. word.now) words.now) Command.Run
         → RunsScript D.contents D.image D.moment D.since S.left K.written K.finished K.count
-        disk result.disk source result.source sink result.sink result.detail result.journal.items }
+        disk result.disk source result.source sink result.sink result.detail result.journal.items result.tally }
+
+    // With what it needs a command is done, or memory ran out, unless disk, source or sink fails.
+    ensures complete { (command : Asked) → Spells (map (λ word. word.now) words.now) command
+        → HasNeeds command (D.contents disk) (S.left source)
+        → NothingFails D.count S.count K.count disk result.disk source result.source sink result.sink
+        → (result.status ≡ 0) ⊎ (result.status ≡ 7) }
 {
     let alloc = rt.alloc();
     match command_of(words) {
         Some(Command::Run) => run_source(alloc, disk, place, source, sink),
         Some(Command::Init) => make_store(alloc, disk, source, sink),
-        None => end_with(Detail::Usage, Vec::new(alloc), disk, source, sink),
+        None => end_unopened(alloc, Detail::Usage, disk, source, sink),
     }
 }

@@ -1,4 +1,4 @@
-use Rattle.std.proofs.Common.{◌≡◌, Some, length, refl, ◌∙◌}
+use Rattle.std.proofs.Common.{Some, length, refl, ◌∙◌}
 use Rattle.pm_engine.specs.Shown.{serving}
 use Rattle.pm_output.specs.Gathered.{gathered}
 use Rattle.pm_model.specs.Text.{reply_line}
@@ -25,7 +25,7 @@ returns-in-Ok-add_reply-clause-sink g c =
 
 pub returns-in-Err-add_reply-clause-answers : goal.returns-in-Err-add_reply-clause-answers
 returns-in-Err-add_reply-clause-answers g c =
-    answers_stopped _ 1 (serving c.args.engine.now) (serving c.ask.new.engine) Writing (answers_one c.args.client c.args.cmd.now (serving c.args.engine.now) (serving c.ask.new.engine) c.in-Ok.ensures.adds)
+    answers_stopped _ 1 0 (serving c.args.engine.now) (serving c.ask.new.engine) Writing (answers_one c.args.client c.args.cmd.now (serving c.args.engine.now) (serving c.ask.new.engine) c.in-Ok.ensures.adds)
 
 pub returns-in-Err-add_reply-clause-sink : goal.returns-in-Err-add_reply-clause-sink
 returns-in-Err-add_reply-clause-sink g c =
@@ -40,8 +40,8 @@ returns-in-Err-add_reply-clause-sink g c =
     sink_lost g.K.Sink.written g.K.Sink.finished g.K.Sink.count c.args.sink.now c.add_reply.new.sink (gathered c.args.output.now) (gathered c.add_reply.new.self) (reply_line last) journal longer grown step.part step.cause
 
 pub returns-in-Err-clause-answers : goal.returns-in-Err-clause-answers
-returns-in-Err-clause-answers g c = answers_nothing _ 1 (serving c.args.engine.now) (serving c.ask.new.engine) c.in-Err.stop c.in-Err.ensures.stays
+returns-in-Err-clause-answers g c = answers_nothing _ 1 0 (serving c.args.engine.now) (serving c.ask.new.engine) c.in-Err.stop c.in-Err.ensures.stays.journal
 
 pub returns-in-Err-clause-sink : goal.returns-in-Err-clause-sink
 returns-in-Err-clause-sink g c =
-    sink_still g.K.Sink.written g.K.Sink.finished g.K.Sink.count c.args.sink.now (gathered c.args.output.now) (serving c.args.engine.now).journal (serving c.ask.new.engine).journal (Some c.in-Err.stop) c.in-Err.ensures.unwritten c.in-Err.ensures.stays
+    sink_still g.K.Sink.written g.K.Sink.finished g.K.Sink.count c.args.sink.now (gathered c.args.output.now) (serving c.args.engine.now).journal (serving c.ask.new.engine).journal (Some c.in-Err.stop) c.in-Err.ensures.unwritten c.in-Err.ensures.stays.journal

@@ -6,7 +6,7 @@ use Rattle.pm_serial.proofs.event.make_flushes.Given as goal
 abbrev pub invariant-loop : goal.invariant-loop
 invariant-loop g l =
     record {
-      answers : AnswersPart [] l.counter (serving l.fn.engine) (serving l.engine) None;
+      answers : AnswersPart [] l.counter 0 (serving l.fn.engine) (serving l.engine) None;
       stays : (serving l.engine).journal ≡ (serving l.fn.engine).journal;
       engine : EngineGoesOn l.fn.engine l.engine None;
     }

@@ -1,5 +1,6 @@
-use Rattle.std.proofs.Common.{◌∙◌, ap, refl, List}
+use Rattle.std.proofs.Common.{◌∙◌, ap, refl, List, Option}
 use Rattle.pm_types.specs.declared.entry.Entry.{Entry}
+use Rattle.pm_engine.specs.declared.tally.Tally.{Tally}
 use Rattle.pm_engine.specs.Shown.{disk_in, serving}
 use Rattle.pm_serial.specs.Causes.{why}
 use Rattle.pm_top.specs.declared.ended.Detail.{Detail}
@@ -15,28 +16,28 @@ returns-clause-serves g c =
     let run = c.run_lines-outcome in
     let stop = why run.result in
     let e = c.end_with.ensures in
-    at_end (λ (d : Detail) (j : List Entry) (disk : g.row.D.Denot) (source : g.row.S.Denot) (sink : g.row.K.Denot). ServesLines c.args.lines.now d j)
-    _ _ _ _ _ _ _ _ _ _ (e.detail ∙ c.ended_by-detail.ensures) (ap (λ v. v.items) e.journal ∙ c.into_parts-disk.ensures.journal) (e.disk ∙ c.into_parts-disk.ensures.disk) e.source e.sink
-    (lines_served c.args.lines.now (serving run.new.engine) stop _ _ _ _ run.ensures.answers)
+    at_end (λ (d : Detail) (j : List Entry) (t : Option Tally) (disk : g.row.D.Denot) (source : g.row.S.Denot) (sink : g.row.K.Denot). ServesLines c.args.lines.now d j t)
+    e.detail (ap (λ v. v.items) e.journal ∙ c.into_parts-disk.ensures.journal) e.tally (e.disk ∙ c.into_parts-disk.ensures.disk) e.source e.sink
+    (lines_served c.args.lines.now (serving run.new.engine) c.into_parts-disk.result.2 stop c.ended_by-detail.result _ _ _ _ c.ended_by-detail.ensures c.into_parts-disk.ensures.tally run.ensures.answers)
 
 pub returns-clause-runs : goal.returns-clause-runs
 returns-clause-runs g c =
     let run = c.run_lines-outcome in
     let stop = why run.result in
     let e = c.end_with.ensures in
-    at_end (λ (d : Detail) (j : List Entry) (disk : g.row.D.Denot) (source : g.row.S.Denot) (sink : g.row.K.Denot).
-    RunsEngine g.K.Sink.written g.K.Sink.finished g.K.Sink.count c.args.engine disk c.args.sink sink d j)
-    _ _ _ _ _ _ _ _ _ _ (e.detail ∙ c.ended_by-detail.ensures) (ap (λ v. v.items) e.journal ∙ c.into_parts-disk.ensures.journal) (e.disk ∙ c.into_parts-disk.ensures.disk) e.source e.sink
-    (engine_run g.K.Sink.written g.K.Sink.finished g.K.Sink.count c.args.engine run.new.engine c.args.sink run.new.sink stop _ _ _ _ run.ensures.disk run.ensures.start
-    c.keep_their_images.ensures.closed c.keep_their_images.ensures.legal run.ensures.sink)
+    at_end (λ (d : Detail) (j : List Entry) (t : Option Tally) (disk : g.row.D.Denot) (source : g.row.S.Denot) (sink : g.row.K.Denot).
+    RunsEngine g.K.Sink.written g.K.Sink.finished g.K.Sink.count c.args.engine disk c.args.sink sink d j t)
+    e.detail (ap (λ v. v.items) e.journal ∙ c.into_parts-disk.ensures.journal) e.tally (e.disk ∙ c.into_parts-disk.ensures.disk) e.source e.sink
+    (engine_run g.K.Sink.written g.K.Sink.finished g.K.Sink.count c.args.engine run.new.engine c.into_parts-disk.result.2 c.args.sink run.new.sink stop c.ended_by-detail.result _ _ _ _ c.ended_by-detail.ensures run.ensures.disk run.ensures.start
+    c.keep_their_images.ensures.closed c.keep_their_images.ensures.legal c.keep_their_images.ensures.watching c.keep_their_images.ensures.standing c.into_parts-disk.ensures.tally run.ensures.sink)
 
 pub returns-clause-causes : goal.returns-clause-causes
 returns-clause-causes g c =
     let run = c.run_lines-outcome in
     let stop = why run.result in
     let e = c.end_with.ensures in
-    at_end (λ (d : Detail) (j : List Entry) (disk : g.row.D.Denot) (source : g.row.S.Denot) (sink : g.row.K.Denot).
+    at_end (λ (d : Detail) (j : List Entry) (t : Option Tally) (disk : g.row.D.Denot) (source : g.row.S.Denot) (sink : g.row.K.Denot).
     ShowsCauses g.D.Disk.count g.D.Disk.made g.S.Source.count g.K.Sink.count (disk_in c.args.engine) disk c.args.source source c.args.sink sink d)
-    _ _ _ _ _ _ _ _ _ _ (e.detail ∙ c.ended_by-detail.ensures) (ap (λ v. v.items) e.journal ∙ c.into_parts-disk.ensures.journal) (e.disk ∙ c.into_parts-disk.ensures.disk) e.source e.sink
-    (causes_end g.D.Disk.count g.D.Disk.made g.S.Source.count g.K.Sink.count (disk_in c.args.engine) (disk_in run.new.engine) c.args.source c.args.source c.args.sink run.new.sink stop _ _ _ _ _ refl
+    e.detail (ap (λ v. v.items) e.journal ∙ c.into_parts-disk.ensures.journal) e.tally (e.disk ∙ c.into_parts-disk.ensures.disk) e.source e.sink
+    (causes_end g.D.Disk.count g.D.Disk.made g.S.Source.count g.K.Sink.count (disk_in c.args.engine) (disk_in run.new.engine) c.args.source c.args.source c.args.sink run.new.sink stop c.ended_by-detail.result _ _ _ _ c.ended_by-detail.ensures
     c.requires.count (c.faults.ensures ∙ ap g.D.Disk.count c.into_parts-disk.ensures.disk) c.faults-sink_before.ensures c.faults-sink_after.ensures refl run.ensures.disk.cause run.ensures.sink.cause run.ensures.disk.past)

@@ -19,6 +19,7 @@ returns-in-Ok-clause-performs g c =
     (record {
       detail = ended.detail;
       journal = ended.journal.items;
+      tally = ended.tally;
       disk_end = ended.disk;
       source_end = ended.source;
       sink_end = ended.sink;
@@ -29,6 +30,7 @@ returns-in-Ok-clause-performs g c =
       causes = e.causes;
       init = e.init;
       run = e.run;
+      complete = e.complete;
     })
 
 pub returns-in-Err-clause-told : goal.returns-in-Err-clause-told

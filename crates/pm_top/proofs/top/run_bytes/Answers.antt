@@ -1,7 +1,7 @@
-use Rattle.std.proofs.Common.{◌∙◌, ◌<◌, ap, sym, subst, List, arith}
+use Rattle.std.proofs.Common.{◌∙◌, ◌<◌, sym, subst, List, Option, arith}
 use Rattle.pm_types.specs.declared.entry.Entry.{Entry}
 use Rattle.pm_grammar.specs.Script.{IsScript}
-use Rattle.pm_serial.specs.Asked.{AreServed}
+use Rattle.pm_engine.specs.declared.tally.Tally.{Tally}
 use Rattle.pm_top.specs.declared.ended.Detail.{Detail}
 use Rattle.pm_top.specs.Ends.{not_read}
 use Rattle.pm_top.specs.Stages.{IsPast, unreached, the_words, the_script}
@@ -20,44 +20,41 @@ returns-in-Ok-clause-past g c = let tried = c.open_and_run.ensures.serves.tried 
 
 pub returns-in-Ok-clause-script : goal.returns-in-Ok-clause-script
 returns-in-Ok-clause-script g c =
-    script_read c.args.bytes.now c.as_slice.result.now c.open_and_run.result.detail c.open_and_run.result.journal.items (subst (IsScript c.args.bytes.now) (sym c.as_slice.ensures.lines) c.in-Ok.ensures.found)
-    (subst AreServed (sym c.as_slice.ensures.lines) c.in-Ok.ensures.served) c.open_and_run.ensures.serves
-
-pub open_and_run-requires-clause-served : goal.open_and_run-requires-clause-served
-open_and_run-requires-clause-served g c = subst AreServed (sym c.as_slice.ensures.lines) c.in-Ok.ensures.served
+    script_read c.args.bytes.items c.as_slice.result.now c.open_and_run.result.detail c.open_and_run.result.journal.items c.open_and_run.result.tally
+    (subst (IsScript c.args.bytes.items) (sym c.as_slice.ensures.lines) c.in-Ok.ensures.found) c.open_and_run.ensures.serves
 
 pub returns-in-Err-clause-ends : goal.returns-in-Err-clause-ends
 returns-in-Err-clause-ends g c =
-    let e = c.end_with.ensures in
-    at_end (λ (d : Detail) (j : List Entry) (disk : g.row.D.Denot) (source : g.row.S.Denot) (sink : g.row.K.Denot). IsPast the_words d j)
-    _ _ _ _ _ _ _ _ _ _ (e.detail ∙ c.not_read.ensures) (ap (λ v. v.items) e.journal ∙ c.new.ensures.items) e.disk e.source e.sink (ends_read c.in-Err.fault)
+    let e = c.end_unopened.ensures in
+    at_end (λ (d : Detail) (j : List Entry) (t : Option Tally) (disk : g.row.D.Denot) (source : g.row.S.Denot) (sink : g.row.K.Denot). IsPast the_words d j)
+    (e.detail ∙ c.not_read.ensures) e.journal e.tally e.disk e.source e.sink (ends_read c.in-Err.fault)
 
 pub returns-in-Err-clause-past : goal.returns-in-Err-clause-past
 returns-in-Err-clause-past g c =
-    let e = c.end_with.ensures in
-    at_end (λ (d : Detail) (j : List Entry) (disk : g.row.D.Denot) (source : g.row.S.Denot) (sink : g.row.K.Denot). the_script < unreached d)
-    _ _ _ _ _ _ _ _ _ _ (e.detail ∙ c.not_read.ensures) (ap (λ v. v.items) e.journal ∙ c.new.ensures.items) e.disk e.source e.sink (past_read c.in-Err.fault)
+    let e = c.end_unopened.ensures in
+    at_end (λ (d : Detail) (j : List Entry) (t : Option Tally) (disk : g.row.D.Denot) (source : g.row.S.Denot) (sink : g.row.K.Denot). the_script < unreached d)
+    (e.detail ∙ c.not_read.ensures) e.journal e.tally e.disk e.source e.sink (past_read c.in-Err.fault)
 
 pub returns-in-Err-clause-script : goal.returns-in-Err-clause-script
 returns-in-Err-clause-script g c =
-    let e = c.end_with.ensures in
-    at_end (λ (d : Detail) (j : List Entry) (disk : g.row.D.Denot) (source : g.row.S.Denot) (sink : g.row.K.Denot). ReadsScript c.args.bytes.now d j)
-    _ _ _ _ _ _ _ _ _ _ (e.detail ∙ c.not_read.ensures) (ap (λ v. v.items) e.journal ∙ c.new.ensures.items) e.disk e.source e.sink (script_not_read c.args.bytes.now c.in-Err.fault c.in-Err.ensures.bad)
+    let e = c.end_unopened.ensures in
+    at_end (λ (d : Detail) (j : List Entry) (t : Option Tally) (disk : g.row.D.Denot) (source : g.row.S.Denot) (sink : g.row.K.Denot). ReadsScript c.args.bytes.items d j t)
+    (e.detail ∙ c.not_read.ensures) e.journal e.tally e.disk e.source e.sink (script_not_read c.args.bytes.items c.in-Err.fault c.in-Err.ensures.bad)
 
 pub returns-in-Err-clause-store : goal.returns-in-Err-clause-store
 returns-in-Err-clause-store g c =
-    let e = c.end_with.ensures in
+    let e = c.end_unopened.ensures in
     let fault = c.in-Err.fault in
-    at_end (λ (d : Detail) (j : List Entry) (disk : g.row.D.Denot) (source : g.row.S.Denot) (sink : g.row.K.Denot).
-    RunsStore g.D.Disk.contents g.D.Disk.image g.D.Disk.moment g.D.Disk.since g.K.Sink.written g.K.Sink.finished g.K.Sink.count c.args.disk disk c.args.sink sink d j)
-    _ _ _ _ _ _ _ _ _ _ (e.detail ∙ c.not_read.ensures) (ap (λ v. v.items) e.journal ∙ c.new.ensures.items) e.disk e.source e.sink
+    at_end (λ (d : Detail) (j : List Entry) (t : Option Tally) (disk : g.row.D.Denot) (source : g.row.S.Denot) (sink : g.row.K.Denot).
+    RunsStore g.D.Disk.contents g.D.Disk.image g.D.Disk.moment g.D.Disk.since g.K.Sink.written g.K.Sink.finished g.K.Sink.count c.args.disk disk c.args.sink sink d j t)
+    (e.detail ∙ c.not_read.ensures) e.journal e.tally e.disk e.source e.sink
     (store_unrun g.D.Disk.contents g.D.Disk.image g.D.Disk.moment g.D.Disk.since g.K.Sink.written g.K.Sink.finished g.K.Sink.count c.args.disk c.args.disk c.args.sink (not_read fault) (unopened_read fault)
     (uncalled_run g.D.Disk.contents g.D.Disk.image g.D.Disk.moment g.D.Disk.since c.args.disk (not_read fault) (g.met.D.Disk.only_now c.args.disk) (unopened_read fault) (λ bytes. read_for bytes fault)))
 
 pub returns-in-Err-clause-causes : goal.returns-in-Err-clause-causes
 returns-in-Err-clause-causes g c =
-    let e = c.end_with.ensures in
-    at_end (λ (d : Detail) (j : List Entry) (disk : g.row.D.Denot) (source : g.row.S.Denot) (sink : g.row.K.Denot).
+    let e = c.end_unopened.ensures in
+    at_end (λ (d : Detail) (j : List Entry) (t : Option Tally) (disk : g.row.D.Denot) (source : g.row.S.Denot) (sink : g.row.K.Denot).
     ShowsCauses g.D.Disk.count g.D.Disk.made g.S.Source.count g.K.Sink.count c.args.disk disk c.args.source source c.args.sink sink d)
-    _ _ _ _ _ _ _ _ _ _ (e.detail ∙ c.not_read.ensures) (ap (λ v. v.items) e.journal) e.disk e.source e.sink
+    (e.detail ∙ c.not_read.ensures) e.journal e.tally e.disk e.source e.sink
     (read_causes g.D.Disk.count g.D.Disk.made g.S.Source.count g.K.Sink.count c.args.disk c.args.source c.args.sink c.in-Err.fault)

@@ -1,8 +1,9 @@
-use Rattle.std.proofs.Common.{◌<◌, ◌∙◌, ap, subst, refl, List, ℕ, Err, arith, inl}
+use Rattle.std.proofs.Common.{◌<◌, ◌∙◌, ap, subst, refl, List, ℕ, Option, Err, arith}
 use Rattle.pm_grammar.specs.declared.fault.ScriptFault.TheVariants.{TooLong as ScriptTooLong}
 use Rattle.pm_types.specs.declared.entry.Entry.{Entry}
 use Rattle.pm_io.specs.declared.reading.ReadAll.{ReadAll}
 use Rattle.pm_io.specs.Reading.{CountsAs}
+use Rattle.pm_engine.specs.declared.tally.Tally.{Tally}
 use Rattle.pm_top.specs.declared.ended.Detail.{Detail}
 use Rattle.pm_top.specs.declared.ended.Detail.TheVariants.{Script, Reading, Memory}
 use Rattle.pm_top.specs.Journals.{ReadsScript}
@@ -21,7 +22,7 @@ returns-in-Ok-clause-runs g c =
       ends = ran.ends;
       read = λ past bytes told. ap g.S.Source.left ran.source ∙ c.in-Ok.ensures.emptied bytes told;
       script = λ bytes told.
-          subst (λ (b : List ℕ). ReadsScript b c.run_bytes.result.detail c.run_bytes.result.journal.items) (c.as_slice.ensures.value ∙ c.in-Ok.ensures.all bytes told) ran.script;
+          subst (λ (b : List ℕ). ReadsScript b c.run_bytes.result.detail c.run_bytes.result.journal.items c.run_bytes.result.tally) (c.in-Ok.ensures.all bytes told) ran.script;
       store = ran.store;
     }
 
@@ -32,14 +33,14 @@ returns-in-Ok-clause-causes g c =
 
 pub returns-in-Err-TooLong-clause-runs : goal.returns-in-Err-TooLong-clause-runs
 returns-in-Err-TooLong-clause-runs g c =
-    let e = c.end_with.ensures in
-    at_end (λ (d : Detail) (j : List Entry) (disk : g.row.D.Denot) (source : g.row.S.Denot) (sink : g.row.K.Denot).
-    RunsScript g.D.Disk.contents g.D.Disk.image g.D.Disk.moment g.D.Disk.since g.S.Source.left g.K.Sink.written g.K.Sink.finished g.K.Sink.count c.args.disk disk c.args.source source c.args.sink sink d j)
-    _ _ _ _ _ _ _ _ _ _ e.detail (ap (λ v. v.items) e.journal ∙ c.new.ensures.items) e.disk e.source e.sink
+    let e = c.end_unopened.ensures in
+    at_end (λ (d : Detail) (j : List Entry) (t : Option Tally) (disk : g.row.D.Denot) (source : g.row.S.Denot) (sink : g.row.K.Denot).
+    RunsScript g.D.Disk.contents g.D.Disk.image g.D.Disk.moment g.D.Disk.since g.S.Source.left g.K.Sink.written g.K.Sink.finished g.K.Sink.count c.args.disk disk c.args.source source c.args.sink sink d j t)
+    e.detail e.journal e.tally e.disk e.source e.sink
     (record {
       ends = omega arith;
       read = λ past. absurd (omega arith);
-      script = λ bytes told. script_refused bytes ScriptTooLong (inl (c.in-Err-TooLong.ensures.too_long (ap Err c.in-Err-TooLong.field-0-is) bytes told));
+      script = λ bytes told. script_refused bytes ScriptTooLong (c.in-Err-TooLong.ensures.too_long (ap Err c.in-Err-TooLong.field-0-is) bytes told);
       store =
           store_unrun g.D.Disk.contents g.D.Disk.image g.D.Disk.moment g.D.Disk.since g.K.Sink.written g.K.Sink.finished g.K.Sink.count c.args.disk c.args.disk c.args.sink (Script ScriptTooLong) (λ past. absurd (omega arith))
           (uncalled_run g.D.Disk.contents g.D.Disk.image g.D.Disk.moment g.D.Disk.since c.args.disk (Script ScriptTooLong) (g.met.D.Disk.only_now c.args.disk) (λ past. absurd (omega arith)) (λ bytes. tt));
@@ -47,18 +48,18 @@ returns-in-Err-TooLong-clause-runs g c =
 
 pub returns-in-Err-TooLong-clause-causes : goal.returns-in-Err-TooLong-clause-causes
 returns-in-Err-TooLong-clause-causes g c =
-    let e = c.end_with.ensures in
-    at_end (λ (d : Detail) (j : List Entry) (disk : g.row.D.Denot) (source : g.row.S.Denot) (sink : g.row.K.Denot).
+    let e = c.end_unopened.ensures in
+    at_end (λ (d : Detail) (j : List Entry) (t : Option Tally) (disk : g.row.D.Denot) (source : g.row.S.Denot) (sink : g.row.K.Denot).
     ShowsCauses g.D.Disk.count g.D.Disk.made g.S.Source.count g.K.Sink.count c.args.disk disk c.args.source source c.args.sink sink d)
-    _ _ _ _ _ _ _ _ _ _ e.detail (ap (λ v. v.items) e.journal ∙ c.new.ensures.items) e.disk e.source e.sink
+    e.detail e.journal e.tally e.disk e.source e.sink
     (record { reading = (subst (λ (why : ReadAll). CountsAs why (g.S.Source.count c.args.source) (g.S.Source.count c.read_all.new.source)) c.in-Err-TooLong.field-0-is c.in-Err-TooLong.ensures.cause); writing = refl; device = refl; rule = tt; reads = refl })
 
 pub returns-in-Err-Memory-clause-runs : goal.returns-in-Err-Memory-clause-runs
 returns-in-Err-Memory-clause-runs g c =
-    let e = c.end_with-in-Err-Memory.ensures in
-    at_end (λ (d : Detail) (j : List Entry) (disk : g.row.D.Denot) (source : g.row.S.Denot) (sink : g.row.K.Denot).
-    RunsScript g.D.Disk.contents g.D.Disk.image g.D.Disk.moment g.D.Disk.since g.S.Source.left g.K.Sink.written g.K.Sink.finished g.K.Sink.count c.args.disk disk c.args.source source c.args.sink sink d j)
-    _ _ _ _ _ _ _ _ _ _ e.detail (ap (λ v. v.items) e.journal ∙ c.new-in-Err-Memory.ensures.items) e.disk e.source e.sink
+    let e = c.end_unopened-in-Err-Memory.ensures in
+    at_end (λ (d : Detail) (j : List Entry) (t : Option Tally) (disk : g.row.D.Denot) (source : g.row.S.Denot) (sink : g.row.K.Denot).
+    RunsScript g.D.Disk.contents g.D.Disk.image g.D.Disk.moment g.D.Disk.since g.S.Source.left g.K.Sink.written g.K.Sink.finished g.K.Sink.count c.args.disk disk c.args.source source c.args.sink sink d j t)
+    e.detail e.journal e.tally e.disk e.source e.sink
     (record {
       ends = omega arith;
       read = λ past. absurd (omega arith);
@@ -70,18 +71,18 @@ returns-in-Err-Memory-clause-runs g c =
 
 pub returns-in-Err-Memory-clause-causes : goal.returns-in-Err-Memory-clause-causes
 returns-in-Err-Memory-clause-causes g c =
-    let e = c.end_with-in-Err-Memory.ensures in
-    at_end (λ (d : Detail) (j : List Entry) (disk : g.row.D.Denot) (source : g.row.S.Denot) (sink : g.row.K.Denot).
+    let e = c.end_unopened-in-Err-Memory.ensures in
+    at_end (λ (d : Detail) (j : List Entry) (t : Option Tally) (disk : g.row.D.Denot) (source : g.row.S.Denot) (sink : g.row.K.Denot).
     ShowsCauses g.D.Disk.count g.D.Disk.made g.S.Source.count g.K.Sink.count c.args.disk disk c.args.source source c.args.sink sink d)
-    _ _ _ _ _ _ _ _ _ _ e.detail (ap (λ v. v.items) e.journal ∙ c.new-in-Err-Memory.ensures.items) e.disk e.source e.sink
+    e.detail e.journal e.tally e.disk e.source e.sink
     (record { reading = (subst (λ (why : ReadAll). CountsAs why (g.S.Source.count c.args.source) (g.S.Source.count c.read_all.new.source)) c.in-Err-Memory.field-0-is c.in-Err-Memory.ensures.cause); writing = tt; device = refl; rule = tt; reads = refl })
 
 pub returns-clause-runs : goal.returns-clause-runs
 returns-clause-runs g c =
-    let e = c.end_with-in-Err-Failed.ensures in
-    at_end (λ (d : Detail) (j : List Entry) (disk : g.row.D.Denot) (source : g.row.S.Denot) (sink : g.row.K.Denot).
-    RunsScript g.D.Disk.contents g.D.Disk.image g.D.Disk.moment g.D.Disk.since g.S.Source.left g.K.Sink.written g.K.Sink.finished g.K.Sink.count c.args.disk disk c.args.source source c.args.sink sink d j)
-    _ _ _ _ _ _ _ _ _ _ e.detail (ap (λ v. v.items) e.journal ∙ c.new-in-Err-Failed.ensures.items) e.disk e.source e.sink
+    let e = c.end_unopened-in-Err-Failed.ensures in
+    at_end (λ (d : Detail) (j : List Entry) (t : Option Tally) (disk : g.row.D.Denot) (source : g.row.S.Denot) (sink : g.row.K.Denot).
+    RunsScript g.D.Disk.contents g.D.Disk.image g.D.Disk.moment g.D.Disk.since g.S.Source.left g.K.Sink.written g.K.Sink.finished g.K.Sink.count c.args.disk disk c.args.source source c.args.sink sink d j t)
+    e.detail e.journal e.tally e.disk e.source e.sink
     (record {
       ends = omega arith;
       read = λ past. absurd (omega arith);
@@ -93,10 +94,10 @@ returns-clause-runs g c =
 
 pub returns-clause-causes : goal.returns-clause-causes
 returns-clause-causes g c =
-    let e = c.end_with-in-Err-Failed.ensures in
-    at_end (λ (d : Detail) (j : List Entry) (disk : g.row.D.Denot) (source : g.row.S.Denot) (sink : g.row.K.Denot).
+    let e = c.end_unopened-in-Err-Failed.ensures in
+    at_end (λ (d : Detail) (j : List Entry) (t : Option Tally) (disk : g.row.D.Denot) (source : g.row.S.Denot) (sink : g.row.K.Denot).
     ShowsCauses g.D.Disk.count g.D.Disk.made g.S.Source.count g.K.Sink.count c.args.disk disk c.args.source source c.args.sink sink d)
-    _ _ _ _ _ _ _ _ _ _ e.detail (ap (λ v. v.items) e.journal) e.disk e.source e.sink
+    e.detail e.journal e.tally e.disk e.source e.sink
     (record {
       reading = shows_rise c.faults-before.result c.faults-after.result (g.S.Source.count c.args.source) (g.S.Source.count c.read_all.new.source) c.faults-before.ensures c.faults-after.ensures (subst (λ (why : ReadAll). CountsAs why (g.S.Source.count c.args.source) (g.S.Source.count c.read_all.new.source)) c.in-Err-Failed.field-0-is c.in-Err-Failed.ensures.cause);
       writing = refl;
