@@ -22,7 +22,7 @@ import os, subprocess, sys, time
 pmos, work = sys.argv[1:]
 store, kept = f"{work}/store.pmos", f"{work}/kept.pmos"
 
-def run(text, rounds=5):
+def run(text, rounds=9):
     """The best of the rounds in seconds, and the numbers of the end line."""
     best = None
     for _ in range(rounds):
@@ -51,7 +51,7 @@ def heap(count):
     lines.append(f"0 root last {(count - 1) % 2}")
     return lines
 
-def opened(text, rounds=5):
+def opened(text, rounds=15):
     """The best of the rounds in seconds, of a run on the store that was kept."""
     best = None
     for _ in range(rounds):
