@@ -3,6 +3,7 @@ pub mod Fields
 pub mod Swept
 pub mod Searches
 pub mod Quiet
+pub mod Sole
 pub mod Lowest
 pub mod Fixes
 pub mod Rows

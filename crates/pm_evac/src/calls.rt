@@ -9,8 +9,10 @@ ghost use Rattle.pm_evac.specs.Steps.{IsEvent, IsApply, IsFix, IsMove, IsFinish,
 
 use crate::events;
 use crate::finding::changed_car;
+use crate::sources::moved_once_applied;
 use pm_law_collect::{an_event_keeps_the_law_and_the_worlds, an_event_moves_one_object_at_most};
 use pm_law_course::one_event_completes_a_collection;
+use pm_law_stale::only_the_slot_that_moved_last_is_named;
 use pm_law_work::an_event_lowers_the_work_left;
 use pm_space::Space;
 use pm_types::{NoMemory, Step};
@@ -59,6 +61,7 @@ pub fn apply_one<F: Fn(&[u64]) -> usize + Drop>(space: &mut Space<F>) -> Result<
 {
     an_event_that_was_made_keeps_all();
     let car = applied_car(space);
+    space.moved = moved_once_applied(space, car);
     events::apply_at(&mut space.parts, car)
 }
 
@@ -69,8 +72,9 @@ pub fn fix_one<F: Fn(&[u64]) -> usize + Drop>(space: &mut Space<F>) -> Result<St
     ensures { MakesEvent F.Fn space.old.parts space.new.parts result }
 {
     an_event_that_was_made_keeps_all();
+    only_the_slot_that_moved_last_is_named();
     space.quiet = 0;
-    events::fix_one(&mut space.parts)
+    events::fix_one(&mut space.parts, space.moved)
 }
 
 /// Makes the next event where it moves an object out of the car that is emptied: the anchor to its train, or else the
@@ -87,7 +91,9 @@ pub fn move_one<F: Fn(&[u64]) -> usize + Drop>(
 {
     an_event_that_was_made_keeps_all();
     space.quiet = 0;
-    events::move_one(&mut space.parts, alloc)
+    let (step, slot) = events::move_one(&mut space.parts, alloc)?;
+    space.moved = Some(slot);
+    Ok(step)
 }
 
 /// Makes the next event where it sweeps an object: the lowest Live slot of the car that is swept, or of the first car
@@ -101,6 +107,7 @@ pub fn sweep_one<F: Fn(&[u64]) -> usize + Drop>(
 {
     an_event_that_was_made_keeps_all();
     space.quiet = 0;
+    space.moved = None;
     events::sweep_one(&mut space.parts, alloc)
 }
 
@@ -113,6 +120,7 @@ pub fn free_car<F: Fn(&[u64]) -> usize + Drop>(space: &mut Space<F>) -> Result<S
 {
     an_event_that_was_made_keeps_all();
     space.quiet = 0;
+    space.moved = None;
     events::free_car(&mut space.parts)
 }
 
@@ -123,5 +131,6 @@ pub fn finish_car<F: Fn(&[u64]) -> usize + Drop>(space: &mut Space<F>) -> Step
 {
     an_event_that_was_made_keeps_all();
     space.quiet = 0;
+    space.moved = None;
     events::finish_car(&mut space.parts)
 }

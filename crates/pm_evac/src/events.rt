@@ -2,6 +2,7 @@ ghost use Rattle.std.specs.Prelude.{◌≡◌, if◌then◌else◌, None, IfOk, 
 ghost use Rattle.pm_view.specs.Law.{HeapLaw};
 ghost use Rattle.pm_view.specs.Events.{apply, next_row};
 ghost use Rattle.pm_space.specs.Shown.{view, KeepsRest};
+ghost use Rattle.pm_space.specs.Stale.{NamesOnly, IsSole};
 ghost use Rattle.pm_place.specs.Choosers.{IsChooser};
 ghost use Rattle.pm_view.specs.declared.phase.Phase.TheVariants.{Moving};
 ghost use Rattle.pm_evac.specs.Steps.{IsEvent, IsChosenEvent, IsNextMove, IsFix, IsMove, IsFinish, IsSweep, IsFree, swept_car};
@@ -12,10 +13,11 @@ use crate::fixing::fix;
 use crate::freeing::{finish, free};
 use crate::moving::relocate;
 use crate::skipping::outside;
-use crate::sources::{least, stale};
+use crate::sources::{least, stale_at};
 use crate::sweeping::sweep;
 use crate::ways::{home, pick_way};
 use pm_law_collect::there_is_a_train_to_pick;
+use pm_law_stale::only_the_slot_that_moved_last_is_named;
 use pm_space::Parts;
 use pm_types::{Addr, NoMemory, Step};
 use pm_view::Phase;
@@ -34,9 +36,11 @@ pub fn apply_at<F>(parts: &mut Parts<F>, car: u64) -> Result<Step, NoMemory>
 }
 
 /// Makes the next event where it fixes a source: the least source that the car which is emptied remembers and that
-/// names a Moved slot stores the address to which the object went. After want of memory all is as it was.
-pub fn fix_one<F>(parts: &mut Parts<F>) -> Result<Step, NoMemory>
+/// names a Moved slot stores the address to which the object went. The one slot that such a source can name is given,
+/// where it is known. After want of memory all is as it was.
+pub fn fix_one<F>(parts: &mut Parts<F>, moved: Option<u32>) -> Result<Step, NoMemory>
     requires law { HeapLaw (view parts.old) }
+    requires sole { IsSole (view parts.old) moved }
     requires row { IsFix (next_row (view parts.old)) }
     ensures ok { IfOk result (λ step. IsEvent (view parts.old) (view parts.new) step) }
     ensures err { OnErr result (view parts.new ≡ view parts.old) }
@@ -45,7 +49,7 @@ pub fn fix_one<F>(parts: &mut Parts<F>) -> Result<Step, NoMemory>
     let Phase::Moving(car) = parts.phase else {
         unreachable!()
     };
-    let Some((source, to)) = stale(parts, car) else {
+    let Some((source, to)) = stale_at(parts, car, moved) else {
         unreachable!()
     };
     fix(parts, car, source, to)?;
@@ -93,18 +97,21 @@ fn clear_if<F>(parts: &mut Parts<F>, is_anchor: bool)
 
 /// Makes the next event where it moves an object out of the car that is emptied: the anchor to its train, or else the
 /// object of the least source outside the train to a train that the chooser picks, or else that of the least source to
-/// the end of its own train. After want of memory all is as it was.
+/// the end of its own train. It answers the slot that the object left too, which is the only one that stale sources can
+/// name then. After want of memory all is as it was.
 pub fn move_one<F: Fn(&[u64]) -> usize + Drop>(
     parts: &mut Parts<F>,
     alloc: Global,
-) -> Result<Step, NoMemory>
+) -> Result<(Step, u32), NoMemory>
     requires chooser { IsChooser F.Fn parts.old.place }
     requires law { HeapLaw (view parts.old) }
     requires row { IsMove (next_row (view parts.old)) }
-    ensures ok { IfOk result (λ step. IsChosenEvent F.Fn parts.old.place (view parts.old) (view parts.new) step) }
+    ensures ok { IfOk result (λ made. IsChosenEvent F.Fn parts.old.place (view parts.old) (view parts.new) made.0) }
+    ensures slot { IfOk result (λ made. NamesOnly (view parts.new) made.1) }
     ensures err { OnErr result (view parts.new ≡ view parts.old) }
     ensures rest { KeepsRest parts.old parts.new }
 {
+    only_the_slot_that_moved_last_is_named();
     let _number = parts.cars.vacant();
     let Phase::Moving(car) = parts.phase else {
         unreachable!()
@@ -114,7 +121,7 @@ pub fn move_one<F: Fn(&[u64]) -> usize + Drop>(
     let id = relocate(parts, alloc, at, train)?;
     clear_if(parts, is_anchor);
     let _completed = parts.completed;
-    Ok(Step::Moved { id, train })
+    Ok((Step::Moved { id, train }, at.slot))
 }
 
 /// Makes the next event where the car that is emptied is swept from now on. It takes no memory.

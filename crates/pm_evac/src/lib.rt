@@ -24,6 +24,6 @@ pub use fixing::fix;
 pub use freeing::{finish, free};
 pub use moving::relocate;
 pub use skipping::outside;
-pub use sources::{Entry, least, stale};
+pub use sources::{Entry, least, moved_once_applied, stale, stale_at, stale_now};
 pub use sweeping::sweep;
 pub use ways::{pick_way, ways_out};

@@ -212,7 +212,7 @@ emptied_adds view client (suc n) law few within =
 -- ---- a birth
 
 -- the car in which an object fits is the tail of its train
-tail_found : (view : SpaceView) (train room c : ℕ) → tail_for view train room ≡ Some c → tail view.trains.trains train ≡ Some c
+pub tail_found : (view : SpaceView) (train room c : ℕ) → tail_for view train room ≡ Some c → tail view.trains.trains train ≡ Some c
 tail_found view train room c is = by_tail (tail view.trains.trains train) is
   where
     by_room : (e : ℕ) (b : Bool) → (if b then Some e else None) ≡ Some c → e ≡ c
@@ -235,11 +235,11 @@ module _ (view : SpaceView) (number : ℕ) (object : Object) (law : HeapLaw view
   homeless = none_is (train_of view.trains.trains number) (law.built.linked number ∙ ap is_some vacant)
 
   -- the number of the new car is that of no car of a train
-  other_number : (n e : ℕ) → train_of view.trains.trains e ≡ Some n → (number == e) ≡ false
+  pub other_number : (n e : ℕ) → train_of view.trains.trains e ≡ Some n → (number == e) ≡ false
   other_number n e home = false_from_ne_true (number == e) (λ same. none_some n (sym homeless ∙ ap (train_of view.trains.trains) (eqb-true number e same) ∙ home))
 
   -- and the tail of the open train is no car of the oldest
-  other_tail : (n c e : ℕ) → IsOldest view.trains.trains n → tail view.trains.trains y ≡ Some c → train_of view.trains.trains e ≡ Some n → (c == e) ≡ false
+  pub other_tail : (n c e : ℕ) → IsOldest view.trains.trains n → tail view.trains.trains y ≡ Some c → train_of view.trains.trains e ≡ Some n → (c == e) ≡ false
   other_tail n c e old last home =
       false_from_ne_true (c == e) (λ same.
       let open_home = tail_home view.trains.trains y c law.built.trains.single last in
@@ -284,7 +284,7 @@ module _ (view : SpaceView) (number : ℕ) (object : Object) (law : HeapLaw view
       omega (arith, more)
 
 -- the open train has a car where objects were born in it
-has_car : (view : SpaceView) → HeapLaw view → 0 < view.trains.births → HasCar view.trains.trains (youngest view.trains.trains)
+pub has_car : (view : SpaceView) → HeapLaw view → 0 < view.trains.births → HasCar view.trains.trains (youngest view.trains.trains)
 has_car view law some = by_case (cars_at view.trains.trains (youngest view.trains.trains)) law.built.births
   where
     by_case : (o : Option (List ℕ)) → view.trains.births ≤ sum_by (standing_in view) (unwrap_or o []) → IsSomeAnd o (λ cars. 0 < length cars)

@@ -51,6 +51,11 @@ module _ (v w : SpaceView) (client : ℕ) (cmd : Cmd) where
   refused_still (Ok reply) is still = λ refused. ap (λ (p : Reply × SpaceView). p.1) is.2 ∙ still is.0 (subst (λ (p : Reply × SpaceView). is_refusal cmd p.0 ≡ true) is.2 refused)
   refused_still (Err e) is still = tt
 
+-- what holds of a space and after each row of a command holds after the call
+pub row_holds : (r : Result Reply NoMemory) (P : SpaceView → Type 0) (v w : SpaceView) (client : ℕ) (cmd : Cmd) → P v → ((picks : Picks) → ArePicked v picks → P (row v client cmd picks).1) → IfOk r (λ reply. IsRow v client cmd (reply, w)) → OnErr r (w ≡ v) → P w
+row_holds (Ok reply) P v w client cmd was keeps is same = subst (λ (p : Reply × SpaceView). P p.1) (sym is.2) (keeps is.0 is.1)
+row_holds (Err e) P v w client cmd was keeps is same = subst P (sym same) was
+
 -- what the law says of work
 abbrev AddsToRow : SpaceView → ℕ → Cmd → Type 0
 AddsToRow v client cmd = (picks : Picks) → ArePicked v picks → work (row v client cmd picks).1 ≤ work v + raises cmd

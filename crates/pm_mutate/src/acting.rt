@@ -20,6 +20,7 @@ use pm_law_commands::{
     a_refused_command_leaves_the_space, every_command_but_new_leaves_objects_where_they_stand,
     new_adds_one_object_in_the_open_train,
 };
+use pm_law_stale::a_command_leaves_the_slot_that_moved;
 use pm_law_work::a_command_adds_little_work;
 use pm_space::{Parts, Space};
 use pm_types::{Cmd, NoMemory, Reg, Reply};
@@ -140,6 +141,7 @@ pub fn act<F: Drop>(
     a_refused_command_leaves_the_space();
     every_command_but_new_leaves_objects_where_they_stand();
     new_adds_one_object_in_the_open_train();
+    a_command_leaves_the_slot_that_moved();
     sound_registers(cmd);
     space.quiet = 0;
     run(&mut space.parts, alloc, client, cmd)

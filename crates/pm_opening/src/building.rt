@@ -83,5 +83,9 @@ pub fn build<F: Drop>(
 {
     a_built_space_keeps_the_law();
     let parts = build_parts(alloc, place, cars, roots, next)?;
-    Ok(Space { parts, quiet: 0 })
+    Ok(Space {
+        parts,
+        quiet: 0,
+        moved: None,
+    })
 }

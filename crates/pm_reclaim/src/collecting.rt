@@ -13,7 +13,7 @@ use crate::deciding::decide;
 use crate::selecting::select;
 use pm_evac::{
     an_event_that_was_made_keeps_all, anchor_in, apply_one, changed_car, finish_car, fix_one,
-    free_car, has_change, least, lowest_live, move_one, stale, sweep_one,
+    free_car, has_change, least, lowest_live, move_one, stale_now, sweep_one,
 };
 use pm_space::{Parts, Space};
 use pm_types::{NoMemory, Step};
@@ -56,20 +56,20 @@ fn next_draining<F: Drop>(space: &mut Space<F>, train: u64) -> Kind
 }
 
 // While a car is emptied.
-fn next_moving<F>(parts: &Parts<F>, car: u64) -> Kind
-    requires phase { (view parts.now).phase ≡ Moving car }
-    ensures { result ≡ kind_of (next_row (view parts.now)) }
+fn next_moving<F: Drop>(space: &Space<F>, car: u64) -> Kind
+    requires phase { (view space.now.parts).phase ≡ Moving car }
+    ensures { result ≡ kind_of (next_row (view space.now.parts)) }
 {
-    if has_change(&parts.links, car) {
+    if has_change(&space.parts.links, car) {
         return Kind::Apply;
     }
-    if stale(parts, car).is_some() {
+    if stale_now(space, car).is_some() {
         return Kind::Fix;
     }
-    if anchor_in(parts, car).is_some() {
+    if anchor_in(&space.parts, car).is_some() {
         return Kind::Move;
     }
-    match least(parts, car) {
+    match least(&space.parts, car) {
         Some(_) => Kind::Move,
         None => Kind::Finish,
     }
@@ -97,7 +97,7 @@ pub fn next_kind<F: Drop>(space: &mut Space<F>) -> Kind
             None => Kind::Nothing,
         },
         Phase::Draining(train) => next_draining(space, train),
-        Phase::Moving(car) => next_moving(&space.parts, car),
+        Phase::Moving(car) => next_moving(space, car),
         Phase::Sweeping(car) => next_swept(&space.parts, car),
         Phase::Doomed(train) => match space.parts.trains.first_car(train) {
             Some(car) => next_swept(&space.parts, car),

@@ -138,5 +138,6 @@ pub fn decide<F: Fn(&[u64]) -> usize + Drop>(
 {
     an_event_that_was_made_keeps_all();
     space.quiet = 0;
+    space.moved = None;
     decide_next(&mut space.parts, alloc)
 }

@@ -67,5 +67,6 @@ pub fn select<F: Fn(&[u64]) -> usize + Drop>(
 {
     an_event_that_was_made_keeps_all();
     space.quiet = 0;
+    space.moved = None;
     select_next(&mut space.parts, alloc)
 }

@@ -8,6 +8,7 @@ ghost use Rattle.pm_space.specs.Counted.{capped};
 ghost use Rattle.pm_space.specs.Shown.{view, LeadsWhereStored, KeepsRest};
 ghost use Rattle.pm_space.specs.KeptOnce.{HeapLaw-prop};
 ghost use Rattle.pm_space.specs.Quiet.{IsQuiet, IsQuiet-prop};
+ghost use Rattle.pm_space.specs.Stale.{IsSole, IsSole-prop};
 
 use crate::links::LinkTable;
 use crate::parts::Parts;
@@ -30,8 +31,12 @@ pub struct Space<F> {
     /// So many cars at the front of the train that is drained have no change waiting. Whoever changes the parts makes it
     /// 0, or shows that it is so.
     pub quiet: usize,
+    /// While a car is emptied: the one slot of it whose object moved away that a source which the car remembers may
+    /// still name; `None` where that is not known. Whoever changes the parts makes it `None`, or shows that it is so.
+    pub moved: Option<u32>,
     ghost kept: { HeapLaw (view parts) } by { HeapLaw-prop (view parts) },
     ghost still: { IsQuiet (view parts) quiet } by { IsQuiet-prop (view parts) quiet },
+    ghost sole: { IsSole (view parts) moved } by { IsSole-prop (view parts) moved },
 }
 
 impl<F: Drop> Space<F> {
@@ -59,6 +64,7 @@ impl<F: Drop> Space<F> {
                 completed: 0,
             },
             quiet: 0,
+            moved: None,
         })
     }
 
@@ -93,6 +99,7 @@ impl<F: Drop> Space<F> {
     {
         a_source_is_set();
         self.quiet = 0;
+        self.moved = None;
         spreading::spread(&mut self.parts, source, to)
     }
 

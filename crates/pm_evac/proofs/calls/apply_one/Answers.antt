@@ -1,5 +1,4 @@
 use Rattle.std.proofs.Common.{sym, ap, subst, ◌∙◌}
-use Rattle.pm_view.specs.Law.{HeapLaw}
 use Rattle.pm_view.specs.Events.{next_row}
 use Rattle.pm_space.specs.declared.parts.Parts.{Parts}
 use Rattle.pm_space.specs.Shown.{view}
@@ -7,6 +6,7 @@ use Rattle.pm_evac.specs.Steps.{IsApply, MakesEvent}
 use Rattle.pm_evac.proofs.Counting.{lawful, makes}
 use Rattle.pm_evac.proofs.Chosen.{apply_chosen}
 use Rattle.pm_evac.proofs.Quiet.{still_quiet}
+use Rattle.pm_evac.proofs.Sole.{applied_sole}
 use Rattle.pm_evac.proofs.calls.apply_one.Goals as goal
 
 pub invariant_of-space : goal.invariant_of-space
@@ -17,6 +17,7 @@ invariant_of-space g c =
     record {
       kept = lawful g.F.Fn parts c.apply_at.new.parts space.kept c.apply_at.result c.an_event_that_was_made_keeps_all.ensures.law c.apply_at.ensures.ok c.apply_at.ensures.err;
       still = still_quiet (view parts) (view c.apply_at.new.parts) c.applied_car-car.result space.quiet c.apply_at.result row space.still c.apply_at.ensures.ok c.apply_at.ensures.err;
+      sole = applied_sole (view parts) (view c.apply_at.new.parts) c.applied_car-car.result c.moved_once_applied-space.result c.apply_at.result row c.moved_once_applied-space.ensures.kept c.moved_once_applied-space.ensures.applied c.apply_at.ensures.ok c.apply_at.ensures.err;
     }
 
 pub returns : goal.returns

@@ -10,6 +10,7 @@ pub invariant_of-space : goal.invariant_of-space
 invariant_of-space g c = record {
   kept = lawful g.F.Fn c.args.space.now.parts c.finish_car.new.parts c.args.space.now.kept (Ok c.finish_car.result) c.an_event_that_was_made_keeps_all.ensures.law c.finish_car.ensures.event tt;
   still = quiet_none (view c.finish_car.new.parts);
+  sole = tt;
 }
 
 pub returns : goal.returns

@@ -9,6 +9,7 @@ pub invariant_of-space : goal.invariant_of-space
 invariant_of-space g c = record {
   kept = lawful g.F.Fn c.args.space.now.parts c.free_car.new.parts c.args.space.now.kept c.free_car.result c.an_event_that_was_made_keeps_all.ensures.law c.free_car.ensures.ok c.free_car.ensures.err;
   still = quiet_none (view c.free_car.new.parts);
+  sole = tt;
 }
 
 pub returns : goal.returns

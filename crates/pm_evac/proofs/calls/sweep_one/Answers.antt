@@ -9,6 +9,7 @@ pub invariant_of-space : goal.invariant_of-space
 invariant_of-space g c = record {
   kept = lawful g.F.Fn c.args.space.now.parts c.sweep_one.new.parts c.args.space.now.kept c.sweep_one.result c.an_event_that_was_made_keeps_all.ensures.law c.sweep_one.ensures.ok c.sweep_one.ensures.err;
   still = quiet_none (view c.sweep_one.new.parts);
+  sole = tt;
 }
 
 pub returns : goal.returns

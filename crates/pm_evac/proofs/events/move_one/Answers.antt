@@ -1,7 +1,9 @@
-use Rattle.std.proofs.Common.{rules, ◌≡◌, refl, ap, ◌∙◌, is_some}
+use Rattle.std.proofs.Common.{rules, ◌≡◌, refl, ap, sym, subst, ◌∙◌, is_some}
 use Rattle.pm_types.specs.declared.event.Step.TheVariants.{Moved}
+use Rattle.pm_view.specs.View.{SpaceView}
 use Rattle.pm_view.specs.Events.{next_row, after, anchor_in}
 use Rattle.pm_space.specs.Shown.{view}
+use Rattle.pm_space.specs.Stale.{NamesOnly}
 use Rattle.pm_space.proofs.OpenedCars.{lowest_vacant}
 use Rattle.pm_evac.proofs.Chosen.{may_pick}
 use Rattle.pm_evac.specs.Steps.{counted}
@@ -57,3 +59,16 @@ returns-clause-ok g c =
       };
       chosen = next.chosen;
     }
+
+pub returns-clause-slot : goal.returns-clause-slot
+returns-clause-slot g c =
+    let v = view c.args.parts.now in
+    let w = view c.clear_if.new.parts in
+    let next = c.in_ok-at.ensures in
+    let moved = c.in_ok-id.ensures.ok in
+    let anchor : c.is_some-is_anchor.result ≡ is_some (anchor_in c.in-Moving.car v.anchor) = c.is_some-is_anchor.ensures ∙ ap is_some c.anchor_in.ensures in
+    let seen : w ≡ after v next.picked moved.number (next_row v) =
+    c.clear_if.ensures.view ∙ (λ i. cleared_if (anchor i) (moved.after i)) ∙ after_move v c.requires.law next.picked moved.number moved.vacant c.in-Moving.car c.in-Moving.is (next_row v) refl c.in_ok-at.at c.in_ok-at.train next.moves in
+    subst (λ (u : SpaceView). NamesOnly u c.in_ok-at.at.slot) (sym seen)
+    (c.only_the_slot_that_moved_last_is_named.ensures.moves v (next_row v) next.picked moved.number c.in_ok-at.train c.in_ok-at.at c.requires.law refl
+    (may_pick g.F.Fn c.args.parts.now.place v next.picked (next_row v) next.chosen) (may_place v moved.number (next_row v) moved.vacant) next.moves)

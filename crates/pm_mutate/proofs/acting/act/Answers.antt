@@ -1,7 +1,25 @@
+use Rattle.std.proofs.Common.{refl}
+use Rattle.pm_view.specs.Law.{HeapLaw}
 use Rattle.pm_space.specs.Shown.{view}
-use Rattle.pm_mutate.proofs.Carried.{refused_still, born_so, adds_little}
+use Rattle.pm_space.specs.Stale.{IsSole}
+use Rattle.pm_mutate.proofs.Carried.{refused_still, born_so, row_holds, adds_little}
 use Rattle.pm_mutate.proofs.ShownBytes.{shown_leaves, shown_short}
 use Rattle.pm_mutate.proofs.acting.act.Goals as goal
+
+pub invariant_of-space : goal.invariant_of-space
+invariant_of-space g c =
+    let v = view c.args.space.now.parts in
+    let w = view c.run.new.parts in
+    let client = c.args.client in
+    let cmd = c.args.cmd.now in
+    let few = c.requires.client in
+    let law = c.args.space.now.kept in
+    record {
+      kept = row_holds c.run.result HeapLaw v w client cmd law (λ picks are. c.a_command_keeps_the_heap_law.ensures v client cmd picks law few c.sound_registers.ensures are) c.run.ensures.row c.run.ensures.err;
+      still = λ train is. refl;
+      sole = row_holds c.run.result (λ u. IsSole u c.args.space.now.moved) v w client cmd c.args.space.now.sole
+          (λ picks are. c.a_command_leaves_the_slot_that_moved.ensures v client cmd picks c.args.space.now.moved law few are c.args.space.now.sole) c.run.ensures.row c.run.ensures.err;
+    }
 
 pub returns-clause-refused : goal.returns-clause-refused
 returns-clause-refused g c =

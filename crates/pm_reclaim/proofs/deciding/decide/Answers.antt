@@ -8,6 +8,7 @@ invariant_of-space g c = record {
   kept = lawful g.F.Fn c.args.space.now.parts c.decide_next.new.parts c.args.space.now.kept c.decide_next.result c.an_event_that_was_made_keeps_all.ensures.law
       (events_of g.F.Fn c.args.space.now.parts c.decide_next.new.parts c.args.space.now.kept c.decide_next.result c.decide_next.ensures.ok) c.decide_next.ensures.err;
   still = quiet_none (view c.decide_next.new.parts);
+  sole = tt;
 }
 
 pub returns : goal.returns

@@ -9,6 +9,7 @@ pub invariant_of-space : goal.invariant_of-space
 invariant_of-space g c = record {
   kept = lawful g.F.Fn c.args.space.now.parts c.select_next.new.parts c.args.space.now.kept c.select_next.result c.an_event_that_was_made_keeps_all.ensures.law c.select_next.ensures.ok c.select_next.ensures.err;
   still = quiet_none (view c.select_next.new.parts);
+  sole = tt;
 }
 
 pub returns : goal.returns

@@ -13,4 +13,4 @@ invariant_of-result g c =
     let seen =
     fresh_view c.args.place c.new-3.result c.new-4.result c.in_ok-trains.trains c.new-5.result c.in_ok-handles.handles c.new-6.result
     c.new-3.ensures.current c.new-4.ensures c.in_ok-trains.ensures.trains c.new-5.ensures c.in_ok-handles.ensures c.new-6.ensures in
-    record { kept = subst HeapLaw (sym seen) c.a_new_space_stands_for_nothing.ensures.law; still = λ train is. refl }
+    record { kept = subst HeapLaw (sym seen) c.a_new_space_stands_for_nothing.ensures.law; still = λ train is. refl; sole = tt }

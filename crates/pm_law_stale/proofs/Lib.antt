@@ -1,0 +1,4 @@
+pub mod Looks
+pub mod AfterCommands
+pub mod Fixing
+pub mod Moving
