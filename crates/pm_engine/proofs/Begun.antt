@@ -1,37 +1,24 @@
 -- What holds of an engine that was just opened.
-use Rattle.std.proofs.Common.{◌≡◌, ⊎_elim, ℕ, ◌<◌, ◌≤◌, length, true, false, List, [], ◌∷◌, Option, Some, None, Result, Ok, Err, sym, ap, subst, ◌∙◌, arith}
+use Rattle.std.proofs.Common.{◌≡◌, ℕ, ◌≤◌, true, false, List, [], ◌∷◌, Option, Some, None, sym, ap, subst}
 use Rattle.std.specs.List.{AllByRecursion}
-use Rattle.std.proofs.lemmas.Bool.{cases_lt}
-use Rattle.std.proofs.lemmas.List.{get_or_past}
-use Rattle.pm_image.specs.CarAnswers.{AreBytes}
 use Rattle.pm_disk.specs.declared.disk.Disk.{Ghosts}
 use Rattle.pm_disk.specs.Disk.{IfTold}
 use Rattle.pm_disk.specs.Images.{IsBytes}
 use Rattle.pm_image.specs.declared.settled.KeptPage.{KeptPage}
-use Rattle.pm_base.specs.Results.{◌>>=◌}
-use Rattle.pm_image.specs.Graphs.{Graph, copy_of as copy_of_graph, entries_of, graph_of}
-use Rattle.pm_image.specs.Opening.{Current as CurrentHeader, current}
-use Rattle.pm_types.specs.declared.fault.OpenFault.{OpenFault}
-use Rattle.pm_types.specs.declared.fault.OpenFault.TheVariants.{NotAStore, Version, Damaged, Malformed, Disk, Memory}
-use Rattle.pm_shadow.specs.Attaching.{IsFaultOf}
-use Rattle.pm_engine.specs.Opened.{IsRefusal}
-use Rattle.pm_image.specs.Stands.{Opened, Stands, opened, pages_of}
+use Rattle.pm_image.specs.Graphs.{Graph}
+use Rattle.pm_image.specs.Stands.{Stands}
 use Rattle.pm_shadow.specs.declared.page_use.PageUse.TheVariants.{Current}
 use Rattle.pm_shadow.specs.State.{State, keeps_by}
-use Rattle.pm_shadow.specs.Copies.{KeepsGraph, current_graph}
+use Rattle.pm_shadow.specs.Copies.{KeepsGraph}
 use Rattle.pm_shadow.specs.Images.{Holds}
 use Rattle.pm_shadow.specs.Pages.{current_kept}
-use Rattle.pm_shadow.proofs.CopyLemmas.{held_opened}
 use Rattle.pm_view.specs.View.{Cars}
 use Rattle.pm_copies.specs.Listed.{copy_in}
-use Rattle.pm_copies.specs.Opened.{listed_graph}
-use Rattle.pm_law_copies.proofs.OpenedStands.{saves_again}
-use Rattle.pm_law_copies.proofs.FoundStore.{store_accepted, store_copy}
 use Rattle.pm_saving.specs.Progress.{Saving}
 use Rattle.pm_saving.specs.Tied.{HasCopy, IsOnPage, IsTied}
 use Rattle.pm_law_saving.proofs.Giving.{store_begins}
-use Rattle.pm_law_saving.proofs.Publishing.{copy_held}
-use Rattle.pm_opening.specs.Opening.{IsRefusedBy, KnowsPages, MakesSpace, OpensStore}
+use Rattle.pm_opening.specs.Opening.{KnowsPages, MakesSpace, OpensStore}
+use Rattle.pm_opening.proofs.StoodLaws.{copy_kept, bytes_stand, graph_kept}
 use Rattle.pm_serving.specs.Serving.{IsServed, Serving, just_opened, world}
 use Rattle.pm_serving.specs.Images.{IsSettled, IsStored, KeepsImages}
 use Rattle.pm_space.specs.Shown.{view}
@@ -43,10 +30,6 @@ use Rattle.pm_engine.specs.declared.works.Works.{Works}
 use Rattle.pm_engine.specs.Working.{contents_in, disk_at, frozen_in, saving_in, state_in, view_in}
 use Rattle.pm_engine.specs.Seen.{IsSound, disk_then, seen}
 use Rattle.pm_engine.proofs.Going.{settled_there}
-
-bytes_are : (bytes : List ℕ) → IsBytes bytes → AreBytes bytes
-bytes_are bytes each place =
-    ⊎_elim (each place) (λ (past : length bytes ≤ place). subst (λ (byte : ℕ). byte < 256) (sym (get_or_past bytes place 0 past)) (omega arith)) (cases_lt place (length bytes))
 
 -- each car stands on a page of the current copy
 on_pages : (s : State) (cars : List KeptPage) → s.known ≡ true → AllByRecursion (λ (kept : KeptPage). (2 ≤ kept.page) × (s.uses kept.page ≡ Current)) cars → AllByRecursion (IsOnPage s) cars
@@ -65,28 +48,21 @@ module _ {D : Type 0} {F : Type 0} {g : Ghosts D} (start : Opening D F g) (works
   graph bytes told = (opens bytes told).store.found.graph
 
   keeps_it : (bytes : List ℕ) (told : contents_in works ≡ Some bytes) → KeepsGraph (state_in works) bytes (opens bytes told).store.found.graph
-  keeps_it bytes told = (opens bytes told).keeps (λ is. absurd (cc (unknown, is)))
+  keeps_it bytes told = graph_kept s0 (state_in works) bytes (view_in works) cars unknown (opens bytes told)
 
   holds_it : (bytes : List ℕ) → contents_in works ≡ Some bytes → Holds (state_in works) bytes bytes
   holds_it bytes told = (current_kept works.pages fine bytes told).each bytes (stays bytes told)
 
   -- it is the copy in the space
   pub has_copy : (bytes : List ℕ) → contents_in works ≡ Some bytes → HasCopy (state_in works) bytes (copy_in (view_in works))
-  has_copy bytes told =
-      let store = (opens bytes told).store in
-      let keeps = keeps_it bytes told in
-      let same : store.found ≡ current_graph (state_in works) store.found.graph = cc (store.is_found, held_opened (state_in works) bytes bytes store.found.graph keeps (holds_it bytes told)) in
-      record {
-        graph = store.found.graph;
-        keeps = keeps;
-        is_copy =
-            saves_again (listed_graph store.found.graph) (entries_of store.found.graph.catalog) store.found.current.header.next (view_in works) (store_accepted bytes store.found (bytes_are bytes (are_bytes bytes told)) store.is_found) store.is_opened
-            ∙ store_copy bytes store.found store.is_found
-            ∙ ap (λ (found : Opened). copy_of_graph found.current.header.next store.found.graph) same;
-      }
+  has_copy bytes told = record {
+    graph = (opens bytes told).store.found.graph;
+    keeps = keeps_it bytes told;
+    is_copy = copy_kept s0 (state_in works) bytes (view_in works) cars unknown (opens bytes told) (holds_it bytes told) (are_bytes bytes told);
+  }
 
   pub stands : (bytes : List ℕ) → contents_in works ≡ Some bytes → Stands bytes (state_in works).header.epoch (copy_in (view_in works))
-  stands bytes told = copy_held (state_in works) bytes bytes (copy_in (view_in works)) (has_copy bytes told) (holds_it bytes told)
+  stands bytes told = bytes_stand s0 (state_in works) bytes (view_in works) cars unknown (opens bytes told) (holds_it bytes told) (are_bytes bytes told)
 
   tied : (frozen_in works ≡ None) → saving_in works ≡ record { settled = cars; progress = None } → IsTied (saving_in works) (frozen_in works) (state_in works) (contents_in works)
   tied frozen saved =
@@ -117,25 +93,3 @@ module _ {D : Type 0} {F : Type 0} {g : Ghosts D} (start : Opening D F g) (works
             (λ first left here. subst (λ (one : Serving). IsSettled (world one) left) same
             (subst (λ (n : ℕ). Stands left n (copy_in (view_in works))) (sym number) (subst (λ (b : List ℕ). Stands b (state_in works).header.epoch (copy_in (view_in works))) (sym (only first.0 left first.1 here)) (stands first.0 first.1)))));
       }
-
--- ---- why none was opened
-
-refused : (bytes : List ℕ) (fault : OpenFault) → current bytes ≡ Err fault → opened bytes ≡ Err fault
-unfolding opened
-refused bytes fault is = ap (λ (found : Result CurrentHeader OpenFault). found >>= (λ now. graph_of (pages_of bytes) now.header >>= (λ graph. Ok (record { current = now; graph = graph })))) is
-
-pub header_refused : (bytes : List ℕ) (fault : OpenFault) → IsFaultOf bytes fault → IsRefusal bytes fault
-header_refused bytes NotAStore is = refused bytes NotAStore is
-header_refused bytes (Version version) is = refused bytes (Version version) is
-header_refused bytes (Damaged page kept found) is = refused bytes (Damaged page kept found) is
-header_refused bytes (Malformed page at) is = refused bytes (Malformed page at) is
-header_refused bytes (Disk before after) is = tt
-header_refused bytes Memory is = absurd is
-
-pub graph_refused : (bytes : List ℕ) (fault : OpenFault) → IsRefusedBy bytes fault → IsRefusal bytes fault
-graph_refused bytes NotAStore is = absurd is
-graph_refused bytes (Version version) is = absurd is
-graph_refused bytes (Damaged page kept found) is = is
-graph_refused bytes (Malformed page at) is = is
-graph_refused bytes (Disk before after) is = tt
-graph_refused bytes Memory is = tt

@@ -21,7 +21,7 @@ impl<D: Disk, F: Drop> Engine<D, F> {
     ghost use Rattle.pm_copies.specs.Listed.{copy_in};
     ghost use Rattle.pm_serving.specs.Serving.{just_opened};
     ghost use Rattle.pm_engine.specs.Shown.{chooser, disk_in, opened_count, opened_disk, serving};
-    ghost use Rattle.pm_engine.specs.Opened.{IsOpenFault, IsRefusal};
+    ghost use Rattle.pm_opening.specs.Refused.{IsOpenFault, IsRefusal};
 
     /// Opens the copy for which the bytes of a disk stand: its world has no register, no watch and no copy in progress.
     /// The disk is synced once, before it is read, and nothing is written. An object moves to the train that the chooser

@@ -10,3 +10,5 @@ pub mod ListLaws
 pub mod LeadLaws
 pub mod AcceptedLaws
 pub mod OpenLaws
+pub mod Refusals
+pub mod StoodLaws

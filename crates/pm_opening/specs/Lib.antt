@@ -7,3 +7,4 @@ pub mod Leading
 pub mod Making
 pub mod Listing
 pub mod Opening
+pub mod Refused

@@ -10,7 +10,7 @@ use Rattle.pm_model.specs.Journal.{IsLegal, after}
 use Rattle.pm_image.specs.Stands.{Opened, Stands, opened}
 use Rattle.pm_image.proofs.StandsLaws.{one_copy}
 use Rattle.pm_serving.specs.Images.{IsTold}
-use Rattle.pm_engine.specs.Opened.{IsRefusal}
+use Rattle.pm_opening.specs.Refused.{IsRefusal}
 use Rattle.pm_grammar.specs.declared.fault.ScriptFault.{ScriptFault}
 use Rattle.pm_grammar.specs.declared.fault.ScriptFault.TheVariants.{Line as BadLine, TooManyLines, TooLong, Memory as ScriptMemory}
 use Rattle.pm_top.specs.declared.ended.Detail.{Detail}

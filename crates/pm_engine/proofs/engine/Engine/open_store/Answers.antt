@@ -7,10 +7,11 @@ use Rattle.pm_shadow.specs.State.{State}
 use Rattle.pm_shadow.specs.Pages.{state, disk_of}
 use Rattle.pm_space.specs.Shown.{car_of, view}
 use Rattle.pm_copies.specs.Listed.{copy_in}
+use Rattle.pm_opening.proofs.Refusals.{graph_refused, header_refused}
 use Rattle.pm_engine.specs.declared.opening.Opening.{Opening}
 use Rattle.pm_engine.specs.declared.works.Works.{Works}
 use Rattle.pm_engine.proofs.engine.Engine.open_store.Goals as goal
-use Rattle.pm_engine.proofs.Begun.{graph_refused, header_refused, stands, start_sound}
+use Rattle.pm_engine.proofs.Begun.{stands, start_sound}
 
 pub returns-in_err-pages-clause-fault : goal.returns-in_err-pages-clause-fault
 returns-in_err-pages-clause-fault g c =
