@@ -4,7 +4,9 @@
 # - a store of 7,000 and of 28,000 objects of 200 bytes that are all reached: the first save and settle, and opening, each
 #   beside `dd` and `sha256sum` of as many pages; memory beside the bytes of the objects;
 # - a second settle after one `put`: how many pages it writes, and how long it takes beside the first;
-# - scripts of 16,384 and of 65,536 lines of mixed commands.
+# - the report of these stores;
+# - scripts of 16,384 and of 65,536 lines of mixed commands;
+# - a script that is made, and a trial of it, of 4,000 and of 16,000 turns.
 #
 # 'scripts/build.sh' builds the program; PMOS names another one. Needs python3, dd, sha256sum and GNU time.
 set -euo pipefail
@@ -74,6 +76,7 @@ for count in (7000, 28000):
     dd, _ = timed(["dd", f"if={kept}", f"of={work}/copy", f"bs={PAGE}", f"count={pages}", "conv=fsync"])
     sha, _ = timed(["sha256sum", f"{work}/copy"])
     opening, opened = timed(run(kept))
+    report, _ = timed([pmos, "inspect", kept])
     put = b"0 find 1 last\n0 put 1 0 ff\n"
     once, _ = timed(run(store), put, lambda: copied(kept, store))
     again, _ = timed(run(store), put + b"0 save\n0 settle\n", lambda: copied(kept, store))
@@ -83,6 +86,7 @@ for count in (7000, 28000):
     print(f"  {count:6d} objects, {pages} pages; dd with fsync {dd:.3f} s, sha256sum {sha:.3f} s")
     print(f"    making them {without:.3f} s; first save and settle {first:.3f} s, {first / (dd + sha):.1f} of dd and sha256sum (3 at most)")
     print(f"    opening {opening - empty:.3f} s, {(opening - empty) / (dd + sha):.1f} of dd and sha256sum (3 at most)")
+    print(f"    the report {report - empty:.3f} s, which opens the store too")
     print(f"    second save and settle after one put {second:.3f} s, {second / first:.2f} of the first (0.10 at most); the file grew by {grown} pages")
     print(f"    memory {(memory - empty_memory) / data:.1f} of the objects' bytes with the copy, {(graph - empty_memory) / data:.1f} without (5 at most), {(opened - empty_memory) / data:.1f} opened")
 
@@ -98,4 +102,10 @@ for count in (16384, 65536):
     text = "".join(line(i) + "\n" for i in range(count)).encode()
     seconds, memory = timed(run(store), text, lambda: fresh(store))
     print(f"  {count:6d}  {seconds:6.3f} s  {memory >> 10:6d}")
+
+print("scripts that are made from a seed, and trials of them on a new store: turns, seconds, KiB")
+for turns in (4000, 16000):
+    made, _ = timed([pmos, "make", "7", str(turns)])
+    tried, memory = timed([pmos, "trial", store, "7", str(turns)], b"", lambda: fresh(store))
+    print(f"  {turns:6d}  made {made:.3f} s (0.1 at most)  tried {tried:.3f} s (2 at most)  {memory >> 10:6d}")
 PYTHON

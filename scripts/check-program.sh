@@ -1,6 +1,7 @@
 #!/usr/bin/env bash
 # Runs the program on real files and streams: closed streams, a full device, files that cannot be had, two runs at
-# once, a pipe that closes early, a script that is too long, and little memory. It prints a table of what was wanted and
+# once, a pipe that closes early, a script that is too long, little memory, and the report, a script that is made and a
+# trial beside what other programs find. It prints a table of what was wanted and
 # what came, and ends with 0 where they are the same on every line. What the machine lacks is skipped, and its line says so.
 #
 # It takes the program that 'rt ci' or 'rt run' built, or the one that PMOS names; where there is neither, it builds one
@@ -150,9 +151,78 @@ mkdir "$work/folder"
 "$pmos" init "$work/folder" 2>/dev/null
 came=$?
 "$pmos" run "$work/folder" serial <"$work/find.script" 2>/dev/null
-row "a folder as FILE" "5 5" "$came $?"
+came+=" $?"
+"$pmos" inspect "$work/folder" 2>/dev/null
+came+=" $?"
+"$pmos" trial "$work/folder" 1 1 2>/dev/null
+row "a folder as FILE" "5 5 5 5" "$came $?"
 "$pmos" init "$work/nowhere/store" 2>/dev/null
 row "FILE in a folder that is missing" "5" "$?"
+
+# The report.
+cp "$work/settled" "$work/store"
+"$pmos" inspect "$work/store" >"$work/out" </dev/null
+row "the report of a store" "0 settled, store 1 2 1,train 1 1,car 1 1 0 57 1 0,train 2 0,total 2 1 1" \
+    "$? $(is_which "$work/store"), $(paste -sd, "$work/out")"
+"$pmos" inspect "$work/missing" >"$work/out" 2>"$work/err"
+came="$? $(cat "$work/out" "$work/err")"
+[ -f "$work/missing" ] && came+=", a file of $(wc -c <"$work/missing") bytes"
+row "the report of a missing FILE" "6 pmos: not a store, a file of 0 bytes" "$came"
+rm -f "$work/missing"
+
+# A script that is made, beside the one that this short program makes by the same rule.
+if lacks python3 || lacks sha256sum; then
+    row "a script that is made" "the same" "skipped: no python3 or no sha256sum"
+else
+    python3 - >"$work/made.script" <<'PYTHON'
+state, lines = 7, []
+def draw(limit):
+    global state
+    state = (state * 69069 + 1) % 2**32
+    return state // 65536 % limit
+for turn in range(1, 16001):
+    register, data, value, index, named = draw(64), draw(65536), draw(64), draw(4), draw(8)
+    lines += [f"0 new {register} 4 {data:04x}", f"0 store {register} {index} {value}"]
+    if named == 0:
+        lines.append(f"0 root n{draw(16)} {register}")
+    lines.append("! gc 3")
+    if turn % 1000 == 0:
+        lines += ["0 save", "0 settle"]
+lines += ["0 save", "0 settle", "0 watch", "0 close", "! gc 1000"]
+print("\n".join(lines))
+PYTHON
+    "$pmos" make 7 16000 >"$work/out"
+    row "a script that is made" "0 the same" "$? $(cmp -s "$work/out" "$work/made.script" && echo the same || echo another)"
+
+    # A trial of it tells the digest of the replies that a run of it writes, and the same lines behind them.
+    fresh
+    seconds=$SECONDS
+    "$pmos" trial "$work/store" 7 16000 >"$work/trial"
+    came=$?
+    [ $((SECONDS - seconds)) -le 5 ] || [ -n "$unproved" ] || came+=" slowly"
+    cp "$work/store" "$work/tried"
+    fresh
+    "$pmos" trial "$work/store" 7 16000 >"$work/again"
+    came+=" $?"
+    cmp -s "$work/trial" "$work/again" && cmp -s "$work/store" "$work/tried" || came+=" others"
+    fresh
+    "$pmos" run "$work/store" serial <"$work/made.script" >"$work/out"
+    {
+        echo "digest $(head -n -2 "$work/out" | sha256sum | cut -d' ' -f1)"
+        tail -n 2 "$work/out"
+    } >"$work/wanted"
+    cmp -s "$work/trial" "$work/wanted" && cmp -s "$work/store" "$work/tried" && came+=" as a run"
+    row "a trial, twice, and a run" "0 0 as a run" "$came"
+fi
+if [ -c /dev/full ]; then
+    "$pmos" make 1 1 >/dev/full 2>/dev/null
+    came=$?
+    "$pmos" inspect "$work/settled" >/dev/full 2>/dev/null
+    came+=" $?"
+    fresh
+    "$pmos" trial "$work/store" 1 1 >/dev/full 2>/dev/null
+    row "make, inspect, trial: a full device" "4 4 4" "$came $?"
+fi
 
 # A file that may only be read, also where this script runs as root.
 fresh
@@ -166,7 +236,10 @@ def leave_root():
     if os.getuid() == 0:
         os.setgroups([]); os.setgid(65534); os.setuid(65534)
 try:
+    looked = subprocess.run([sys.argv[1], "inspect", sys.argv[3]], preexec_fn=leave_root, stdout=subprocess.DEVNULL)
     ran = subprocess.run(sys.argv[1:], input=b"0 new 1 0 -\n", preexec_fn=leave_root)
+    if looked.returncode != ran.returncode:
+        sys.exit(98)
 except (OSError, subprocess.SubprocessError):
     sys.exit(99)
 sys.exit(ran.returncode if ran.returncode >= 0 else 128 - ran.returncode)

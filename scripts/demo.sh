@@ -1,8 +1,8 @@
 #!/usr/bin/env bash
 # Makes a store, runs the first script on it and then the second. Then it shows what a crash leaves: the third script ends
 # with a copy that is written and not settled, and the second one finds the copy of before; and a copy of the file that was
-# taken before the first settle holds the empty copy. Last, the collector takes away what nothing reaches any more. It takes
-# the program that was proved and built, where there is one, and else builds one without proof.
+# taken before the first settle holds the empty copy. The collector takes away what nothing reaches any more. Last come the
+# report of the store, and a trial of a script that is made from a seed. It takes the program that was proved and built, where there is one, and else builds one without proof.
 set -euo pipefail
 cd "$(dirname "$0")/.."
 
@@ -47,3 +47,12 @@ show examples/second.script before.pmos
 echo
 echo "The collector, on the store that holds the copy:"
 show examples/fourth.script store.pmos
+echo
+echo "The report of the store, 'pmos inspect store.pmos':"
+"$pmos" inspect "$work/store.pmos" | sed 's/^/    /'
+echo
+echo "A script that is made from seed 1, of one turn, 'pmos make 1 1':"
+"$pmos" make 1 1 | sed 's/^/    /'
+echo "It is run on a new store, 'pmos trial new.pmos 1 1', which tells the SHA-256 of the replies:"
+"$pmos" init "$work/new.pmos"
+"$pmos" trial "$work/new.pmos" 1 1 | sed 's/^/    /'

@@ -8,7 +8,7 @@ use crate::inner::{push_copies, push_digest, push_name, push_register, push_room
 use crate::replayed::push_alike;
 use crate::running::{INIT, RUN, Run, Setting, run};
 use crate::scripts::{push_read, push_read_lines, push_texts};
-use crate::shown::{push_last, push_named, push_run, push_run_in_line};
+use crate::shown::{push_first, push_last, push_named, push_run, push_run_in_line};
 use crate::spelling::{bytes, counted, first_word, number, numbered, push_lines, written_out};
 use std::alloc::Global;
 use std::fmt::Write;
@@ -290,6 +290,12 @@ impl Case {
         push_last(alloc, ended(&self.last)?, count, out)
     }
 
+    // Adds the first lines that the last run wrote.
+    fn push_first(&self, alloc: Global, text: &str, out: &mut String) -> Result<(), Fault> {
+        let count = number(text)?;
+        push_first(alloc, ended(&self.last)?, count, out)
+    }
+
     // Adds what the reader of the whole grammar says of the script so far and these lines.
     fn push_read(&mut self, alloc: Global, text: &str, out: &mut String) -> Result<(), Fault> {
         let script = self.script(alloc, text)?;
@@ -415,6 +421,7 @@ impl Case {
     ) -> Result<(), Fault> {
         match step {
             "show" => self.show(alloc, text, out),
+            "first" => self.push_first(alloc, text, out),
             "last" => self.push_last(alloc, text, out),
             "texts" => self.push_texts(alloc, out),
             "oracle" => self.push_alike(alloc, out),

@@ -59,6 +59,23 @@ pub(crate) fn push_last(
     push_last_lines(text.as_str(), count, out)
 }
 
+/// Adds the first lines of what a run wrote, this number at most.
+pub(crate) fn push_first(
+    alloc: Global,
+    run: &Run,
+    count: u64,
+    out: &mut String,
+) -> Result<(), Fault> {
+    let mut text = String::new(alloc);
+    push_text(run.sink.written(), &mut text)?;
+    for (place, line) in text.as_str().split_terminator('\n').enumerate() {
+        if (place as u64) < count {
+            writeln!(out, "{line}")?;
+        }
+    }
+    Ok(())
+}
+
 // Adds one call of the disk: its kind, and for a write the page and the byte where it begins.
 fn push_call(call: &DiskCall, out: &mut String) -> Result<(), Fault> {
     match call {
@@ -108,6 +125,7 @@ pub(crate) fn push_named(
         "output" => push_text(run.sink.written(), out),
         "calls" => push_calls(run.disk.calls(), out),
         "sha256" => push_digest_of(alloc, run.disk.contents(), out),
+        "output-sha256" => push_digest_of(alloc, run.sink.written(), out),
         _ => push_number(word, counted(run, word)?, out),
     }
 }

@@ -52,10 +52,10 @@ impl Script {
         self.lines.as_slice()
     }
 
-    /// The lines, given back.
-    pub fn into_vec(self) -> Vec<Line>
+    /// The lines, given up: at most 65,536, each with a client of 0 to 7.
+    pub fn into_lines(self) -> Vec<Line>
         ensures lines { result.items ≡ self }
-        ensures few { AreLines self }
+        ensures clients { AreLines result.items }
     {
         self.lines
     }

@@ -1,6 +1,6 @@
 -- What parts of a run answer, one behind another.
-use Rattle.std.proofs.Common.{◌≡◌, ◌⊎◌, ⊎_elim, ℕ, ◌+◌, ◌<◌, ◌≤◌, min, length, take, drop, get_or, arith, List, [], ◌∷◌, ◌++◌, IsSome, Option, Some, None, refl, ap, sym, subst, ◌∙◌, append_assoc, length-append}
-use Rattle.std.proofs.lemmas.List.{append-nil, length-map, map-append, take-append-drop, take_more}
+use Rattle.std.proofs.Common.{◌≡◌, ◌⊎◌, ⊎_elim, ℕ, ◌+◌, ◌<◌, ◌≤◌, min, length, arith, List, [], ◌∷◌, ◌++◌, IsSome, Option, Some, None, refl, ap, sym, subst, ◌∙◌, append_assoc, length-append}
+use Rattle.std.proofs.lemmas.List.{append-nil, length-map, map-append}
 use Rattle.std.proofs.lemmas.List.Sums.{sum_by-cons, sum_by_push}
 use Rattle.std.proofs.lemmas.Grind.{flat_map-append}
 use Rattle.pm_base.specs.Counts.{greatest_count}
@@ -12,31 +12,27 @@ use Rattle.pm_model.specs.Journal.{requests_of}
 use Rattle.pm_grammar.specs.declared.line.Line.{Line}
 use Rattle.pm_grammar.specs.declared.line.Line.TheVariants.{Client}
 use Rattle.pm_serving.specs.Serving.{Serving}
+use Rattle.pm_serial.specs.declared.kind.Kind.{Kind}
+use Rattle.pm_serial.specs.declared.kind.Kind.TheVariants.{Collect, Flush}
 use Rattle.pm_serial.specs.declared.stop.Stop.{Stop}
 use Rattle.pm_serial.specs.declared.stop.Stop.TheVariants.{Memory, Writing}
 use Rattle.pm_serial.specs.Asked.{events_asked, flushes_of, request_of, requests_asked, steps_asked, steps_of}
 use Rattle.pm_serial.specs.Running.{AnswersLines, IsFresh}
-use Rattle.pm_serial.specs.Stepping.{Adds, AnswersPart, events_of}
+use Rattle.pm_serial.specs.Stepping.{Adds, AnswersPart, events_of, steps_made}
 
 -- ---- lines so far
 
-pub next_line : (lines : List Line) (i : ℕ) (line : Line) → i < length lines → line ≡ get_or lines i line → take (i + 1) lines ≡ take i lines ++ line ∷ []
-next_line lines i line lt is = take_more lines i line lt ∙ ap (λ (l : Line). take i lines ++ l ∷ []) (sym is)
+pub requests_push : (lines : List Line) (line : Line) → requests_asked (lines ++ line ∷ []) ≡ requests_asked lines ++ request_of line
+requests_push lines line = flat_map-append request_of lines (line ∷ []) ∙ ap (λ (more : List Request). requests_asked lines ++ more) (append-nil (request_of line))
 
-requests_more : (lines : List Line) (line : Line) → requests_asked (lines ++ line ∷ []) ≡ requests_asked lines ++ request_of line
-requests_more lines line = flat_map-append request_of lines (line ∷ []) ∙ ap (λ (more : List Request). requests_asked lines ++ more) (append-nil (request_of line))
-
-pub asked_next : (lines : List Line) (i : ℕ) (line : Line) → i < length lines → line ≡ get_or lines i line → requests_asked (take i lines) ++ request_of line ≡ requests_asked (take (i + 1) lines)
-asked_next lines i line lt is = sym (ap requests_asked (next_line lines i line lt is) ∙ requests_more (take i lines) line)
-
-pub steps_next : (lines : List Line) (i : ℕ) (line : Line) → i < length lines → line ≡ get_or lines i line → steps_asked (take i lines) + steps_of line ≡ steps_asked (take (i + 1) lines)
-steps_next lines i line lt is = sym (ap steps_asked (next_line lines i line lt is) ∙ sum_by_push steps_of (take i lines) line)
+pub steps_push : (lines : List Line) (line : Line) → steps_asked (lines ++ line ∷ []) ≡ steps_asked lines + steps_of line
+steps_push lines line = sum_by_push steps_of lines line
 
 -- the events of lines, and of one behind them
 pub events_push : (lines : List Line) (line : Line) → events_asked (lines ++ line ∷ []) ≡ events_asked lines + events_of line
 events_push lines line =
     let requests : length (requests_asked (lines ++ line ∷ [])) ≡ length (requests_asked lines) + length (request_of line) =
-    ap length (requests_more lines line) ∙ length-append (requests_asked lines) (request_of line) in
+    ap length (requests_push lines line) ∙ length-append (requests_asked lines) (request_of line) in
     let steps = sum_by_push steps_of lines line in
     let flushes = sum_by_push flushes_of lines line in
     omega (arith, requests, steps, flushes)
@@ -49,20 +45,18 @@ events_cons line lines =
     let flushes = sum_by-cons flushes_of line lines in
     omega (arith, requests, steps, flushes)
 
-pub events_next : (lines : List Line) (i : ℕ) (line : Line) → i < length lines → line ≡ get_or lines i line → events_asked (take i lines) + events_of line ≡ events_asked (take (i + 1) lines)
-events_next lines i line lt is = sym (ap events_asked (next_line lines i line lt is) ∙ events_push (take i lines) line)
-
-pub asked_split : (lines : List Line) (i : ℕ) → requests_asked (take i lines) ++ requests_asked (drop i lines) ≡ requests_asked lines
-asked_split lines i = sym (flat_map-append request_of (take i lines) (drop i lines)) ∙ ap requests_asked (take-append-drop i lines)
+-- what lines ask that are parted at one
+pub asked_parted : (lines done rest : List Line) (line : Line) → done ++ line ∷ rest ≡ lines → (requests_asked done ++ request_of line) ++ requests_asked rest ≡ requests_asked lines
+asked_parted lines done rest line parted =
+    append_assoc (requests_asked done) (request_of line) (requests_asked rest) ∙ sym (flat_map-append request_of done (line ∷ rest)) ∙ ap requests_asked parted
 
 -- so many requests are asked before a line that there is one for its own
-pub asked_within : (lines : List Line) (i : ℕ) (line : Line) → i < length lines → line ≡ get_or lines i line → length (requests_asked (take i lines)) + length (request_of line) ≤ length (requests_asked lines)
-asked_within lines i line lt is =
-    let next : length (requests_asked (take (i + 1) lines)) ≡ length (requests_asked (take i lines)) + length (request_of line) =
-    ap length (sym (asked_next lines i line lt is)) ∙ length-append (requests_asked (take i lines)) (request_of line) in
-    let whole : length (requests_asked lines) ≡ length (requests_asked (take (i + 1) lines)) + length (requests_asked (drop (i + 1) lines)) =
-    ap length (sym (asked_split lines (i + 1))) ∙ length-append (requests_asked (take (i + 1) lines)) (requests_asked (drop (i + 1) lines)) in
-    omega (arith, next, whole)
+pub asked_within : (lines done rest : List Line) (line : Line) → done ++ line ∷ rest ≡ lines → length (requests_asked done) + length (request_of line) ≤ length (requests_asked lines)
+asked_within lines done rest line parted =
+    let front = length-append (requests_asked done) (request_of line) in
+    let whole : length (requests_asked lines) ≡ length (requests_asked done ++ request_of line) + length (requests_asked rest) =
+    ap length (sym (asked_parted lines done rest line parted)) ∙ length-append (requests_asked done ++ request_of line) (requests_asked rest) in
+    omega (arith, front, whole)
 
 -- ---- what was answered
 
@@ -79,6 +73,16 @@ answers_none it = record {
 -- none more was made
 pub still_counted : (n most : ℕ) → n ≤ most → n ≡ min (n + 0) most
 still_counted n most within = omega (arith, within)
+
+-- one more event of a kind
+pub steps_more : (kind : Kind) (count : ℕ) → steps_made kind count + steps_made kind 1 ≡ steps_made kind (count + 1)
+steps_more Collect count = refl
+steps_more Flush count = refl
+
+-- no event of a kind
+pub steps_none : (kind : Kind) → 0 ≡ steps_made kind 0
+steps_none Collect = refl
+steps_none Flush = refl
 
 -- an entry
 pub answers_one : (client : ℕ) (cmd : Cmd) (old new : Serving) → Adds client cmd old new → AnswersPart (record { client = client; cmd = cmd } ∷ []) 1 0 old new None
@@ -174,13 +178,13 @@ answers_ended asked count steps old new before after why part =
 -- ---- room
 
 -- what was answered took the room that it was to take, so there is room for the next
-pub has_room : (lines : List Line) (i : ℕ) (line : Line) (room_old room_mid : ℕ) (old mid : Serving) → i < length lines → line ≡ get_or lines i line → length (requests_asked lines) ≤ room_old
-    → room_old + length old.journal ≤ room_mid + length mid.journal → requests_of mid.journal ≡ requests_of old.journal ++ requests_asked (take i lines) → length (request_of line) ≤ room_mid
-has_room lines i line room_old room_mid old mid lt is enough kept answered =
-    let within = asked_within lines i line lt is in
-    let long : length mid.journal ≡ length old.journal + length (requests_asked (take i lines)) =
-    sym (length-map mid.journal (λ (e : Entry). record { client = e.client; cmd = e.cmd })) ∙ ap length answered ∙ length-append (requests_of old.journal) (requests_asked (take i lines))
-    ∙ ap (λ (n : ℕ). n + length (requests_asked (take i lines))) (length-map old.journal (λ (e : Entry). record { client = e.client; cmd = e.cmd })) in
+pub has_room : (lines done rest : List Line) (line : Line) (room_old room_mid : ℕ) (old mid : Serving) → done ++ line ∷ rest ≡ lines → length (requests_asked lines) ≤ room_old
+    → room_old + length old.journal ≤ room_mid + length mid.journal → requests_of mid.journal ≡ requests_of old.journal ++ requests_asked done → length (request_of line) ≤ room_mid
+has_room lines done rest line room_old room_mid old mid parted enough kept answered =
+    let within = asked_within lines done rest line parted in
+    let long : length mid.journal ≡ length old.journal + length (requests_asked done) =
+    sym (length-map mid.journal (λ (e : Entry). record { client = e.client; cmd = e.cmd })) ∙ ap length answered ∙ length-append (requests_of old.journal) (requests_asked done)
+    ∙ ap (λ (n : ℕ). n + length (requests_asked done)) (length-map old.journal (λ (e : Entry). record { client = e.client; cmd = e.cmd })) in
     omega (arith, within, enough, kept, long)
 
 -- ---- the whole run

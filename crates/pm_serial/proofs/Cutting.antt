@@ -1,6 +1,5 @@
 -- Where a run stops for want of memory: the line, and how many events were made until then.
-use Rattle.std.proofs.Common.{◌≡◌, ◌⊎◌, ⊎_elim, ℕ, ◌+◌, ◌<◌, min, true, [], refl, length, take, drop, get_or, arith, List, ◌∷◌, ◌++◌, Option, Some, None, Result, Ok, Err, OnErr, ap, sym, subst, ◌∙◌}
-use Rattle.std.proofs.lemmas.List.{take-append-drop, drop_more}
+use Rattle.std.proofs.Common.{◌≡◌, ◌⊎◌, ⊎_elim, ℕ, ◌+◌, ◌<◌, min, true, [], refl, arith, List, ◌∷◌, ◌++◌, Option, Some, None, Result, Ok, Err, OnErr, ap, sym, subst, ◌∙◌}
 use Rattle.pm_base.specs.Counts.{greatest_count}
 use Rattle.pm_types.specs.declared.command.Cmd.{Cmd}
 use Rattle.pm_types.specs.declared.command.Cmd.TheVariants.{Settle}
@@ -57,23 +56,19 @@ cuts_events line count old new (Err stop) is no_settle cut =
 
 -- ---- lines
 
-at_line : (lines : List Line) (i : ℕ) (line : Line) → i < length lines → line ≡ get_or lines i line → lines ≡ take i lines ++ line ∷ drop (i + 1) lines
-at_line lines i line lt is =
-    sym (take-append-drop i lines) ∙ ap (λ (rest : List Line). take i lines ++ rest) (drop_more lines i line lt ∙ ap (λ (l : Line). l ∷ drop (i + 1) lines) (sym is))
-
 -- lines before it were run, and it was cut
-pub cuts_lines : (lines : List Line) (i : ℕ) (line : Line) (old mid new : Serving) (stop : Option Stop) → i < length lines → line ≡ get_or lines i line
-    → AnswersPart (requests_asked (take i lines)) (events_asked (take i lines)) (steps_asked (take i lines)) old mid None → OnMemory stop (CutsLine line mid new) → OnMemory stop (CutsLines lines old new)
-cuts_lines lines i line old mid new stop lt is part cut =
+pub cuts_lines : (lines done rest : List Line) (line : Line) (old mid new : Serving) (stop : Option Stop) → done ++ line ∷ rest ≡ lines → AnswersPart (requests_asked done) (events_asked done) (steps_asked done) old mid None
+    → OnMemory stop (CutsLine line mid new) → OnMemory stop (CutsLines lines old new)
+cuts_lines lines done rest line old mid new stop parted part cut =
     on_memory_then (CutsLine line mid new) (CutsLines lines old new) stop
     (λ cuts. record {
-      done = take i lines;
+      done = done;
       line = line;
-      more = drop (i + 1) lines;
-      lines_are = at_line lines i line lt is;
+      more = rest;
+      lines_are = sym parted;
       made = cuts.cut.made;
       within = cuts.cut.within;
-      events = λ small. counted_then old.events mid.events new.events (events_asked (take i lines)) cuts.cut.made small (part.events tt) cuts.cut.events;
+      events = λ small. counted_then old.events mid.events new.events (events_asked done) cuts.cut.made small (part.events tt) cuts.cut.events;
       left = cuts.left;
     }) cut
 

@@ -20,6 +20,8 @@ use Rattle.pm_serving.specs.Serving.{Serving, one_more, opening}
 use Rattle.pm_serving.specs.Images.{IsLast, IsOfRun, IsTold}
 use Rattle.pm_engine.specs.declared.engine.Engine.{Engine}
 use Rattle.pm_engine.specs.Shown.{KeepsStart, disk_in, opened_disk, room, serving}
+use Rattle.pm_serial.specs.declared.kind.Kind.{Kind}
+use Rattle.pm_serial.specs.declared.kind.Kind.TheVariants.{Collect, Flush}
 use Rattle.pm_serial.specs.declared.stop.Stop.{Stop}
 use Rattle.pm_serial.specs.declared.stop.Stop.TheVariants.{Memory, Writing, Device}
 use Rattle.pm_serial.specs.Asked.{events_asked, flushes_of, request_of, steps_of}
@@ -50,6 +52,11 @@ CountsWriting stop before after = after ≡ before
 abbrev pub OnMemory : Option Stop → Type 0 → Type 0
 OnMemory (Some Memory) P = P
 OnMemory stop P = Unit {0}
+
+-- how many of so many events of a kind are of the collector
+abbrev pub steps_made : Kind → ℕ → ℕ
+steps_made Collect count = count
+steps_made Flush count = 0
 
 -- how many events a line asks for
 abbrev pub events_of : Line → ℕ

@@ -1,15 +1,22 @@
 -- What a run of lines writes.
-use Rattle.std.specs.Prelude.{◌≡◌, ℕ, List, ◌++◌, Option, Some, length}
+use Rattle.std.specs.Prelude.{◌≡◌, ℕ, List, [], ◌++◌, Option, Some, length}
 use Rattle.pm_base.specs.Counts.{Rose}
 use Rattle.pm_model.specs.Text.{tail}
 use Rattle.pm_output.specs.Writing.{PutsAll, PutsPart}
 use Rattle.pm_engine.specs.Shown.{Total}
+use Rattle.pm_serial.specs.declared.behind.Behind.{Behind}
+use Rattle.pm_serial.specs.declared.behind.Behind.TheVariants.{Nothing, LastLines}
 use Rattle.pm_serial.specs.declared.stop.Stop.{Stop}
 use Rattle.pm_serial.specs.Causes.{CountsSink, IsDone, IsElsewhere}
 
 -- the end line and the watch lines of what an engine came to
 abbrev pub tail_of : Total → List ℕ
 tail_of total = tail total.steps total.completed total.standing total.lines
+
+-- the text behind the last reply
+abbrev pub text_behind : Behind → Total → List ℕ
+text_behind Nothing total = []
+text_behind LastLines total = tail_of total
 
 -- What a run put into the sink of the text of its journal and of the lines behind it, by why it stopped, if it did. Of a
 -- sink that does not tell what was put nothing is said but its count.

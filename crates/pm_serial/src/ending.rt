@@ -7,8 +7,9 @@ ghost use Rattle.pm_output.specs.Writing.{GoesOn, PutsAll, PutsPart};
 ghost use Rattle.pm_engine.specs.Shown.{serving, tally_in};
 ghost use Rattle.pm_serial.specs.Causes.{why};
 ghost use Rattle.pm_serial.specs.Stepping.{EndsSink};
-ghost use Rattle.pm_serial.specs.Writing.{tail_of};
+ghost use Rattle.pm_serial.specs.Writing.{tail_of, text_behind};
 
+use crate::behind::Behind;
 use crate::stop::Stop;
 use pm_disk::Disk;
 use pm_engine::Engine;
@@ -48,8 +49,13 @@ fn add_last_lines<D: Disk, F: Drop, K: Sink>(
     add_tail(output, sink, steps, completed, standing, lines.as_slice())
 }
 
-// Puts what is gathered and the lines of what the engine came to, and finishes the sink.
-fn finish_run<D: Disk, F: Drop, K: Sink>(
+/// Puts what is gathered, and behind it the end line and a line for each watch of what the engine came to, and finishes
+/// the sink.
+///
+/// # Errors
+///
+/// The sink failed: it has a first part of what was gathered and of these lines, which may be none or all.
+pub fn finish_with_last_lines<D: Disk, F: Drop, K: Sink>(
     engine: &Engine<D, F>,
     output: &mut Output,
     sink: &mut K,
@@ -68,19 +74,43 @@ fn finish_run<D: Disk, F: Drop, K: Sink>(
     output.finish(sink)
 }
 
-/// Ends a run: what is gathered is put; where the run came to its end, with the lines of what the engine came to behind
-/// it, and all is finished.
+// Puts what is gathered and what comes behind the last reply, and finishes the sink.
+fn finish_run<D: Disk, F: Drop, K: Sink>(
+    behind: Behind,
+    engine: &Engine<D, F>,
+    output: &mut Output,
+    sink: &mut K,
+) -> Result<(), Failed>
+    ensures all { OnOk result (PutsAll (K.written sink.old) (K.written sink.new)
+        (gathered output.old ++ text_behind behind (tally_in (serving engine.now)))) }
+    ensures finished { OnOk result ((bytes : List ℕ) → K.written sink.old ≡ Some bytes
+        → K.finished sink.new
+        ≡ length (bytes ++ (gathered output.old ++ text_behind behind (tally_in (serving engine.now))))) }
+    ensures part { OnErr result (PutsPart (K.written sink.old) (K.written sink.new)
+        (gathered output.old ++ text_behind behind (tally_in (serving engine.now)))) }
+    ensures counted { OnOk result (K.count sink.new ≡ K.count sink.old) }
+    ensures cause { OnErr result (Rose (K.count sink.old) (K.count sink.new)) }
+{
+    match behind {
+        Behind::Nothing => output.finish(sink),
+        Behind::LastLines => finish_with_last_lines(engine, output, sink),
+    }
+}
+
+/// Ends a run: what is gathered is put; where the run came to its end, with what comes behind the last reply, and all is
+/// finished.
 pub(crate) fn end<D: Disk, F: Drop, K: Sink>(
     ran: Result<(), Stop>,
+    behind: Behind,
     engine: &Engine<D, F>,
     output: &mut Output,
     sink: &mut K,
 ) -> Result<(), Stop>
     ensures { EndsSink K.written K.finished K.count sink.old sink.new (gathered output.old)
-        (tail_of (tally_in (serving engine.now))) (why ran) (why result) }
+        (text_behind behind (tally_in (serving engine.now))) (why ran) (why result) }
 {
     match ran {
-        Ok(()) => match finish_run(engine, output, sink) {
+        Ok(()) => match finish_run(behind, engine, output, sink) {
             Ok(()) => Ok(()),
             Err(_) => Err(Stop::Writing),
         },

@@ -7,8 +7,9 @@ ghost use Rattle.pm_output.specs.Gathered.{gathered};
 ghost use Rattle.pm_engine.specs.Shown.{chooser, room, serving};
 ghost use Rattle.pm_serial.specs.Causes.{why};
 ghost use Rattle.pm_serial.specs.Stepping.{Adds, AnswersPart, EngineGoesOn, IsCut, IsGathered};
-ghost use Rattle.pm_serial.specs.Stepping.{IsShort, KeepsCounts, SinkGoesOn, stop_of};
+ghost use Rattle.pm_serial.specs.Stepping.{IsShort, KeepsCounts, SinkGoesOn, steps_made, stop_of};
 
+use crate::kind::Kind;
 use crate::stop::Stop;
 use pm_disk::Disk;
 use pm_engine::Engine;
@@ -103,31 +104,6 @@ fn collect_once<D: Disk, F: Fn(&[u64]) -> usize + Drop>(
     }
 }
 
-/// Makes so many events of the collector.
-pub(crate) fn make_steps<D: Disk, F: Fn(&[u64]) -> usize + Drop>(
-    alloc: Global,
-    engine: &mut Engine<D, F>,
-    count: u32,
-) -> Result<(), Stop>
-    requires running { (serving engine.old).stopped ≡ None }
-    requires chooser { IsChooser F.Fn (chooser engine.old) }
-    ensures answers { AnswersPart [] count count
-        (serving engine.old) (serving engine.new) (why result) }
-    ensures stays { (serving engine.new).journal ≡ (serving engine.old).journal }
-    ensures cut { OnErr result (IsCut count (serving engine.old) (serving engine.new)) }
-    ensures engine { EngineGoesOn engine.old engine.new (why result) }
-    ensures unwritten { IsGathered (why result) }
-{
-    engine.keep_their_images();
-    for _ in 0..count {
-        match collect_once(alloc, engine) {
-            Ok(()) => {}
-            Err(stop) => return Err(stop),
-        }
-    }
-    Ok(())
-}
-
 // Makes an event that writes a page.
 fn flush_once<D: Disk, F: Drop>(alloc: Global, engine: &mut Engine<D, F>) -> Result<(), Stop>
     requires running { (serving engine.old).stopped ≡ None }
@@ -144,14 +120,37 @@ fn flush_once<D: Disk, F: Drop>(alloc: Global, engine: &mut Engine<D, F>) -> Res
     }
 }
 
-/// Makes so many events that write a page.
-pub(crate) fn make_flushes<D: Disk, F: Drop>(
+// Makes an event of this kind.
+fn make_once<D: Disk, F: Fn(&[u64]) -> usize + Drop>(
     alloc: Global,
     engine: &mut Engine<D, F>,
+    kind: Kind,
+) -> Result<(), Stop>
+    requires running { (serving engine.old).stopped ≡ None }
+    requires chooser { IsChooser F.Fn (chooser engine.old) }
+    ensures answers { AnswersPart [] 1 (steps_made kind 1)
+        (serving engine.old) (serving engine.new) (why result) }
+    ensures stays { (serving engine.new).journal ≡ (serving engine.old).journal }
+    ensures counts { OnErr result (KeepsCounts (serving engine.old) (serving engine.new)) }
+    ensures engine { EngineGoesOn engine.old engine.new (why result) }
+    ensures unwritten { IsGathered (why result) }
+{
+    match kind {
+        Kind::Collect => collect_once(alloc, engine),
+        Kind::Flush => flush_once(alloc, engine),
+    }
+}
+
+/// Makes so many events of this kind.
+pub(crate) fn make_events<D: Disk, F: Fn(&[u64]) -> usize + Drop>(
+    alloc: Global,
+    engine: &mut Engine<D, F>,
+    kind: Kind,
     count: u32,
 ) -> Result<(), Stop>
     requires running { (serving engine.old).stopped ≡ None }
-    ensures answers { AnswersPart [] count 0
+    requires chooser { IsChooser F.Fn (chooser engine.old) }
+    ensures answers { AnswersPart [] count (steps_made kind count)
         (serving engine.old) (serving engine.new) (why result) }
     ensures stays { (serving engine.new).journal ≡ (serving engine.old).journal }
     ensures cut { OnErr result (IsCut count (serving engine.old) (serving engine.new)) }
@@ -160,7 +159,7 @@ pub(crate) fn make_flushes<D: Disk, F: Drop>(
 {
     engine.keep_their_images();
     for _ in 0..count {
-        match flush_once(alloc, engine) {
+        match make_once(alloc, engine, kind) {
             Ok(()) => {}
             Err(stop) => return Err(stop),
         }

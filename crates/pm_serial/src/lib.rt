@@ -2,11 +2,14 @@
 //! written; each event of the collector and each flush event is made.
 #![tactic(auto)]
 
+mod behind;
 mod ending;
 mod event;
+mod kind;
 mod line;
 mod run;
 mod stop;
 
-pub use run::run_lines;
+pub use ending::finish_with_last_lines;
+pub use run::{answer_lines, run_lines};
 pub use stop::Stop;

@@ -12,7 +12,8 @@ ghost use Rattle.pm_serial.specs.Causes.{why};
 ghost use Rattle.pm_serial.specs.Stepping.{AnswersPart, CutsLine, CutsLines, EngineGoesOn};
 ghost use Rattle.pm_serial.specs.Stepping.{OnMemory, SinkGoesOn, events_of};
 
-use crate::event::{answer_client, make_flushes, make_steps};
+use crate::event::{answer_client, make_events};
+use crate::kind::Kind;
 use crate::stop::Stop;
 use pm_disk::Disk;
 use pm_engine::Engine;
@@ -44,27 +45,27 @@ fn run_line<D: Disk, F: Fn(&[u64]) -> usize + Drop, K: Sink>(
 {
     match line {
         Line::Client { client, cmd } => answer_client(alloc, engine, *client, cmd, output, sink),
-        Line::Gc(count) => make_steps(alloc, engine, *count),
-        Line::Flush(count) => make_flushes(alloc, engine, *count),
+        Line::Gc(count) => make_events(alloc, engine, Kind::Collect, *count),
+        Line::Flush(count) => make_events(alloc, engine, Kind::Flush, *count),
     }
 }
 
-/// Runs the lines, once the room of all their entries is taken.
+/// Runs the lines, once the room of all their entries is taken. Each is let go once it is run.
 pub(crate) fn run_all<D: Disk, F: Fn(&[u64]) -> usize + Drop, K: Sink>(
     alloc: Global,
-    lines: &[Line],
+    lines: Vec<Line>,
     engine: &mut Engine<D, F>,
     output: &mut Output,
     sink: &mut K,
 ) -> Result<(), Stop>
-    requires clients { AreLines lines.now }
-    requires room { length (requests_asked lines.now) ≤ room engine.old }
+    requires clients { AreLines lines.items }
+    requires room { length (requests_asked lines.items) ≤ room engine.old }
     requires running { (serving engine.old).stopped ≡ None }
     requires chooser { IsChooser F.Fn (chooser engine.old) }
-    ensures answers { AnswersPart (requests_asked lines.now) (events_asked lines.now)
-        (steps_asked lines.now) (serving engine.old) (serving engine.new) (why result) }
+    ensures answers { AnswersPart (requests_asked lines.items) (events_asked lines.items)
+        (steps_asked lines.items) (serving engine.old) (serving engine.new) (why result) }
     ensures short { OnMemory (why result)
-        (CutsLines lines.now (serving engine.old) (serving engine.new)) }
+        (CutsLines lines.items (serving engine.old) (serving engine.new)) }
     ensures engine { EngineGoesOn engine.old engine.new (why result) }
     ensures sink { SinkGoesOn K.written K.count sink.old sink.new
         (gathered output.old) (gathered output.new)
@@ -72,7 +73,9 @@ pub(crate) fn run_all<D: Disk, F: Fn(&[u64]) -> usize + Drop, K: Sink>(
 {
     engine.keep_their_images();
     for line in lines {
-        match run_line(alloc, line, engine, output, sink) {
+        let ran = run_line(alloc, &line, engine, output, sink);
+        drop(line);
+        match ran {
             Ok(()) => {}
             Err(stop) => return Err(stop),
         }

@@ -9,8 +9,9 @@ ghost use Rattle.pm_engine.specs.Shown.{KeepsStart, chooser, disk_in, room, serv
 ghost use Rattle.pm_serial.specs.Asked.{requests_asked};
 ghost use Rattle.pm_serial.specs.Causes.{why};
 ghost use Rattle.pm_serial.specs.Running.{AnswersLines, IsFresh, RunsOnDisk};
-ghost use Rattle.pm_serial.specs.Writing.{WroteRun, tail_of};
+ghost use Rattle.pm_serial.specs.Writing.{WroteRun, tail_of, text_behind};
 
+use crate::behind::Behind;
 use crate::ending::end;
 use crate::line::run_all;
 use crate::stop::Stop;
@@ -53,9 +54,35 @@ fn take_room<D: Disk, F: Drop>(
     Ok(output)
 }
 
+// Runs the lines over an engine that was just opened, with this behind the last reply.
+fn run_with<D: Disk, F: Fn(&[u64]) -> usize + Drop, K: Sink>(
+    alloc: Global,
+    lines: Vec<Line>,
+    behind: Behind,
+    engine: &mut Engine<D, F>,
+    sink: &mut K,
+) -> Result<(), Stop>
+    requires clients { AreLines lines.items }
+    requires fresh { IsFresh (serving engine.old) }
+    requires chooser { IsChooser F.Fn (chooser engine.old) }
+    ensures answers { AnswersLines lines.items (serving engine.new) (why result) }
+    ensures disk { RunsOnDisk engine.old engine.new (why result) }
+    ensures sink { WroteRun K.written K.finished K.count sink.old sink.new
+        (text (serving engine.new).journal) (text_behind behind (tally_in (serving engine.new))) (why result) }
+    ensures start { KeepsStart engine.old engine.new }
+{
+    engine.keep_their_images();
+    let Ok(mut output) = take_room(alloc, lines.as_slice(), engine) else {
+        return Err(Stop::Memory);
+    };
+    let ran = run_all(alloc, lines, engine, &mut output, sink);
+    engine.keep_their_images();
+    end(ran, behind, engine, &mut output, sink)
+}
+
 /// Runs the lines in their order over an engine that was just opened. Each reply is written after its event, through a
-/// buffer whose room, with that of all entries of the journal, is taken before the first event. Behind the last reply
-/// come the end line and a line for each watch.
+/// buffer whose room, with that of all entries of the journal, is taken before the first event. A line is let go once it
+/// is run. Behind the last reply come the end line and a line for each watch.
 ///
 /// # Errors
 ///
@@ -63,25 +90,44 @@ fn take_room<D: Disk, F: Drop>(
 /// unless the sink fails.
 pub fn run_lines<D: Disk, F: Fn(&[u64]) -> usize + Drop, K: Sink>(
     alloc: Global,
-    lines: &[Line],
+    lines: Vec<Line>,
     engine: &mut Engine<D, F>,
     sink: &mut K,
 ) -> Result<(), Stop>
-    requires clients { AreLines lines.now }
+    requires clients { AreLines lines.items }
     requires fresh { IsFresh (serving engine.old) }
     requires chooser { IsChooser F.Fn (chooser engine.old) }
-    ensures answers { AnswersLines lines.now (serving engine.new) (why result) }
+    ensures answers { AnswersLines lines.items (serving engine.new) (why result) }
     // What a crash at any moment leaves, and what it leaves at the end.
     ensures disk { RunsOnDisk engine.old engine.new (why result) }
     ensures sink { WroteRun K.written K.finished K.count sink.old sink.new
         (text (serving engine.new).journal) (tail_of (tally_in (serving engine.new))) (why result) }
     ensures start { KeepsStart engine.old engine.new }
 {
-    engine.keep_their_images();
-    let Ok(mut output) = take_room(alloc, lines, engine) else {
-        return Err(Stop::Memory);
-    };
-    let ran = run_all(alloc, lines, engine, &mut output, sink);
-    engine.keep_their_images();
-    end(ran, engine, &mut output, sink)
+    run_with(alloc, lines, Behind::LastLines, engine, sink)
+}
+
+/// Runs the lines in their order over an engine that was just opened, as `run_lines` does, and puts nothing behind the
+/// last reply.
+///
+/// # Errors
+///
+/// The first cause that ends the run, as `run_lines` answers it.
+pub fn answer_lines<D: Disk, F: Fn(&[u64]) -> usize + Drop, K: Sink>(
+    alloc: Global,
+    lines: Vec<Line>,
+    engine: &mut Engine<D, F>,
+    sink: &mut K,
+) -> Result<(), Stop>
+    requires clients { AreLines lines.items }
+    requires fresh { IsFresh (serving engine.old) }
+    requires chooser { IsChooser F.Fn (chooser engine.old) }
+    ensures answers { AnswersLines lines.items (serving engine.new) (why result) }
+    // What a crash at any moment leaves, and what it leaves at the end.
+    ensures disk { RunsOnDisk engine.old engine.new (why result) }
+    ensures sink { WroteRun K.written K.finished K.count sink.old sink.new
+        (text (serving engine.new).journal) [] (why result) }
+    ensures start { KeepsStart engine.old engine.new }
+{
+    run_with(alloc, lines, Behind::Nothing, engine, sink)
 }

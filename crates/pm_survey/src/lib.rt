@@ -3,8 +3,6 @@
 
 mod laws;
 mod surveying;
-#[cfg(test)]
-mod tests;
 
 pub use laws::a_store_has_one_report;
 pub use surveying::survey;

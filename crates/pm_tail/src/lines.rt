@@ -2,36 +2,12 @@
 
 ghost use Rattle.std.specs.Prelude.{◌≡◌, ◌+◌, ◌≤◌, ◌++◌, length};
 ghost use Rattle.arrayvec.specs.ArrayVec.{array_vec_len};
+ghost use Rattle.pm_line.specs.declared.TheConstants.{LINE_BYTES};
 ghost use Rattle.pm_model.specs.Text.{end_line, watch_line};
 
-use arrayvec::ArrayVec;
-use itoa::{Buffer, Integer};
+use itoa::Integer;
+use pm_line::{Line, append, append_number};
 use pm_types::WatchLine;
-
-/// No line has more bytes: that of a watch has 25 of words, and numbers of 10, 39, 20 and 20 digits at most.
-pub(crate) const LINE_BYTES: usize = 128;
-
-/// A line, which takes no memory.
-pub(crate) type Line = ArrayVec<u8, LINE_BYTES>;
-
-// Appends bytes, for which there is room.
-fn append(line: &mut Line, bytes: &[u8])
-    requires { array_vec_len line.old + length bytes.now ≤ LINE_BYTES }
-    ensures text { line.new.items ≡ line.old.items ++ bytes.now }
-    ensures len { array_vec_len line.new ≡ array_vec_len line.old + length bytes.now }
-{
-    line.try_extend_from_slice(bytes).unwrap();
-}
-
-// Appends a number in decimal digits.
-fn append_number<I: Integer>(line: &mut Line, number: I)
-    requires { array_vec_len line.old + I.MAX_STR_LEN ≤ LINE_BYTES }
-    ensures text { line.new.items ≡ line.old.items ++ I.text number }
-    ensures len { array_vec_len line.new ≤ array_vec_len line.old + I.MAX_STR_LEN }
-{
-    let mut buffer = Buffer::new();
-    append(line, buffer.format(number).as_bytes());
-}
 
 // Appends words, and a number behind them.
 fn append_column<I: Integer>(line: &mut Line, words: &[u8], number: I)
@@ -55,7 +31,7 @@ pub(crate) fn end_line(steps: u64, completed: u64, standing: u64) -> Line
     line
 }
 
-/// The line of a watch.
+/// The line of a watch: 25 bytes of words, and numbers of 10, 39, 20 and 20 digits at most.
 pub(crate) fn watch_line(watch: &WatchLine) -> Line
     ensures { result.items ≡ watch_line watch.now }
 {

@@ -8,8 +8,10 @@ use Rattle.pm_engine.specs.declared.tally.Tally.{Tally}
 use Rattle.pm_top.specs.declared.ended.Detail.{Detail}
 use Rattle.pm_top.specs.declared.ended.Detail.TheVariants.{Fine, Usage, Script, Reading, Writing, Device, NotEmpty, Refused, Memory}
 use Rattle.pm_top.specs.Ends.{status_of}
-use Rattle.pm_top.specs.Commands.{ShowsCauses, MakesStore, RunsScript}
-use Rattle.pm_top.specs.Needs.{HoldsScript, HoldsStore, NothingFails}
+use Rattle.pm_words.specs.declared.command.Command.{Command}
+use Rattle.pm_words.specs.declared.command.Command.TheVariants.{Init, Run, Inspect, Make, Trial}
+use Rattle.pm_top.specs.Commands.{ShowsCauses, MakesStore, RunsScript, InspectsStore, MakesScript, TriesScript, Does}
+use Rattle.pm_top.specs.Needs.{HasNeeds, HoldsScript, HoldsStore, NothingFails}
 use Rattle.pm_top.proofs.Opened.{never_shut}
 
 abbrev pub IsComplete : Detail → Type 0
@@ -54,3 +56,64 @@ module _ {D S K : Type 0} (disk_count : D → ℕ) (made : D → Made) (source_c
         absurd (omega (arith, some, zero))
     make_complete (Refused fault) journal tally makes causes none empty = absurd makes.makes
     make_complete Memory journal tally makes causes none empty = inr refl
+
+  module _ (contents : D → Option (List ℕ)) (image : D → List ℕ → Type 0) (moment : D → ℕ) (since : D → ℕ → List ℕ → Type 0) (written : K → Option (List ℕ)) (finished : K → ℕ) where
+    pub inspect_complete : (detail : Detail) (journal : List Entry) (tally : Option Tally)
+        → InspectsStore contents image moment since made written finished disk disk_end source source_end sink sink_end detail journal tally
+        → ShowsCauses disk_count made source_count sink_count disk disk_end source source_end sink sink_end detail
+        → NothingFails disk_count source_count sink_count disk disk_end source source_end sink sink_end
+        → HoldsStore (contents disk) → IsComplete detail
+    inspect_complete Fine journal tally inspects causes none store = inl refl
+    inspect_complete Usage journal tally inspects causes none store = absurd inspects.ends
+    inspect_complete (Script fault) journal tally inspects causes none store = absurd inspects.ends
+    inspect_complete (Reading before after) journal tally inspects causes none store = absurd inspects.ends
+    inspect_complete (Writing before after) journal tally inspects causes none store = absurd (none.sink_stands (rises before after (sink_count sink) (sink_count sink_end) causes.writing))
+    inspect_complete (Device before after) journal tally inspects causes none store = absurd (none.disk_stands (rises before after (disk_count disk) (disk_count disk_end) causes.device))
+    inspect_complete (NotEmpty bytes) journal tally inspects causes none store = absurd inspects.ends
+    inspect_complete (Refused fault) journal tally inspects causes none store =
+        absurd (never_shut store.bytes store.number store.copy fault store.stands (inspects.refused store.bytes store.is_told))
+    inspect_complete Memory journal tally inspects causes none store = inr refl
+
+    pub trial_complete : (seed turns : ℕ) (detail : Detail) (journal : List Entry) (tally : Option Tally)
+        → TriesScript seed turns contents image moment since written finished sink_count disk disk_end source source_end sink sink_end detail journal tally
+        → ShowsCauses disk_count made source_count sink_count disk disk_end source source_end sink sink_end detail
+        → NothingFails disk_count source_count sink_count disk disk_end source source_end sink sink_end
+        → HoldsStore (contents disk) → IsComplete detail
+    trial_complete seed turns Fine journal tally tries causes none store = inl refl
+    trial_complete seed turns Usage journal tally tries causes none store = absurd tries.ends
+    trial_complete seed turns (Script fault) journal tally tries causes none store = absurd tries.ends
+    trial_complete seed turns (Reading before after) journal tally tries causes none store = absurd tries.ends
+    trial_complete seed turns (Writing before after) journal tally tries causes none store = absurd (none.sink_stands (rises before after (sink_count sink) (sink_count sink_end) causes.writing))
+    trial_complete seed turns (Device before after) journal tally tries causes none store = absurd (none.disk_stands (rises before after (disk_count disk) (disk_count disk_end) causes.device))
+    trial_complete seed turns (NotEmpty bytes) journal tally tries causes none store = absurd tries.ends
+    trial_complete seed turns (Refused fault) journal tally tries causes none store =
+        absurd (never_shut store.bytes store.number store.copy fault store.stands (tries.store.leaves.refused store.bytes store.is_told))
+    trial_complete seed turns Memory journal tally tries causes none store = inr refl
+
+  module _ (written : K → Option (List ℕ)) (finished : K → ℕ) where
+    pub script_complete : (seed turns : ℕ) (detail : Detail) (journal : List Entry) (tally : Option Tally)
+        → MakesScript seed turns written finished disk disk_end source source_end sink sink_end detail journal tally
+        → ShowsCauses disk_count made source_count sink_count disk disk_end source source_end sink sink_end detail
+        → NothingFails disk_count source_count sink_count disk disk_end source source_end sink sink_end → IsComplete detail
+    script_complete seed turns Fine journal tally makes causes none = inl refl
+    script_complete seed turns Usage journal tally makes causes none = absurd makes.ends
+    script_complete seed turns (Script fault) journal tally makes causes none = absurd makes.ends
+    script_complete seed turns (Reading before after) journal tally makes causes none = absurd makes.ends
+    script_complete seed turns (Writing before after) journal tally makes causes none = absurd (none.sink_stands (rises before after (sink_count sink) (sink_count sink_end) causes.writing))
+    script_complete seed turns (Device before after) journal tally makes causes none = absurd makes.ends
+    script_complete seed turns (NotEmpty bytes) journal tally makes causes none = absurd makes.ends
+    script_complete seed turns (Refused fault) journal tally makes causes none = absurd makes.ends
+    script_complete seed turns Memory journal tally makes causes none = inr refl
+
+  -- whatever the command is
+  module _ (contents : D → Option (List ℕ)) (image : D → List ℕ → Type 0) (moment : D → ℕ) (since : D → ℕ → List ℕ → Type 0) (left : S → Option (List ℕ)) (written : K → Option (List ℕ)) (finished : K → ℕ) where
+    pub complete : (command : Command) (detail : Detail) (journal : List Entry) (tally : Option Tally)
+        → Does command contents image moment since made left written finished sink_count disk disk_end source source_end sink sink_end detail journal tally
+        → ShowsCauses disk_count made source_count sink_count disk disk_end source source_end sink sink_end detail
+        → HasNeeds command (contents disk) (left source)
+        → NothingFails disk_count source_count sink_count disk disk_end source source_end sink sink_end → IsComplete detail
+    complete Init detail journal tally does causes needs none = make_complete contents image detail journal tally does causes none needs
+    complete Run detail journal tally does causes needs none = run_complete contents image moment since left written finished detail journal tally does causes none needs.0 needs.1
+    complete Inspect detail journal tally does causes needs none = inspect_complete contents image moment since written finished detail journal tally does causes none needs
+    complete (Make seed turns) detail journal tally does causes needs none = script_complete written finished seed turns detail journal tally does causes none
+    complete (Trial seed turns) detail journal tally does causes needs none = trial_complete contents image moment since written finished seed turns detail journal tally does causes none needs

@@ -3,9 +3,9 @@ pub mod Counted
 pub mod Ran
 pub mod NotMade
 pub mod Opened
-pub mod Worded
 pub mod Stores
 pub mod Scripts
 pub mod Faults
 pub mod Complete
+pub mod Performing
 pub mod Programs

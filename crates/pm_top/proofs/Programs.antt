@@ -1,5 +1,5 @@
 -- What is told of an end, and what the status says of the words.
-use Rattle.std.proofs.Common.{◌≡◌, ◌⊎◌, inl, inr, ℕ, ◌≤◌, arith, List, [], ◌++◌, length, Option, Some, Ok, Err, refl, sym, ap, ◌∙◌}
+use Rattle.std.proofs.Common.{◌≡◌, ◌⊎◌, ⊎_elim, inl, inr, ℕ, ◌≤◌, arith, List, [], ◌++◌, length, Option, Some, Ok, Err, refl, sym, ap, ◌∙◌}
 use Rattle.std.specs.Prelude.{Result, IfOk, OnErr}
 use Rattle.std.proofs.lemmas.List.{append-nil}
 use Rattle.std.proofs.Math.Seq.{take-length}
@@ -9,7 +9,7 @@ use Rattle.pm_disk.specs.Made.{Made}
 use Rattle.pm_output.specs.Writing.{PutsAll, PutsPart}
 use Rattle.pm_top.specs.declared.ended.Detail.{Detail}
 use Rattle.pm_top.specs.declared.ended.Detail.TheVariants.{Fine, Usage, Script, Reading, Writing, Device, NotEmpty, Refused, Memory}
-use Rattle.pm_top.specs.Words.{SpellsNothing}
+use Rattle.pm_words.specs.Words.{SpellsNothing}
 use Rattle.pm_top.specs.Ends.{status_of}
 use Rattle.pm_top.specs.Program.{Tells, Performs}
 
@@ -48,12 +48,13 @@ module _ {D S K : Type 0} (contents : D → Option (List ℕ)) (image : D → Li
   pub status_of_nothing : (words : List (List ℕ)) (disk : Result D NoMemory) (source : S) (sink : K) (status : ℕ) (tells : List ℕ → Type 0)
       → IfOk disk (λ given. Performs contents image moment since disk_count made left source_count written finished sink_count words given source sink status tells) → OnErr disk (status ≡ 7)
       → SpellsNothing words → (status ≡ 1) ⊎ (status ≡ 7)
-  status_of_nothing words (Ok disk) source sink status tells performs memory nothing = inl (performs.is_status ∙ ap status_of (performs.usage.1 nothing))
+  status_of_nothing words (Ok disk) source sink status tells performs memory nothing =
+      ⊎_elim (λ is. inl (performs.is_status ∙ ap status_of is)) (λ is. inr (performs.is_status ∙ ap status_of is)) (performs.refused nothing)
   status_of_nothing words (Err fault) source sink status tells performs memory nothing = inr memory
 
   -- status 1: the words are no command's
   pub nothing_of_status : (words : List (List ℕ)) (disk : Result D NoMemory) (source : S) (sink : K) (status : ℕ) (tells : List ℕ → Type 0)
       → IfOk disk (λ given. Performs contents image moment since disk_count made left source_count written finished sink_count words given source sink status tells) → OnErr disk (status ≡ 7)
       → status ≡ 1 → SpellsNothing words
-  nothing_of_status words (Ok disk) source sink status tells performs memory one = performs.usage.0 (usage_one performs.detail (sym performs.is_status ∙ one))
+  nothing_of_status words (Ok disk) source sink status tells performs memory one = performs.usage (usage_one performs.detail (sym performs.is_status ∙ one))
   nothing_of_status words (Err fault) source sink status tells performs memory one = absurd (cc (memory, one))

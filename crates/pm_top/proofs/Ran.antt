@@ -25,13 +25,15 @@ use Rattle.pm_serial.specs.declared.stop.Stop.TheVariants.{Memory as StopMemory,
 use Rattle.pm_serial.specs.Causes as causes
 use Rattle.pm_serial.specs.Causes.{IsDone, CountsDisk, CountsSink}
 use Rattle.pm_serial.specs.Running.{AnswersLines, IsFresh, RunsOnDisk}
-use Rattle.pm_serial.specs.Writing.{WroteRun, tail_of}
+use Rattle.pm_serial.specs.Writing.{tail_of}
 use Rattle.pm_top.specs.declared.ended.Detail.{Detail}
+use Rattle.pm_top.specs.declared.writes.Writes.{Writes}
 use Rattle.pm_top.specs.Ends.{stop_in, ended_by}
 use Rattle.pm_top.specs.Stages.{IsPast, unreached, the_events, the_output}
 use Rattle.pm_top.specs.Disks.{IsLastOf, IsOfDisk, IsOfRun}
 use Rattle.pm_top.specs.Tallies.{ComesTo, ReachesAtMost}
 use Rattle.pm_top.specs.Engines.{RunsEngine}
+use Rattle.pm_top.specs.Wrote.{Wrote}
 use Rattle.pm_top.specs.Journals.{IsBegun, ServesLines}
 use Rattle.pm_top.specs.Commands.{ShowsCauses}
 use Rattle.pm_top.proofs.Faults.{late_past}
@@ -106,16 +108,16 @@ lines_served lines it tally stop detail a b c d ends is answers =
       events = λ past. ap (λ (total : Total). total.events) is ∙ answers.events (done_back stop a b c d it.journal past);
     })
 
-module _ {D : Type 0} {F : Type 0} {g : Ghosts D} {K : Type 0} (written : K → Option (List ℕ)) (finished count : K → ℕ) where
+module _ {D : Type 0} {F : Type 0} {g : Ghosts D} {K : Type 0} (writes : Writes) (written : K → Option (List ℕ)) (finished count : K → ℕ) where
   -- what it left
   pub engine_run : (old new : Engine D F g) (tally : Tally) (sink last : K) (stop : Option Stop) (ending : Detail) (a b c d : ℕ) → ending ≡ ended_by stop a b c d → RunsOnDisk old new stop → KeepsStart old new → IsClosed (opening (serving new)) → IsLegal (opening (serving new)) (serving new).journal
       → (world (serving new)).watches ≡ length (serving new).watches → ReachesAtMost (world (serving new)) (standing (serving new).view) → tally_of tally ≡ tally_in (serving new)
-      → WroteRun written finished count sink last (text (serving new).journal) (tail_of (tally_in (serving new))) stop
-      → RunsEngine written finished count old (disk_in new) sink last ending (serving new).journal (Some tally)
+      → Wrote writes written finished count sink last (text (serving new).journal) (tail_of (tally_in (serving new))) stop
+      → RunsEngine writes written finished count old (disk_in new) sink last ending (serving new).journal (Some tally)
   engine_run old new tally sink last stop ending a b c d ends disk start closed legal watching few is wrote =
       let detail = ended_by stop a b c d in
       let journal = (serving new).journal in
-      subst (λ (e : Detail). RunsEngine written finished count old (disk_in new) sink last e journal (Some tally)) (sym ends)
+      subst (λ (e : Detail). RunsEngine writes written finished count old (disk_in new) sink last e journal (Some tally)) (sym ends)
       (record {
         late = ended_late stop a b c d;
         closed = subst IsClosed same closed;
@@ -128,8 +130,8 @@ module _ {D : Type 0} {F : Type 0} {g : Ghosts D} {K : Type 0} (written : K → 
         there = refl;
         comes_to = subst (ComesTo (opening (serving old)) journal) (sym is) (subst (λ (w : World). ComesTo w journal (tally_in (serving new))) same (engine_comes (serving new) watching few));
         replies =
-            subst (λ (total : Total). WroteRun written finished count sink last (text journal) (tail_of total) (stop_in detail)) (sym is)
-            (subst (λ (s : Option Stop). WroteRun written finished count sink last (text journal) (tail_of (tally_in (serving new))) s) (stop_back stop a b c d) wrote);
+            subst (λ (total : Total). Wrote writes written finished count sink last (text journal) (tail_of total) (stop_in detail)) (sym is)
+            (subst (λ (s : Option Stop). Wrote writes written finished count sink last (text journal) (tail_of (tally_in (serving new))) s) (stop_back stop a b c d) wrote);
       })
     where
       same : opening (serving new) ≡ opening (serving old)

@@ -9,13 +9,15 @@ use Rattle.pm_image.specs.Stands.{Stands}
 use Rattle.pm_engine.specs.declared.tally.Tally.{Tally}
 use Rattle.pm_engine.specs.Shown.{tally_of}
 use Rattle.pm_serial.specs.Asked.{requests_asked}
-use Rattle.pm_serial.specs.Writing.{WroteRun, tail_of}
+use Rattle.pm_serial.specs.Writing.{tail_of}
 use Rattle.pm_top.specs.declared.ended.Detail.{Detail}
+use Rattle.pm_top.specs.declared.writes.Writes.{Writes}
 use Rattle.pm_top.specs.Ends.{stop_in}
 use Rattle.pm_top.specs.Stages.{IsPast, unreached, the_words, the_store, the_events, the_output}
 use Rattle.pm_top.specs.Journals.{IsBegun, ServesLines}
 use Rattle.pm_top.specs.Disks.{LeavesDisk}
 use Rattle.pm_top.specs.Tallies.{ComesTo}
+use Rattle.pm_top.specs.Wrote.{Wrote}
 use Rattle.pm_top.specs.Commands.{RunsStore}
 use Rattle.pm_top.proofs.Ran.{none_begun}
 
@@ -32,10 +34,10 @@ at_end {D} {S} {K} P {detail} {was_detail} {journal} {was_journal} {tally} {was_
     (subst (λ (s : S). P was_detail was_journal was_tally was_disk s sink) (sym is_source)
     (subst (λ (k : K). P was_detail was_journal was_tally was_disk was_source k) (sym is_sink) holds)))))
 
-module _ {D K : Type 0} (contents : D → Option (List ℕ)) (image : D → List ℕ → Type 0) (moment : D → ℕ) (since : D → ℕ → List ℕ → Type 0) (written : K → Option (List ℕ)) (finished count : K → ℕ) where
+module _ {D K : Type 0} (writes : Writes) (contents : D → Option (List ℕ)) (image : D → List ℕ → Type 0) (moment : D → ℕ) (since : D → ℕ → List ℕ → Type 0) (written : K → Option (List ℕ)) (finished count : K → ℕ) where
   -- no store was opened
   pub store_unrun : (disk end : D) (sink : K) (detail : Detail) → (IsPast the_store detail [] → ⊥) → LeavesDisk contents image moment since disk end detail []
-      → RunsStore contents image moment since written finished count disk end sink sink detail [] None
+      → RunsStore writes contents image moment since written finished count disk end sink sink detail [] None
   store_unrun disk end sink detail undone leaves = record {
     begun = none_begun;
     none = refl;
@@ -50,8 +52,8 @@ module _ {D K : Type 0} (contents : D → Option (List ℕ)) (image : D → List
   pub store_run : (disk end : D) (sink last : K) (detail : Detail) (journal : List Entry) (tally : Option Tally) (begun : IsBegun journal) → the_events < unreached detail → IsSome tally
       → ((bytes : List ℕ) → contents disk ≡ Some bytes → Stands bytes begun.number begun.copy) → IfSome tally (λ it. ComesTo (begin begun.number begun.copy) journal (tally_of it))
       → LeavesDisk contents image moment since disk end detail journal
-      → IfSome tally (λ it. WroteRun written finished count sink last (text journal) (tail_of (tally_of it)) (stop_in detail))
-      → RunsStore contents image moment since written finished count disk end sink last detail journal tally
+      → IfSome tally (λ it. Wrote writes written finished count sink last (text journal) (tail_of (tally_of it)) (stop_in detail))
+      → RunsStore writes contents image moment since written finished count disk end sink last detail journal tally
   store_run disk end sink last detail journal None begun late there stands comes leaves replies = absurd (cc there)
   store_run disk end sink last detail journal (Some tally) begun late there stands comes leaves replies = record {
     begun = begun;

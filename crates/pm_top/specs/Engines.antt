@@ -11,17 +11,19 @@ use Rattle.pm_serving.specs.Images.{IsTold}
 use Rattle.pm_engine.specs.declared.engine.Engine.{Engine}
 use Rattle.pm_engine.specs.declared.tally.Tally.{Tally}
 use Rattle.pm_engine.specs.Shown.{disk_in, opened_disk, serving, tally_of}
-use Rattle.pm_serial.specs.Writing.{WroteRun, tail_of}
+use Rattle.pm_serial.specs.Writing.{tail_of}
 use Rattle.pm_top.specs.declared.ended.Detail.{Detail}
+use Rattle.pm_top.specs.declared.writes.Writes.{Writes}
 use Rattle.pm_top.specs.Ends.{stop_in}
 use Rattle.pm_top.specs.Stages.{unreached, the_events}
 use Rattle.pm_top.specs.Disks.{IsLastOf, IsOfRun}
 use Rattle.pm_top.specs.Tallies.{ComesTo}
+use Rattle.pm_top.specs.Wrote.{Wrote}
 
 module _ {D : Type 0} {F : Type 0} {g : Ghosts D} {K : Type 0} where
   -- By how it ended: from the world that was opened, on this disk, with this journal and this tally. What is said of
   -- images is said of a disk that told its contents when it was opened.
-  pub record RunsEngine (written : K → Option (List ℕ)) (finished count : K → ℕ) (engine : Engine D F g) (end : D) (sink last_sink : K) (detail : Detail) (journal : List Entry) (tally : Option Tally) : Type 0 where
+  pub record RunsEngine (writes : Writes) (written : K → Option (List ℕ)) (finished count : K → ℕ) (engine : Engine D F g) (end : D) (sink last_sink : K) (detail : Detail) (journal : List Entry) (tally : Option Tally) : Type 0 where
     -- it came to the events
     pub late : the_events < unreached detail
     -- in the world that was opened whatever is named is an object, and the journal is legal from it
@@ -36,4 +38,4 @@ module _ {D : Type 0} {F : Type 0} {g : Ghosts D} {K : Type 0} where
     pub there : IsSome tally
     pub comes_to : IfSome tally (λ it. ComesTo (opening (serving engine)) journal (tally_of it))
     -- what was written
-    pub replies : IfSome tally (λ it. WroteRun written finished count sink last_sink (text journal) (tail_of (tally_of it)) (stop_in detail))
+    pub replies : IfSome tally (λ it. Wrote writes written finished count sink last_sink (text journal) (tail_of (tally_of it)) (stop_in detail))

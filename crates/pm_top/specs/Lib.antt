@@ -1,10 +1,9 @@
-pub mod Words
-pub mod Walk
 pub mod Stages
 pub mod Ends
 pub mod Journals
 pub mod Disks
 pub mod Tallies
+pub mod Wrote
 pub mod Engines
 pub mod Commands
 pub mod Needs

@@ -5,8 +5,8 @@ use Rattle.pm_model.specs.World.{Copy}
 use Rattle.pm_image.specs.Stands.{Stands}
 use Rattle.pm_grammar.specs.declared.line.Line.{Line}
 use Rattle.pm_grammar.specs.Script.{IsScript}
-use Rattle.pm_top.specs.declared.command_line.Command.{Command}
-use Rattle.pm_top.specs.declared.command_line.Command.TheVariants.{Init, Run}
+use Rattle.pm_words.specs.declared.command.Command.{Command}
+use Rattle.pm_words.specs.declared.command.Command.TheVariants.{Init, Run, Inspect, Make, Trial}
 
 -- the source tells that it holds a script
 pub record HoldsScript (told : Option (List ℕ)) : Type 0 where
@@ -27,6 +27,9 @@ pub record HoldsStore (told : Option (List ℕ)) : Type 0 where
 abbrev pub HasNeeds : Command → Option (List ℕ) → Option (List ℕ) → Type 0
 HasNeeds Init on_disk in_source = on_disk ≡ Some []
 HasNeeds Run on_disk in_source = HoldsStore on_disk × HoldsScript in_source
+HasNeeds Inspect on_disk in_source = HoldsStore on_disk
+HasNeeds (Make seed turns) on_disk in_source = Unit {0}
+HasNeeds (Trial seed turns) on_disk in_source = HoldsStore on_disk
 
 -- none of the three failed
 pub record NothingFails {D S K : Type 0} (disk_count : D → ℕ) (source_count : S → ℕ) (sink_count : K → ℕ) (disk disk_end : D) (source source_end : S) (sink sink_end : K) : Type 0 where

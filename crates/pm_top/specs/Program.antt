@@ -1,17 +1,16 @@
 -- What the whole program does, down to its status and to standard error.
-use Rattle.std.specs.Prelude.{◌≡◌, ◌⊎◌, ◌↔◌, ℕ, List, Option}
+use Rattle.std.specs.Prelude.{◌≡◌, ◌⊎◌, ℕ, List, Option}
 use Rattle.pm_base.specs.Counts.{Rose}
 use Rattle.pm_types.specs.declared.entry.Entry.{Entry}
 use Rattle.pm_disk.specs.Made.{Made}
 use Rattle.pm_output.specs.Writing.{PutsAll, PutsPart}
 use Rattle.pm_engine.specs.declared.tally.Tally.{Tally}
-use Rattle.pm_top.specs.declared.command_line.Command.{Command}
-use Rattle.pm_top.specs.declared.command_line.Command.TheVariants.{Init, Run}
+use Rattle.pm_words.specs.declared.command.Command.{Command}
+use Rattle.pm_words.specs.Words.{Spells, SpellsNothing}
 use Rattle.pm_top.specs.declared.ended.Detail.{Detail}
-use Rattle.pm_top.specs.declared.ended.Detail.TheVariants.{Usage}
-use Rattle.pm_top.specs.Words.{Spells, SpellsNothing}
+use Rattle.pm_top.specs.declared.ended.Detail.TheVariants.{Usage, Memory}
 use Rattle.pm_top.specs.Ends.{status_of, detail_line}
-use Rattle.pm_top.specs.Commands.{ShowsCauses, IsUntouched, MakesStore, RunsScript}
+use Rattle.pm_top.specs.Commands.{ShowsCauses, IsUntouched, Does}
 use Rattle.pm_top.specs.Needs.{HasNeeds, NothingFails}
 
 -- This line was written to the sink and nothing else, or, where the sink failed, a first part of it.
@@ -36,10 +35,11 @@ pub record Performs {D S K : Type 0} (contents : D → Option (List ℕ)) (image
   pub sink_end : K
   pub is_status : status ≡ status_of detail
   pub told : tells (detail_line detail)
-  pub usage : (detail ≡ Usage) ↔ SpellsNothing words
-  pub untouched : detail ≡ Usage → IsUntouched disk disk_end source source_end sink sink_end journal tally
+  pub usage : detail ≡ Usage → SpellsNothing words
+  pub refused : SpellsNothing words → (detail ≡ Usage) ⊎ (detail ≡ Memory)
+  pub untouched : SpellsNothing words → IsUntouched disk disk_end source source_end sink sink_end journal tally
   pub causes : ShowsCauses disk_count made source_count sink_count disk disk_end source source_end sink sink_end detail
-  pub init : Spells words Init → MakesStore contents image disk disk_end source source_end sink sink_end detail journal tally
-  pub run : Spells words Run → RunsScript contents image moment since left written finished sink_count disk disk_end source source_end sink sink_end detail journal tally
+  pub does : (command : Command) → Spells words command
+      → Does command contents image moment since made left written finished sink_count disk disk_end source source_end sink sink_end detail journal tally
   pub complete : (command : Command) → Spells words command → HasNeeds command (contents disk) (left source)
       → NothingFails disk_count source_count sink_count disk disk_end source source_end sink sink_end → (status ≡ 0) ⊎ (status ≡ 7)

@@ -8,7 +8,7 @@ use Rattle.pm_top.specs.declared.ended.Detail.TheVariants.{Fine, Usage, Script, 
 abbrev pub at_start : ℕ
 at_start = 0
 
--- the words are read, as those of a run
+-- the words are those of a run
 abbrev pub the_words : ℕ
 the_words = 1
 

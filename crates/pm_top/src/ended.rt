@@ -1,6 +1,6 @@
 ghost use Rattle.std.specs.Prelude.{◌≡◌, [], None};
 ghost use Rattle.pm_serial.specs.Causes.{why};
-ghost use Rattle.pm_top.specs.Ends.{status_of, ended_by};
+ghost use Rattle.pm_top.specs.Ends.{status_of, ended_by, not_opened};
 
 use pm_disk::Disk;
 use pm_engine::Tally;
@@ -90,6 +90,17 @@ pub(crate) fn ended_by(
             before: disk_before,
             after: disk_after,
         },
+    }
+}
+
+/// How the program ends where a store is not opened.
+pub(crate) fn not_opened(fault: OpenFault) -> Detail
+    ensures { result ≡ not_opened fault }
+{
+    match fault {
+        OpenFault::Disk { before, after } => Detail::Device { before, after },
+        OpenFault::Memory => Detail::Memory,
+        fault => Detail::Refused(fault),
     }
 }
 

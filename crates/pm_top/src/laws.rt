@@ -1,21 +1,13 @@
 //! Laws of the words by which the top call is stated. Each function's contract is the law, and the function does
 //! nothing.
-ghost use Rattle.std.specs.Prelude.{◌≡◌, ◌⊎◌, ◌<◌, List, ℕ, ◌++◌};
+ghost use Rattle.std.specs.Prelude.{◌<◌, List, ◌++◌};
 ghost use Rattle.pm_types.specs.declared.entry.Entry.{Entry};
 ghost use Rattle.pm_model.specs.World.{begin};
 ghost use Rattle.pm_model.specs.Journal.{after};
 ghost use Rattle.pm_model.specs.Closed.{IsClosed};
-ghost use Rattle.pm_top.specs.declared.command_line.Command.TheVariants.{Init, Run};
 ghost use Rattle.pm_top.specs.declared.ended.Detail.{Detail as End};
-ghost use Rattle.pm_top.specs.Words.{Spells, SpellsNothing};
 ghost use Rattle.pm_top.specs.Stages.{behind, unreached};
 ghost use Rattle.pm_top.specs.Journals.{IsBegun};
-
-/// A law of words: they are those of one command at most, and of one or of none.
-pub fn words_spell_one_command()
-    ensures one { (words : List (List ℕ)) → Spells words Init → Spells words Run → ⊥ }
-    ensures some { (words : List (List ℕ)) → (Spells words Run ⊎ Spells words Init) ⊎ SpellsNothing words }
-{}
 
 /// A law of stages: what an end has behind comes before what it did not reach.
 pub fn ends_lie_between_stages()

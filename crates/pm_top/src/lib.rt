@@ -1,19 +1,23 @@
-//! The whole program but for its outermost shell: it makes a store, or it reads a script, opens the store, runs the
-//! script over its copy, and writes the replies; and it tells how it ended.
+//! The whole program but for its outermost shell: it reads the words, does what the command asks for, and tells how it
+//! ended. It makes a store; runs a script over a store's copy and writes the replies; writes the report of a store;
+//! writes a script that is made from a seed; or runs that script and writes the digest of the replies.
 #![tactic(auto)]
 
-mod command_line;
 mod ended;
+mod inspecting;
 mod laws;
+mod made;
 mod making;
 mod opening;
+mod running;
 mod shell;
+mod texting;
 mod texts;
 mod top;
+mod writes;
 
-pub use command_line::{Command, command_of};
 pub use ended::{Detail, Ended};
-pub use laws::{a_run_stays_closed, ends_lie_between_stages, words_spell_one_command};
+pub use laws::{a_run_stays_closed, ends_lie_between_stages};
 pub use shell::{program, tell};
 pub use texts::detail_text;
 pub use top::pmos;

@@ -1,64 +1,13 @@
 //! What the program writes on standard error.
-ghost use Rattle.std.specs.Prelude.{◌≡◌, ◌+◌, ◌≤◌, ◌++◌, length, IfOk, codes, decimal};
-ghost use Rattle.hex.specs.Hex.{encode_lower};
-ghost use Rattle.arrayvec.specs.ArrayVec.{array_vec_len};
+ghost use Rattle.std.specs.Prelude.{◌≡◌, ◌≤◌, ◌++◌, length, IfOk, codes, decimal};
 ghost use Rattle.pm_grammar.specs.declared.fault.ScriptFault.TheVariants as script_fault;
 ghost use Rattle.pm_top.specs.Ends.{cause_word, detail_line, refusal_line, script_line};
 
 use crate::Detail;
-use arrayvec::ArrayVec;
-use hex::encode_to_slice;
-use itoa::Buffer;
 use pm_grammar::{Cause, ScriptFault};
+use pm_line::{Line, append, append_digest, append_number, line_with};
 use pm_types::{NoMemory, OpenFault};
 use std::alloc::Global;
-
-/// The most bytes of a line: words, two digests of 64 digits, and a number of 20.
-pub(crate) const DETAIL_BYTES: usize = 256;
-
-/// A line, which takes no memory.
-pub(crate) type Line = ArrayVec<u8, DETAIL_BYTES>;
-
-// Appends bytes, for which there is room.
-fn append(line: &mut Line, bytes: &[u8])
-    requires { array_vec_len line.old + length bytes.now ≤ DETAIL_BYTES }
-    ensures text { line.new.items ≡ line.old.items ++ bytes.now }
-    ensures len { array_vec_len line.new ≡ array_vec_len line.old + length bytes.now }
-{
-    line.try_extend_from_slice(bytes).unwrap();
-}
-
-// Appends a number in decimal digits, of which it has 20 at most.
-fn append_number(line: &mut Line, number: u64)
-    requires { array_vec_len line.old + 20 ≤ DETAIL_BYTES }
-    ensures text { line.new.items ≡ line.old.items ++ decimal number }
-    ensures len { array_vec_len line.new ≤ array_vec_len line.old + 20 }
-{
-    let mut buffer = Buffer::new();
-    append(line, buffer.format(number).as_bytes());
-}
-
-// Appends a digest in 64 digits.
-fn append_digest(line: &mut Line, digest: &[u8; 32])
-    requires { array_vec_len line.old + 64 ≤ DETAIL_BYTES }
-    ensures text { line.new.items ≡ line.old.items ++ encode_lower digest.now }
-    ensures len { array_vec_len line.new ≡ array_vec_len line.old + 64 }
-{
-    let mut digits = [0; 64];
-    encode_to_slice(digest, &mut digits).unwrap();
-    append(line, &digits);
-}
-
-// A line of words alone.
-fn line_with(words: &[u8]) -> Line
-    requires { length words.now ≤ DETAIL_BYTES }
-    ensures text { result.items ≡ words.now }
-    ensures len { array_vec_len result ≡ length words.now }
-{
-    let mut line = Line::new();
-    append(&mut line, words);
-    line
-}
 
 // A line with a number at its end.
 fn numbered_line(words: &[u8], number: u64) -> Line

@@ -1,112 +1,54 @@
 //! All that the program does but for its shell.
-ghost use Rattle.std.specs.Prelude.{◌≡◌, ◌<◌, ◌≤◌, ◌⊎◌, ◌↔◌, List, ℕ, length, map, IfOk, IfErr, Ok, Err};
-ghost use Rattle.pm_grammar.specs.declared.fault.ScriptFault.{ScriptFault as Fault};
-ghost use Rattle.pm_grammar.specs.declared.fault.ScriptFault.TheVariants as script_fault;
-ghost use Rattle.pm_grammar.specs.declared.line.Line.{Line as Says};
-ghost use Rattle.pm_grammar.specs.Bad.{IsBad};
-ghost use Rattle.pm_grammar.specs.Reading.{Answers};
-ghost use Rattle.pm_grammar.specs.Script.{IsScript};
+ghost use Rattle.std.specs.Prelude.{◌≡◌, ◌⊎◌, map};
+ghost use Rattle.pm_words.specs.declared.command.Command.{Command as Asked};
+ghost use Rattle.pm_words.specs.Words.{Spells, SpellsNothing};
 ghost use Rattle.pm_place.specs.Choosers.{IsChooser};
-ghost use Rattle.pm_top.specs.declared.command_line.Command.{Command as Asked};
-ghost use Rattle.pm_top.specs.Words.{Spells, SpellsNothing};
-ghost use Rattle.pm_top.specs.Ends.{status_of, not_read};
-ghost use Rattle.pm_top.specs.Stages.{IsPast, unreached, the_words, the_script};
-ghost use Rattle.pm_top.specs.Journals.{ReadsScript};
-ghost use Rattle.pm_top.specs.Commands.{ShowsCauses, IsUntouched, MakesStore, RunsStore, RunsScript};
+ghost use Rattle.pm_top.specs.Ends.{status_of};
+ghost use Rattle.pm_top.specs.Commands.{ShowsCauses, IsUntouched, MayPerform, Does};
 ghost use Rattle.pm_top.specs.Needs.{HasNeeds, NothingFails};
 
-use crate::command_line::{Command, command_of};
 use crate::ended::end_unopened;
+use crate::inspecting::inspect_store;
+use crate::made::{make_script, try_script};
 use crate::making::make_store;
-use crate::opening::open_and_run;
+use crate::running::run_source;
 use crate::{Detail, Ended};
 use pm_disk::Disk;
-use pm_grammar::{Script, ScriptFault, read_script};
-use pm_io::{ReadAll, Sink, Source, read_all};
+use pm_io::{Sink, Source};
 use pm_place::Placement;
-use pm_types::SOURCE_BYTES;
+use pm_words::{Command, read_words, words_spell_one_command};
 use std::alloc::Global;
 
-// How the program ends where a script is not read.
-fn not_read(fault: ScriptFault) -> Detail
-    ensures { result ≡ not_read fault }
-{
-    match fault {
-        ScriptFault::Memory => Detail::Memory,
-        fault => Detail::Script(fault),
-    }
-}
-
-// The lines that the bytes spell, by the clauses of `read_script`. The bytes are let go.
-fn read_lines(alloc: Global, bytes: Vec<u8>) -> Result<Script, ScriptFault>
-    requires { length bytes.items ≤ SOURCE_BYTES }
-    ensures found { IfOk result (λ script. IsScript bytes.items script) }
-    ensures only { (lines : List Says) → IsScript bytes.items lines → Answers result (Ok lines) }
-    ensures bad { IfErr result (λ fault. (fault ≡ script_fault.Memory) ⊎ IsBad fault bytes.items) }
-    ensures told { (fault : Fault) → IsBad fault bytes.items → Answers result (Err fault) }
-{
-    read_script(alloc, bytes.as_slice())
-}
-
-// Reads a script, opens the store, and runs the script over its copy. The script's bytes are not kept meanwhile.
-fn run_bytes<D: Disk, F: Fn(&[u64]) -> usize + Drop, S: Source, K: Sink>(
+// Does what a command asks for.
+fn perform<D: Disk, F: Fn(&[u64]) -> usize + Drop, S: Source, K: Sink>(
     alloc: Global,
-    bytes: Vec<u8>,
+    command: Command,
     disk: D,
-    place: Placement<F>,
     source: S,
     sink: K,
-) -> Ended<D, S, K>
-    requires bytes { length bytes.items ≤ SOURCE_BYTES }
-    requires chooser { IsChooser F.Fn place }
-    ensures status { result.status ≡ status_of result.detail }
-    ensures source { result.source ≡ source }
-    ensures ends { IsPast the_words result.detail result.journal.items }
-    ensures past { the_script < unreached result.detail }
-    ensures script { ReadsScript bytes.items result.detail result.journal.items result.tally }
-    ensures store { RunsStore D.contents D.image D.moment D.since K.written K.finished K.count
-        disk result.disk sink result.sink result.detail result.journal.items result.tally }
-    ensures causes { ShowsCauses D.count D.made S.count K.count disk result.disk source result.source
-        sink result.sink result.detail }
-{
-    match read_lines(alloc, bytes) {
-        Ok(script) => open_and_run(alloc, script.as_slice(), disk, place, source, sink),
-        Err(fault) => end_unopened(alloc, not_read(fault), disk, source, sink),
-    }
-}
-
-// Reads the source to its end, and runs what it held.
-fn run_source<D: Disk, F: Fn(&[u64]) -> usize + Drop, S: Source, K: Sink>(
-    alloc: Global,
-    disk: D,
     place: Placement<F>,
-    mut source: S,
-    sink: K,
 ) -> Ended<D, S, K>
+    requires may { MayPerform command }
     requires chooser { IsChooser F.Fn place }
     ensures status { result.status ≡ status_of result.detail }
-    ensures runs { RunsScript D.contents D.image D.moment D.since S.left K.written K.finished K.count
-        disk result.disk source result.source sink result.sink result.detail result.journal.items result.tally }
     ensures causes { ShowsCauses D.count D.made S.count K.count disk result.disk source result.source
         sink result.sink result.detail }
+    ensures does { Does command D.contents D.image D.moment D.since D.made S.left K.written K.finished K.count
+        disk result.disk source result.source sink result.sink
+        result.detail result.journal.items result.tally }
 {
-    let before = source.faults();
-    match read_all(alloc, &mut source) {
-        Ok(bytes) => run_bytes(alloc, bytes, disk, place, source, sink),
-        Err(ReadAll::TooLong) => {
-            let detail = Detail::Script(ScriptFault::TooLong);
-            end_unopened(alloc, detail, disk, source, sink)
-        }
-        Err(ReadAll::Memory) => end_unopened(alloc, Detail::Memory, disk, source, sink),
-        Err(ReadAll::Failed) => {
-            let after = source.faults();
-            let detail = Detail::Reading { before, after };
-            end_unopened(alloc, detail, disk, source, sink)
+    match command {
+        Command::Init => make_store(alloc, disk, source, sink),
+        Command::Run => run_source(alloc, disk, place, source, sink),
+        Command::Inspect => inspect_store(alloc, disk, source, sink),
+        Command::Make { seed, turns } => make_script(alloc, seed, turns, disk, source, sink),
+        Command::Trial { seed, turns } => {
+            try_script(alloc, seed, turns, disk, place, source, sink)
         }
     }
 }
 
-/// Does all that the program does.
+/// Does all that the program does. The words are read with `clap`.
 ///
 /// `init FILE` makes a store on the disk, where that is empty: copy 0, of no object and no root. It calls neither the
 /// source nor the sink.
@@ -116,6 +58,13 @@ fn run_source<D: Disk, F: Fn(&[u64]) -> usize + Drop, S: Source, K: Sink>(
 /// begins a copy of what the roots reach, and `settle` puts that copy on the disk. `! gc N` makes N events of the
 /// collector, and `! flush N` makes N that write a page of that copy each, while one is left. Behind the last reply come
 /// the end line and a line for each watch.
+///
+/// `inspect FILE` opens the store and writes its report. Nothing is written to the disk.
+///
+/// `make SEED N` writes the script of this seed and of N turns. The disk is not called.
+///
+/// `trial FILE SEED N` runs that script as `run FILE serial` does, and writes the SHA-256 of the text of the replies in
+/// place of that text. The source is not called.
 ///
 /// An object moves to the train that the chooser of `place` picks.
 ///
@@ -136,17 +85,17 @@ pub fn pmos<R: AllocGlobal, D: Disk, S: Source, K: Sink, F: Fn(&[u64]) -> usize 
         sink result.sink result.detail }
 
     // Words that are no command's are refused, and no others, and all is as it was.
-    ensures usage { (result.detail ≡ Detail.Usage) ↔ SpellsNothing (map (λ word. word.now) words.now) }
-    ensures untouched { result.detail ≡ Detail.Usage
+    ensures usage { result.detail ≡ Detail.Usage → SpellsNothing (map (λ word. word.now) words.now) }
+    ensures refused { SpellsNothing (map (λ word. word.now) words.now)
+        → (result.detail ≡ Detail.Usage) ⊎ (result.detail ≡ Detail.Memory) }
+    ensures untouched { SpellsNothing (map (λ word. word.now) words.now)
         → IsUntouched disk result.disk source result.source sink result.sink result.journal.items result.tally }
 
     // What each command does.
-    ensures init { Spells (map (λ word. word.now) words.now) Command.Init
-        → MakesStore D.contents D.image disk result.disk source result.source sink result.sink
+    ensures does { (command : Asked) → Spells (map (λ word. word.now) words.now) command
+        → Does command D.contents D.image D.moment D.since D.made S.left K.written K.finished K.count
+        disk result.disk source result.source sink result.sink
         result.detail result.journal.items result.tally }
-    ensures run { Spells (map (λ word. word.now) words.now) Command.Run
-        → RunsScript D.contents D.image D.moment D.since S.left K.written K.finished K.count
-        disk result.disk source result.source sink result.sink result.detail result.journal.items result.tally }
 
     // With what it needs a command is done, or memory ran out, unless disk, source or sink fails.
     ensures complete { (command : Asked) → Spells (map (λ word. word.now) words.now) command
@@ -154,10 +103,11 @@ pub fn pmos<R: AllocGlobal, D: Disk, S: Source, K: Sink, F: Fn(&[u64]) -> usize 
         → NothingFails D.count S.count K.count disk result.disk source result.source sink result.sink
         → (result.status ≡ 0) ⊎ (result.status ≡ 7) }
 {
+    words_spell_one_command();
     let alloc = rt.alloc();
-    match command_of(words) {
-        Some(Command::Run) => run_source(alloc, disk, place, source, sink),
-        Some(Command::Init) => make_store(alloc, disk, source, sink),
-        None => end_unopened(alloc, Detail::Usage, disk, source, sink),
+    match read_words(alloc, words) {
+        Ok(Some(command)) => perform(alloc, command, disk, source, sink, place),
+        Ok(None) => end_unopened(alloc, Detail::Usage, disk, source, sink),
+        Err(_) => end_unopened(alloc, Detail::Memory, disk, source, sink),
     }
 }

@@ -3,7 +3,7 @@
 #![tactic(auto)]
 
 ghost use Rattle.std.specs.Prelude.{◌≡◌, ◌⊎◌, map, string_bytes, IfOk, OnErr};
-ghost use Rattle.pm_top.specs.Words.{SpellsNothing};
+ghost use Rattle.pm_words.specs.Words.{SpellsNothing};
 ghost use Rattle.pm_top.specs.Program.{TellsEnd};
 
 use pm_file::FileDisk;

@@ -1,5 +1,5 @@
 use Rattle.std.proofs.Common.{◌≡◌, ◌⊎◌, ◌∙◌, ap, subst, ℕ, List, map, Bor}
-use Rattle.pm_top.specs.Words.{SpellsNothing}
+use Rattle.pm_words.specs.Words.{SpellsNothing}
 use Rattle.pmos.proofs.run_words.Goals as goal
 
 pub returns-in-Ok-clause-usage : goal.returns-in-Ok-clause-usage

@@ -1,41 +1,47 @@
-use Rattle.std.proofs.Common.{◌≡◌, ℕ, List, ◌++◌, Some, Result, Ok, Err, OnErr, OnOk, length}
-use Rattle.pm_engine.specs.Shown.{serving, tally_in}
+use Rattle.std.proofs.Common.{◌≡◌, ℕ, List, ◌++◌, Some, OnErr, OnOk, length, ap, sym, subst, ◌∙◌}
+use Rattle.std.proofs.lemmas.List.{append-nil}
+use Rattle.pm_engine.specs.Shown.{Total, serving, tally_in}
 use Rattle.pm_output.specs.Gathered.{gathered}
 use Rattle.pm_output.specs.Writing.{PutsAll, PutsPart}
-use Rattle.pm_serial.specs.Writing.{tail_of}
-use Rattle.pm_serial.proofs.Gathering.{all_then, finished_then, some_then}
+use Rattle.pm_serial.specs.declared.behind.Behind.{Behind}
+use Rattle.pm_serial.specs.declared.behind.Behind.TheVariants.{Nothing, LastLines}
+use Rattle.pm_serial.specs.Writing.{tail_of, text_behind}
 use Rattle.pm_serial.proofs.ending.finish_run.Goals as goal
 
-on_ok : {T E : Type 0} (P Q : Type 0) (result : Result T E) → (P → Q) → OnOk result P → OnOk result Q
-on_ok P Q (Ok x) goes p = goes p
-on_ok P Q (Err e) goes p = tt
+-- what is gathered, with nothing behind it
+alone : (gathered : List ℕ) (behind : Behind) (total : Total) → behind ≡ Nothing → gathered ≡ gathered ++ text_behind behind total
+alone gathered behind total is = sym (ap (λ (b : Behind). gathered ++ text_behind b total) is ∙ append-nil gathered)
 
-on_err : {T E : Type 0} (P Q : Type 0) (result : Result T E) → (P → Q) → OnErr result P → OnErr result Q
-on_err P Q (Ok x) goes p = tt
-on_err P Q (Err e) goes p = goes p
+-- and with the last lines behind it
+with_lines : (gathered : List ℕ) (behind : Behind) (total : Total) → behind ≡ LastLines → gathered ++ tail_of total ≡ gathered ++ text_behind behind total
+with_lines gathered behind total is = sym (ap (λ (b : Behind). gathered ++ text_behind b total) is)
 
-pub returns-clause-all : goal.returns-clause-all
-returns-clause-all g c =
-    let written = g.K.Sink.written in
-    let tail = tail_of (tally_in (serving c.args.engine.now)) in
-    let mid = c.add_last_lines.new in
-    on_ok (PutsAll (written mid.sink) (written c.finish.new.sink) (gathered mid.output)) (PutsAll (written c.args.sink.now) (written c.finish.new.sink) (gathered c.args.output.now ++ tail)) c.finish.result
-    (all_then tail (written c.args.sink.now) (written mid.sink) (written c.finish.new.sink) (gathered c.args.output.now) (gathered mid.output) c.in_ok-add_last_lines.ensures.adds) c.finish.ensures.all
+pub returns-in-Nothing-clause-all : goal.returns-in-Nothing-clause-all
+returns-in-Nothing-clause-all g c =
+    subst (λ (t : List ℕ). OnOk c.finish.result (PutsAll (g.K.Sink.written c.args.sink.now) (g.K.Sink.written c.finish.new.sink) t)) (alone (gathered c.args.output.now) c.args.behind (tally_in (serving c.args.engine.now)) c.in-Nothing.is)
+    c.finish.ensures.all
 
-pub returns-clause-finished : goal.returns-clause-finished
-returns-clause-finished g c =
-    let written = g.K.Sink.written in
-    let finished = g.K.Sink.finished in
-    let tail = tail_of (tally_in (serving c.args.engine.now)) in
-    let mid = c.add_last_lines.new in
-    on_ok ((bytes : List ℕ) → written mid.sink ≡ Some bytes → finished c.finish.new.sink ≡ length (bytes ++ gathered mid.output))
-    ((bytes : List ℕ) → written c.args.sink.now ≡ Some bytes → finished c.finish.new.sink ≡ length (bytes ++ (gathered c.args.output.now ++ tail))) c.finish.result
-    (finished_then tail (written c.args.sink.now) (written mid.sink) (gathered c.args.output.now) (gathered mid.output) (finished c.finish.new.sink) c.in_ok-add_last_lines.ensures.adds) c.finish.ensures.finished
+pub returns-in-Nothing-clause-finished : goal.returns-in-Nothing-clause-finished
+returns-in-Nothing-clause-finished g c =
+    subst (λ (t : List ℕ). OnOk c.finish.result ((bytes : List ℕ) → g.K.Sink.written c.args.sink.now ≡ Some bytes → g.K.Sink.finished c.finish.new.sink ≡ length (bytes ++ t)))
+    (alone (gathered c.args.output.now) c.args.behind (tally_in (serving c.args.engine.now)) c.in-Nothing.is) c.finish.ensures.finished
 
-pub returns-clause-part : goal.returns-clause-part
-returns-clause-part g c =
-    let written = g.K.Sink.written in
-    let tail = tail_of (tally_in (serving c.args.engine.now)) in
-    let mid = c.add_last_lines.new in
-    on_err (PutsPart (written mid.sink) (written c.finish.new.sink) (gathered mid.output)) (PutsPart (written c.args.sink.now) (written c.finish.new.sink) (gathered c.args.output.now ++ tail)) c.finish.result
-    (some_then tail (written c.args.sink.now) (written mid.sink) (written c.finish.new.sink) (gathered c.args.output.now) (gathered mid.output) c.in_ok-add_last_lines.ensures.adds) c.finish.ensures.part
+pub returns-in-Nothing-clause-part : goal.returns-in-Nothing-clause-part
+returns-in-Nothing-clause-part g c =
+    subst (λ (t : List ℕ). OnErr c.finish.result (PutsPart (g.K.Sink.written c.args.sink.now) (g.K.Sink.written c.finish.new.sink) t)) (alone (gathered c.args.output.now) c.args.behind (tally_in (serving c.args.engine.now)) c.in-Nothing.is)
+    c.finish.ensures.part
+
+pub returns-in-LastLines-clause-all : goal.returns-in-LastLines-clause-all
+returns-in-LastLines-clause-all g c =
+    subst (λ (t : List ℕ). OnOk c.finish_with_last_lines.result (PutsAll (g.K.Sink.written c.args.sink.now) (g.K.Sink.written c.finish_with_last_lines.new.sink) t))
+    (with_lines (gathered c.args.output.now) c.args.behind (tally_in (serving c.args.engine.now)) c.in-LastLines.is) c.finish_with_last_lines.ensures.all
+
+pub returns-in-LastLines-clause-finished : goal.returns-in-LastLines-clause-finished
+returns-in-LastLines-clause-finished g c =
+    subst (λ (t : List ℕ). OnOk c.finish_with_last_lines.result ((bytes : List ℕ) → g.K.Sink.written c.args.sink.now ≡ Some bytes → g.K.Sink.finished c.finish_with_last_lines.new.sink ≡ length (bytes ++ t)))
+    (with_lines (gathered c.args.output.now) c.args.behind (tally_in (serving c.args.engine.now)) c.in-LastLines.is) c.finish_with_last_lines.ensures.finished
+
+pub returns-in-LastLines-clause-part : goal.returns-in-LastLines-clause-part
+returns-in-LastLines-clause-part g c =
+    subst (λ (t : List ℕ). OnErr c.finish_with_last_lines.result (PutsPart (g.K.Sink.written c.args.sink.now) (g.K.Sink.written c.finish_with_last_lines.new.sink) t))
+    (with_lines (gathered c.args.output.now) c.args.behind (tally_in (serving c.args.engine.now)) c.in-LastLines.is) c.finish_with_last_lines.ensures.part

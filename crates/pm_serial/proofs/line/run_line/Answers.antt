@@ -19,23 +19,23 @@ returns-in-Client-clause-short g c =
 pub returns-in-Gc-clause-short : goal.returns-in-Gc-clause-short
 returns-in-Gc-clause-short g c =
     let old = serving c.args.engine.now in
-    let new = serving c.make_steps.new.engine in
-    let result = c.make_steps.result in
-    subst (λ (line : Line). OnMemory (why result) (CutsLine line old new)) (sym c.in-Gc.is) (cuts_events (Gc c.in-Gc.count) c.in-Gc.count old new result (omega arith) (λ never. never) c.make_steps.ensures.cut)
+    let new = serving c.make_events.new.engine in
+    let result = c.make_events.result in
+    subst (λ (line : Line). OnMemory (why result) (CutsLine line old new)) (sym c.in-Gc.is) (cuts_events (Gc c.in-Gc.count) c.in-Gc.count old new result (omega arith) (λ never. never) c.make_events.ensures.cut)
 
 pub returns-in-Flush-clause-short : goal.returns-in-Flush-clause-short
 returns-in-Flush-clause-short g c =
     let old = serving c.args.engine.now in
-    let new = serving c.make_flushes.new.engine in
-    let result = c.make_flushes.result in
-    subst (λ (line : Line). OnMemory (why result) (CutsLine line old new)) (sym c.in-Flush.is) (cuts_events (Flush c.in-Flush.count) c.in-Flush.count old new result (omega arith) (λ never. never) c.make_flushes.ensures.cut)
+    let new = serving c.make_events-in-Flush.new.engine in
+    let result = c.make_events-in-Flush.result in
+    subst (λ (line : Line). OnMemory (why result) (CutsLine line old new)) (sym c.in-Flush.is) (cuts_events (Flush c.in-Flush.count) c.in-Flush.count old new result (omega arith) (λ never. never) c.make_events-in-Flush.ensures.cut)
 
 pub returns-in-Gc-clause-sink : goal.returns-in-Gc-clause-sink
 returns-in-Gc-clause-sink g c =
-    sink_still g.K.Sink.written g.K.Sink.finished g.K.Sink.count c.args.sink.now (gathered c.args.output.now) (serving c.args.engine.now).journal (serving c.make_steps.new.engine).journal (why c.make_steps.result)
-    c.make_steps.ensures.unwritten c.make_steps.ensures.stays
+    sink_still g.K.Sink.written g.K.Sink.finished g.K.Sink.count c.args.sink.now (gathered c.args.output.now) (serving c.args.engine.now).journal (serving c.make_events.new.engine).journal (why c.make_events.result)
+    c.make_events.ensures.unwritten c.make_events.ensures.stays
 
 pub returns-in-Flush-clause-sink : goal.returns-in-Flush-clause-sink
 returns-in-Flush-clause-sink g c =
-    sink_still g.K.Sink.written g.K.Sink.finished g.K.Sink.count c.args.sink.now (gathered c.args.output.now) (serving c.args.engine.now).journal (serving c.make_flushes.new.engine).journal (why c.make_flushes.result)
-    c.make_flushes.ensures.unwritten c.make_flushes.ensures.stays
+    sink_still g.K.Sink.written g.K.Sink.finished g.K.Sink.count c.args.sink.now (gathered c.args.output.now) (serving c.args.engine.now).journal (serving c.make_events-in-Flush.new.engine).journal (why c.make_events-in-Flush.result)
+    c.make_events-in-Flush.ensures.unwritten c.make_events-in-Flush.ensures.stays

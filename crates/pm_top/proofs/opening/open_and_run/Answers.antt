@@ -31,7 +31,7 @@ returns-in-Ok-clause-store g c =
     let opens = c.in-Ok.ensures in
     let ran = c.run_engine.ensures.runs in
     let told_then : IsTold (g.D.Disk.contents c.args.disk) → IsTold (g.D.Disk.contents (opened_disk it)) = λ told. (told.0, ap g.D.Disk.contents opens.opening ∙ opens.told ∙ told.1) in
-    store_run g.D.Disk.contents g.D.Disk.image g.D.Disk.moment g.D.Disk.since g.K.Sink.written g.K.Sink.finished g.K.Sink.count c.args.disk c.run_engine.result.disk c.args.sink c.run_engine.result.sink
+    store_run c.args.writes g.D.Disk.contents g.D.Disk.image g.D.Disk.moment g.D.Disk.since g.K.Sink.written g.K.Sink.finished g.K.Sink.count c.args.disk c.run_engine.result.disk c.args.sink c.run_engine.result.sink
     c.run_engine.result.detail c.run_engine.result.journal.items c.run_engine.result.tally (record { number = (serving it).number; copy = copy_in (serving it).opened; closed = ran.closed; legal = ran.legal })
     ran.late ran.there opens.stands ran.comes_to
     (opened_run g.D.Disk.contents g.D.Disk.image g.D.Disk.moment g.D.Disk.since c.args.disk (disk_in it) c.run_engine.result.disk (serving it).number (copy_in (serving it).opened)
@@ -47,18 +47,18 @@ pub returns-in-Err-clause-serves : goal.returns-in-Err-clause-serves
 returns-in-Err-clause-serves g c =
     let e = c.end_unopened.ensures in
     let fault = c.in-Err.fault in
-    at_end (λ (d : Detail) (j : List Entry) (t : Option Tally) (disk : g.row.D.Denot) (source : g.row.S.Denot) (sink : g.row.K.Denot). ServesLines c.args.lines.now d j t)
+    at_end (λ (d : Detail) (j : List Entry) (t : Option Tally) (disk : g.row.D.Denot) (source : g.row.S.Denot) (sink : g.row.K.Denot). ServesLines c.args.lines.items d j t)
     (e.detail ∙ c.not_opened.ensures) e.journal e.tally e.disk e.source e.sink
-    (serves_none c.args.lines.now (not_opened fault) (ends_open fault) (tried_open fault) (undone_open fault))
+    (serves_none c.args.lines.items (not_opened fault) (ends_open fault) (tried_open fault) (undone_open fault))
 
 pub returns-in-Err-clause-store : goal.returns-in-Err-clause-store
 returns-in-Err-clause-store g c =
     let e = c.end_unopened.ensures in
     let fault = c.in-Err.fault in
     at_end (λ (d : Detail) (j : List Entry) (t : Option Tally) (disk : g.row.D.Denot) (source : g.row.S.Denot) (sink : g.row.K.Denot).
-    RunsStore g.D.Disk.contents g.D.Disk.image g.D.Disk.moment g.D.Disk.since g.K.Sink.written g.K.Sink.finished g.K.Sink.count c.args.disk disk c.args.sink sink d j t)
+    RunsStore c.args.writes g.D.Disk.contents g.D.Disk.image g.D.Disk.moment g.D.Disk.since g.K.Sink.written g.K.Sink.finished g.K.Sink.count c.args.disk disk c.args.sink sink d j t)
     (e.detail ∙ c.not_opened.ensures) e.journal e.tally e.disk e.source e.sink
-    (store_unrun g.D.Disk.contents g.D.Disk.image g.D.Disk.moment g.D.Disk.since g.K.Sink.written g.K.Sink.finished g.K.Sink.count c.args.disk c.in-Err.disk c.args.sink
+    (store_unrun c.args.writes g.D.Disk.contents g.D.Disk.image g.D.Disk.moment g.D.Disk.since g.K.Sink.written g.K.Sink.finished g.K.Sink.count c.args.disk c.in-Err.disk c.args.sink
     (not_opened fault) (none_opened fault)
     (refused_run g.D.Disk.contents g.D.Disk.image g.D.Disk.moment g.D.Disk.since c.args.disk c.in-Err.disk (not_opened fault) (none_opened fault) (tried_open fault)
     c.in-Err.ensures.told c.in-Err.ensures.leaves (λ bytes told. refused_for bytes fault (c.in-Err.ensures.fault bytes told))))

@@ -26,10 +26,10 @@ returns-in-Ok-clause-performs g c =
       is_status = e.status;
       told = c.tell.ensures;
       usage = e.usage;
+      refused = e.refused;
       untouched = e.untouched;
       causes = e.causes;
-      init = e.init;
-      run = e.run;
+      does = e.does;
       complete = e.complete;
     })
 

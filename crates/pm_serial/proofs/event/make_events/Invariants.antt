@@ -1,0 +1,12 @@
+use Rattle.std.proofs.Common.{◌≡◌, [], None}
+use Rattle.pm_engine.specs.Shown.{serving}
+use Rattle.pm_serial.specs.Stepping.{AnswersPart, EngineGoesOn, steps_made}
+use Rattle.pm_serial.proofs.event.make_events.Given as goal
+
+abbrev pub invariant-loop : goal.invariant-loop
+invariant-loop g l =
+    record {
+      answers : AnswersPart [] l.counter (steps_made l.kind l.counter) (serving l.fn.engine) (serving l.engine) None;
+      stays : (serving l.engine).journal ≡ (serving l.fn.engine).journal;
+      engine : EngineGoesOn l.fn.engine l.engine None;
+    }

@@ -1,0 +1,79 @@
+use Rattle.std.proofs.Common.{◌≡◌, inl, inr, Some, ap, subst, sym, ◌∙◌}
+use Rattle.pm_place.specs.Choosers.{IsChooser}
+use Rattle.pm_model.specs.Text.{text}
+use Rattle.pm_serving.specs.Serving.{Serving, world}
+use Rattle.pm_serving.specs.Images.{IsSettled, IsTold}
+use Rattle.pm_engine.specs.Shown.{disk_in, serving, tally_in}
+use Rattle.pm_output.specs.Gathered.{gathered}
+use Rattle.pm_serial.specs.declared.stop.Stop.TheVariants.{Memory}
+use Rattle.pm_serial.specs.Asked.{events_asked, requests_asked, steps_asked}
+use Rattle.pm_serial.specs.Causes.{why}
+use Rattle.pm_serial.specs.Stepping.{AnswersPart}
+use Rattle.pm_serial.specs.Writing.{text_behind}
+use Rattle.pm_serial.proofs.Answering.{answers_ended, answers_lines, answers_nothing}
+use Rattle.pm_serial.proofs.Cutting.{settle_cut, short_before}
+use Rattle.pm_serial.proofs.Gathering.{wrote_none, wrote_run}
+use Rattle.pm_serial.proofs.Going.{goes_ended, goes_short, goes_still, goes_then, runs}
+use Rattle.pm_serial.proofs.run.run_with.Goals as goal
+
+pub returns-in_default-clause-answers : goal.returns-in_default-clause-answers
+returns-in_default-clause-answers g c =
+    let lines = c.args.lines.items in
+    let old = serving c.args.engine.now in
+    let new = serving c.take_room.new.engine in
+    let room = c.take_room.ensures in
+    answers_lines lines old new (Some Memory) c.requires.fresh
+    (answers_nothing (requests_asked lines) (events_asked lines) (steps_asked lines) old new Memory (ap (λ (it : Serving). it.journal) room.serving))
+    (λ is done more client parted made few. inl (ap (λ (it : Serving). it.events) room.serving ∙ c.requires.fresh.events))
+
+pub returns-in_default-clause-disk : goal.returns-in_default-clause-disk
+returns-in_default-clause-disk g c =
+    let old = c.args.engine.now in
+    let new = c.take_room.new.engine in
+    let law = c.keep_their_images.ensures in
+    let room = c.take_room.ensures in
+    let still = goes_still old new room.start room.grows room.serving room.disk c.requires.fresh.stopped law.legal (law.settled c.requires.fresh.stopped) (g.met.D.Disk.only_now (disk_in old)) in
+    runs old new (Some Memory) c.requires.fresh (goes_short old new still)
+    (λ none told left here.
+    subst (λ (it : Serving). IsSettled (world it) left) (sym room.serving)
+    (law.settled c.requires.fresh.stopped (subst (λ (d : g.row.D.Denot). IsTold (g.D.Disk.contents d)) room.start.disk told) left (subst (λ (d : g.row.D.Denot). g.D.Disk.image d left) room.disk here)))
+
+pub returns-in_default-clause-sink : goal.returns-in_default-clause-sink
+returns-in_default-clause-sink g c =
+    let new = serving c.take_room.new.engine in
+    wrote_none g.K.Sink.written g.K.Sink.finished g.K.Sink.count c.args.sink.now new.journal (text_behind c.args.behind (tally_in new))
+    (ap text (ap (λ (it : Serving). it.journal) c.take_room.ensures.serving ∙ c.requires.fresh.journal))
+
+pub run_all-ran-requires-clause-chooser : goal.run_all-ran-requires-clause-chooser
+run_all-ran-requires-clause-chooser g c = subst (IsChooser g.F.Fn) (sym c.take_room.ensures.start.chooser) c.requires.chooser
+
+pub returns-clause-answers : goal.returns-clause-answers
+returns-clause-answers g c =
+    let lines = c.args.lines.items in
+    let old = serving c.args.engine.now in
+    let new = serving c.run_all-ran.new.engine in
+    let before = why c.run_all-ran.result in
+    let part = subst (λ (it : Serving). AnswersPart (requests_asked lines) (events_asked lines) (steps_asked lines) it new before) c.take_room.ensures.serving c.run_all-ran.ensures.answers in
+    answers_lines lines old new (why c.end.result) c.requires.fresh
+    (answers_ended (requests_asked lines) (events_asked lines) (steps_asked lines) old new before (why c.end.result) c.end.ensures.why part)
+    (λ is done more client parted made few.
+    let first : (serving c.take_room.new.engine).events ≡ 0 = ap (λ (it : Serving). it.events) c.take_room.ensures.serving ∙ c.requires.fresh.events in
+    inr (settle_cut lines (serving c.take_room.new.engine) new before first c.run_all-ran.ensures.short (short_before before (why c.end.result) c.end.ensures.why is) done more client parted made few))
+
+pub returns-clause-disk : goal.returns-clause-disk
+returns-clause-disk g c =
+    let old = c.args.engine.now in
+    let ready = c.take_room.new.engine in
+    let new = c.run_all-ran.new.engine in
+    let law = c.keep_their_images.ensures in
+    let room = c.take_room.ensures in
+    let still = goes_still old ready room.start room.grows room.serving room.disk c.requires.fresh.stopped law.legal (law.settled c.requires.fresh.stopped) (g.met.D.Disk.only_now (disk_in old)) in
+    let goes = goes_then old ready new (why c.run_all-ran.result) still c.run_all-ran.ensures.engine in
+    runs old new (why c.end.result) c.requires.fresh (goes_ended old new (why c.run_all-ran.result) (why c.end.result) c.end.ensures.why goes) c.keep_their_images-2.ensures.settled
+
+pub returns-clause-sink : goal.returns-clause-sink
+returns-clause-sink g c =
+    let ready = (serving c.take_room.new.engine).journal in
+    let new = serving c.run_all-ran.new.engine in
+    wrote_run g.K.Sink.written g.K.Sink.finished g.K.Sink.count c.args.sink.now c.run_all-ran.new.sink c.end.new.sink (gathered c.in-Ok.output) (gathered c.run_all-ran.new.output) (text_behind c.args.behind (tally_in new)) ready new.journal
+    (why c.run_all-ran.result) (why c.end.result) c.in-Ok.ensures.empty (ap text (ap (λ (it : Serving). it.journal) c.take_room.ensures.serving ∙ c.requires.fresh.journal)) c.run_all-ran.ensures.sink c.end.ensures

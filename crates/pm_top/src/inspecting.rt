@@ -1,0 +1,34 @@
+//! The report of a store.
+ghost use Rattle.std.specs.Prelude.{◌≡◌};
+ghost use Rattle.pm_top.specs.Ends.{status_of};
+ghost use Rattle.pm_top.specs.Commands.{ShowsCauses, InspectsStore};
+
+use crate::ended::{end_unopened, not_opened};
+use crate::texting::write_text;
+use crate::{Detail, Ended};
+use pm_disk::Disk;
+use pm_io::{Sink, Source};
+use pm_survey::survey;
+use std::alloc::Global;
+
+/// Writes the report of the store on the disk.
+pub(crate) fn inspect_store<D: Disk, S: Source, K: Sink>(
+    alloc: Global,
+    disk: D,
+    source: S,
+    mut sink: K,
+) -> Ended<D, S, K>
+    ensures status { result.status ≡ status_of result.detail }
+    ensures causes { ShowsCauses D.count D.made S.count K.count disk result.disk source result.source
+        sink result.sink result.detail }
+    ensures inspects { InspectsStore D.contents D.image D.moment D.since D.made K.written K.finished
+        disk result.disk source result.source sink result.sink
+        result.detail result.journal.items result.tally }
+{
+    let (disk, surveyed) = survey(alloc, disk);
+    let detail = match surveyed {
+        Ok(text) => write_text(&mut sink, text.as_slice()),
+        Err(fault) => not_opened(fault),
+    };
+    end_unopened(alloc, detail, disk, source, sink)
+}

@@ -1,0 +1,77 @@
+//! Scripts that are made from a seed: one is written, and one is run on a store.
+ghost use Rattle.std.specs.Prelude.{◌≡◌, ◌≤◌, IfOk};
+ghost use Rattle.pm_place.specs.Choosers.{IsChooser};
+ghost use Rattle.pm_grammar.specs.Script.{IsScript};
+ghost use Rattle.pm_make.specs.Made.{made_lines, made_text};
+ghost use Rattle.pm_top.specs.Ends.{status_of};
+ghost use Rattle.pm_top.specs.Commands.{ShowsCauses, MakesScript, TriesScript};
+
+use crate::ended::end_unopened;
+use crate::running::run_bytes;
+use crate::texting::write_text;
+use crate::writes::Writes;
+use crate::{Detail, Ended};
+use pm_disk::Disk;
+use pm_io::{Sink, Source};
+use pm_make::{MOST_TURNS, a_seed_gives_a_script, make};
+use pm_place::Placement;
+use pm_types::NoMemory;
+use std::alloc::Global;
+
+// The script of a seed and a number of turns.
+fn script(alloc: Global, seed: u32, turns: u32) -> Result<Vec<u8>, NoMemory>
+    requires { turns ≤ MOST_TURNS }
+    ensures made { IfOk result (λ bytes. bytes.items ≡ made_text seed turns) }
+    ensures script { IfOk result (λ bytes. IsScript bytes.items (made_lines seed turns)) }
+{
+    a_seed_gives_a_script();
+    make(alloc, seed, turns)
+}
+
+/// Writes the script of a seed and a number of turns.
+pub(crate) fn make_script<D: Disk, S: Source, K: Sink>(
+    alloc: Global,
+    seed: u32,
+    turns: u32,
+    disk: D,
+    source: S,
+    mut sink: K,
+) -> Ended<D, S, K>
+    requires { turns ≤ MOST_TURNS }
+    ensures status { result.status ≡ status_of result.detail }
+    ensures causes { ShowsCauses D.count D.made S.count K.count disk result.disk source result.source
+        sink result.sink result.detail }
+    ensures makes { MakesScript seed turns K.written K.finished disk result.disk source result.source
+        sink result.sink result.detail result.journal.items result.tally }
+{
+    let detail = match script(alloc, seed, turns) {
+        Ok(text) => write_text(&mut sink, text.as_slice()),
+        Err(_) => Detail::Memory,
+    };
+    end_unopened(alloc, detail, disk, source, sink)
+}
+
+/// Runs the script of a seed and a number of turns on the store on the disk, and writes the digest of the replies.
+pub(crate) fn try_script<D: Disk, F: Fn(&[u64]) -> usize + Drop, S: Source, K: Sink>(
+    alloc: Global,
+    seed: u32,
+    turns: u32,
+    disk: D,
+    place: Placement<F>,
+    source: S,
+    sink: K,
+) -> Ended<D, S, K>
+    requires turns { turns ≤ MOST_TURNS }
+    requires chooser { IsChooser F.Fn place }
+    ensures status { result.status ≡ status_of result.detail }
+    ensures causes { ShowsCauses D.count D.made S.count K.count disk result.disk source result.source
+        sink result.sink result.detail }
+    ensures tries { TriesScript seed turns D.contents D.image D.moment D.since K.written K.finished K.count
+        disk result.disk source result.source sink result.sink
+        result.detail result.journal.items result.tally }
+{
+    match script(alloc, seed, turns) {
+        Ok(bytes) => run_bytes(alloc, Writes::Digest, bytes, disk, place, source, sink),
+        Err(_) => end_unopened(alloc, Detail::Memory, disk, source, sink),
+    }
+}

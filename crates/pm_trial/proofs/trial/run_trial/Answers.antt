@@ -1,0 +1,39 @@
+use Rattle.std.proofs.Common.{Some, inl, refl, ap}
+use Rattle.pm_model.specs.Text.{text}
+use Rattle.pm_engine.specs.Shown.{disk_in, serving, tally_in}
+use Rattle.pm_serial.specs.declared.stop.Stop.TheVariants.{Memory}
+use Rattle.pm_serial.specs.Asked.{events_asked, requests_asked, steps_asked}
+use Rattle.pm_serial.specs.Writing.{tail_of}
+use Rattle.pm_serial.proofs.Answering.{answers_lines, answers_nothing}
+use Rattle.pm_serial.proofs.Going.{goes_first, goes_short, runs}
+use Rattle.pm_trial.specs.Digested.{DigestState}
+use Rattle.pm_trial.specs.Trials.{shown_digest}
+use Rattle.pm_trial.proofs.Trying.{digest_is, tried_badly, tried_well}
+use Rattle.pm_trial.proofs.trial.run_trial.Goals as goal
+
+pub returns-in_default-clause-answers : goal.returns-in_default-clause-answers
+returns-in_default-clause-answers g c =
+    let lines = c.args.lines.items in
+    let old = serving c.args.engine.now in
+    answers_lines lines old old (Some Memory) c.requires.fresh (answers_nothing (requests_asked lines) (events_asked lines) (steps_asked lines) old old Memory refl) (λ is done more client parted made few. inl c.requires.fresh.events)
+
+pub returns-in_default-clause-disk : goal.returns-in_default-clause-disk
+returns-in_default-clause-disk g c =
+    let old = c.args.engine.now in
+    let law = c.keep_their_images.ensures in
+    let none = c.requires.fresh.stopped in
+    runs old old (Some Memory) c.requires.fresh (goes_short old old (goes_first old none law.legal (law.settled none) (g.met.D.Disk.only_now (disk_in old)))) law.settled
+
+pub returns-in-Ok-finish_trial-clause-sink : goal.returns-in-Ok-finish_trial-clause-sink
+returns-in-Ok-finish_trial-clause-sink g c =
+    let new = serving c.answer_lines.new.engine in
+    let step = c.in-Ok-finish_trial.ensures in
+    let is = digest_is c.new-replies.result c.answer_lines.new.sink (text new.journal) c.digest.result (ap (λ (s : DigestState). s.written) c.new-replies.ensures) (c.in-Ok-answer_lines.ensures.sink.all tt) c.digest.ensures in
+    tried_well g.K.Sink.written g.K.Sink.finished g.K.Sink.count c.args.sink.now c.finish_trial.new.sink (text new.journal) (tail_of (tally_in new)) (shown_digest c.digest.result) (ap shown_digest is) step.all step.finished step.counted
+
+pub returns-in-Ok-answer_lines-clause-sink : goal.returns-in-Ok-answer_lines-clause-sink
+returns-in-Ok-answer_lines-clause-sink g c =
+    let new = serving c.answer_lines.new.engine in
+    let step = c.in-Err-finish_trial.ensures in
+    let is = digest_is c.new-replies.result c.answer_lines.new.sink (text new.journal) c.digest.result (ap (λ (s : DigestState). s.written) c.new-replies.ensures) (c.in-Ok-answer_lines.ensures.sink.all tt) c.digest.ensures in
+    tried_badly g.K.Sink.written g.K.Sink.finished g.K.Sink.count c.args.sink.now c.finish_trial.new.sink (text new.journal) (tail_of (tally_in new)) (shown_digest c.digest.result) (ap shown_digest is) step.part step.cause

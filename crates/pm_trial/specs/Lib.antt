@@ -1,0 +1,3 @@
+pub mod Told
+pub mod Digested
+pub mod Trials
