@@ -102,11 +102,11 @@ module _ {D : Type 0} {F : Type 0} {g : Ghosts D} where
   IsSettled old new (Saved number) = HasSettled g.contents g.image (opened_disk old) (serving old) (serving new) (pages_in old) (pages_in new) (disk_in old) (disk_in new) number
   IsSettled old new reply = Unit {0}
 
-  -- memory runs out in `settle` only where something of the copy is left to be written, or no entry has room
-  abbrev pub MayRunOut : Cmd → Engine D F g → EngineFault → Type 0
-  MayRunOut cmd old Memory = is_settle cmd ≡ true → (0 < left_of (serving old).saving.progress) ⊎ (room old ≡ 0)
-  MayRunOut cmd old (Disk before after) = Unit {0}
-  MayRunOut cmd old (Reopen count) = Unit {0}
+  -- memory runs out in `settle` only where something of the copy was left to be written, and is, or no entry had room
+  abbrev pub MayRunOut : Cmd → Engine D F g → Engine D F g → EngineFault → Type 0
+  MayRunOut cmd old new Memory = is_settle cmd ≡ true → ((0 < left_of (serving old).saving.progress) × (0 < left_of (serving new).saving.progress)) ⊎ (room old ≡ 0)
+  MayRunOut cmd old new (Disk before after) = Unit {0}
+  MayRunOut cmd old new (Reopen count) = Unit {0}
 
   -- where no copy is in progress the disk is the same value, on which no call was made
   abbrev pub IsIdle : Engine D F g → Engine D F g → Type 0
@@ -138,8 +138,8 @@ module _ {D : Type 0} {F : Type 0} {g : Ghosts D} where
     pub leaves : LeavesCopies cmd old new result
     -- once a copy settled each image stands for it, and nothing was written but what was left of it and its header
     pub settled : IfOk result (IsSettled old new)
-    -- memory runs out in `settle` only where something of the copy is left to be written, or no entry has room
-    pub short : IfErr result (MayRunOut cmd old)
+    -- memory runs out in `settle` only where something of the copy was left to be written, and is, or no entry had room
+    pub short : IfErr result (MayRunOut cmd old new)
     -- a reply shows at most an object's bytes
     pub shown : IfOk result IsShortReply
     -- a command that neither begins, settles nor drops a copy leaves the copies as they were

@@ -263,9 +263,9 @@ module _ {D : Type 0} {F : Type 0} {g : Ghosts D} where
     pub space : new.space ≡ old.space
     pub flushed : IsFlushed (saving_in old) (saving_in new) (cars_or_none (frozen_in old)) (state_in old) (state_in new) (contents_in old) (contents_in new) answer
 
-  -- some of the copy in progress is left to be written, or there is no room for an entry
-  abbrev pub IsShort : Works D F g → Type 0
-  IsShort it = (0 < left_of (saving_in it).progress) ⊎ (room_in it ≡ 0)
+  -- some of the copy in progress was left to be written, and is, or there was no room for an entry
+  abbrev pub IsShort : Works D F g → Works D F g → Type 0
+  IsShort old new = ((0 < left_of (saving_in old).progress) × (0 < left_of (saving_in new).progress)) ⊎ (room_in old ≡ 0)
 
   -- An event of the collector was made: all but the space stays, and of that the frozen cars and the chooser.
   pub record CollectsOn (old new : Works D F g) : Type 0 where

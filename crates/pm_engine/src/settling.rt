@@ -27,7 +27,7 @@ impl<D: Disk, F: Drop> Works<D, F> {
         ensures tied { UnlessDisk result (IsTiedIn self.new) }
         ensures rests { OnErr result (Rests self.old self.new) }
         ensures memory { OnMemory result (LastsSo self.old self.new) }
-        ensures short { OnMemory result (IsShort self.old) }
+        ensures short { OnMemory result (IsShort self.old self.new) }
         ensures fault { IfErr result (IsFaultFor true self.old) }
         ensures leaves { LeavesEither self.old self.new }
         ensures told { TellsOn (contents_in self.old) (contents_in self.new) }
@@ -83,7 +83,7 @@ impl<D: Disk, F: Drop> Works<D, F> {
         ensures rests { OnErr result (Rests self.old self.new) }
         ensures memory { OnMemory result (LastsSo self.old self.new) }
         ensures left { is_settle cmd.now ≡ false → OnErr result (IsLeft self.old self.new) }
-        ensures short { is_settle cmd.now ≡ true → OnMemory result (IsShort self.old) }
+        ensures short { is_settle cmd.now ≡ true → OnMemory result (IsShort self.old self.new) }
         ensures still { is_settle cmd.now ≡ false → StaysStill self.old self.new }
         ensures fault { IfErr result (IsFaultFor (is_settle cmd.now) self.old) }
         ensures leaves { is_settle cmd.now ≡ true → LeavesEither self.old self.new }

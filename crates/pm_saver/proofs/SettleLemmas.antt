@@ -288,3 +288,8 @@ module _ {D : Type 0} (contents : D → Option (List ℕ)) (moment : D → ℕ) 
     spares = spares;
     has = runs.run.has;
   }
+
+-- what holds whatever the fault is holds where memory ran out
+pub on_memory : (P : Type 0) (fault : SaveFault) → P → IfMemory P fault
+on_memory P Disk holds = tt
+on_memory P Memory holds = holds

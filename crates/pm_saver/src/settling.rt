@@ -161,6 +161,7 @@ impl Saver {
             (D.contents (disk_of pages.old)) (D.contents (disk_of pages.new))) }
         ensures none { OnOk result (left_of (saving self.new).progress ≡ 0) }
         ensures fault { OnErr result (0 < left_of (saving self.old).progress) }
+        ensures left { OnErr result (0 < left_of (saving self.new).progress) }
         ensures goes { OnErr result (StaysOn (saving self.old) (saving self.new)) }
         ensures spares { Spares D.contents D.moment D.since (state pages.old) (disk_of pages.old) (disk_of pages.new) }
         ensures told { TellsOn (D.contents (disk_of pages.old)) (D.contents (disk_of pages.new)) }
@@ -214,6 +215,8 @@ impl Saver {
             (D.contents (disk_of pages.new))) }
         ensures memory { OnMemory result (IsLeftSo D.contents D.moment D.since (saving self.old) (saving self.new)
             (state pages.old) (state pages.new) (disk_of pages.old) (disk_of pages.new)) }
+        // Then something of the copy is left to be written, as it was before.
+        ensures left { OnMemory result (0 < left_of (saving self.new).progress) }
         // After a fault the copy is in progress still.
         ensures goes { OnErr result (StaysOn (saving self.old) (saving self.new)) }
         ensures space { LeavesSpace space.old.parts space.new.parts result }

@@ -1,5 +1,5 @@
 -- What parts of a run answer, one behind another.
-use Rattle.std.proofs.Common.{◌≡◌, ◌⊎◌, ⊎_elim, ℕ, ◌+◌, ◌<◌, ◌≤◌, min, length, arith, List, [], ◌∷◌, ◌++◌, IsSome, Option, Some, None, refl, ap, sym, subst, ◌∙◌, append_assoc, length-append}
+use Rattle.std.proofs.Common.{◌≡◌, ◌⊎◌, ⊎_elim, ℕ, ◌+◌, ◌<◌, ◌≤◌, min, length, arith, List, [], ◌∷◌, ◌++◌, Option, Some, None, refl, ap, sym, subst, ◌∙◌, append_assoc, length-append}
 use Rattle.std.proofs.lemmas.List.{append-nil, length-map, map-append}
 use Rattle.std.proofs.lemmas.List.Sums.{sum_by-cons, sum_by_push}
 use Rattle.std.proofs.lemmas.Grind.{flat_map-append}
@@ -11,6 +11,7 @@ use Rattle.pm_model.specs.declared.request.Request.{Request}
 use Rattle.pm_model.specs.Journal.{requests_of}
 use Rattle.pm_grammar.specs.declared.line.Line.{Line}
 use Rattle.pm_grammar.specs.declared.line.Line.TheVariants.{Client}
+use Rattle.pm_saving.specs.Paging.{left_of}
 use Rattle.pm_serving.specs.Serving.{Serving}
 use Rattle.pm_serial.specs.declared.kind.Kind.{Kind}
 use Rattle.pm_serial.specs.declared.kind.Kind.TheVariants.{Collect, Flush}
@@ -194,7 +195,7 @@ from_zero n most = omega arith
 
 -- all lines of a run
 pub answers_lines : (lines : List Line) (old new : Serving) (stop : Option Stop) → IsFresh old → (part : AnswersPart (requests_asked lines) (events_asked lines) (steps_asked lines) old new stop)
-    → (stop ≡ Some Memory → (done more : List Line) (client : ℕ) → lines ≡ done ++ Client client Settle ∷ more → new.events ≡ events_asked done → events_asked done < greatest_count → (new.events ≡ 0) ⊎ IsSome new.saving.progress)
+    → (stop ≡ Some Memory → (done more : List Line) (client : ℕ) → lines ≡ done ++ Client client Settle ∷ more → new.events ≡ events_asked done → events_asked done < greatest_count → (new.events ≡ 0) ⊎ 0 < left_of new.saving.progress)
     → AnswersLines lines new stop
 answers_lines lines old new stop fresh part short =
     let none : requests_of old.journal ≡ [] = ap requests_of fresh.journal in

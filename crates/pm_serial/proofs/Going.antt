@@ -248,18 +248,11 @@ counts_stay old new before after NoRoom fails = record { journal = fails.0.journ
 counts_stay old new before after (Disk b a) fails = record { journal = fails.0.journal; events = fails.0.events }
 counts_stay old new before after (Reopen count) fails = record { journal = ap (λ (it : Serving). it.journal) fails.0; events = ap (λ (it : Serving). it.events) fails.0 }
 
--- a copy of which something was left is in progress still
-begun_still : (old new : Option Progress) → StaysBegun old new → 0 < left_of old → IsSome new
-begun_still None None stays some = absurd (omega (arith, some))
-begun_still None (Some after) stays some = refl
-begun_still (Some before) None stays some = absurd stays
-begun_still (Some before) (Some after) stays some = refl
-
 module _ {D : Type 0} {F : Type 0} {g : Ghosts D} (old new : Engine D F g) where
   -- where there was room for the entry, and memory ran out in `settle`
-  pub unfinished : (cmd : Cmd) (fault : EngineFault) → FailsAs (serving old) (serving new) (g.count (disk_in old)) (g.count (disk_in new)) fault → MayRunOut cmd old fault → 0 < room old → IsShort cmd (serving old) (serving new) (Some (stop_of fault))
+  pub unfinished : (cmd : Cmd) (fault : EngineFault) → FailsAs (serving old) (serving new) (g.count (disk_in old)) (g.count (disk_in new)) fault → MayRunOut cmd old new fault → 0 < room old → IsShort cmd (serving old) (serving new) (Some (stop_of fault))
   unfinished cmd NoRoom fails may within =
-      (fails.0.events, λ settles. ⊎_elim (begun_still (serving old).saving.progress (serving new).saving.progress fails.0.progress) (λ none. absurd (omega (arith, none, within))) (may settles))
+      (fails.0.events, λ settles. ⊎_elim (λ both. both.1) (λ none. absurd (omega (arith, none, within))) (may settles))
   unfinished cmd (Disk b a) fails may within = tt
   unfinished cmd (Reopen count) fails may within = tt
 

@@ -1,5 +1,5 @@
 -- A run of lines over an engine.
-use Rattle.std.specs.Prelude.{◌≡◌, ◌⊎◌, ℕ, ◌<◌, min, List, [], ◌∷◌, ◌++◌, IsSome, Option, Some, None}
+use Rattle.std.specs.Prelude.{◌≡◌, ◌⊎◌, ℕ, ◌<◌, min, List, [], ◌∷◌, ◌++◌, Option, Some, None}
 use Rattle.pm_base.specs.Counts.{greatest_count}
 use Rattle.pm_disk.specs.declared.disk.Disk.{Ghosts}
 use Rattle.pm_disk.specs.Disk.{LeavesOnly}
@@ -8,6 +8,7 @@ use Rattle.pm_model.specs.declared.request.Request.{Request}
 use Rattle.pm_model.specs.Journal.{requests_of}
 use Rattle.pm_grammar.specs.declared.line.Line.{Line}
 use Rattle.pm_grammar.specs.declared.line.Line.TheVariants.{Client}
+use Rattle.pm_saving.specs.Paging.{left_of}
 use Rattle.pm_serving.specs.Serving.{Serving}
 use Rattle.pm_serving.specs.Images.{IsLast, IsOfRun, IsTold}
 use Rattle.pm_engine.specs.declared.engine.Engine.{Engine}
@@ -35,10 +36,11 @@ pub record AnswersLines (lines : List Line) (new : Serving) (stop : Option Stop)
   pub all : IsDone stop → requests_of new.journal ≡ requests_asked lines
   pub events : IsDone stop → new.events ≡ min (events_asked lines) greatest_count
   pub steps : IsDone stop → new.steps ≡ min (steps_asked lines) greatest_count
-  -- where memory runs out in a `settle`, a copy is in progress, unless no event was made at all: it is that event which was
-  -- not made, where as many events were made as the lines before it ask for
+  -- where memory runs out in a `settle`, something of the copy is left to be written, unless no event was made at all: so it
+  -- does not where all of it was flushed. It is that event which was not made, where as many were made as the lines before
+  -- it ask for
   pub short : stop ≡ Some Memory → (done more : List Line) (client : ℕ) → lines ≡ done ++ Client client Settle ∷ more → new.events ≡ events_asked done → events_asked done < greatest_count
-      → (new.events ≡ 0) ⊎ IsSome new.saving.progress
+      → (new.events ≡ 0) ⊎ (0 < left_of new.saving.progress)
 
 module _ {D : Type 0} {F : Type 0} {g : Ghosts D} where
   -- How a run of lines leaves the disk, by why it stopped, if it did. What is said of images is said of a disk that told

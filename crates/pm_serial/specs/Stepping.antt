@@ -1,5 +1,5 @@
 -- What parts of a run do, one behind another: an event, a line, the lines so far.
-use Rattle.std.specs.Prelude.{◌≡◌, ◌⊎◌, ℕ, ◌+◌, ◌<◌, ◌≤◌, true, min, List, [], ◌∷◌, ◌++◌, Contains, length, IsSome, Option, Some, None}
+use Rattle.std.specs.Prelude.{◌≡◌, ◌⊎◌, ℕ, ◌+◌, ◌<◌, ◌≤◌, true, min, List, [], ◌∷◌, ◌++◌, Contains, length, Option, Some, None}
 use Rattle.pm_base.specs.Counts.{Rose, greatest_count}
 use Rattle.pm_types.specs.declared.command.Cmd.{Cmd}
 use Rattle.pm_types.specs.declared.entry.Entry.{Entry}
@@ -16,6 +16,7 @@ use Rattle.pm_model.specs.World.{Copy}
 use Rattle.pm_grammar.specs.declared.line.Line.{Line}
 use Rattle.pm_grammar.specs.declared.line.Line.TheVariants.{Client}
 use Rattle.pm_output.specs.Writing.{GoesOn, PutsAll, PutsPart}
+use Rattle.pm_saving.specs.Paging.{left_of}
 use Rattle.pm_serving.specs.Serving.{Serving, one_more, opening}
 use Rattle.pm_serving.specs.Images.{IsLast, IsOfRun, IsTold}
 use Rattle.pm_engine.specs.declared.engine.Engine.{Engine}
@@ -101,15 +102,15 @@ pub record IsCut (count : ℕ) (old new : Serving) : Type 0 where
   pub within : made < count
   pub events : old.events ≤ greatest_count → new.events ≡ min (old.events + made) greatest_count
 
--- a copy is in progress still
+-- something of a copy in progress is left to be written
 abbrev pub IsUnfinished : Serving → Type 0
-IsUnfinished it = IsSome it.saving.progress
+IsUnfinished it = 0 < left_of it.saving.progress
 
--- where memory ran out in a command no event was made, and in `settle` a copy is in progress still
+-- where memory ran out in a command no event was made, and in `settle` something of the copy is left to be written
 abbrev pub IsShort : Cmd → Serving → Serving → Option Stop → Type 0
 IsShort cmd old new stop = OnMemory stop ((new.events ≡ old.events) × (is_settle cmd ≡ true → IsUnfinished new))
 
--- not all events of a line were made, and where it asks to settle a copy is in progress still
+-- not all events of a line were made, and where it asks to settle something of the copy is left to be written
 pub record CutsLine (line : Line) (old new : Serving) : Type 0 where
   pub cut : IsCut (events_of line) old new
   pub left : AsksSettle line → IsUnfinished new

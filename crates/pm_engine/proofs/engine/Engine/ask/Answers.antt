@@ -97,7 +97,7 @@ returns-in-Err-Memory-clause-call g c =
       still = λ other. record { disk = (c.answer.ensures.still other).disk; none = tt };
       leaves = λ none. settled_alone self.opening self.stopped self.works none self.sound new c.args.cmd.now (Err Memory) so.spares;
       settled = tt;
-      short = λ settles. subst (λ (fault : SaveFault). IfMemory (IsShort self.works) fault) arm.field-0-is (subst (λ (result : Result Reply SaveFault). OnMemory result (IsShort self.works)) arm.is (c.answer.ensures.short settles));
+      short = λ settles. subst (λ (fault : SaveFault). IfMemory (IsShort self.works new) fault) arm.field-0-is (subst (λ (result : Result Reply SaveFault). OnMemory result (IsShort self.works new)) arm.is (c.answer.ensures.short settles));
       shown = tt;
       copies = λ _. tt;
       lasts = λ other. left_alone self.opening self.stopped self.works new (subst (λ (result : Result Reply SaveFault). OnErr result (IsLeft self.works new)) arm.is (c.answer.ensures.left other));

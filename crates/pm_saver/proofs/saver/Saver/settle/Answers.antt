@@ -1,12 +1,13 @@
-use Rattle.std.proofs.Common.{rules, Option, ap, refl, subst, sym}
+use Rattle.std.proofs.Common.{rules, ◌<◌, Option, ap, refl, subst, sym}
 use Rattle.std.specs.Prelude.{option_map}
 use Rattle.pm_base.specs.Mapped.{mapped}
 use Rattle.pm_shadow.specs.Pages.{state, disk_of}
 use Rattle.pm_space.specs.Shown.{car_of}
 use Rattle.pm_view.specs.View.{Cars}
+use Rattle.pm_saving.specs.Paging.{left_of}
 use Rattle.pm_saving.specs.Tied.{IsTied}
 use Rattle.pm_saver.specs.Shown.{saving, frozen_of, frozen_cars}
-use Rattle.pm_saver.proofs.SettleLemmas.{all_written, is_shut, either_of, gate_either, header_whole, is_written, left_by, once_in, placed_in, publish_either, publishable, settles_by, stands_by, tied_by, told_by}
+use Rattle.pm_saver.proofs.SettleLemmas.{all_written, is_shut, either_of, gate_either, header_whole, is_written, left_by, on_memory, once_in, placed_in, publish_either, publishable, settles_by, stands_by, tied_by, told_by}
 use Rattle.std.proofs.lemmas.Result.{err_from_is_err_and}
 use Rattle.pm_saver.proofs.RunLemmas.{runs_on}
 use Rattle.pm_saver.proofs.saver.Saver.settle.Goals as goal
@@ -144,6 +145,11 @@ returns-in_err-publish-clause-goes g c =
     let on = runs_on (frozen_of c.args.space.now.parts) (frozen_cars c.args.space.now.parts) (saving c.args.self.now) (saving c.write_rest.new.self) (saving c.write_rest.new.self) (state c.args.pages.now) (state c.write_rest.new.pages)
     (g.D.Disk.contents (disk_of c.args.pages.now)) (g.D.Disk.contents (disk_of c.write_rest.new.pages)) c.in_ok-write_rest.ensures.run refl in
     search (rules, on)
+
+pub returns-in_err-write_rest-clause-left : goal.returns-in_err-write_rest-clause-left
+returns-in_err-write_rest-clause-left g c =
+    let p = err_from_is_err_and c.from_residual.result c.from_residual.ensures.1 in
+    rw (p.1, p.2) (on_memory (0 < left_of (saving c.write_rest.new.self).progress) c.in_err-write_rest.field-0.0 c.in_err-write_rest.ensures.left)
 
 pub returns-in_err-write_rest-clause-memory : goal.returns-in_err-write_rest-clause-memory
 returns-in_err-write_rest-clause-memory g c =

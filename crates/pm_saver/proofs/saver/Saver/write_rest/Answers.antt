@@ -1,7 +1,9 @@
-use Rattle.std.proofs.Common.{rules, refl, ◌∙◌, subst}
+use Rattle.std.proofs.Common.{rules, refl, sym, ◌∙◌, ◌<◌, subst}
 use Rattle.std.proofs.lemmas.Result.{err_from_is_err_and}
 use Rattle.pm_shadow.specs.Pages.{state, disk_of, current_kept}
 use Rattle.pm_types.specs.declared.event.Flushed.{Flushed}
+use Rattle.pm_saving.specs.Progress.{Saving}
+use Rattle.pm_saving.specs.Paging.{left_of}
 use Rattle.pm_saver.specs.Answers.{IsFlushed}
 use Rattle.pm_saver.specs.Shown.{saving, frozen_of, frozen_cars}
 use Rattle.pm_saver.proofs.FlushLemmas.{spares_by, spares_still}
@@ -37,6 +39,11 @@ returns-in_err-_page-clause-fault g c =
     let p = err_from_is_err_and c.from_residual.result c.from_residual.ensures.1 in
     rw p.1 (left_some (frozen_of c.args.space.now.parts) (frozen_cars c.args.space.now.parts) (saving c.args.self.now) (saving c.loop-page.self) (state c.args.pages.now) (state c.loop-page.pages)
     (g.D.Disk.contents (disk_of c.args.pages.now)) (g.D.Disk.contents (disk_of c.loop-page.pages)) c.loop-page.invariant.run c.in_err-_page.ensures.fault)
+
+pub returns-in_err-_page-clause-left : goal.returns-in_err-_page-clause-left
+returns-in_err-_page-clause-left g c =
+    let p = err_from_is_err_and c.from_residual.result c.from_residual.ensures.1 in
+    rw p.1 (subst (λ (it : Saving). 0 < left_of it.progress) (sym c.in_err-_page.ensures.err) c.in_err-_page.ensures.fault)
 
 pub returns-in_err-_page-clause-spares : goal.returns-in_err-_page-clause-spares
 returns-in_err-_page-clause-spares g c =
