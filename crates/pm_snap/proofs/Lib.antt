@@ -1,4 +1,5 @@
 pub mod Shown
+pub mod Hashed
 pub mod KeySets
 pub mod Tables
 pub mod Passed

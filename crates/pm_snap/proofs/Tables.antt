@@ -1,19 +1,21 @@
 -- What a table is seen as, once a value was written, taken or nothing was.
-use Rattle.std.proofs.Common.{◌≡◌, ◌≢◌, ℕ, Bool, true, false, cond, not, ◌||◌, ◌<◌, zero, suc, is_some, refl, sym, ap, subst, ◌∙◌, ⊎_elim, arith, List, [], ◌∷◌, Option, Some, None, IsSome}
+use Rattle.std.proofs.Common.{◌≡◌, ◌≢◌, ℕ, Bool, true, false, cond, not, ◌||◌, ◌<◌, zero, suc, is_some, nat_eq, refl, sym, ap, subst, ◌∙◌, ⊎_elim, arith, List, [], ◌∷◌, Option, Some, None, IsSome}
 use Rattle.std.specs.Ordering.{nat_cmp, eq_by_cmp}
 use Rattle.std.specs.Cmp.{nat_cmp_total}
 use Rattle.std.specs.List.{list_any}
 use Rattle.std.specs.Map.{lookup, keys_of}
 use Rattle.std.specs.FinMap.{FinMap, get, get-insert, get-remove, same_map, nat_cmp-IsAntisymmetric}
 use Rattle.std.specs.FinSet as set
-use Rattle.std.specs.BTreeMap.{BTreeMap, is_at, UpdatesBy, keys}
+use Rattle.std.specs.BTreeMap.{BTreeMap, is_at, keys}
 use Rattle.std.specs.BTreeMap as tree
+use Rattle.std.specs.HashMap.{HashMap, UpdatesBy}
+use Rattle.std.specs.HashMap as hash
 use Rattle.std.proofs.lemmas.Bool.{cases_eq}
 use Rattle.std.proofs.lemmas.Bool.Decides.{nat_tests}
 use Rattle.std.proofs.lemmas.Grind.{common_steps}
 use Rattle.pm_snap.specs.Snapped.{Snapped, is_ready, mark, IsSound}
 use Rattle.pm_snap.specs.Kept.{put, overlay, seen, seen_frozen, seen_changed, table_of, noted, or_now, Notes, KeepsNotes}
-use Rattle.pm_snap.proofs.Shown.{get_shown, shown_alike, insert_shown, remove_shown}
+use Rattle.pm_snap.proofs.Hashed.{get_hashed, alike, inserted, removed}
 
 pub same_keys : (s t : set.FinSet nat_cmp) → ((q : ℕ) → set.contains s q ≡ set.contains t q) → s ≡ t
 same_keys s t is = set.same_set nat_cmp_total nat_cmp-IsAntisymmetric s t is
@@ -23,9 +25,6 @@ zero_only at none zero used = absurd (grind (arith, none, used))
 zero_only at none (suc key) used = omega arith
 
 module _ {T : Type 0} where
-  pub get_seen : (m : BTreeMap ℕ T) (q : ℕ) → get (seen m) q ≡ tree.get nat_cmp m q
-  get_seen m q = get_shown nat_cmp_total m q
-
   get_put : (m : FinMap nat_cmp T) (k : ℕ) (w : Option T) (q : ℕ) → get (put m k w) q ≡ cond (eq_by_cmp nat_cmp q k) w (get m q)
   get_put m k None q = get-remove nat_cmp_total m k q
   get_put m k (Some v) q = get-insert nat_cmp_total m k v q
@@ -37,10 +36,6 @@ module _ {T : Type 0} where
   get_overlay : (m : FinMap nat_cmp T) (es : List (ℕ × Option T)) (q : ℕ) → get (overlay m es) q ≡ or_now (lookup (is_at (nat_cmp q)) es) (get m q)
   get_overlay m [] q = refl
   get_overlay m (e ∷ es) q = get_put (overlay m es) e.0 e.1 q ∙ ap (cond (eq_by_cmp nat_cmp q e.0) e.1) (get_overlay m es q) ∙ over (eq_by_cmp nat_cmp q e.0) e.1 _ _
-
-  -- what was frozen at a key
-  pub get_frozen : (values : BTreeMap ℕ T) (kept : BTreeMap ℕ (Option T)) (q : ℕ) → get (overlay (seen values) kept.entries) q ≡ or_now (tree.get nat_cmp kept q) (tree.get nat_cmp values q)
-  get_frozen values kept q = get_overlay (seen values) kept.entries q ∙ ap (or_now (tree.get nat_cmp kept q)) (get_seen values q)
 
   found_or : (b : Bool) (old : Option T) (found : Option (Option T)) → (b || is_some found) ≡ is_some (cond b (Some old) found)
   found_or true old found = refl
@@ -54,48 +49,60 @@ module _ {T : Type 0} where
   pub contains_changed : (kept : BTreeMap ℕ (Option T)) (q : ℕ) → set.contains (set.from_list {R = nat_cmp} (keys kept)) q ≡ is_some (tree.get nat_cmp kept q)
   contains_changed kept q = set.contains-from_list nat_cmp_total (keys kept) q ∙ any_found kept.entries q
 
-  -- a key is ready where no old value has to be kept
-  pub ready_shown : (values : BTreeMap ℕ T) (kept : Option (BTreeMap ℕ (Option T))) (key : ℕ) → is_ready (table_of values kept) key ≡ (not (is_some kept) || is_some (noted kept key))
-  ready_shown values None key = refl
-  ready_shown values (Some kept) key = contains_changed kept key
-
-  frozen_alike : (m n : BTreeMap ℕ T) (old new : Option (BTreeMap ℕ (Option T))) → is_some new ≡ is_some old
-      → ((q : ℕ) → is_some old ≡ true → or_now (noted new q) (tree.get nat_cmp n q) ≡ or_now (noted old q) (tree.get nat_cmp m q)) → seen_frozen n new ≡ seen_frozen m old
-  frozen_alike m n None None is alike = refl
-  frozen_alike m n None (Some new) is alike = absurd (grind (arith, is))
-  frozen_alike m n (Some old) None is alike = absurd (grind (arith, is))
-  frozen_alike m n (Some old) (Some new) is alike =
-      ap Some (same_map nat_cmp_total nat_cmp-IsAntisymmetric _ _ (λ q. get_frozen n new q ∙ alike q refl ∙ sym (get_frozen m old q)))
-
   changed_alike : (old new : Option (BTreeMap ℕ (Option T))) → KeepsNotes old new → seen_changed new ≡ seen_changed old
   changed_alike None None keeps = refl
   changed_alike None (Some new) keeps = absurd (grind (arith, keeps.frozen))
   changed_alike (Some old) None keeps = absurd (grind (arith, keeps.frozen))
   changed_alike (Some old) (Some new) keeps = same_keys _ _ (λ q. contains_changed new q ∙ ap is_some (keeps.same q) ∙ sym (contains_changed old q))
 
+  -- no old value was kept for the key 0
+  pub zero_stays : (old new : Option (BTreeMap ℕ (Option T))) (key : ℕ) (value : Option T) → Notes old new key value → 0 < key → noted old 0 ≡ None → noted new 0 ≡ None
+  zero_stays old new key value notes low none = notes.others 0 (λ is. omega arith) ∙ none
+
+module _ {T S : Type 0} where
+  pub get_seen : (m : HashMap ℕ T S) (q : ℕ) → get (seen m) q ≡ hash.get nat_eq m q
+  get_seen m q = get_hashed m q
+
+  -- what was frozen at a key
+  pub get_frozen : (values : HashMap ℕ T S) (kept : BTreeMap ℕ (Option T)) (q : ℕ) → get (overlay (seen values) kept.entries) q ≡ or_now (tree.get nat_cmp kept q) (hash.get nat_eq values q)
+  get_frozen values kept q = get_overlay (seen values) kept.entries q ∙ ap (or_now (tree.get nat_cmp kept q)) (get_seen values q)
+
+  -- a key is ready where no old value has to be kept
+  pub ready_shown : (values : HashMap ℕ T S) (kept : Option (BTreeMap ℕ (Option T))) (key : ℕ) → is_ready (table_of values kept) key ≡ (not (is_some kept) || is_some (noted kept key))
+  ready_shown values None key = refl
+  ready_shown values (Some kept) key = contains_changed kept key
+
+  frozen_alike : (m n : HashMap ℕ T S) (old new : Option (BTreeMap ℕ (Option T))) → is_some new ≡ is_some old
+      → ((q : ℕ) → is_some old ≡ true → or_now (noted new q) (hash.get nat_eq n q) ≡ or_now (noted old q) (hash.get nat_eq m q)) → seen_frozen n new ≡ seen_frozen m old
+  frozen_alike m n None None is alike = refl
+  frozen_alike m n None (Some new) is alike = absurd (grind (arith, is))
+  frozen_alike m n (Some old) None is alike = absurd (grind (arith, is))
+  frozen_alike m n (Some old) (Some new) is alike =
+      ap Some (same_map nat_cmp_total nat_cmp-IsAntisymmetric _ _ (λ q. get_frozen n new q ∙ alike q refl ∙ sym (get_frozen m old q)))
+
   -- nothing was written
-  pub unwritten : (m n : BTreeMap ℕ T) (old new : Option (BTreeMap ℕ (Option T))) → ((q : ℕ) → tree.get nat_cmp n q ≡ tree.get nat_cmp m q) → KeepsNotes old new → table_of n new ≡ table_of m old
+  pub unwritten : (m n : HashMap ℕ T S) (old new : Option (BTreeMap ℕ (Option T))) → ((q : ℕ) → hash.get nat_eq n q ≡ hash.get nat_eq m q) → KeepsNotes old new → table_of n new ≡ table_of m old
   unwritten m n old new same keeps =
-      let current = shown_alike nat_cmp_total nat_cmp-IsAntisymmetric n m same in
+      let current = alike n m same in
       let frozen = frozen_alike m n old new keeps.frozen (λ q _ i. or_now (keeps.same q i) (same q i)) in
       let changed = changed_alike old new keeps in
       λ i. record { current = current i; frozen = frozen i; changed = changed i }
 
-  module _ (m n : BTreeMap ℕ T) (old new : Option (BTreeMap ℕ (Option T))) (key : ℕ) (w : Option T) (notes : Notes old new key (tree.get nat_cmp m key)) where
-    current_written : UpdatesBy nat_cmp (nat_cmp key) m n w → (w' : Option T) → w ≡ w' → seen n ≡ put (seen m) key w'
-    current_written updates None is = remove_shown nat_cmp_total nat_cmp-IsAntisymmetric m n key (subst (UpdatesBy nat_cmp (nat_cmp key) m n) is updates)
-    current_written updates (Some v) is = insert_shown nat_cmp_total nat_cmp-IsAntisymmetric m n key v (subst (UpdatesBy nat_cmp (nat_cmp key) m n) is updates)
+  module _ (m n : HashMap ℕ T S) (old new : Option (BTreeMap ℕ (Option T))) (key : ℕ) (w : Option T) (notes : Notes old new key (hash.get nat_eq m key)) where
+    current_written : UpdatesBy nat_eq (nat_eq key) m n w → (w' : Option T) → w ≡ w' → seen n ≡ put (seen m) key w'
+    current_written updates None is = removed m n (seen m) refl key (subst (UpdatesBy nat_eq (nat_eq key) m n) is updates)
+    current_written updates (Some v) is = inserted m n (seen m) refl key v (subst (UpdatesBy nat_eq (nat_eq key) m n) is updates)
 
-    same_elsewhere : UpdatesBy nat_cmp (nat_cmp key) m n w → (q : ℕ) → q ≢ key → tree.get nat_cmp n q ≡ tree.get nat_cmp m q
+    same_elsewhere : UpdatesBy nat_eq (nat_eq key) m n w → (q : ℕ) → q ≢ key → hash.get nat_eq n q ≡ hash.get nat_eq m q
     same_elsewhere updates q other = let here = updates.0 q in grind (arith, common_steps, nat_tests, here, other)
 
-    frozen_written : UpdatesBy nat_cmp (nat_cmp key) m n w → seen_frozen n new ≡ seen_frozen m old
+    frozen_written : UpdatesBy nat_eq (nat_eq key) m n w → seen_frozen n new ≡ seen_frozen m old
     frozen_written updates =
         frozen_alike m n old new notes.frozen (λ q frozen. ⊎_elim
-        (λ (is : q ≡ key). subst (λ k. or_now (noted new k) (tree.get nat_cmp n k) ≡ or_now (noted old k) (tree.get nat_cmp m k)) (sym is) (ap (λ found. or_now found (tree.get nat_cmp n key)) (notes.here frozen)))
+        (λ (is : q ≡ key). subst (λ k. or_now (noted new k) (hash.get nat_eq n k) ≡ or_now (noted old k) (hash.get nat_eq m k)) (sym is) (ap (λ found. or_now found (hash.get nat_eq n key)) (notes.here frozen)))
         (λ (other : q ≢ key) i. or_now (notes.others q other i) (same_elsewhere updates q other i)) (cases_eq q key))
 
-    changed_written : (old' new' : Option (BTreeMap ℕ (Option T))) → old ≡ old' → new ≡ new' → Notes old' new' key (tree.get nat_cmp m key) → seen_changed new' ≡ mark (seen_frozen m old') (seen_changed old') key
+    changed_written : (old' new' : Option (BTreeMap ℕ (Option T))) → old ≡ old' → new ≡ new' → Notes old' new' key (hash.get nat_eq m key) → seen_changed new' ≡ mark (seen_frozen m old') (seen_changed old') key
     changed_written None None oldis newis notes = refl
     changed_written None (Some b) oldis newis notes = absurd (grind (arith, notes.frozen))
     changed_written (Some a) None oldis newis notes = absurd (grind (arith, notes.frozen))
@@ -105,7 +112,7 @@ module _ {T : Type 0} where
         (λ (other : q ≢ key). let same = notes.others q other in let there = contains_changed a q in grind (arith, common_steps, nat_tests, set.members, other, same, there)) (cases_eq q key))
 
     -- a value was written at the key, or taken
-    pub written : UpdatesBy nat_cmp (nat_cmp key) m n w
+    pub written : UpdatesBy nat_eq (nat_eq key) m n w
         → table_of n new ≡ record { current = put (seen m) key w; frozen = seen_frozen m old; changed = mark (seen_frozen m old) (seen_changed old) key }
     written updates =
         let current = current_written updates w refl in
@@ -114,7 +121,7 @@ module _ {T : Type 0} where
         λ i. record { current = current i; frozen = frozen i; changed = changed i }
 
   -- what holds of a table at every moment
-  pub sound_table : (m : BTreeMap ℕ T) (kept : Option (BTreeMap ℕ (Option T))) → tree.get nat_cmp m 0 ≡ None → noted kept 0 ≡ None → IsSound (table_of m kept)
+  pub sound_table : (m : HashMap ℕ T S) (kept : Option (BTreeMap ℕ (Option T))) → hash.get nat_eq m 0 ≡ None → noted kept 0 ≡ None → IsSound (table_of m kept)
   sound_table m None unused old = record {
     from_one = zero_only (get (seen m)) (get_seen m 0 ∙ unused);
     frozen_from_one = λ key used. absurd (grind (arith, used));
@@ -123,28 +130,24 @@ module _ {T : Type 0} where
   }
   sound_table m (Some kept) unused old = record {
     from_one = zero_only (get (seen m)) (get_seen m 0 ∙ unused);
-    frozen_from_one = zero_only (get (overlay (seen m) kept.entries)) (get_frozen m kept 0 ∙ ap (λ found. or_now found (tree.get nat_cmp m 0)) old ∙ unused);
+    frozen_from_one = zero_only (get (overlay (seen m) kept.entries)) (get_frozen m kept 0 ∙ ap (λ found. or_now found (hash.get nat_eq m 0)) old ∙ unused);
     unchanged = λ key _ same. get_frozen m kept key ∙ now key (tree.get nat_cmp kept key) (sym (contains_changed kept key) ∙ same) ∙ sym (get_seen m key);
     none_changed = λ none. absurd (grind (arith, none));
   }
     where
-      now : (key : ℕ) (found : Option (Option T)) → is_some found ≡ false → or_now found (tree.get nat_cmp m key) ≡ tree.get nat_cmp m key
+      now : (key : ℕ) (found : Option (Option T)) → is_some found ≡ false → or_now found (hash.get nat_eq m key) ≡ hash.get nat_eq m key
       now key None is = refl
       now key (Some value) is = absurd (grind (arith, is))
 
-  -- no old value was kept for the key 0
-  pub zero_stays : (old new : Option (BTreeMap ℕ (Option T))) (key : ℕ) (value : Option T) → Notes old new key value → 0 < key → noted old 0 ≡ None → noted new 0 ≡ None
-  zero_stays old new key value notes low none = notes.others 0 (λ is. omega arith) ∙ none
-
   -- the facts on a table that its user states of the whole, said of its parts
-  pub used_part : (m : BTreeMap ℕ T) (kept : Option (BTreeMap ℕ (Option T))) (s : Snapped T) (key : ℕ) → table_of m kept ≡ s → IsSome (get s.current key) → IsSome (tree.get nat_cmp m key)
+  pub used_part : (m : HashMap ℕ T S) (kept : Option (BTreeMap ℕ (Option T))) (s : Snapped T) (key : ℕ) → table_of m kept ≡ s → IsSome (get s.current key) → IsSome (hash.get nat_eq m key)
   used_part m kept s key view used = subst IsSome (ap (λ t. get t.current key) (sym view) ∙ get_seen m key) used
 
-  pub ready_part : (m : BTreeMap ℕ T) (kept : Option (BTreeMap ℕ (Option T))) (s : Snapped T) (key : ℕ) → table_of m kept ≡ s → is_ready s key ≡ true → (not (is_some kept) || is_some (noted kept key)) ≡ true
+  pub ready_part : (m : HashMap ℕ T S) (kept : Option (BTreeMap ℕ (Option T))) (s : Snapped T) (key : ℕ) → table_of m kept ≡ s → is_ready s key ≡ true → (not (is_some kept) || is_some (noted kept key)) ≡ true
   ready_part m kept s key view ready = sym (ready_shown m kept key) ∙ ap (λ t. is_ready t key) view ∙ ready
 
-  pub used_from_one : (m : BTreeMap ℕ T) (key : ℕ) → tree.get nat_cmp m 0 ≡ None → IsSome (tree.get nat_cmp m key) → 0 < key
-  used_from_one m key none used = zero_only (tree.get nat_cmp m) none key used
+  pub used_from_one : (m : HashMap ℕ T S) (key : ℕ) → hash.get nat_eq m 0 ≡ None → IsSome (hash.get nat_eq m key) → 0 < key
+  used_from_one m key none used = zero_only (hash.get nat_eq m) none key used
 
-  pub unused_part : (m : BTreeMap ℕ T) (kept : Option (BTreeMap ℕ (Option T))) (s : Snapped T) (key : ℕ) → table_of m kept ≡ s → get s.current key ≡ None → tree.get nat_cmp m key ≡ None
+  pub unused_part : (m : HashMap ℕ T S) (kept : Option (BTreeMap ℕ (Option T))) (s : Snapped T) (key : ℕ) → table_of m kept ≡ s → get s.current key ≡ None → hash.get nat_eq m key ≡ None
   unused_part m kept s key view unused = sym (get_seen m key) ∙ ap (λ t. get t.current key) view ∙ unused

@@ -1,12 +1,12 @@
-ghost use Rattle.std.specs.Prelude.{◌≡◌, ℕ, Bool, true, ◌||◌, not, is_some, None, IsSome, IsOk, OnOk, OnErr};
+ghost use Rattle.std.specs.Prelude.{◌≡◌, ℕ, nat_eq, Bool, true, ◌||◌, not, is_some, None, IsSome, IsOk, OnOk, OnErr};
 ghost use Rattle.std.specs.Ordering.{nat_cmp};
-ghost use Rattle.std.specs.BTreeMap as tree;
+ghost use Rattle.std.specs.HashMap as hash;
 ghost use Rattle.pm_snap.specs.Kept.{noted, Notes, KeepsNotes};
 
 use crate::Keep;
 use pm_types::NoMemory;
 use std::alloc::Global;
-use std::collections::BTreeMap;
+use std::collections::{BTreeMap, HashMap};
 
 /// Keeps the old value of the key, where the table is frozen and none is kept for it.
 pub(crate) fn note<T: Drop>(
@@ -30,13 +30,13 @@ pub(crate) fn note<T: Drop>(
 
 /// Keeps the value that the key has now, where the table is frozen and none is kept for it.
 pub(crate) fn save<T: Keep + Drop>(
-    values: &BTreeMap<u64, T>,
+    values: &HashMap<u64, T>,
     kept: &mut Option<BTreeMap<u64, Option<T>>>,
     alloc: Global,
     key: u64,
 ) -> Result<(), NoMemory>
-    requires { IsSome (tree.get nat_cmp values.now key) }
-    ensures ok { OnOk result (Notes kept.old kept.new key (tree.get nat_cmp values.now key)) }
+    requires { IsSome (hash.get nat_eq values.now key) }
+    ensures ok { OnOk result (Notes kept.old kept.new key (hash.get nat_eq values.now key)) }
     ensures err { OnErr result (KeepsNotes kept.old kept.new) }
     ensures succeeds { (not (is_some kept.old) || is_some (noted kept.old key)) ≡ true → IsOk result }
 {

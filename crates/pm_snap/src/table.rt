@@ -1,10 +1,9 @@
-ghost use Rattle.std.specs.Prelude.{◌≡◌, ℕ, ◌<◌, ◌≤◌, true, Some, None, IsSome, IsNone, IfOk, IfSome, IfErr, IsOk, OnOk, OnErr};
+ghost use Rattle.std.specs.Prelude.{◌≡◌, ℕ, nat_eq, ◌<◌, ◌≤◌, true, Some, None, IsSome, IsNone, IfOk, IfSome, IfErr, IsOk, OnOk, OnErr};
 ghost use Rattle.std.specs.Borrow.{sem};
 ghost use Rattle.std.specs.FinMap as map;
 ghost use Rattle.std.specs.FinSet as set;
-ghost use Rattle.std.specs.BTreeMap as tree;
+ghost use Rattle.std.specs.HashMap as hash;
 ghost use Rattle.std.specs.Option.{option_copied};
-ghost use Rattle.std.specs.Ordering.{nat_cmp};
 ghost use Rattle.pm_snap.specs.Snapped.{at_key, is_ready, with_value, without, IsLowestUnused, IsSound};
 ghost use Rattle.pm_snap.specs.Kept.{IsNext};
 ghost use Rattle.pm_snap.specs.Lending.{lends_value};
@@ -14,7 +13,7 @@ use crate::freed::Freed;
 use crate::notes::{note, save};
 use pm_types::NoMemory;
 use std::alloc::Global;
-use std::collections::BTreeMap;
+use std::collections::{BTreeMap, HashMap};
 use std::marker::Model;
 
 /// A table of values by key, seen as two finite maps, the values now and the values of the moment when
@@ -25,7 +24,7 @@ use std::marker::Model;
 /// change or to take its value then succeeds. Only `freeze` ends that.
 #[derive(Drop)]
 pub struct Table<T> {
-    values: BTreeMap<u64, T>,
+    values: HashMap<u64, T>,
     // The keys from 1 to below `next` that are not used.
     freed: Freed,
     // The least key that was never passed. It is not used; a key above it may be.
@@ -50,8 +49,8 @@ impl<T> Model for Table<T> {
 
 // The next key once `key` is used: `next` itself where that is another one, and else the least key above it
 // that is not used. `None` where there is none.
-fn next_after<T>(values: &BTreeMap<u64, T>, next: u64, key: u64) -> Option<u64>
-    requires { tree.get nat_cmp values.now next ≡ None }
+fn next_after<T>(values: &HashMap<u64, T>, next: u64, key: u64) -> Option<u64>
+    requires { hash.get nat_eq values.now next ≡ None }
     ensures { IfSome result (IsNext values.now next key) }
 {
     if key != next {
@@ -84,7 +83,7 @@ impl<T: Keep + Drop> Table<T> {
         ensures changed { result.changed ≡ set.empty }
     {
         Table {
-            values: BTreeMap::new(alloc),
+            values: HashMap::new(alloc),
             freed: Freed::new(alloc),
             next: 1,
             kept: None,

@@ -3,13 +3,11 @@ use Rattle.std.proofs.Common.{◌≡◌, ℕ, ◌≤◌, ◌+◌, ◌==◌, arit
 use Rattle.std.specs.Ordering.{nat_cmp, eq_by_cmp}
 use Rattle.std.specs.Cmp.{nat_cmp_total}
 use Rattle.std.specs.Option.{option_map}
-use Rattle.std.specs.FinMap.{FinMap, from_entries, get, insert, remove, get-remove, same_map, nat_cmp-IsAntisymmetric}
-use Rattle.std.specs.BTreeMap.{BTreeMap, UpdatesBy}
+use Rattle.std.specs.FinMap.{FinMap, get, insert, remove, get-remove, same_map, nat_cmp-IsAntisymmetric}
 use Rattle.std.proofs.lemmas.Bool.Decides.{nat_tests}
 use Rattle.std.proofs.lemmas.Bool.{cases_Bool, cond-true, cond-false, eqb-true, eq-eqb}
 use Rattle.pm_base.specs.Mapped.{mapped}
 use Rattle.pm_base.proofs.Mapped.{get-mapped, mapped-insert}
-use Rattle.pm_base.proofs.Shown.{insert_shown}
 use Rattle.pm_types.specs.declared.source.Change.{Change}
 use Rattle.pm_law_rows.proofs.News.{at_insert}
 use Rattle.pm_view.specs.Barrier.{pushed}
@@ -79,11 +77,6 @@ module _ (v : Linked) (car : ℕ) (it w : Links) (found : get v car ≡ Some it)
       let one : ◌≡◌ {A = ℕ} (cond (car == other) 1 0) 1 = cond-true _ _ _ (eq-eqb car other same) in
       omega (arith, had, less, one))
       (λ differs. subst (HasRoom v other) (ap (λ n. more + n) (cond-false (car == other) 1 0 differs) ∙ omega arith) room)
-
--- a tree of links after those of one car were written is seen as that
-pub written : (m n : BTreeMap ℕ Links) (v : Linked) → from_entries {R = nat_cmp} m.entries ≡ v → (car : ℕ) (w : Links) → UpdatesBy nat_cmp (nat_cmp car) m n (Some w)
-    → from_entries {R = nat_cmp} n.entries ≡ insert v car w
-written m n v is car w u = insert_shown nat_cmp_total nat_cmp-IsAntisymmetric m n car w u ∙ ap (λ m. insert m car w) is
 
 -- what follows from what holds where a call ended well
 pub on_ok : {A E P Q : Type 0} (r : Result A E) → (P → Q) → OnOk r P → OnOk r Q

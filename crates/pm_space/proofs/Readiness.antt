@@ -5,12 +5,11 @@ use Rattle.std.specs.Cmp.{nat_cmp_total}
 use Rattle.std.specs.FinMap.{FinMap, get, insert, nat_cmp-IsAntisymmetric}
 use Rattle.std.specs.FinSet as set
 use Rattle.std.specs.FinSet.{FinSet}
-use Rattle.std.proofs.lemmas.Bool.{cond-true, cond-false, eqb-true, eq-eqb, cases_Bool}
-use Rattle.pm_base.specs.Mapped.{mapped}
+use Rattle.std.proofs.lemmas.Bool.{cond-true, eqb-true, eq-eqb}
 use Rattle.pm_base.proofs.Mapped.{mapped-insert}
 use Rattle.pm_cars.specs.Cars.{CarAndSpare}
 use Rattle.pm_types.specs.declared.no_memory.NoMemory.{NoMemory}
-use Rattle.pm_snap.specs.Snapped.{Snapped, with_value, without, is_ready, mark}
+use Rattle.pm_snap.specs.Snapped.{Snapped, with_value, without, mark}
 use Rattle.pm_snap.proofs.KeySets.{contains_insert}
 use Rattle.pm_law_rows.proofs.News.{at_insert}
 use Rattle.pm_space.specs.declared.held.Held.{Held}

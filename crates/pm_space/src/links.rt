@@ -8,7 +8,7 @@ use pm_delta::Queue;
 use pm_remset::Remset;
 use pm_types::{Change, NoMemory, RefSource};
 use std::alloc::Global;
-use std::collections::BTreeMap;
+use std::collections::HashMap;
 use std::marker::Model;
 
 /// What belongs to a car beside its objects: its remembered set, and the queue of changes that wait for it.
@@ -21,7 +21,7 @@ pub struct Links {
 /// The remembered set and the queue of each car that stands, seen as a finite map from the cars' numbers.
 #[derive(Drop)]
 pub struct LinkTable {
-    links: BTreeMap<u64, Links>,
+    links: HashMap<u64, Links>,
 }
 
 impl Model for LinkTable {
@@ -74,7 +74,7 @@ impl LinkTable {
         ensures { result ≡ map.empty }
     {
         LinkTable {
-            links: BTreeMap::new(alloc),
+            links: HashMap::new(alloc),
         }
     }
 

@@ -1,6 +1,5 @@
 use Rattle.std.proofs.Common.{◌≡◌, ℕ, refl, sym, ap, subst, ◌∙◌, IsOk, OnOk}
-use Rattle.pm_snap.specs.Snapped.{Snapped, with_value, is_ready}
-use Rattle.pm_space.specs.declared.held.Held.{Held}
+use Rattle.pm_snap.specs.Snapped.{with_value, is_ready}
 use Rattle.pm_space.specs.Shown.{cars_of, HasBirthRoom, KeepsReady}
 use Rattle.pm_space.proofs.OpenedCars.{ready}
 use Rattle.pm_space.proofs.Readiness.{same_seen, kept_by_value, room_where, room_kept, reserved_car, reserved_room, reserved_grows, on_ok}

@@ -1,8 +1,7 @@
-use Rattle.std.proofs.Common.{sym, ap, subst, ◌∙◌, Some, None, arith}
-use Rattle.std.specs.Ordering.{nat_cmp}
+use Rattle.std.proofs.Common.{sym, ap, subst, ◌∙◌, Some, None, arith, nat_eq}
 use Rattle.std.specs.FinSet as set
-use Rattle.std.specs.BTreeMap.{btree_map_len}
-use Rattle.std.specs.BTreeMap as tree
+use Rattle.std.specs.HashMap.{hash_map_len}
+use Rattle.std.specs.HashMap as hash
 use Rattle.pm_snap.specs.Snapped.{with_value}
 use Rattle.pm_snap.specs.Kept.{Notes}
 use Rattle.pm_snap.proofs.Tables.{written, unwritten, unused_part, zero_stays}
@@ -14,7 +13,7 @@ invariant_of-self-in-Err-note g c =
     let m = c.self.inside.values in
     let unused = unused_part m c.self.inside.kept c.args.self.now c.args.key c.self.view_is c.requires.unused in
     let added = c.in_default-insert.ensures in
-    let more = one_more c.in_default-insert.field-0 (tree.get nat_cmp m c.args.key) (btree_map_len m) (btree_map_len c.insert.new.self) added.old unused added.len in
+    let more = one_more c.in_default-insert.field-0 (hash.get nat_eq m c.args.key) (hash_map_len m) (hash_map_len c.insert.new.self) added.old unused added.len in
     let fewer = c.in-Some-remove.ensures.len in
     record {
       keys = kept_same m c.self.inside.freed c.self.inside.next c.self.invariant.keys c.remove.new.self c.reserve.new.self
@@ -35,7 +34,7 @@ invariant_of-self-2 g c =
     let m = c.self.inside.values in
     let unused = unused_part m c.self.inside.kept c.args.self.now c.args.key c.self.view_is c.requires.unused in
     let added = c.in_default-insert.ensures in
-    let more = one_more c.in_default-insert.field-0 (tree.get nat_cmp m c.args.key) (btree_map_len m) (btree_map_len c.insert.new.self) added.old unused added.len in
+    let more = one_more c.in_default-insert.field-0 (hash.get nat_eq m c.args.key) (hash_map_len m) (hash_map_len c.insert.new.self) added.old unused added.len in
     let len = c.len.ensures.len in
     let reserved = c.in_default-reserve.ensures.room in
     let room = c.use_freed.ensures.room in
