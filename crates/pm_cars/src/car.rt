@@ -5,11 +5,13 @@ ghost use Rattle.pm_types.specs.declared.object.Slot.TheVariants.{Moved};
 ghost use Rattle.pm_cars.specs.declared.look.Look.TheVariants as looks;
 ghost use Rattle.pm_cars.specs.Cars.{object_room, slot_room, used, live_count, moved_count, FitsAt, Fits, IsSound, look_of, object_at, IsLive, HasField, HasBytes, IsLowestLive, new_car, placed, with_birth, with_next, told, IsEdited, without_slot, with_field, with_bytes};
 
-use crate::entry::{Entry, content_of, copy_all, exchange, first_live, put_back, take_object};
-use crate::limits::{CAR_BYTES, CAR_HEAD_BYTES, LAST_SLOT, MOVED_BYTES};
+use crate::entry::{
+    Entry, content_of, copy_all, exchange, first_live, make_space, put_back, take_object,
+};
+use crate::limits::{CAR_BYTES, MOVED_BYTES};
 use crate::look::Look;
 use crate::object::{room_of, set_bytes, set_field};
-use pm_types::{Addr, Id, NoMemory, Object, Slot};
+use pm_types::{Addr, CAR_HEAD_BYTES, Id, LAST_SLOT, NoMemory, Object, Slot};
 use std::alloc::Global;
 use std::marker::Model;
 
@@ -126,7 +128,7 @@ impl Car {
         ensures succeeds { 0 < self.old.spare → IsOk result }
     {
         if self.spare == 0 {
-            self.entries.reserve(1)?;
+            make_space(&mut self.entries)?;
             self.spare = 1;
         }
         Ok(())

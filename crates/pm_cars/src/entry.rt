@@ -1,10 +1,11 @@
-ghost use Rattle.std.specs.Prelude.{◌≡◌, ◌+◌, ◌<◌, ◌≤◌, ◌^◌, length, Some, IsSome, IfSome, IfNone, IfOk, vec_capacity, option_copied};
+ghost use Rattle.std.specs.Prelude.{◌≡◌, ◌+◌, ◌<◌, ◌≤◌, ◌^◌, length, Some, IsSome, IfSome, IfNone, IfOk, OnOk, vec_capacity, option_copied};
 ghost use Rattle.pm_types.specs.declared.object.Slot.TheVariants.{Live};
 ghost use Rattle.pm_cars.specs.Cars.{object_of};
 ghost use Rattle.pm_cars.specs.Entries.{numbers, content_at, with_content, without, holds_object, first_place, IsAscending, IsAt, HasNone};
 
 use pm_types::{NoMemory, Object, Slot};
 use std::alloc::Global;
+use std::cmp::max;
 use std::mem;
 
 /// A slot, and what it holds. A slot that is Gone has no entry.
@@ -96,6 +97,20 @@ pub(crate) fn take_object(entries: &mut Vec<Entry>, slot: u32) -> Object
         Some(Slot::Live(object)) => object,
         _ => unreachable!(),
     }
+}
+
+/// Makes space for one entry more, where there is none: for a quarter more than there are, and for four at least. So
+/// little of what cars take is left unused, and the entries are moved seldom.
+pub(crate) fn make_space(entries: &mut Vec<Entry>) -> Result<(), NoMemory>
+    ensures items { entries.new.items ≡ entries.old.items }
+    ensures ok { OnOk result (length entries.old.items < vec_capacity entries.new) }
+    ensures kept { vec_capacity entries.old ≤ vec_capacity entries.new }
+{
+    let count = entries.len();
+    if count == entries.capacity() {
+        entries.reserve_exact(max(4, count / 4))?;
+    }
+    Ok(())
 }
 
 /// The place of the first Live entry, or the number of entries. None before `from` is Live.

@@ -10,7 +10,5 @@ mod object;
 
 pub use car::Car;
 pub use law::slots_are_counted;
-pub use limits::{
-    CAR_BYTES, CAR_HEAD_BYTES, FIELD_BYTES, LAST_SLOT, MOVED_BYTES, OBJECT_HEAD_BYTES,
-};
+pub use limits::{CAR_BYTES, FIELD_BYTES, MOVED_BYTES, OBJECT_HEAD_BYTES};
 pub use look::Look;

@@ -1,9 +1,6 @@
 /// The room of a car, in bytes: that of a page.
 pub const CAR_BYTES: u32 = 16_384;
 
-/// The room that the head of a car takes, in bytes.
-pub const CAR_HEAD_BYTES: u32 = 14;
-
 /// The room that the head of an object takes, in bytes.
 pub const OBJECT_HEAD_BYTES: u32 = 17;
 
@@ -12,6 +9,3 @@ pub const FIELD_BYTES: u32 = 12;
 
 /// The room that a Moved slot takes, in bytes.
 pub const MOVED_BYTES: u32 = 17;
-
-/// The greatest number of a slot.
-pub const LAST_SLOT: u32 = 65_535;

@@ -4,6 +4,7 @@ ghost use Rattle.pm_delta.specs.Waiting.{room};
 
 use pm_types::{Change, NoMemory};
 use std::alloc::Global;
+use std::cmp::max;
 use std::collections::VecDeque;
 use std::marker::Model;
 
@@ -45,13 +46,18 @@ impl Queue {
     }
 
     /// Makes room for at least this many more changes. What waits stays, and so does the room that was
-    /// taken before, also after want of memory.
+    /// taken before, also after want of memory. Where room is taken, it is for a quarter more than waits at
+    /// least, and for four: so little of it is left unused, and the changes are moved seldom.
     pub fn reserve(&mut self, n: u64) -> Result<(), NoMemory>
         ensures changes { self.new.changes ≡ self.old.changes }
         ensures spare { OnOk result (n ≤ self.new.spare) }
         ensures kept { self.old.spare ≤ self.new.spare }
     {
-        self.changes.reserve(n as usize)?;
+        let count = n as usize;
+        let waiting = self.changes.len();
+        if self.changes.capacity() - waiting < count {
+            self.changes.reserve_exact(max(count, max(4, waiting / 4)))?;
+        }
         Ok(())
     }
 

@@ -2,17 +2,14 @@
 
 ghost use Rattle.std.specs.Prelude.{◌≡◌};
 
-use pm_types::Slot;
+use pm_types::{CAR_HEAD_BYTES, Slot};
 use std::marker::Model;
 
 /// The four bytes that a car's page begins with, `PCAR`.
 pub(crate) const MAGIC: [u8; 4] = [0x50, 0x43, 0x41, 0x52];
 
 /// The place of the first record in a car's page.
-pub const RECORDS_AT: usize = 14;
-
-/// The greatest number of a slot that a page lists.
-pub(crate) const LAST_SLOT: u32 = 65_535;
+pub const RECORDS_AT: usize = CAR_HEAD_BYTES as usize;
 
 /// The slots that a car's page lists, seen as a list of slot numbers, 0 to 65,535, each with its slot.
 #[derive(Debug, Drop)]

@@ -10,11 +10,11 @@ ghost use Rattle.pm_image.specs.CarPages.{HasCarPage, car_at, car_spelling, faul
 ghost use Rattle.pm_image.specs.CarAnswers.{IsCarInRange, a_car, page_fault};
 ghost use Rattle.pm_image.specs.Graphs.{with_identities};
 
-use crate::car::{LAST_SLOT, MAGIC, RECORDS_AT};
+use crate::car::{MAGIC, RECORDS_AT};
 use crate::steps::{check_magic, check_rest};
 use crate::{CarImage, NumberSet, PageFault, SlotList};
 use pm_layout::{LayoutFault, read_slot, u16_at, u32_at, u64_at};
-use pm_types::Slot;
+use pm_types::{LAST_SLOT, Slot};
 use std::alloc::Global;
 
 // The kind of a slot that has an identity.

@@ -31,6 +31,12 @@ pub const NAME_BYTES: usize = 64;
 /// The last number of a copy: once it settled, no further copy can be begun.
 pub const LAST_COPY: u32 = 4_294_967_295;
 
+/// The greatest number of a slot of a car.
+pub const LAST_SLOT: u32 = 65_535;
+
+/// The room that the head of a car takes, in bytes: on its page the first slot begins behind it.
+pub const CAR_HEAD_BYTES: u32 = 14;
+
 /// How many bytes a page of a store has. Page p begins at byte `PAGE_BYTES * p`.
 pub const PAGE_BYTES: usize = 16_384;
 
