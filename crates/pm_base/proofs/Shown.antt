@@ -52,10 +52,6 @@ module _ {K X : Type 0} {R : K → K → Ordering} (o : IsTotalOrder R) where
   pub len_shown : (m : BTreeMap K X) → IsOrdered R m → len (from_entries {R = R} m.entries) ≡ length m.entries
   len_shown m h = len_sorted m.entries h
 
-  -- two trees that answer alike are seen as one map
-  pub shown_alike : IsAntisymmetric R → (m n : BTreeMap K X) → ((q : K) → tree.get R m q ≡ tree.get R n q) → from_entries {R = R} m.entries ≡ from_entries {R = R} n.entries
-  shown_alike same m n alike = same_map o same _ _ (λ q. get_shown m q ∙ alike q ∙ sym (get_shown n q))
-
   -- what it is once a key was given a value
   pub insert_shown : IsAntisymmetric R → (m n : BTreeMap K X) (k : K) (v : X) → UpdatesBy R (R k) m n (Some v) → from_entries {R = R} n.entries ≡ insert (from_entries {R = R} m.entries) k v
   insert_shown same m n k v u =

@@ -18,3 +18,4 @@ pub mod SpellingLaws
 pub mod TextLemmas
 pub mod ReadLines
 pub mod ReadValues
+pub mod WordRoom

@@ -28,11 +28,6 @@ abbrev pub Gives : {X : Type 0} → Result X LineFault → Result X Cause → Ty
 Gives (Ok x) read = read ≡ Ok x
 Gives (Err fault) read = Fails fault read
 
--- the same of a reader whose value is seen by view
-abbrev pub Shows : {X Y : Type 0} → (X → Y) → Result X LineFault → Result Y Cause → Type 0
-Shows view (Ok x) read = read ≡ Ok (view x)
-Shows view (Err fault) read = Fails fault read
-
 -- the same of a reader of one word, which is not of its kind for this cause
 abbrev pub Finds : {X : Type 0} → Result X LineFault → Cause → Option X → Type 0
 Finds result cause found = Gives result (ok_or found cause)

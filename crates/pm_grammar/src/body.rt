@@ -1,6 +1,6 @@
-ghost use Rattle.std.specs.Prelude.{◌≡◌, IfOk, length, map};
+ghost use Rattle.std.specs.Prelude.{◌≡◌, Ok, OnOk, IfErr, [], length, map, take};
 ghost use Rattle.pm_grammar.specs.Lines.{words_of};
-ghost use Rattle.pm_grammar.specs.Reading.{Gives, Shows, values_at, said_at, first_said_at, line_at};
+ghost use Rattle.pm_grammar.specs.Reading.{Fails, Gives, values_at, said_at, first_said_at, line_at};
 
 use crate::command::line;
 use crate::fault::{Cause, LineFault};
@@ -8,32 +8,51 @@ use crate::limits::LINE_BYTES;
 use crate::line::Line;
 use crate::value::{Value, first, read_value};
 use crate::verb::{First, Kind, Verb};
-use std::alloc::{AllocError, Global};
+use arrayvec::ArrayVec;
+use std::alloc::Global;
 use std::collections::VecDeque;
 
-// The words of a line.
-fn words(alloc: Global, body: &[u8]) -> Result<Vec<&[u8]>, AllocError>
-    ensures { IfOk result (λ words. map (λ word. word.now) words.items ≡ words_of body.now) }
+// One word more than any line has: who asks, what is asked, and four values at most.
+const WORD_ROOM: usize = 7;
+
+// The words of a line, and of a line with more of them the first seven, which no line has.
+fn words(body: &[u8]) -> ArrayVec<&[u8], WORD_ROOM>
+    ensures { map (λ word. word.now) result.items ≡ take 7 (words_of body.now) }
 {
-    body.split(|byte| *byte == b' ').collect(alloc)
+    let mut words = ArrayVec::new();
+    for word in body.split(|byte| *byte == b' ') {
+        let _beyond = words.try_push(word);
+    }
+    words
 }
 
-// The values of the words, from left to right, one of each kind.
-fn read_values(alloc: Global, kinds: &[Kind], words: &[&[u8]]) -> Result<VecDeque<Value>, LineFault>
-    requires { length words.now ≡ length kinds.now }
-    ensures { Shows (λ values. values.items) result (values_at kinds.now (map (λ word. word.now) words.now)) }
+// Reads the values of the words, from left to right, one of each kind, into a queue that is empty.
+fn read_values(
+    alloc: Global,
+    kinds: &[Kind],
+    words: &[&[u8]],
+    values: &mut VecDeque<Value>,
+) -> Result<(), LineFault>
+    requires same { length words.now ≡ length kinds.now }
+    requires empty { values.old.items ≡ [] }
+    ensures ok { OnOk result (values_at kinds.now (map (λ word. word.now) words.now) ≡ Ok values.new.items) }
+    ensures err { IfErr result (λ fault. Fails fault (values_at kinds.now (map (λ word. word.now) words.now))) }
 {
-    let mut values = VecDeque::new(alloc);
     for (kind, word) in kinds.iter().zip(words) {
         let value = read_value(alloc, *kind, word)?;
         values.push_back(value)?;
     }
-    Ok(values)
+    Ok(())
 }
 
 // The words after the first: one that names what is asked, and the words of its values.
 #[tactic(auto, unfolding(crate::specs::Reading::said_at, crate::specs::Reading::counted_at))]
-fn read_said(alloc: Global, first: First, words: &[&[u8]]) -> Result<Line, LineFault>
+fn read_said(
+    alloc: Global,
+    first: First,
+    words: &[&[u8]],
+    values: &mut VecDeque<Value>,
+) -> Result<Line, LineFault>
     ensures { Gives result (said_at first (map (λ word. word.now) words.now)) }
 {
     let Some((word, words)) = words.split_first() else {
@@ -46,7 +65,8 @@ fn read_said(alloc: Global, first: First, words: &[&[u8]]) -> Result<Line, LineF
     if words.len() != kinds.len() {
         return Err(LineFault::Bad(Cause::Count));
     }
-    let values = read_values(alloc, kinds, words)?;
+    values.clear();
+    read_values(alloc, kinds, words, values)?;
     // The values are of the kinds that the verb has, so there is a line.
     match line(first, verb, values) {
         Some(line) => Ok(line),
@@ -56,26 +76,34 @@ fn read_said(alloc: Global, first: First, words: &[&[u8]]) -> Result<Line, LineF
 
 // All words of a line.
 #[tactic(auto, unfolding(crate::specs::Reading::first_said_at))]
-fn read_words(alloc: Global, words: &[&[u8]]) -> Result<Line, LineFault>
+fn read_words(
+    alloc: Global,
+    words: &[&[u8]],
+    values: &mut VecDeque<Value>,
+) -> Result<Line, LineFault>
     ensures { Gives result (first_said_at (map (λ word. word.now) words.now)) }
 {
     let Some((word, words)) = words.split_first() else {
         return Err(LineFault::Bad(Cause::Client));
     };
     match first(word) {
-        Some(first) => read_said(alloc, first, words),
+        Some(first) => read_said(alloc, first, words, values),
         None => Err(LineFault::Bad(Cause::Client)),
     }
 }
 
-/// What a line that says something asks.
+/// What a line that says something asks. The queue takes its values on the way, and may be used for the next line again.
 #[tactic(auto, unfolding(crate::specs::Reading::line_at))]
-pub(crate) fn read_line(alloc: Global, body: &[u8]) -> Result<Line, LineFault>
+pub(crate) fn read_line(
+    alloc: Global,
+    body: &[u8],
+    values: &mut VecDeque<Value>,
+) -> Result<Line, LineFault>
     ensures { Gives result (line_at body.now) }
 {
     if body.len() > LINE_BYTES {
         return Err(LineFault::Bad(Cause::LineTooLong));
     }
-    let words = words(alloc, body)?;
-    read_words(alloc, words.as_slice())
+    let words = words(body);
+    read_words(alloc, words.as_slice(), values)
 }

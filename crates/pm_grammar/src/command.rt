@@ -130,14 +130,14 @@ fn events(verb: Verb, values: &mut VecDeque<Value>) -> Option<Line>
 
 /// The line that is said so, which is there where the values are of the kinds that stand after that word.
 #[tactic(auto, unfolding(crate::specs::Values::line_of))]
-pub(crate) fn line(first: First, verb: Verb, mut values: VecDeque<Value>) -> Option<Line>
-    ensures { result ≡ line_of first verb values.items }
+pub(crate) fn line(first: First, verb: Verb, values: &mut VecDeque<Value>) -> Option<Line>
+    ensures { result ≡ line_of first verb values.old.items }
 {
     match first {
         First::Client(client) => {
-            let cmd = command(verb, &mut values)?;
+            let cmd = command(verb, values)?;
             Some(Line::Client { client, cmd })
         }
-        First::Bang => events(verb, &mut values),
+        First::Bang => events(verb, values),
     }
 }

@@ -12,8 +12,10 @@ ghost use Rattle.pm_grammar.specs.Script.{IsScript, AreLines};
 use crate::body::read_line;
 use crate::fault::{LineFault, ScriptFault};
 use crate::line::Line;
+use crate::value::Value;
 use pm_types::{SCRIPT_LINES, SOURCE_BYTES};
 use std::alloc::Global;
+use std::collections::VecDeque;
 use std::marker::Model;
 
 /// The lines of a script that say something, in order, seen as a list of them. There are at most 65,536, and each
@@ -87,10 +89,15 @@ fn newlines(bytes: &[u8]) -> usize
 }
 
 // Reads the line of this number, which says something.
-fn read_numbered(alloc: Global, number: u32, body: &[u8]) -> Result<Line, ScriptFault>
+fn read_numbered(
+    alloc: Global,
+    number: u32,
+    body: &[u8],
+    values: &mut VecDeque<Value>,
+) -> Result<Line, ScriptFault>
     ensures { Answers result (numbered number (line_at body.now)) }
 {
-    match read_line(alloc, body) {
+    match read_line(alloc, body, values) {
         Ok(line) => Ok(line),
         Err(LineFault::Bad(cause)) => Err(ScriptFault::Line { number, cause }),
         Err(LineFault::Memory) => Err(ScriptFault::Memory),
@@ -103,13 +110,14 @@ fn read_lines(alloc: Global, bytes: &[u8]) -> Result<Vec<Line>, ScriptFault>
     ensures { Tells (λ lines. lines.items) result (lines_at 1 (slice_split (λ b. nat_eq b 10) bytes.now)) }
 {
     let mut lines = Vec::new(alloc);
+    let mut values = VecDeque::new(alloc);
     let mut number = 0;
     for body in bytes.split(|byte| *byte == b'\n') {
         number += 1;
         if is_silent(body) {
             continue;
         }
-        let line = read_numbered(alloc, number, body)?;
+        let line = read_numbered(alloc, number, body, &mut values)?;
         lines.push(line)?;
     }
     Ok(lines)

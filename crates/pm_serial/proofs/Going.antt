@@ -21,7 +21,6 @@ use Rattle.pm_model.proofs.ChainLaws.{after_more, legal_more}
 use Rattle.pm_image.specs.Stands.{Stands}
 use Rattle.pm_view.specs.View.{Cars}
 use Rattle.pm_shadow.specs.State.{State}
-use Rattle.pm_saving.specs.Paging.{left_of}
 use Rattle.pm_saving.specs.Progress.{Progress, Saving}
 use Rattle.pm_saver.specs.Answers.{IsFlushed}
 use Rattle.pm_serving.specs.Serving.{KeepsOpening, Serving, opening, world}

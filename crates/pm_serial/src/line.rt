@@ -1,6 +1,7 @@
 //! The lines of a script, one after another, through a buffer that has its room.
 
-ghost use Rattle.std.specs.Prelude.{◌≡◌, ◌≤◌, length, None};
+ghost use Rattle.std.specs.Prelude.{◌≡◌, ◌≤◌, [], ◌++◌, length, None};
+ghost use Rattle.std.specs.Option.{option_to_list};
 ghost use Rattle.pm_place.specs.Choosers.{IsChooser};
 ghost use Rattle.pm_grammar.specs.Script.{AreLines, first_of};
 ghost use Rattle.pm_grammar.specs.Words.{IsFirst};
@@ -21,6 +22,20 @@ use pm_grammar::Line;
 use pm_io::Sink;
 use pm_output::Output;
 use std::alloc::Global;
+use std::collections::VecDeque;
+
+// Takes the next of the lines that are left. Where they fill no more than half of their buffer, it gives back the rest.
+// So the buffer holds twice the lines that are left at most, and all in all no more lines are moved than there are.
+fn next_line(left: &mut VecDeque<Line>) -> Option<Line>
+    ensures next { left.old.items ≡ option_to_list result ++ left.new.items }
+    ensures end { result ≡ None → left.old.items ≡ [] }
+{
+    let line = left.pop_front();
+    if left.len() <= left.capacity() / 2 {
+        left.shrink_to_fit();
+    }
+    line
+}
 
 // Runs a line, for whose entry there is room.
 fn run_line<D: Disk, F: Fn(&[u64]) -> usize + Drop, K: Sink>(
@@ -50,7 +65,8 @@ fn run_line<D: Disk, F: Fn(&[u64]) -> usize + Drop, K: Sink>(
     }
 }
 
-/// Runs the lines, once the room of all their entries is taken. Each is let go once it is run.
+/// Runs the lines, once the room of all their entries is taken. Each is let go once it is run, and the buffer in which
+/// they stand shrinks as they go.
 pub(crate) fn run_all<D: Disk, F: Fn(&[u64]) -> usize + Drop, K: Sink>(
     alloc: Global,
     lines: Vec<Line>,
@@ -72,7 +88,8 @@ pub(crate) fn run_all<D: Disk, F: Fn(&[u64]) -> usize + Drop, K: Sink>(
         (serving engine.old).journal (serving engine.new).journal (why result) }
 {
     engine.keep_their_images();
-    for line in lines {
+    let mut left = VecDeque::from(lines);
+    while let Some(line) = next_line(&mut left) {
         let ran = run_line(alloc, &line, engine, output, sink);
         drop(line);
         match ran {

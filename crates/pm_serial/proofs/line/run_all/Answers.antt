@@ -1,7 +1,9 @@
-use Rattle.std.proofs.Common.{◌≡◌, ◌+◌, List, [], ◌∷◌, ◌++◌, None, Some, refl, ap, length, arith, subst, sym, ◌∙◌, append_assoc}
+use Rattle.std.proofs.Common.{◌≡◌, ◌+◌, List, [], ◌∷◌, ◌++◌, None, Some, refl, ap, subst, sym, ◌∙◌, append_assoc}
 use Rattle.std.proofs.lemmas.List.{append-nil}
-use Rattle.std.specs.Vec.Iter.{into_iter_items}
+use Rattle.std.specs.List.{AllByRecursion}
 use Rattle.pm_place.specs.Choosers.{IsChooser}
+use Rattle.pm_grammar.specs.Script.{first_of}
+use Rattle.pm_grammar.specs.Words.{IsFirst}
 use Rattle.pm_grammar.specs.declared.line.Line.{Line}
 use Rattle.pm_engine.specs.Shown.{disk_in, room, serving}
 use Rattle.pm_output.specs.Gathered.{gathered}
@@ -13,28 +15,42 @@ use Rattle.pm_serial.proofs.Gathering.{sink_still, sink_then}
 use Rattle.pm_serial.proofs.Going.{goes_first, goes_then}
 use Rattle.pm_serial.proofs.line.run_all.Goals as goal
 
--- the lines so far, the next, and what is left
-next_parted : (lines yielded left rest : List Line) (line : Line) → yielded ++ left ≡ lines → left ≡ line ∷ rest → yielded ++ line ∷ rest ≡ lines
-next_parted lines yielded left rest line parted step = ap (λ (l : List Line). yielded ++ l) (sym step) ∙ parted
+-- the lines that are done, the next, and what is left
+next_parted : (lines done left rest : List Line) (line : Line) → done ++ left ≡ lines → left ≡ line ∷ rest → done ++ line ∷ rest ≡ lines
+next_parted lines done left rest line parted step = ap (λ (l : List Line). done ++ l) (sym step) ∙ parted
 
 pub loop-line-init : goal.loop-line-init
 loop-line-init g c =
     let old = c.args.engine.now in
     let law = c.keep_their_images.ensures in
     record {
-      parted = c.into_iter-line-iterator.ensures.into_iter_gives.0;
+      done = [];
+      parted = c.from-left.ensures.0;
       answers = answers_none (serving old);
       engine = goes_first old c.requires.running law.legal (law.settled c.requires.running) (g.met.D.Disk.only_now (disk_in old));
       sink = sink_still g.K.Sink.written g.K.Sink.finished g.K.Sink.count c.args.sink.now (gathered c.args.output.now) (serving old).journal (serving old).journal None tt refl;
     }
 
+-- what holds of each line holds of the next
+holds_next : (P : Line → Type 0) (done rest : List Line) (line : Line) → AllByRecursion P (done ++ line ∷ rest) → P line
+holds_next P [] rest line all = all.0
+holds_next P (first ∷ done) rest line all = holds_next P done rest line all.1
+
+pub run_line-ran-requires-clause-client : goal.run_line-ran-requires-clause-client
+run_line-ran-requires-clause-client g c =
+    let IsAsked : Line → Type 0 = λ line. IsFirst (first_of line) in
+    let was = c.loop-line.invariant in
+    let rest = c.next_line.new.left.items in
+    let line = c.in-Some.line in
+    holds_next IsAsked was.done rest line
+    (subst (AllByRecursion IsAsked) (sym (next_parted c.args.lines.items was.done c.loop-line.left.items rest line was.parted c.in-Some.ensures.next)) c.requires.clients.clients)
+
 pub run_line-ran-requires-clause-room : goal.run_line-ran-requires-clause-room
 run_line-ran-requires-clause-room g c =
     let was = c.loop-line.invariant in
-    let left = into_iter_items c.loop-line.line-iterator in
-    let rest = into_iter_items c.next.new.self in
-    has_room c.args.lines.items c.loop-line.yielded rest c.in-Some.line (room c.args.engine.now) (room c.loop-line.engine) (serving c.args.engine.now) (serving c.loop-line.engine)
-    (next_parted c.args.lines.items c.loop-line.yielded left rest c.in-Some.line was.parted c.in-Some.ensures.steps.0)
+    let rest = c.next_line.new.left.items in
+    has_room c.args.lines.items was.done rest c.in-Some.line (room c.args.engine.now) (room c.loop-line.engine) (serving c.args.engine.now) (serving c.loop-line.engine)
+    (next_parted c.args.lines.items was.done c.loop-line.left.items rest c.in-Some.line was.parted c.in-Some.ensures.next)
     c.requires.room was.engine.room (was.answers.all tt)
 
 pub run_line-ran-requires-clause-chooser : goal.run_line-ran-requires-clause-chooser
@@ -46,27 +62,25 @@ returns-in-Err-clause-answers g c =
     let mid = serving c.loop-line.engine in
     let new = serving c.run_line-ran.new.engine in
     let lines = c.args.lines.items in
-    let done = c.loop-line.yielded in
-    let left = into_iter_items c.loop-line.line-iterator in
-    let rest = into_iter_items c.next.new.self in
+    let was = c.loop-line.invariant in
+    let done = was.done in
+    let rest = c.next_line.new.left.items in
     let line = c.in-Some.line in
     let stop = c.in-Err.stop in
     let m = events_asked done in
     let k = steps_asked done in
-    let was = c.loop-line.invariant in
     let both = answers_then (requests_asked done) (request_of line) m (events_of line) k (steps_of line) old mid new (Some stop) was.answers c.in-Err.ensures.answers in
     let cut = answers_cut (requests_asked done ++ request_of line) (requests_asked rest) (m + events_of line) (events_asked lines) (k + steps_of line) (steps_asked lines) old new stop both in
     answers_as ((requests_asked done ++ request_of line) ++ requests_asked rest) (requests_asked lines) (events_asked lines) (events_asked lines) (steps_asked lines) (steps_asked lines) old new (Some stop)
-    (asked_parted lines done rest line (next_parted lines done left rest line was.parted c.in-Some.ensures.steps.0)) refl refl cut
+    (asked_parted lines done rest line (next_parted lines done c.loop-line.left.items rest line was.parted c.in-Some.ensures.next)) refl refl cut
 
 pub returns-in-Err-clause-short : goal.returns-in-Err-clause-short
 returns-in-Err-clause-short g c =
     let lines = c.args.lines.items in
-    let left = into_iter_items c.loop-line.line-iterator in
-    let rest = into_iter_items c.next.new.self in
+    let rest = c.next_line.new.left.items in
     let was = c.loop-line.invariant in
-    cuts_lines lines c.loop-line.yielded rest c.in-Some.line (serving c.args.engine.now) (serving c.loop-line.engine) (serving c.run_line-ran.new.engine) (Some c.in-Err.stop)
-    (next_parted lines c.loop-line.yielded left rest c.in-Some.line was.parted c.in-Some.ensures.steps.0) was.answers c.in-Err.ensures.short
+    cuts_lines lines was.done rest c.in-Some.line (serving c.args.engine.now) (serving c.loop-line.engine) (serving c.run_line-ran.new.engine) (Some c.in-Err.stop)
+    (next_parted lines was.done c.loop-line.left.items rest c.in-Some.line was.parted c.in-Some.ensures.next) was.answers c.in-Err.ensures.short
 
 pub returns-in-Err-clause-engine : goal.returns-in-Err-clause-engine
 returns-in-Err-clause-engine g c = goes_then c.args.engine.now c.loop-line.engine c.run_line-ran.new.engine (Some c.in-Err.stop) c.loop-line.invariant.engine c.in-Err.ensures.engine
@@ -82,16 +96,16 @@ loop-line-preserved g c =
     let mid = c.loop-line.engine in
     let new = c.run_line-ran.new.engine in
     let lines = c.args.lines.items in
-    let done = c.loop-line.yielded in
-    let left = into_iter_items c.loop-line.line-iterator in
-    let rest = into_iter_items c.next.new.self in
-    let line = c.in-Some.line in
     let was = c.loop-line.invariant in
+    let done = was.done in
+    let rest = c.next_line.new.left.items in
+    let line = c.in-Some.line in
     let step = c.in-Ok.ensures in
     let m = events_asked done in
     let k = steps_asked done in
     record {
-      parted = append_assoc done (line ∷ []) rest ∙ next_parted lines done left rest line was.parted c.in-Some.ensures.steps.0;
+      done = done ++ line ∷ [];
+      parted = append_assoc done (line ∷ []) rest ∙ next_parted lines done c.loop-line.left.items rest line was.parted c.in-Some.ensures.next;
       answers =
           answers_as (requests_asked done ++ request_of line) (requests_asked (done ++ line ∷ [])) (m + events_of line) (events_asked (done ++ line ∷ [])) (k + steps_of line) (steps_asked (done ++ line ∷ []))
           (serving old) (serving new) None (sym (requests_push done line)) (sym (events_push done line)) (sym (steps_push done line))
@@ -102,13 +116,12 @@ loop-line-preserved g c =
           (serving old).journal (serving mid).journal (serving new).journal None was.sink step.sink;
     }
 
--- where none is left, the lines so far are all
-all_yielded : (lines yielded left : List Line) → yielded ++ left ≡ lines → length left ≡ 0 → yielded ≡ lines
-all_yielded lines yielded [] parted none = sym (append-nil yielded) ∙ parted
-all_yielded lines yielded (line ∷ left) parted none = absurd (omega (arith, none))
+-- where none is left, those that are done are all
+all_done : (lines done left : List Line) → done ++ left ≡ lines → left ≡ [] → done ≡ lines
+all_done lines done left parted none = sym (append-nil done) ∙ ap (λ (l : List Line). done ++ l) (sym none) ∙ parted
 
 pub returns-clause-answers : goal.returns-clause-answers
 returns-clause-answers g c =
     let was = c.loop-line.invariant in
-    let all = all_yielded c.args.lines.items c.loop-line.yielded (into_iter_items c.loop-line.line-iterator) was.parted (let none = c.in-None.ensures.steps.0 in omega (arith, none)) in
+    let all = all_done c.args.lines.items was.done c.loop-line.left.items was.parted (c.next_line.ensures.end c.in_default.is) in
     subst (λ (lines : List Line). AnswersPart (requests_asked lines) (events_asked lines) (steps_asked lines) (serving c.args.engine.now) (serving c.loop-line.engine) None) all was.answers
