@@ -18,7 +18,9 @@ ghost use Rattle.pm_opening.specs.Opening.{OpensStore, MakesSpace, IsUnfrozen, K
 
 use crate::build_listed;
 use pm_disk::Disk;
-use pm_image::{KeptPage, Settled};
+use pm_image::KeptPage;
+use pm_law_copies::accepted_cars_have_pages;
+use pm_packed::PackedPages;
 use pm_place::Placement;
 use pm_reopen::{Chain, flatten, read_graph, with_cars};
 use pm_shadow::Pages;
@@ -85,7 +87,7 @@ pub fn open_space<D: Disk, F: Drop>(
     alloc: Global,
     pages: &mut Pages<D>,
     place: Placement<F>,
-) -> Result<(Space<F>, Settled), OpenFault>
+) -> Result<(Space<F>, PackedPages), OpenFault>
     requires { (state pages.old).failed ≡ false }
     // The space is what opening makes of the bytes of the disk, the cars are as their pages spell them, and the pages of
     // these and of the catalog are known.
@@ -106,6 +108,7 @@ pub fn open_space<D: Disk, F: Drop>(
 {
     pages.keep_their_header();
     pages.keep_the_current_copy();
+    accepted_cars_have_pages();
     let header = *pages.header();
     if !is_there(header.first, pages.page_count()) {
         return Err(OpenFault::Malformed {
@@ -118,9 +121,12 @@ pub fn open_space<D: Disk, F: Drop>(
     let Ok((space, used)) = built else {
         return Err(OpenFault::Memory);
     };
+    let Ok(packed) = PackedPages::pack(alloc, cars) else {
+        return Err(OpenFault::Memory);
+    };
     let known = know_pages(alloc, pages, used.as_slice());
     let Ok(()) = known else {
         return Err(OpenFault::Memory);
     };
-    Ok((space, cars))
+    Ok((space, packed))
 }

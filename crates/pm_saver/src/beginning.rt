@@ -10,8 +10,8 @@ use crate::counting::count_entries;
 use crate::naming::copy_roots;
 use crate::place::InProgress;
 use crate::planning::plan_cars;
-use pm_image::KeptPage;
 use pm_law_saving::a_copy_begins_beside_the_settled_one;
+use pm_packed::PackedPage;
 use pm_space::{Parts, Space};
 use pm_types::NoMemory;
 use std::alloc::Global;
@@ -20,7 +20,7 @@ use std::alloc::Global;
 /// for its cars once it is settled.
 fn plan<F: Drop>(
     alloc: Global,
-    settled: &[KeptPage],
+    settled: &[PackedPage],
     parts: &Parts<F>,
     number: u32,
 ) -> Result<InProgress, NoMemory>

@@ -19,11 +19,11 @@ use crate::place::InProgress;
 use crate::putting::put_page;
 use crate::{SaveFault, Saver};
 use pm_disk::Disk;
-use pm_image::KeptPage;
 use pm_law_saving::{
     a_published_copy_is_the_settled_one, pages_of_a_copy_are_written_in_order,
     the_next_page_is_written_beside_the_current_copy,
 };
+use pm_packed::PackedPage;
 use pm_shadow::Pages;
 use pm_snap::Table;
 use pm_space::{Held, Space};
@@ -33,7 +33,7 @@ use std::alloc::Global;
 /// Writes the next page of a copy in progress, where one is left.
 fn flush<D: Disk>(
     alloc: Global,
-    settled: &[KeptPage],
+    settled: &[PackedPage],
     cars: &Table<Held>,
     it: &mut InProgress,
     pages: &mut Pages<D>,

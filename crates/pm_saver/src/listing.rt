@@ -8,25 +8,25 @@ ghost use Rattle.pm_saver.specs.Entries.{entries_in, entry_of};
 ghost use Rattle.pm_saver.specs.Kept.{IsPlaced, IsWithin};
 
 use crate::place::{InProgress, Place, PlacedCar};
-use pm_image::{CatEntry, EntryList, KeptPage};
+use pm_image::{CatEntry, EntryList};
+use pm_packed::PackedPage;
 use pm_types::{Addr, Name, NoMemory};
 use std::alloc::Global;
 
 /// The entry of a car on this page, in this train.
-fn entry_on(train: u64, kept: &KeptPage) -> CatEntry
+fn entry_on(train: u64, kept: &PackedPage) -> CatEntry
     ensures { result ≡ car_entry (train, kept.now) }
 {
-    let digest = kept.digest;
     CatEntry::Car {
-        car: kept.image.number,
+        car: kept.car().number(),
         train,
-        page: kept.page,
-        digest,
+        page: kept.page(),
+        digest: kept.digest(),
     }
 }
 
 /// The entry of a car that stands on a page.
-fn entry_of(settled: &[KeptPage], one: &PlacedCar) -> CatEntry
+fn entry_of(settled: &[PackedPage], one: &PlacedCar) -> CatEntry
     requires within { IsWithin settled.now one.now.place }
     requires placed { IsPlaced one.now }
     ensures { result ≡ entry_of (car_seen settled.now one.now) }
@@ -40,7 +40,7 @@ fn entry_of(settled: &[KeptPage], one: &PlacedCar) -> CatEntry
 
 /// Puts the entries of cars that stand on pages behind those of the list.
 fn push_cars(
-    settled: &[KeptPage],
+    settled: &[PackedPage],
     cars: &[PlacedCar],
     entries: &mut Vec<CatEntry>,
 ) -> Result<(), NoMemory>
@@ -73,7 +73,7 @@ fn push_roots(
 /// The entries of a copy between these two places, where each car stands on a page.
 pub(crate) fn entries_between(
     alloc: Global,
-    settled: &[KeptPage],
+    settled: &[PackedPage],
     it: &InProgress,
     from: usize,
     to: usize,

@@ -23,7 +23,8 @@ ghost use Rattle.pm_saver.specs.declared.next.Next.TheVariants.{Car};
 use crate::copying::image_in;
 use crate::listing::entries_between;
 use crate::place::{InProgress, Place, PlacedCar};
-use pm_image::{CarImage, CatalogPage, EntryList, KeptPage, write_car, write_catalog};
+use pm_image::{CatalogPage, EntryList, write_car, write_catalog};
+use pm_packed::{PackedCar, PackedPage};
 use pm_snap::Table;
 use pm_space::Held;
 use pm_types::NoMemory;
@@ -33,7 +34,7 @@ use std::alloc::Global;
 #[derive(Drop)]
 pub(crate) enum Next {
     /// A car.
-    Car(CarImage),
+    Car(PackedCar),
     /// Entries of the catalog.
     Part(EntryList),
 }
@@ -86,7 +87,7 @@ fn car_page(alloc: Global, cars: &Table<Held>, number: u64) -> Result<Ready, NoM
     let image = image_in(alloc, cars, number)?;
     let bytes = write_car(alloc, &image)?;
     Ok(Ready {
-        next: Next::Car(image),
+        next: Next::Car(PackedCar::pack(alloc, &image, &bytes)?),
         bytes,
     })
 }
@@ -129,7 +130,7 @@ fn linked(it: &InProgress, entries: EntryList) -> CatalogPage
 /// The next page of the catalog, where each car stands on a page: of those that were not written, the last one.
 fn part_page(
     alloc: Global,
-    settled: &[KeptPage],
+    settled: &[PackedPage],
     it: &InProgress,
 ) -> Result<Option<Ready>, NoMemory>
     requires kept { IsKept settled.now it.now }
@@ -161,7 +162,7 @@ fn part_page(
 /// those of the catalog from the last to the first.
 pub(crate) fn ready_next(
     alloc: Global,
-    settled: &[KeptPage],
+    settled: &[PackedPage],
     cars: &Table<Held>,
     it: &InProgress,
 ) -> Result<Option<Ready>, NoMemory>

@@ -13,21 +13,17 @@ ghost use Rattle.pm_saver.specs.Noted.{HasPlaceFor, with_written};
 
 use crate::next::{Next, Ready};
 use crate::place::{InProgress, Place};
-use pm_image::{CarImage, KeptPage};
 use pm_layout::digest;
+use pm_packed::{PackedCar, PackedPage};
 
 /// The car that was found stands on this page.
-fn note_car(it: &mut InProgress, image: CarImage, page: u64, digest: [u8; 32])
+fn note_car(it: &mut InProgress, image: PackedCar, page: u64, digest: [u8; 32])
     requires { it.old.placed < length it.old.cars.items }
     ensures cars { it.new.cars.items ≡ with_written it.old.placed
         (record { image = image; page = page; digest = digest }) it.old.cars.items }
     ensures rest { it.new ≡ record it.old { cars = it.new.cars; kept = true } }
 {
-    it.cars[it.placed].place = Place::Written(KeptPage {
-        image,
-        page,
-        digest,
-    });
+    it.cars[it.placed].place = Place::Written(PackedPage::new(image, page, digest));
     it.kept = true;
 }
 

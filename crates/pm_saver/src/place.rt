@@ -1,6 +1,6 @@
 //! A copy in progress, car by car.
 
-use pm_image::KeptPage;
+use pm_packed::PackedPage;
 use pm_types::{Addr, Name};
 
 /// Where a car of the copy in progress stands.
@@ -11,7 +11,7 @@ pub(crate) enum Place {
     /// On no page yet.
     Unwritten,
     /// On a page that was written for this copy.
-    Written(KeptPage),
+    Written(PackedPage),
 }
 
 /// A car of the copy in progress.
@@ -46,5 +46,5 @@ pub(crate) struct InProgress {
     /// The digest of the one that was written last; all 0 where none was.
     pub(crate) digest: [u8; 32],
     /// Room for the cars of the copy once it is settled.
-    pub(crate) room: Vec<KeptPage>,
+    pub(crate) room: Vec<PackedPage>,
 }

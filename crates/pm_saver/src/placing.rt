@@ -11,7 +11,7 @@ ghost use Rattle.pm_saver.specs.Planned.{IsIndex, first_of};
 
 use crate::place::Place;
 use pm_cars::Car;
-use pm_image::KeptPage;
+use pm_packed::PackedPage;
 use pm_types::NoMemory;
 use std::alloc::Global;
 use std::collections::BTreeMap;
@@ -30,13 +30,13 @@ fn note(index: &mut BTreeMap<u64, usize>, number: u64, place: usize) -> Result<(
 /// The place of the first settled car of each number.
 pub(crate) fn index_of(
     alloc: Global,
-    settled: &[KeptPage],
+    settled: &[PackedPage],
 ) -> Result<BTreeMap<u64, usize>, NoMemory>
     ensures { IfOk result (IsIndex settled.now) }
 {
     let mut index = BTreeMap::new(alloc);
     for place in 0..settled.len() {
-        note(&mut index, settled[place].image.number, place)?;
+        note(&mut index, settled[place].car().number(), place)?;
     }
     Ok(index)
 }
@@ -44,7 +44,7 @@ pub(crate) fn index_of(
 /// Where a car of this number begins: on the page of the settled car of its number, where it has the same slots, and
 /// else on none.
 pub(crate) fn place_of(
-    settled: &[KeptPage],
+    settled: &[PackedPage],
     index: &BTreeMap<u64, usize>,
     number: u64,
     car: &Car,
@@ -56,7 +56,7 @@ pub(crate) fn place_of(
 {
     match index.get(&number) {
         Some(place) => {
-            if car.has_slots(settled[*place].image.slots.as_slice()) {
+            if settled[*place].car().has_slots(car.slots()) {
                 Place::Clean(*place)
             } else {
                 Place::Unwritten

@@ -10,7 +10,7 @@ ghost use Rattle.pm_saver.specs.Planned.{IsIndex, IsPlanned, PlansOn};
 
 use crate::place::PlacedCar;
 use crate::placing::{index_of, place_of};
-use pm_image::KeptPage;
+use pm_packed::PackedPage;
 use pm_space::Parts;
 use pm_trains::{Trains, a_car_is_found_where_it_stands};
 use pm_types::NoMemory;
@@ -37,7 +37,7 @@ fn is_aside(trains: &Trains, phase: Phase, train: u64, car: u64) -> bool
 /// Puts a car that is in this train behind those of the list, unless it is set aside.
 fn plan_car<F: Drop>(
     parts: &Parts<F>,
-    settled: &[KeptPage],
+    settled: &[PackedPage],
     index: &BTreeMap<u64, usize>,
     train: u64,
     number: u64,
@@ -68,7 +68,7 @@ fn plan_car<F: Drop>(
 /// Puts the cars of this train that are not set aside behind those of the list.
 fn plan_train<F: Drop>(
     parts: &Parts<F>,
-    settled: &[KeptPage],
+    settled: &[PackedPage],
     index: &BTreeMap<u64, usize>,
     train: u64,
     cars: &mut Vec<PlacedCar>,
@@ -92,7 +92,7 @@ fn plan_train<F: Drop>(
 pub(crate) fn plan_cars<F: Drop>(
     alloc: Global,
     parts: &Parts<F>,
-    settled: &[KeptPage],
+    settled: &[PackedPage],
 ) -> Result<Vec<PlacedCar>, NoMemory>
     ensures { IfOk result (λ cars. IsPlanned settled.now (listed (view parts.now)) cars.items) }
 {

@@ -21,11 +21,11 @@ ghost use Rattle.pm_saver.specs.Putting.{IsReady, IsWritten, pages_in};
 use crate::SaveFault;
 use crate::place::{InProgress, Place, PlacedCar};
 use pm_disk::Disk;
-use pm_image::KeptPage;
+use pm_packed::PackedPage;
 use pm_shadow::Pages;
 
 /// Keeps the page of a car for the next copy, where the car is clean.
-fn keep_page<D: Disk>(settled: &[KeptPage], one: &PlacedCar, pages: &mut Pages<D>)
+fn keep_page<D: Disk>(settled: &[PackedPage], one: &PlacedCar, pages: &mut Pages<D>)
     requires within { IsWithin settled.now one.now.place }
     requires known { (state pages.old).known ≡ true }
     requires on_pages { AllByRecursion (IsOnPage (state pages.old)) settled.now }
@@ -36,11 +36,11 @@ fn keep_page<D: Disk>(settled: &[KeptPage], one: &PlacedCar, pages: &mut Pages<D
     let Place::Clean(index) = &one.place else {
         return;
     };
-    let _kept = pages.keep(settled[*index].page);
+    let _kept = pages.keep(settled[*index].page());
 }
 
 /// Keeps the pages of the clean cars for the next copy.
-fn keep_clean<D: Disk>(settled: &[KeptPage], cars: &[PlacedCar], pages: &mut Pages<D>)
+fn keep_clean<D: Disk>(settled: &[PackedPage], cars: &[PlacedCar], pages: &mut Pages<D>)
     requires within { AllByRecursion (λ (one : PlacedCar). IsWithin settled.now one.place) cars.now }
     requires known { (state pages.old).known ≡ true }
     requires on_pages { AllByRecursion (IsOnPage (state pages.old)) settled.now }
@@ -53,7 +53,7 @@ fn keep_clean<D: Disk>(settled: &[KeptPage], cars: &[PlacedCar], pages: &mut Pag
 }
 
 /// Keeps the pages of the clean cars for the next copy, where that was not done.
-fn keep_first<D: Disk>(settled: &[KeptPage], it: &InProgress, pages: &mut Pages<D>)
+fn keep_first<D: Disk>(settled: &[PackedPage], it: &InProgress, pages: &mut Pages<D>)
     requires within { AllByRecursion (λ (one : PlacedCar). IsWithin settled.now one.place) it.now.cars.items }
     requires known { (state pages.old).known ≡ true }
     requires on_pages { AllByRecursion (IsOnPage (state pages.old)) settled.now }
@@ -69,7 +69,7 @@ fn keep_first<D: Disk>(settled: &[KeptPage], it: &InProgress, pages: &mut Pages<
 /// Claims the lowest page that is free and writes these bytes on it; with the first page of a copy the pages of its
 /// clean cars are kept.
 pub(crate) fn put_page<D: Disk>(
-    settled: &[KeptPage],
+    settled: &[PackedPage],
     it: &InProgress,
     pages: &mut Pages<D>,
     bytes: &[u8],

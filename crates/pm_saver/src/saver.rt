@@ -6,7 +6,7 @@ ghost use Rattle.pm_saver.specs.KeptOnce.{AreKept-prop};
 use crate::SaveFault;
 use crate::place::InProgress;
 use pm_disk::Disk;
-use pm_image::{KeptPage, Settled};
+use pm_packed::{PackedPage, PackedPages};
 use pm_shadow::Pages;
 use pm_space::Space;
 use pm_types::{Flushed, NoMemory};
@@ -16,7 +16,7 @@ use std::alloc::Global;
 /// progress was written, if there is one.
 #[derive(Drop)]
 pub struct Saver {
-    pub(crate) settled: Vec<KeptPage>,
+    pub(crate) settled: Vec<PackedPage>,
     pub(crate) progress: Option<InProgress>,
     ghost kept: { AreKept settled.items progress } by { AreKept-prop settled.items progress },
 }
@@ -37,7 +37,7 @@ impl Saver {
     ghost use Rattle.pm_saver.specs.Answers.{HasCause, IsFlushed, IsMadeBy, IsStill, OnMemory, Spares, TellsOn, UnlessDisk};
 
     /// A saver whose settled copy has these cars. No copy is in progress. It takes no memory.
-    pub fn new(settled: Settled) -> Saver
+    pub fn new(settled: PackedPages) -> Saver
         ensures { saving result ≡ record { settled = settled; progress = None } }
     {
         Saver {

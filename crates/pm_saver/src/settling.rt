@@ -19,8 +19,8 @@ use crate::next::first_part;
 use crate::place::{InProgress, Place};
 use crate::{SaveFault, Saver};
 use pm_disk::Disk;
-use pm_image::{CarImage, KeptPage, SlotList};
 use pm_layout::Header;
+use pm_packed::{PackedCar, PackedPage};
 use pm_shadow::Pages;
 use pm_space::Space;
 use pm_types::{Flushed, VERSION};
@@ -28,19 +28,12 @@ use std::alloc::Global;
 use std::mem;
 
 /// A car of no slot on no page: it takes the place of one that was taken out of a list.
-fn nothing(alloc: Global) -> KeptPage {
-    KeptPage {
-        image: CarImage {
-            number: 0,
-            slots: SlotList::from_vec(Vec::new(alloc)),
-        },
-        page: 0,
-        digest: [0; 32],
-    }
+fn nothing(alloc: Global) -> PackedPage {
+    PackedPage::new(PackedCar::empty(alloc), 0, [0; 32])
 }
 
 /// The car of one place: where it is clean it is taken out of the settled ones.
-fn take_kept(alloc: Global, settled: &mut Vec<KeptPage>, place: Place) -> KeptPage
+fn take_kept(alloc: Global, settled: &mut Vec<PackedPage>, place: Place) -> PackedPage
     requires within { IsWithin settled.old.items place }
     requires placed { is_open place ≡ false }
     ensures kept { result ∷ [] ≡ page_in (place_seen settled.old.items place) }
@@ -55,7 +48,11 @@ fn take_kept(alloc: Global, settled: &mut Vec<KeptPage>, place: Place) -> KeptPa
 }
 
 /// The cars of a copy that stands on its pages, in the room that was made for them. It takes no memory.
-pub(crate) fn settled_list(alloc: Global, settled: Vec<KeptPage>, it: InProgress) -> Vec<KeptPage>
+pub(crate) fn settled_list(
+    alloc: Global,
+    settled: Vec<PackedPage>,
+    it: InProgress,
+) -> Vec<PackedPage>
     requires kept { IsKept settled.items it }
     requires placed { AllByRecursion IsPlaced it.cars.items }
     requires once { AreOnce it.cars.items }

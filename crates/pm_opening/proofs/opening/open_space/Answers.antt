@@ -1,6 +1,10 @@
 use Rattle.std.proofs.Common.{◌≡◌, ℕ, List, sym, ap, subst, ◌∙◌}
 use Rattle.std.specs.Prelude.{All, Contains}
 use Rattle.std.proofs.lemmas.Result.{err_from_is_err_and}
+use Rattle.std.specs.List.{AllByRecursion}
+use Rattle.std.specs.FinSet as set
+use Rattle.pm_types.specs.declared.limits.TheConstants.{FIELDS}
+use Rattle.pm_image.specs.CarPages.{HasCarPage, one_car}
 use Rattle.pm_layout.specs.declared.header.Header.{Header}
 use Rattle.pm_image.specs.declared.settled.KeptPage.{KeptPage}
 use Rattle.pm_image.specs.Graphs.{images_of, entries_of, used_pages}
@@ -12,7 +16,7 @@ use Rattle.pm_copies.specs.Accepted.{IsAccepted}
 use Rattle.pm_copies.specs.Opened.{IsOpened, listed_in}
 use Rattle.pm_space.specs.Shown.{view}
 use Rattle.pm_reopen.specs.Reading.{IsThere}
-use Rattle.pm_opening.specs.Opening.{KnowsPages}
+use Rattle.pm_opening.specs.Opening.{KnowsPages, MakesSpace, OpensStore}
 use Rattle.pm_opening.proofs.AcceptedLaws.{whole_paired, whole_accepted}
 use Rattle.pm_opening.proofs.OpenLaws.{cars_known, used_listable, used_first, used_are, store_opened, graph_unopened, header_unopened}
 use Rattle.pm_opening.proofs.opening.open_space.Goals as goal
@@ -53,6 +57,15 @@ build_graph-built-requires-clause-accepted g c =
     subst (λ (h : Header). IsAccepted (listed_in (entries_of chain) (images_of c.as_slice.result.now)) (entries_of chain) h.next) (sym c.header-header.ensures)
     (subst (λ (ks : List KeptPage). IsAccepted (listed_in (entries_of chain) (images_of ks)) (entries_of chain) s.header.next) (sym c.as_slice.ensures)
     (whole_accepted s.count s.header.next chain c.in_ok-chain.cars spelled.some spelled.last c.in_ok-chain.ensures.whole))
+
+pub pack-requires : goal.pack-requires
+pack-requires g c =
+    let s = state c.args.pages.now in
+    let chain = c.in_ok-chain.chain in
+    let cars = c.in_ok-chain.cars in
+    let spelled = c.keep_their_header.ensures.spelled in
+    subst (AllByRecursion (HasCarPage (one_car FIELDS) set.empty)) (whole_paired s.count s.header.next chain cars c.in_ok-chain.ensures.whole)
+    (c.accepted_cars_have_pages.ensures.alone (listed_in (entries_of chain) (images_of cars)) (entries_of chain) s.header.next (whole_accepted s.count s.header.next chain cars spelled.some spelled.last c.in_ok-chain.ensures.whole))
 
 pub know_pages-known-requires-clause-there : goal.know_pages-known-requires-clause-there
 know_pages-known-requires-clause-there g c unknown =
@@ -96,10 +109,11 @@ returns-clause-opened g c bytes told =
     let there = subst (λ (h : Header). IsThere s.count h.first) c.header-header.ensures (subst (λ (n : ℕ). IsThere n c.header-header.result.now.first) c.page_count.ensures (c.is_there.ensures.there c.if-not-is_there.false)) in
     let made = subst (λ (h : Header). IsOpened (listed_in (entries_of chain) (images_of cars)) (entries_of chain) h.next (view c.in-Ok.space.parts)) c.header-header.ensures
     (subst (λ (ks : List KeptPage). IsOpened (listed_in (entries_of chain) (images_of ks)) (entries_of chain) c.header-header.result.now.next (view c.in-Ok.space.parts)) c.as_slice.ensures c.in-Ok.ensures.view) in
-    store_opened s bytes (g.D.Disk.image disk) (c.keep_the_current_copy.ensures c.requires bytes before) (g.met.D.Disk.contents_stay disk bytes before)
+    subst (λ (ks : List KeptPage). OpensStore s new bytes (view c.in-Ok.space.parts) ks) (sym c.in-Ok-pack.ensures)
+    (store_opened s bytes (g.D.Disk.image disk) (c.keep_the_current_copy.ensures c.requires bytes before) (g.met.D.Disk.contents_stay disk bytes before)
     chain cars used is c.in_ok-chain.ensures.whole (c.in_ok-chain.ensures.graph bytes before)
     new there c.keep_their_header.ensures.begun (subst (λ (t : State). KnowsPages t new) looked.same c.in-Ok-known.ensures.state)
-    (λ unknown. c.in-Ok-known.ensures.listed (ap (λ (t : State). t.known) looked.same ∙ unknown)) (view c.in-Ok.space.parts) made
+    (λ unknown. c.in-Ok-known.ensures.listed (ap (λ (t : State). t.known) looked.same ∙ unknown)) (view c.in-Ok.space.parts) made)
 
 pub returns-clause-made_of : goal.returns-clause-made_of
 returns-clause-made_of g c =
@@ -111,7 +125,7 @@ returns-clause-made_of g c =
     let is = c.as_slice-2.ensures.value ∙ c.in-Ok.ensures.pages ∙ ap (λ (ks : List KeptPage). used_pages (record { catalog = chain; cars = ks })) c.as_slice.ensures in
     let looked = c.in_ok-chain.ensures.looked in
     let spelled = c.keep_their_header.ensures.spelled in
-    record {
+    subst (λ (ks : List KeptPage). MakesSpace s new c.in-Ok.space.parts c.args.place ks) (sym c.in-Ok-pack.ensures) (record {
       unfrozen = c.in-Ok.ensures.unfrozen;
       entries = entries_of chain;
       paired = whole_paired s.count s.header.next chain cars c.in_ok-chain.ensures.whole;
@@ -122,4 +136,4 @@ returns-clause-made_of g c =
           let begun = c.keep_their_header.ensures.begun unknown in
           cars_known chain cars used is s new.uses (used_listable s.count s.header.next chain cars used is s begun c.in_ok-chain.ensures.whole)
           (c.in-Ok-known.ensures.listed (ap (λ (t : State). t.known) looked.same ∙ unknown));
-    }
+    })

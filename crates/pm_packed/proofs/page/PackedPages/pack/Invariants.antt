@@ -1,0 +1,17 @@
+use Rattle.std.proofs.Common.{◌≡◌, ◌+◌, ◌≤◌, ◌++◌, length}
+use Rattle.std.specs.Prelude.{vec_capacity}
+use Rattle.std.specs.List.{AllByRecursion}
+use Rattle.std.specs.FinSet as set
+use Rattle.std.specs.Vec.Iter.{into_iter_items}
+use Rattle.pm_types.specs.declared.limits.TheConstants.{FIELDS}
+use Rattle.pm_image.specs.CarPages.{HasCarPage, one_car}
+use Rattle.pm_image.specs.Graphs.{images_of}
+use Rattle.pm_packed.proofs.page.PackedPages.pack.Given as goal
+
+-- those that are packed and those that are left
+abbrev pub invariant-loop-kept : goal.invariant-loop-kept
+invariant-loop-kept l = record {
+  so_far : l.items.items ++ into_iter_items l.kept-iterator ≡ l.fn.cars;
+  room : length l.items.items + length (into_iter_items l.kept-iterator) ≤ vec_capacity l.items;
+  have : AllByRecursion (HasCarPage (one_car FIELDS) set.empty) (images_of (into_iter_items l.kept-iterator));
+}
