@@ -1,9 +1,7 @@
 //! A page of the catalog, which lists the cars and the roots of a copy.
 
-ghost use Rattle.std.specs.Prelude.{◌≡◌};
-
+use pm_base::Items;
 use pm_types::{Addr, Name};
-use std::marker::Model;
 
 /// An entry of a catalog.
 #[derive(Debug, Drop)]
@@ -28,43 +26,8 @@ pub enum CatEntry {
     },
 }
 
-/// The entries of a catalog page, seen as a list.
-#[derive(Debug, Drop)]
-pub struct EntryList {
-    items: Vec<CatEntry>,
-}
-
-impl Model for EntryList {
-    ghost use Rattle.std.specs.Prelude.{List};
-    ghost use Rattle.pm_image.specs.declared.catalog.CatEntry.{CatEntry};
-
-    ghost Value = { List CatEntry };
-
-    ghost view = { λ list. list.items.items };
-}
-
-impl EntryList {
-    /// These entries.
-    pub fn from_vec(items: Vec<CatEntry>) -> Self
-        ensures { result ≡ items.items }
-    {
-        EntryList { items }
-    }
-
-    /// The entries, lent.
-    pub fn as_slice(&self) -> &[CatEntry]
-        ensures { result.now ≡ self.now }
-    {
-        self.items.as_slice()
-    }
-
-    /// The entries, given back.
-    pub fn into_vec(self) -> Vec<CatEntry>
-        ensures { result.items ≡ self }
-    {
-        self.items
-    }
-}
+/// The entries of a catalog page, in order.
+pub type EntryList = Items<CatEntry>;
 
 /// What a catalog page says.
 #[derive(Debug, Drop)]

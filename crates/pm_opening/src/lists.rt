@@ -1,5 +1,6 @@
 //! Lists of cars and of roots, of which a space is built.
 
+use pm_base::Items;
 use pm_cars::Car;
 use pm_types::{Addr, Name};
 use std::marker::Model;
@@ -50,46 +51,5 @@ impl CarList {
     }
 }
 
-/// Names, each with the address of its object, seen as a list.
-#[derive(Drop)]
-pub struct RootList {
-    items: Vec<(Name, Addr)>,
-}
-
-impl Model for RootList {
-    ghost use Rattle.std.specs.Prelude.{List, ℕ};
-    ghost use Rattle.std.specs.Coded.{coded_list, coded×, coded_ℕ};
-    ghost use Rattle.pm_types.specs.declared.address.Addr.{Addr};
-    ghost use Rattle.pm_types.specs.contracts.address.Addr as address;
-
-    ghost Value = { List (List ℕ × Addr) };
-
-    ghost coded = { coded_list (coded× (coded_list coded_ℕ) address.the_row.coded) };
-
-    ghost view = { λ list. list.items.items };
-}
-
-impl RootList {
-    ghost use Rattle.std.specs.Prelude.{◌≡◌};
-
-    /// These roots.
-    pub fn from_vec(items: Vec<(Name, Addr)>) -> Self
-        ensures { result ≡ items.items }
-    {
-        RootList { items }
-    }
-
-    /// The roots, lent.
-    pub fn as_slice(&self) -> &[(Name, Addr)]
-        ensures { result.now ≡ self.now }
-    {
-        self.items.as_slice()
-    }
-
-    /// The roots, given back.
-    pub fn into_vec(self) -> Vec<(Name, Addr)>
-        ensures { result.items ≡ self }
-    {
-        self.items
-    }
-}
+/// Names, each with the address of its object.
+pub type RootList = Items<(Name, Addr)>;
