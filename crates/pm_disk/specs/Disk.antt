@@ -1,5 +1,5 @@
 -- What the calls of a disk say of its images, its clock and its count.
-use Rattle.std.specs.Prelude.{◌≡◌, ◌⊎◌, ℕ, ◌+◌, ◌<◌, ◌≤◌, List, Option, Some, Result, MatchResult}
+use Rattle.std.specs.Prelude.{◌≡◌, ◌⊎◌, ℕ, ◌+◌, ◌<◌, ◌≤◌, Bool, true, List, Option, Some, Result, MatchResult}
 use Rattle.pm_base.specs.Counts.{Rose}
 use Rattle.pm_disk.specs.Images.{IsBytes}
 use Rattle.pm_disk.specs.Writes.{Torn}
@@ -41,3 +41,7 @@ pub record LeavesOnly {D : Type 0} (moment : D → ℕ) (since : D → ℕ → L
   pub each : (image : List ℕ) → since new (moment old) image → P image
   -- for a run that began earlier
   pub before : (t : ℕ) (image : List ℕ) → t ≤ moment old → since new t image → since old t image ⊎ P image
+
+-- the image passes the test
+abbrev pub Passes : (List ℕ → Bool) → List ℕ → Type 0
+Passes test image = test image ≡ true

@@ -4,6 +4,7 @@
 mod call;
 mod crash;
 mod disk;
+mod law;
 mod mark;
 mod mem_disk;
 mod moments;
@@ -16,6 +17,7 @@ mod tests;
 
 pub use call::DiskCall;
 pub use disk::{Disk, DiskFailed};
+pub use law::runs_are_joined;
 pub use mark::{CallKind, Mark};
 pub use mem_disk::MemDisk;
 pub use moments::Moments;
