@@ -1,5 +1,5 @@
 -- Scripts: which bytes are a script, and of which lines.
-use Rattle.std.specs.Prelude.{◌≡◌, ℕ, ◌≤◌, List, [], ◌∷◌, map, length}
+use Rattle.std.specs.Prelude.{◌≡◌, ℕ, ◌≤◌, List, [], ◌∷◌, map, length, decimal}
 use Rattle.std.specs.List.{AllByRecursion, flat_map, join_with_byte}
 use Rattle.pm_types.specs.declared.limits.TheConstants.{SCRIPT_LINES, SOURCE_BYTES}
 use Rattle.pm_types.specs.declared.command.Cmd.{Cmd}
@@ -69,6 +69,10 @@ pub record IsScript (bytes : List ℕ) (lines : List Line) : Type 0 where
   pub short : length bytes ≤ SOURCE_BYTES
   pub few : length (lines_of bytes) ≤ SCRIPT_LINES
   pub each : AreBodies (spoken (lines_of bytes)) lines
+
+-- the body in which a client says `new` of a register and a number of fields, with this word for the bytes
+abbrev pub new_body : ℕ → ℕ → ℕ → List ℕ → List ℕ
+new_body client reg count word = join_with_byte 32 (first_word (first.Client client) ∷ word_of verb.New ∷ decimal reg ∷ decimal count ∷ word ∷ [])
 
 -- the line asks what can be spelled
 pub record IsLine (line : Line) : Type 0 where

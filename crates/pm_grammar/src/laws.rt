@@ -1,11 +1,34 @@
 //! Laws of scripts. Each function's contract is the law, and the function does nothing.
 
-ghost use Rattle.std.specs.Prelude.{◌≡◌, ◌≤◌, List, ℕ, length};
-ghost use Rattle.pm_types.specs.declared.limits.TheConstants.{SOURCE_BYTES};
+ghost use Rattle.std.specs.Prelude.{◌≡◌, ◌<◌, ◌≤◌, ◌^◌, List, ℕ, length};
+ghost use Rattle.hex.specs.Hex.{IsBytes};
+ghost use Rattle.pm_types.specs.declared.command.Cmd.TheVariants.{New};
+ghost use Rattle.pm_types.specs.declared.limits.TheConstants.{CLIENTS, REGISTERS};
+ghost use Rattle.pm_types.specs.declared.reply.Reply.TheVariants.{Shown};
+ghost use Rattle.pm_model.specs.Text.{reply_words};
 ghost use Rattle.pm_grammar.specs.declared.fault.ScriptFault.{ScriptFault as Fault};
+ghost use Rattle.pm_grammar.specs.declared.limits.TheConstants.{LINE_BYTES};
 ghost use Rattle.pm_grammar.specs.declared.line.Line.{Line as Says};
+ghost use Rattle.pm_grammar.specs.declared.line.Line.TheVariants.{Client};
+ghost use Rattle.pm_grammar.specs.declared.reply.TheConstants.{REPLY_BYTES};
 ghost use Rattle.pm_grammar.specs.Bad.{IsBad};
-ghost use Rattle.pm_grammar.specs.Script.{IsScript, HasSpelling, text_of};
+ghost use Rattle.pm_grammar.specs.Script.{IsScript, IsBody, HasSpelling, text_of, new_body};
+ghost use Rattle.pm_grammar.specs.Words.{IsHexWord};
+
+/// A law of limits: the numbers of a line and of a reply, in bytes.
+pub fn limits_of_scripts()
+    ensures line_bytes { LINE_BYTES ≡ 16384 }
+    ensures reply_bytes { REPLY_BYTES ≡ 8195 }
+{}
+
+/// A law of bytes: the word that `data` prints spells them, a dash where there are none, and `new` takes it: the line
+/// that says `new` with that word, of 16,384 bytes at most, makes an object of these bytes.
+pub fn what_data_prints_is_taken()
+    ensures spells { (bytes : List ℕ) → IsBytes bytes → IsHexWord (reply_words (Shown bytes)) bytes }
+    ensures taken { (client reg count : ℕ) (bytes : List ℕ) → client < CLIENTS → reg < REGISTERS → count < 2 ^ 32 → IsBytes bytes
+        → length (new_body client reg count (reply_words (Shown bytes))) ≤ LINE_BYTES
+        → IsBody (new_body client reg count (reply_words (Shown bytes))) (Client client (New reg count bytes)) }
+{}
 
 /// A law of scripts: bytes are a script of one list of lines at most.
 pub fn a_script_has_one_reading()

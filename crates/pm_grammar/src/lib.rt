@@ -14,7 +14,10 @@ mod value;
 mod verb;
 
 pub use fault::{Cause, ScriptFault};
-pub use laws::{a_script_has_no_fault, a_script_has_one_reading, spelled_lines_are_read_again};
+pub use laws::{
+    a_script_has_no_fault, a_script_has_one_reading, limits_of_scripts,
+    spelled_lines_are_read_again, what_data_prints_is_taken,
+};
 pub use limits::LINE_BYTES;
 pub use line::Line;
 pub use reply::{REPLY_BYTES, journal_text, reply_into, reply_text};
