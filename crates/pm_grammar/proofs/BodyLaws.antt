@@ -6,6 +6,7 @@ use Rattle.std.proofs.lemmas.List.Splits.{join_with_byte-slice_split}
 use Rattle.std.specs.Option.{ok_or}
 use Rattle.std.specs.List.{AllByRecursion, join_with_byte}
 use Rattle.pm_base.specs.Results.{◌>>=◌}
+use Rattle.pm_base.proofs.Results.{bind_ok}
 use Rattle.pm_grammar.specs.declared.fault.Cause.{Cause}
 use Rattle.pm_grammar.specs.declared.fault.Cause.TheVariants as cause
 use Rattle.pm_grammar.specs.declared.verb.Verb.{Verb}
@@ -18,7 +19,7 @@ use Rattle.pm_grammar.specs.Words.{word_of, kinds, kind_of, first_word, IsFirst,
 use Rattle.pm_grammar.specs.Values.{first_at, verb_at, line_of}
 use Rattle.pm_grammar.specs.Reading.{values_at, counted_at, said_at, first_said_at, line_at}
 use Rattle.pm_grammar.specs.Script.{said, first_of, IsBody}
-use Rattle.pm_grammar.proofs.ResultSteps.{both_ok, some_ok}
+use Rattle.pm_grammar.proofs.ResultSteps.{some_ok}
 use Rattle.pm_grammar.proofs.ValuesLaws.{values_found, values_again, as_many}
 use Rattle.pm_grammar.proofs.FirstLaws.{first_found, first_again, verb_found, verb_again}
 use Rattle.pm_grammar.proofs.SaidLaws.{Made, made_of, line_again, line_kinds, line_belongs}
@@ -63,9 +64,9 @@ asked_found : (f : First) (words : List (List ℕ)) (line : Line) → said_at f 
 unfolding said_at
 asked_found f [] line is = absurd cc
 asked_found f (word ∷ words) line is =
-    let named = both_ok (ok_or (verb_at f word) cause.Word) (λ v. counted_at (kinds v) words >>= λ values. ok_or (line_of f v values) cause.Count) line is in
+    let named = bind_ok (ok_or (verb_at f word) cause.Word) (λ v. counted_at (kinds v) words >>= λ values. ok_or (line_of f v values) cause.Count) line is in
     let v = named.0 in
-    let counted = both_ok (counted_at (kinds v) words) (λ values. ok_or (line_of f v values) cause.Count) line named.2 in
+    let counted = bind_ok (counted_at (kinds v) words) (λ values. ok_or (line_of f v values) cause.Count) line named.2 in
     let verb = verb_found f word v (some_ok _ _ _ named.1) in
     let are = counted_found (kinds v) words counted.0 counted.1 in
     asked_by f v word words counted.0 line verb.0 are.1 (made_of f v counted.0 verb.1 are.0) (some_ok _ _ _ counted.2)
@@ -84,7 +85,7 @@ pub said_found : (words : List (List ℕ)) (line : Line) → first_said_at words
 unfolding first_said_at
 said_found [] line is = absurd cc
 said_found (word ∷ words) line is =
-    let begins = both_ok (ok_or (first_at word) cause.Client) (λ f. said_at f words) line is in
+    let begins = bind_ok (ok_or (first_at word) cause.Client) (λ f. said_at f words) line is in
     said_by begins.0 word words line (first_found word begins.0 (some_ok _ _ _ begins.1)) (asked_found begins.0 words line begins.2)
 
 pub same_count : (m n : ℕ) → m ≡ n → (m == n) ≡ true

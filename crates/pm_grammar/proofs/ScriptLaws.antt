@@ -3,6 +3,7 @@ use Rattle.std.proofs.Common.{◌≡◌, ℕ, ◌+◌, ◌<◌, ◌≤◌, Bool,
 use Rattle.std.proofs.lemmas.Bool.Decides.{nat_tests}
 use Rattle.std.specs.List.{AllByRecursion}
 use Rattle.pm_base.specs.Results.{◌>>=◌}
+use Rattle.pm_base.proofs.Results.{bind_ok}
 use Rattle.pm_grammar.specs.declared.fault.Cause.{Cause}
 use Rattle.pm_grammar.specs.declared.fault.ScriptFault.{ScriptFault}
 use Rattle.pm_grammar.specs.declared.fault.ScriptFault.TheVariants.{TooManyLines}
@@ -12,7 +13,6 @@ use Rattle.pm_grammar.specs.Lines.{lines_of, is_silent, spoken}
 use Rattle.pm_grammar.specs.Words.{IsFirst}
 use Rattle.pm_grammar.specs.Reading.{Stops, line_at, numbered, lines_at, script_at}
 use Rattle.pm_grammar.specs.Script.{first_of, AreBodies, IsScript, AreLines}
-use Rattle.pm_grammar.proofs.ResultSteps.{both_ok}
 use Rattle.pm_grammar.proofs.BodyLaws.{body_found, body_again}
 
 -- one line, and those after it
@@ -28,8 +28,8 @@ found_by : (n : ℕ) (body : List ℕ) (bodies : List (List ℕ)) (lines : List 
 unfolding then_lines
 found_by n body bodies lines true is more = more lines is
 found_by n body bodies lines false is more =
-    let first = both_ok (numbered n (line_at body)) (λ line. lines_at (n + 1) bodies >>= λ lines. Ok (line ∷ lines)) lines is in
-    let rest = both_ok (lines_at (n + 1) bodies) (λ lines. Ok (first.0 ∷ lines)) lines first.2 in
+    let first = bind_ok (numbered n (line_at body)) (λ line. lines_at (n + 1) bodies >>= λ lines. Ok (line ∷ lines)) lines is in
+    let rest = bind_ok (lines_at (n + 1) bodies) (λ lines. Ok (first.0 ∷ lines)) lines first.2 in
     let all : first.0 ∷ rest.0 ≡ lines = cc (rest.2) in
     subst (AreBodies (body ∷ spoken bodies)) all (body_found body first.0 (numbered_ok n (line_at body) first.0 first.1), more rest.0 rest.1)
 

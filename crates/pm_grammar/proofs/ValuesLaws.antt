@@ -2,13 +2,14 @@
 use Rattle.std.proofs.Common.{◌≡◌, ℕ, suc, List, [], ◌∷◌, length, map, Ok, Result, refl, ap, subst, ◌∙◌, arith}
 use Rattle.std.specs.Option.{ok_or}
 use Rattle.pm_base.specs.Results.{◌>>=◌}
+use Rattle.pm_base.proofs.Results.{bind_ok}
 use Rattle.pm_grammar.specs.declared.fault.Cause.{Cause}
 use Rattle.pm_grammar.specs.declared.verb.Kind.{Kind}
 use Rattle.pm_grammar.specs.declared.value.Value.{Value}
 use Rattle.pm_grammar.specs.Words.{kind_of, IsSpelled, AreSpelled, kind_cause}
 use Rattle.pm_grammar.specs.Values.{value_of}
 use Rattle.pm_grammar.specs.Reading.{values_at}
-use Rattle.pm_grammar.proofs.ResultSteps.{both_ok, some_ok}
+use Rattle.pm_grammar.proofs.ResultSteps.{some_ok}
 use Rattle.pm_grammar.proofs.ValueLaws.{value_found, value_again}
 
 -- the values are of the kinds, and the words spell them
@@ -24,8 +25,8 @@ values_found [] [] values same is = let none : [] ≡ values = cc is in subst (M
 values_found [] (word ∷ words) values same is = absurd (let bad : suc (length words) ≡ 0 = same in omega (arith, bad))
 values_found (kind ∷ kinds) [] values same is = absurd (let bad : 0 ≡ suc (length kinds) = same in omega (arith, bad))
 values_found (kind ∷ kinds) (word ∷ words) values same is =
-    let first = both_ok (ok_or (value_of kind word) (kind_cause kind)) (λ v. values_at kinds words >>= λ vs. Ok (v ∷ vs)) values is in
-    let rest = both_ok (values_at kinds words) (λ vs. Ok (first.0 ∷ vs)) values first.2 in
+    let first = bind_ok (ok_or (value_of kind word) (kind_cause kind)) (λ v. values_at kinds words >>= λ vs. Ok (v ∷ vs)) values is in
+    let rest = bind_ok (values_at kinds words) (λ vs. Ok (first.0 ∷ vs)) values first.2 in
     let long : suc (length words) ≡ suc (length kinds) = same in
     let all : first.0 ∷ rest.0 ≡ values = cc (rest.2) in
     matched_more kind kinds word words first.0 rest.0 values (value_found kind word first.0 (some_ok _ _ _ first.1)) (values_found kinds words rest.0 (omega (arith, long)) rest.1) all
