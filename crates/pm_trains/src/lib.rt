@@ -11,6 +11,7 @@ mod trains;
 
 pub use laws::{
     a_car_is_found_where_it_stands, a_new_train_is_the_youngest, a_removed_car_was_the_first,
-    an_appended_car_is_the_last, the_oldest_is_the_least_with_a_car, the_youngest_is_the_greatest,
+    an_appended_car_is_the_last, limits_of_trains, the_oldest_is_the_least_with_a_car,
+    the_youngest_is_the_greatest,
 };
 pub use trains::{BIRTHS, Trains};
