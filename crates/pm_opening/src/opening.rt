@@ -20,7 +20,7 @@ use crate::build_listed;
 use pm_disk::Disk;
 use pm_image::KeptPage;
 use pm_law_copies::accepted_cars_have_pages;
-use pm_packed::PackedPages;
+use pm_packed::{PackedPages, pack_cars};
 use pm_place::Placement;
 use pm_reopen::{Chain, flatten, read_graph, with_cars};
 use pm_shadow::Pages;
@@ -121,7 +121,7 @@ pub fn open_space<D: Disk, F: Drop>(
     let Ok((space, used)) = built else {
         return Err(OpenFault::Memory);
     };
-    let Ok(packed) = PackedPages::pack(alloc, cars) else {
+    let Ok(packed) = pack_cars(alloc, cars) else {
         return Err(OpenFault::Memory);
     };
     let known = know_pages(alloc, pages, used.as_slice());

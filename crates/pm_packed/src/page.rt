@@ -1,6 +1,6 @@
 //! The cars of a settled copy, packed.
 
-ghost use Rattle.std.specs.Prelude.{◌≡◌, ◌++◌, [], ◌∷◌, IfOk, OnOk};
+ghost use Rattle.std.specs.Prelude.{◌≡◌, IfOk};
 ghost use Rattle.std.specs.List.{AllByRecursion};
 ghost use Rattle.std.specs.FinSet as set;
 ghost use Rattle.pm_types.specs.declared.limits.TheConstants.{FIELDS};
@@ -8,6 +8,7 @@ ghost use Rattle.pm_image.specs.CarPages.{HasCarPage, one_car};
 ghost use Rattle.pm_image.specs.Graphs.{images_of};
 
 use crate::PackedCar;
+use pm_base::Items;
 use pm_image::{KeptPage, Settled, write_car};
 use pm_types::NoMemory;
 use std::alloc::Global;
@@ -77,57 +78,22 @@ impl PackedPage {
     }
 }
 
-/// The cars of a settled copy, packed, seen as a list, in the order of its catalog.
-#[derive(Debug, Drop)]
-pub struct PackedPages {
-    items: Vec<PackedPage>,
-}
+/// The cars of a settled copy, packed, seen as a list of `KeptPage`s, in the order of its catalog.
+pub type PackedPages = Items<PackedPage>;
 
-impl Model for PackedPages {
-    ghost use Rattle.std.specs.Prelude.{List};
-    ghost use Rattle.pm_image.specs.declared.settled.KeptPage.{KeptPage};
-
-    ghost Value = { List KeptPage };
-
-    ghost view = { λ list. list.items.items };
-}
-
-impl PackedPages {
-    /// These cars.
-    pub fn from_vec(items: Vec<PackedPage>) -> Self
-        ensures { result ≡ items.items }
-    {
-        PackedPages { items }
+/// The same cars, packed. Each is let go once it is.
+///
+/// # Errors
+///
+/// `NoMemory` where memory ran out.
+pub fn pack_cars(alloc: Global, cars: Settled) -> Result<PackedPages, NoMemory>
+    requires { AllByRecursion (HasCarPage (one_car FIELDS) set.empty) (images_of cars) }
+    ensures { IfOk result (λ packed. packed ≡ cars) }
+{
+    let cars = cars.into_vec();
+    let mut packed = Vec::with_capacity(alloc, cars.len())?;
+    for kept in cars {
+        packed.push_reserved(PackedPage::pack(alloc, &kept)?);
     }
-
-    /// The same cars, packed. Each is let go once it is.
-    ///
-    /// # Errors
-    ///
-    /// `NoMemory` where memory ran out.
-    pub fn pack(alloc: Global, cars: Settled) -> Result<PackedPages, NoMemory>
-        requires { AllByRecursion (HasCarPage (one_car FIELDS) set.empty) (images_of cars) }
-        ensures { IfOk result (λ packed. packed ≡ cars) }
-    {
-        let cars = cars.into_vec();
-        let mut items = Vec::with_capacity(alloc, cars.len())?;
-        for kept in cars {
-            items.push_reserved(PackedPage::pack(alloc, &kept)?);
-        }
-        Ok(PackedPages { items })
-    }
-
-    /// The cars, lent.
-    pub fn as_slice(&self) -> &[PackedPage]
-        ensures { result.now ≡ self.now }
-    {
-        self.items.as_slice()
-    }
-
-    /// The cars, given back.
-    pub fn into_vec(self) -> Vec<PackedPage>
-        ensures { result.items ≡ self }
-    {
-        self.items
-    }
+    Ok(Items::from_vec(packed))
 }

@@ -58,8 +58,8 @@ build_graph-built-requires-clause-accepted g c =
     (subst (λ (ks : List KeptPage). IsAccepted (listed_in (entries_of chain) (images_of ks)) (entries_of chain) s.header.next) (sym c.as_slice.ensures)
     (whole_accepted s.count s.header.next chain c.in_ok-chain.cars spelled.some spelled.last c.in_ok-chain.ensures.whole))
 
-pub pack-requires : goal.pack-requires
-pack-requires g c =
+pub pack_cars-requires : goal.pack_cars-requires
+pack_cars-requires g c =
     let s = state c.args.pages.now in
     let chain = c.in_ok-chain.chain in
     let cars = c.in_ok-chain.cars in
@@ -109,7 +109,7 @@ returns-clause-opened g c bytes told =
     let there = subst (λ (h : Header). IsThere s.count h.first) c.header-header.ensures (subst (λ (n : ℕ). IsThere n c.header-header.result.now.first) c.page_count.ensures (c.is_there.ensures.there c.if-not-is_there.false)) in
     let made = subst (λ (h : Header). IsOpened (listed_in (entries_of chain) (images_of cars)) (entries_of chain) h.next (view c.in-Ok.space.parts)) c.header-header.ensures
     (subst (λ (ks : List KeptPage). IsOpened (listed_in (entries_of chain) (images_of ks)) (entries_of chain) c.header-header.result.now.next (view c.in-Ok.space.parts)) c.as_slice.ensures c.in-Ok.ensures.view) in
-    subst (λ (ks : List KeptPage). OpensStore s new bytes (view c.in-Ok.space.parts) ks) (sym c.in-Ok-pack.ensures)
+    subst (λ (ks : List KeptPage). OpensStore s new bytes (view c.in-Ok.space.parts) ks) (sym c.in-Ok-pack_cars.ensures)
     (store_opened s bytes (g.D.Disk.image disk) (c.keep_the_current_copy.ensures c.requires bytes before) (g.met.D.Disk.contents_stay disk bytes before)
     chain cars used is c.in_ok-chain.ensures.whole (c.in_ok-chain.ensures.graph bytes before)
     new there c.keep_their_header.ensures.begun (subst (λ (t : State). KnowsPages t new) looked.same c.in-Ok-known.ensures.state)
@@ -125,7 +125,7 @@ returns-clause-made_of g c =
     let is = c.as_slice-2.ensures.value ∙ c.in-Ok.ensures.pages ∙ ap (λ (ks : List KeptPage). used_pages (record { catalog = chain; cars = ks })) c.as_slice.ensures in
     let looked = c.in_ok-chain.ensures.looked in
     let spelled = c.keep_their_header.ensures.spelled in
-    subst (λ (ks : List KeptPage). MakesSpace s new c.in-Ok.space.parts c.args.place ks) (sym c.in-Ok-pack.ensures) (record {
+    subst (λ (ks : List KeptPage). MakesSpace s new c.in-Ok.space.parts c.args.place ks) (sym c.in-Ok-pack_cars.ensures) (record {
       unfrozen = c.in-Ok.ensures.unfrozen;
       entries = entries_of chain;
       paired = whole_paired s.count s.header.next chain cars c.in_ok-chain.ensures.whole;

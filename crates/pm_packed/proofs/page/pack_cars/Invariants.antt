@@ -6,12 +6,12 @@ use Rattle.std.specs.Vec.Iter.{into_iter_items}
 use Rattle.pm_types.specs.declared.limits.TheConstants.{FIELDS}
 use Rattle.pm_image.specs.CarPages.{HasCarPage, one_car}
 use Rattle.pm_image.specs.Graphs.{images_of}
-use Rattle.pm_packed.proofs.page.PackedPages.pack.Given as goal
+use Rattle.pm_packed.proofs.page.pack_cars.Given as goal
 
 -- those that are packed and those that are left
 abbrev pub invariant-loop-kept : goal.invariant-loop-kept
 invariant-loop-kept l = record {
-  so_far : l.items.items ++ into_iter_items l.kept-iterator ≡ l.fn.cars;
-  room : length l.items.items + length (into_iter_items l.kept-iterator) ≤ vec_capacity l.items;
+  so_far : l.packed.items ++ into_iter_items l.kept-iterator ≡ l.fn.cars;
+  room : length l.packed.items + length (into_iter_items l.kept-iterator) ≤ vec_capacity l.packed;
   have : AllByRecursion (HasCarPage (one_car FIELDS) set.empty) (images_of (into_iter_items l.kept-iterator));
 }
