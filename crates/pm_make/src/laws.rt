@@ -1,7 +1,7 @@
 //! Laws and examples of the generator. Each function's contract is the law, and the function does nothing.
 ghost use Rattle.std.specs.Prelude.{◌≡◌, ◌≤◌, ◌<◌, ◌^◌, ℕ, length};
 ghost use Rattle.pm_grammar.specs.Script.{IsScript};
-ghost use Rattle.pm_make.specs.declared.making.TheConstants.{MOST_TURNS};
+ghost use Rattle.pm_types.specs.declared.limits.TheConstants.{MOST_TURNS};
 ghost use Rattle.pm_make.specs.Drawing.{after};
 ghost use Rattle.pm_make.specs.Made.{made_lines, made_text};
 ghost use Rattle.pm_make.specs.Example.{one_turn};

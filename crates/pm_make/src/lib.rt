@@ -11,4 +11,4 @@ mod tests;
 
 pub use drawing::Turn;
 pub use laws::{a_seed_gives_a_script, one_turn_from_seed_one, the_first_draws_from_seed_one};
-pub use making::{MOST_TURNS, make};
+pub use making::make;

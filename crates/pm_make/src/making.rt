@@ -3,11 +3,8 @@ ghost use Rattle.pm_make.specs.Made.{made_text};
 
 use crate::drawing::Draws;
 use crate::lines::{append_last, append_thousandth, append_turn};
-use pm_types::NoMemory;
+use pm_types::{MOST_TURNS, NoMemory};
 use std::alloc::Global;
-
-/// The most turns of a script.
-pub const MOST_TURNS: u32 = 16_000;
 
 /// The script of this seed and this many turns, at most 16,000. The same seed and number give the same bytes always.
 pub fn make(alloc: Global, seed: u32, turns: u32) -> Result<Vec<u8>, NoMemory>

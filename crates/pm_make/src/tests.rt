@@ -1,4 +1,5 @@
 use super::*;
+use pm_types::MOST_TURNS;
 use std::test::Fail;
 
 // What these tests compare with was made by a program in another language.

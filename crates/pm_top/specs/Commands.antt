@@ -11,7 +11,7 @@ use Rattle.pm_engine.specs.Shown.{tally_of}
 use Rattle.pm_serial.specs.Writing.{tail_of}
 use Rattle.pm_survey.specs.Surveyed.{IsReport, IsSomeReport}
 use Rattle.pm_make.specs.Made.{made_text}
-use Rattle.pm_words.specs.declared.command.TheConstants.{MOST_TURNS}
+use Rattle.pm_types.specs.declared.limits.TheConstants.{MOST_TURNS}
 use Rattle.pm_words.specs.declared.command.Command.{Command}
 use Rattle.pm_words.specs.declared.command.Command.TheVariants.{Init, Run, Inspect, Make, Trial}
 use Rattle.pm_top.specs.declared.ended.Detail.{Detail}

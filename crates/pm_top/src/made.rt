@@ -13,9 +13,9 @@ use crate::writes::Writes;
 use crate::{Detail, Ended};
 use pm_disk::Disk;
 use pm_io::{Sink, Source};
-use pm_make::{MOST_TURNS, a_seed_gives_a_script, make};
+use pm_make::{a_seed_gives_a_script, make};
 use pm_place::Placement;
-use pm_types::NoMemory;
+use pm_types::{MOST_TURNS, NoMemory};
 use std::alloc::Global;
 
 // The script of a seed and a number of turns.

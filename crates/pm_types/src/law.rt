@@ -6,7 +6,7 @@ ghost use Rattle.std.specs.declared.cmp.Ordering.TheVariants.{Equal};
 ghost use Rattle.std.specs.Cmp.{IsTotalOrder};
 ghost use Rattle.pm_types.specs.declared.address.Addr.{Addr};
 ghost use Rattle.pm_types.specs.declared.source.RefSource.{RefSource};
-ghost use Rattle.pm_types.specs.declared.limits.TheConstants.{CLIENTS, REGISTERS, FIELDS, OLD_FIELDS, OBJECT_BYTES, LAST_ID, NAME_BYTES, ROOTS, WATCHES, LAST_COPY, PAGE_BYTES, SOURCE_BYTES, SCRIPT_LINES, VERSION, OLD_VERSION, LAST_SLOT, CAR_HEAD_BYTES};
+ghost use Rattle.pm_types.specs.declared.limits.TheConstants.{CLIENTS, REGISTERS, FIELDS, OLD_FIELDS, OBJECT_BYTES, LAST_ID, NAME_BYTES, ROOTS, WATCHES, LAST_COPY, PAGE_BYTES, SOURCE_BYTES, SCRIPT_LINES, VERSION, OLD_VERSION, LAST_SLOT, CAR_HEAD_BYTES, MOST_TURNS};
 ghost use Rattle.pm_types.specs.Orders.{name_cmp, place_cmp, address_cmp, source_cmp};
 ghost use Rattle.pm_types.specs.contracts.address.AddrOrd.TheImpl as address;
 ghost use Rattle.pm_types.specs.contracts.source.RefSourceOrd.TheImpl as source;
@@ -34,6 +34,7 @@ pub fn limits_of_stores()
     ensures car_head { CAR_HEAD_BYTES ≡ 14 }
     ensures source_bytes { SOURCE_BYTES ≡ 268435456 }
     ensures script_lines { SCRIPT_LINES ≡ 65536 }
+    ensures turns { MOST_TURNS ≡ 16000 }
 {}
 
 /// A law of names: they are ordered by their bytes, any two can be compared, and only equal ones tie.

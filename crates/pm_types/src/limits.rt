@@ -48,3 +48,6 @@ pub const SCRIPT_LINES: usize = 65_536;
 
 /// The most watches that are set in one run.
 pub const WATCHES: u32 = 64;
+
+/// The most turns of a script that is made from a seed.
+pub const MOST_TURNS: u32 = 16_000;

@@ -1,8 +1,8 @@
 -- The words of the command line.
 use Rattle.std.specs.Prelude.{◌≡◌, ℕ, ◌^◌, ◌<◌, ◌≤◌, List, [], ◌∷◌, codes, decimal}
+use Rattle.pm_types.specs.declared.limits.TheConstants.{MOST_TURNS}
 use Rattle.pm_words.specs.declared.command.Command.{Command}
 use Rattle.pm_words.specs.declared.command.Command.TheVariants.{Init, Run, Inspect, Make, Trial}
-use Rattle.pm_words.specs.declared.command.TheConstants.{MOST_TURNS}
 
 -- a file's name: it is not empty, and does not begin with a dash, which is 45
 pub record IsFile (word : List ℕ) : Type 0 where

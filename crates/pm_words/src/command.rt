@@ -1,6 +1,3 @@
-/// The most turns of a script that is made.
-pub const MOST_TURNS: u32 = 16_000;
-
 /// What the words of the command line ask for.
 #[derive(Clone, Copy, Debug, PartialEq, Eq)]
 pub enum Command {

@@ -9,6 +9,6 @@ mod reader;
 mod tests;
 mod words;
 
-pub use command::{Command, MOST_TURNS};
+pub use command::Command;
 pub use laws::words_spell_one_command;
 pub use words::read_words;

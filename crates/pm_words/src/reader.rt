@@ -1,8 +1,9 @@
 ghost use Rattle.std.specs.Prelude.{◌≡◌, ◌^◌, ◌<◌, ◌∷◌, [], ℕ, map, decimal, codes, IfSome, IfNone, true, false};
 ghost use Rattle.pm_words.specs.Words.{IsFile, IsSeed, IsTurns, Spells, SpellsNothing};
 
-use crate::command::{Command, MOST_TURNS};
+use crate::command::Command;
 use itoa::Buffer;
+use pm_types::MOST_TURNS;
 
 // Whether a word is a file's name: it is not empty, and does not begin with a dash.
 fn is_file(word: &str) -> bool
