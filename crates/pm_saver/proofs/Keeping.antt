@@ -1,5 +1,5 @@
 -- Pages that are kept, and one that is claimed.
-use Rattle.std.proofs.Common.{◌≡◌, ℕ, zero, suc, ◌+◌, ◌<◌, ◌==◌, Bool, true, false, List, [], ◌∷◌, ◌++◌, length, map, take, get_or, Option, refl, sym, ap, ◌∙◌, subst, arith, if◌then◌else◌, append_assoc}
+use Rattle.std.proofs.Common.{◌≡◌, ℕ, zero, suc, ◌+◌, ◌<◌, ◌==◌, Bool, true, false, List, [], ◌∷◌, ◌++◌, length, map, take, get_or, Option, refl, sym, ap, ◌∙◌, subst, arith, if◌then◌else◌}
 use Rattle.std.specs.List.{AllByRecursion, flat_map, slice_get}
 use Rattle.std.proofs.lemmas.Bool.Decides.{nat_tests}
 use Rattle.std.proofs.lemmas.List.{take_more}
@@ -25,6 +25,7 @@ use Rattle.pm_saver.specs.declared.place.PlacedCar.{PlacedCar}
 use Rattle.pm_saver.specs.declared.place.InProgress.{InProgress}
 use Rattle.pm_saver.specs.Seen.{car_seen, clean_at, place_seen, progress_seen}
 use Rattle.pm_saver.specs.Putting.{pages_in}
+use Rattle.pm_saver.proofs.TakeLemmas.{flat_more, map_both, nil_right}
 
 -- ---- pages that are kept
 
@@ -56,18 +57,6 @@ kept_then [] two s = refl
 kept_then (page ∷ one) two s = kept_then one two (with_kept s page)
 
 -- ---- those of the clean cars
-
-flat_more : {A B : Type 0} (f : A → List B) (xs ys : List A) → flat_map f (xs ++ ys) ≡ flat_map f xs ++ flat_map f ys
-flat_more f [] ys = refl
-flat_more f (x ∷ xs) ys = ap (λ rest. f x ++ rest) (flat_more f xs ys) ∙ sym (append_assoc (f x) (flat_map f xs) (flat_map f ys))
-
-nil_right : {A : Type 0} (xs : List A) → xs ++ [] ≡ xs
-nil_right [] = refl
-nil_right (x ∷ xs) = ap (λ rest. x ∷ rest) (nil_right xs)
-
-map_both : {A B : Type 0} (f : A → B) (xs ys : List A) → map f (xs ++ ys) ≡ map f xs ++ map f ys
-map_both f [] ys = refl
-map_both f (x ∷ xs) ys = ap (λ rest. f x ∷ rest) (map_both f xs ys)
 
 pub pages_more : (settled : List KeptPage) (cars : List PlacedCar) (i : ℕ) (one : PlacedCar) → i < length cars → one ≡ get_or cars i one
     → pages_in settled (take (i + 1) cars) ≡ pages_in settled (take i cars) ++ clean_page (place_seen settled one.place)

@@ -12,15 +12,16 @@ use Rattle.pm_saver.specs.Seen.{car_seen, clean_at, place_seen}
 use Rattle.pm_saver.specs.Kept.{IsWithin}
 use Rattle.pm_saver.specs.Taken.{AreApart, StaysBut, StaysFor, pages_of}
 
-flat_more : {A B : Type 0} (f : A → List B) (xs ys : List A) → flat_map f (xs ++ ys) ≡ flat_map f xs ++ flat_map f ys
+-- lists one behind another
+pub flat_more : {A B : Type 0} (f : A → List B) (xs ys : List A) → flat_map f (xs ++ ys) ≡ flat_map f xs ++ flat_map f ys
 flat_more f [] ys = refl
 flat_more f (x ∷ xs) ys = ap (λ rest. f x ++ rest) (flat_more f xs ys) ∙ sym (append_assoc (f x) (flat_map f xs) (flat_map f ys))
 
-nil_right : {A : Type 0} (xs : List A) → xs ++ [] ≡ xs
+pub nil_right : {A : Type 0} (xs : List A) → xs ++ [] ≡ xs
 nil_right [] = refl
 nil_right (x ∷ xs) = ap (λ rest. x ∷ rest) (nil_right xs)
 
-map_both : {A B : Type 0} (f : A → B) (xs ys : List A) → map f (xs ++ ys) ≡ map f xs ++ map f ys
+pub map_both : {A B : Type 0} (f : A → B) (xs ys : List A) → map f (xs ++ ys) ≡ map f xs ++ map f ys
 map_both f [] ys = refl
 map_both f (x ∷ xs) ys = ap (λ rest. f x ∷ rest) (map_both f xs ys)
 

@@ -4,6 +4,7 @@ use Rattle.std.specs.List.{sum_by, list_any}
 use Rattle.std.proofs.lemmas.List.{get_or-map}
 use Rattle.std.proofs.lemmas.List.Folds.{list_any_at}
 use Rattle.std.proofs.lemmas.Bool.{eq-eqb}
+use Rattle.pm_base.specs.Counts.{greatest_count}
 use Rattle.pm_trains.specs.Trains.{Train, cars_at, train_of}
 use Rattle.pm_trains.specs.Sound.{Rise}
 use Rattle.pm_trains.specs.Changes.{StandsIn}
@@ -13,7 +14,7 @@ use Rattle.pm_view.specs.Counts.{standing_of, old_in}
 use Rattle.pm_space.specs.Counted.{capped}
 
 -- a count and one more thing to count
-pub capped_more : (m n sum more : ℕ) → sum ≡ capped m → more ≡ capped n → min (sum + more) 18446744073709551615 ≡ capped (m + n)
+pub capped_more : (m n sum more : ℕ) → sum ≡ capped m → more ≡ capped n → min (sum + more) greatest_count ≡ capped (m + n)
 capped_more m n sum more is more_is = omega (arith, is, more_is)
 
 -- each car of a train that stands is in that train
