@@ -4,7 +4,7 @@ use Rattle.std.specs.List.{flat_map, AllByRecursion}
 use Rattle.std.proofs.lemmas.Bool.{le-ltb}
 use Rattle.std.proofs.lemmas.List.{take_at, drop_at, length-replicate}
 use Rattle.byteorder.specs.Endian.{big_bytes}
-use Rattle.pm_types.specs.declared.limits.TheConstants.{PAGE_BYTES}
+use Rattle.pm_types.specs.declared.limits.TheConstants.{PAGE_BYTES, LAST_SLOT}
 use Rattle.pm_types.specs.declared.object.Slot.{Slot}
 use Rattle.pm_types.specs.declared.object.Slot.TheVariants.{Live, Moved}
 use Rattle.pm_layout.specs.declared.fault.LayoutFault.{LayoutFault}
@@ -16,7 +16,7 @@ use Rattle.pm_layout.proofs.Again.{slot_again}
 use Rattle.pm_image.specs.declared.car.CarImage.{CarImage}
 use Rattle.pm_image.specs.Steps.{tested, rest_at}
 use Rattle.pm_base.specs.Results.{◌>>=◌}
-use Rattle.pm_image.specs.CarPages.{CarScope, Numbers, HasCarPage, AreFree, car_at, car_magic, car_spelling, is_named, is_short, is_taken, last_slot, numbered, padded, record_at, record_spelling, records_at, with_identity}
+use Rattle.pm_image.specs.CarPages.{CarScope, Numbers, HasCarPage, AreFree, car_at, car_magic, car_spelling, is_named, is_short, is_taken, numbered, padded, record_at, record_spelling, records_at, with_identity}
 use Rattle.pm_image.specs.CarAnswers.{IsCarInRange}
 use Rattle.pm_image.proofs.PageEnds.{magic_again, rest_again}
 use Rattle.pm_image.proofs.SlotIdents.{ident_of, slot_front}
@@ -43,13 +43,13 @@ record_again scope met least page place number slot end small start range r =
     let is_live = sym front.kind ∙ is in
     let ident : id ≡ ident_of slot = ap (λ (k : ℕ). number_from 8 page k) there ∙ front.ident is_live in
     ap (λ (k : ℕ). is_taken scope.next met k) ident ∙ r.free is_live) in
-    let range_right : (ltb number least || ltb last_slot number) ≡ false = ap (λ (b : Bool). b || ltb last_slot number) (le-ltb _ _ r.low) ∙ le-ltb _ _ r.high in
+    let range_right : (ltb number least || ltb LAST_SLOT number) ≡ false = ap (λ (b : Bool). b || ltb LAST_SLOT number) (le-ltb _ _ r.low) ∙ le-ltb _ _ r.high in
     let right : Result ((ℕ × Slot) × ℕ) ℕ = Ok ((number, slot), end) in
     let tested_slot : ℕ → Result (Slot × ℕ) LayoutFault → Result ((ℕ × Slot) × ℕ) ℕ = λ n read.
-    cond (is_short read || (ltb n least || ltb last_slot n)) (Err place) (cond (live && is_taken scope.next met id) (Err (place + 5)) (numbered place n read)) in
+    cond (is_short read || (ltb n least || ltb LAST_SLOT n)) (Err place) (cond (live && is_taken scope.next met id) (Err (place + 5)) (numbered place n read)) in
     ap (λ (n : ℕ). tested_slot n (slot_at scope.most page (place + 4))) number_read
     ∙ ap (λ (read : Result (Slot × ℕ) LayoutFault). tested_slot number read) slot_read
-    ∙ passes (ltb number least || ltb last_slot number) (Err place) (cond (live && is_taken scope.next met id) (Err (place + 5)) right) range_right
+    ∙ passes (ltb number least || ltb LAST_SLOT number) (Err place) (cond (live && is_taken scope.next met id) (Err (place + 5)) right) range_right
     ∙ passes (live && is_taken scope.next met id) (Err (place + 5)) right free
 
 free_first : (next : ℕ) (met : Numbers) (number : ℕ) (slot : Slot) (rs : List (ℕ × Slot)) → AreFree next met ((number, slot) ∷ rs) → IsFree next met slot

@@ -4,7 +4,7 @@ use Rattle.std.specs.List.{flat_map, AllByRecursion}
 use Rattle.std.proofs.lemmas.Bool.{ltb-false}
 use Rattle.std.proofs.lemmas.List.{take-append-drop}
 use Rattle.byteorder.specs.Endian.{big_bytes}
-use Rattle.pm_types.specs.declared.limits.TheConstants.{PAGE_BYTES}
+use Rattle.pm_types.specs.declared.limits.TheConstants.{PAGE_BYTES, LAST_SLOT}
 use Rattle.pm_types.specs.declared.object.Slot.{Slot}
 use Rattle.pm_types.specs.declared.object.Slot.TheVariants.{Live, Moved}
 use Rattle.pm_layout.specs.declared.fault.LayoutFault.{LayoutFault}
@@ -18,7 +18,7 @@ use Rattle.pm_layout.proofs.Slots.{slot_takes}
 use Rattle.pm_image.specs.declared.car.CarImage.{CarImage}
 use Rattle.pm_image.specs.Steps.{tested, magic_at, rest_at}
 use Rattle.pm_base.specs.Results.{◌>>=◌}
-use Rattle.pm_image.specs.CarPages.{CarScope, Numbers, HasCarPage, Ascend, AreFree, car_at, car_magic, car_spelling, is_named, is_short, is_taken, last_slot, numbered, padded, record_at, record_spelling, records_at, with_identity}
+use Rattle.pm_image.specs.CarPages.{CarScope, Numbers, HasCarPage, Ascend, AreFree, car_at, car_magic, car_spelling, is_named, is_short, is_taken, numbered, padded, record_at, record_spelling, records_at, with_identity}
 use Rattle.pm_image.proofs.PageEnds.{tested_ok, magic_takes, rest_takes}
 use Rattle.pm_image.proofs.SlotIdents.{is_live_slot, ident_of, slot_front}
 use Rattle.pm_image.proofs.CarSizes.{records_length}
@@ -31,7 +31,7 @@ IsFree next met slot = is_live_slot slot ≡ true → is_taken next met (ident_o
 pub record IsRecord (scope : CarScope) (met : Numbers) (least : ℕ) (page : List ℕ) (place number : ℕ) (slot : Slot) (end : ℕ) : Type 0 where
   pub stands : Stands page place (record_spelling (number, slot)) end
   pub low : least ≤ number
-  pub high : number ≤ last_slot
+  pub high : number ≤ LAST_SLOT
   pub free : IsFree scope.next met slot
   pub has : HasSpelling scope.most slot
 
@@ -50,8 +50,8 @@ record_takes scope met least page place x fits is =
     let number = number_from 4 page place in
     let read = slot_at scope.most page (place + 4) in
     let id = number_from 8 page (place + 5) in
-    let g = if_ok (is_short read || (ltb number least || ltb last_slot number)) place (cond (eqb (get_or page (place + 4) 0) 1 && is_taken scope.next met id) (Err (place + 5)) (numbered place number read)) x is in
-    let range = neither (ltb number least) (ltb last_slot number) (neither (is_short read) (ltb number least || ltb last_slot number) g.0).1 in
+    let g = if_ok (is_short read || (ltb number least || ltb LAST_SLOT number)) place (cond (eqb (get_or page (place + 4) 0) 1 && is_taken scope.next met id) (Err (place + 5)) (numbered place number read)) x is in
+    let range = neither (ltb number least) (ltb LAST_SLOT number) (neither (is_short read) (ltb number least || ltb LAST_SLOT number) g.0).1 in
     let h = if_ok (eqb (get_or page (place + 4) 0) 1 && is_taken scope.next met id) (place + 5) (numbered place number read) x g.1 in
     let n = numbered_ok place number read x h.1 in
     let front = slot_front scope.most page (place + 4) n.0 n.1 in
@@ -64,7 +64,7 @@ record_takes scope met least page place x fits is =
     let made : IsRecord scope met least page place number n.0.0 n.0.1 = record {
       stands = Stands-then page (big_bytes 4 number) (spelling n.0.0) place (place + 4) n.0.1 (number_stands 4 wide_4 page place (place + 4) refl (omega arith) fits) spelled.stands;
       low = ltb-false number least range.0;
-      high = ltb-false last_slot number range.1;
+      high = ltb-false LAST_SLOT number range.1;
       free = free;
       has = spelled.fits;
     } in

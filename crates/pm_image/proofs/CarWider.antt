@@ -1,5 +1,6 @@
 -- What is read of a car's page within one limit on the fields of an object is read alike within a greater one.
 use Rattle.std.proofs.Common.{◌≡◌, ℕ, zero, suc, ◌+◌, ◌≤◌, cond, eqb, ltb, ◌||◌, ◌&&◌, false, List, get_or, Result, Ok, Err, refl, sym, ap, ◌∙◌}
+use Rattle.pm_types.specs.declared.limits.TheConstants.{LAST_SLOT}
 use Rattle.pm_types.specs.declared.object.Slot.{Slot}
 use Rattle.pm_layout.specs.declared.fault.LayoutFault.{LayoutFault}
 use Rattle.pm_layout.specs.Reading.{number_from, slot_at}
@@ -8,7 +9,7 @@ use Rattle.pm_image.specs.declared.car.CarImage.{CarImage}
 use Rattle.pm_image.specs.Steps.{tested, magic_at, rest_at}
 use Rattle.pm_base.specs.Results.{◌>>=◌}
 use Rattle.pm_base.proofs.Results.{bind_ok, bound, if_ok}
-use Rattle.pm_image.specs.CarPages.{CarScope, Numbers, car_at, car_magic, is_named, is_short, is_taken, last_slot, numbered, record_at, records_at, with_identity}
+use Rattle.pm_image.specs.CarPages.{CarScope, Numbers, car_at, car_magic, is_named, is_short, is_taken, numbered, record_at, records_at, with_identity}
 
 numbered_from : (place number : ℕ) (read : Result (Slot × ℕ) LayoutFault) (x : (ℕ × Slot) × ℕ) → numbered place number read ≡ Ok x → (y : Slot × ℕ) × (read ≡ Ok y)
 numbered_from place number (Ok y) x e = (y, refl)
@@ -26,9 +27,9 @@ record_more scope more met least page place x le is =
     let read = slot_at scope.most page (place + 4) in
     let id = number_from 8 page (place + 5) in
     let rest : Result (Slot × ℕ) LayoutFault → Result ((ℕ × Slot) × ℕ) ℕ = λ r.
-    cond (is_short r || (ltb number least || ltb last_slot number)) (Err place)
+    cond (is_short r || (ltb number least || ltb LAST_SLOT number)) (Err place)
     (cond (eqb (get_or page (place + 4) 0) 1 && is_taken scope.next met id) (Err (place + 5)) (numbered place number r)) in
-    let g = if_ok (is_short read || (ltb number least || ltb last_slot number)) place (cond (eqb (get_or page (place + 4) 0) 1 && is_taken scope.next met id) (Err (place + 5)) (numbered place number read)) x is in
+    let g = if_ok (is_short read || (ltb number least || ltb LAST_SLOT number)) place (cond (eqb (get_or page (place + 4) 0) 1 && is_taken scope.next met id) (Err (place + 5)) (numbered place number read)) x is in
     let h = if_ok (eqb (get_or page (place + 4) 0) 1 && is_taken scope.next met id) (place + 5) (numbered place number read) x g.1 in
     let n = numbered_from place number read x h.1 in
     ap rest (slot_more scope.most more page (place + 4) n.0 le n.1 ∙ sym n.1) ∙ is

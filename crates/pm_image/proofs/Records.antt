@@ -1,6 +1,7 @@
 -- Reading records one after the other, as a loop does.
 use Rattle.std.proofs.Common.{◌≡◌, ℕ, zero, suc, ◌+◌, ◌-◌, ◌<◌, ◌≤◌, Bool, cond, ltb, eqb, ◌||◌, ◌&&◌, List, [], ◌∷◌, ◌++◌, length, get_or, Option, Result, Ok, Err, refl, sym, ap, ◌∙◌, append_assoc, arith}
 use Rattle.std.proofs.lemmas.List.{append-nil}
+use Rattle.pm_types.specs.declared.limits.TheConstants.{LAST_SLOT}
 use Rattle.pm_types.specs.declared.object.Slot.{Slot}
 use Rattle.pm_layout.specs.Reading.{slot_at, number_from}
 use Rattle.pm_layout.proofs.Laws.{nothing_left}
@@ -9,7 +10,7 @@ use Rattle.pm_image.specs.declared.fault.PageFault.TheVariants.{Malformed, Memor
 use Rattle.pm_base.specs.Results.{◌>>=◌}
 use Rattle.pm_base.proofs.Fronts.{with_front_of, regroup_of}
 use Rattle.pm_image.specs.Answers.{Gives}
-use Rattle.pm_image.specs.CarPages.{CarScope, Numbers, is_short, is_taken, numbered, last_slot, with_identity, record_at, records_at}
+use Rattle.pm_image.specs.CarPages.{CarScope, Numbers, is_short, is_taken, numbered, with_identity, record_at, records_at}
 use Rattle.pm_image.specs.CarAnswers.{a_car}
 use Rattle.pm_image.specs.Graphs.{with_identities}
 
@@ -19,7 +20,7 @@ unfolding record_at
 cut_record scope met least page place lt =
     let number = number_from 4 page place in
     let rest : Bool → Result ((ℕ × Slot) × ℕ) ℕ = λ short.
-    cond (short || (ltb number least || ltb last_slot number)) (Err place)
+    cond (short || (ltb number least || ltb LAST_SLOT number)) (Err place)
     (cond (eqb (get_or page (place + 4) 0) 1 && is_taken scope.next met (number_from 8 page (place + 5))) (Err (place + 5)) (numbered place number (slot_at scope.most page (place + 4)))) in
     ap rest (ap is_short (nothing_left scope.most page (place + 4) (omega arith)))
 

@@ -5,7 +5,7 @@ use Rattle.std.specs.List.{flat_map, AllByRecursion}
 use Rattle.std.specs.Ordering.{nat_cmp}
 use Rattle.std.specs.FinSet as set
 use Rattle.byteorder.specs.Endian.{big_bytes}
-use Rattle.pm_types.specs.declared.limits.TheConstants.{PAGE_BYTES}
+use Rattle.pm_types.specs.declared.limits.TheConstants.{PAGE_BYTES, LAST_SLOT}
 use Rattle.pm_types.specs.declared.object.Slot.{Slot}
 use Rattle.pm_types.specs.declared.object.Slot.TheVariants.{Live, Moved}
 use Rattle.pm_layout.specs.declared.fault.LayoutFault.{LayoutFault}
@@ -15,10 +15,6 @@ use Rattle.pm_layout.specs.Reading.{number_from, slot_at}
 use Rattle.pm_image.specs.declared.car.CarImage.{CarImage}
 use Rattle.pm_image.specs.Steps.{tested, magic_at, rest_at}
 use Rattle.pm_base.specs.Results.{◌>>=◌}
-
--- the greatest number of a slot
-abbrev pub last_slot : ℕ
-last_slot = 65535
 
 -- PCAR
 abbrev pub car_magic : List ℕ
@@ -92,7 +88,7 @@ unfoldable pub record_at : CarScope → Numbers → ℕ → List ℕ → ℕ →
 record_at scope met least page place =
     let number = number_from 4 page place in
     let read = slot_at scope.most page (place + 4) in
-    if is_short read || (nat_lt number least || nat_lt last_slot number) then Err place else
+    if is_short read || (nat_lt number least || nat_lt LAST_SLOT number) then Err place else
     if (slice_index page (place + 4) == 1) && is_taken scope.next met (number_from 8 page (place + 5)) then Err (place + 5) else
     numbered place number read
 
@@ -126,7 +122,7 @@ car_at scope met page = do
 -- each slot's number is over those before it, and none is over the last
 abbrev pub Ascend : ℕ → List (ℕ × Slot) → Type 0
 Ascend least [] = Unit {0}
-Ascend least ((number, slot) ∷ records) = (least ≤ number) × (number ≤ last_slot) × Ascend (number + 1) records
+Ascend least ((number, slot) ∷ records) = (least ≤ number) × (number ≤ LAST_SLOT) × Ascend (number + 1) records
 
 -- the identities of a list of slots are not taken, and differ
 abbrev pub AreFree : ℕ → Numbers → List (ℕ × Slot) → Type 0

@@ -6,7 +6,7 @@ ghost use Rattle.pm_image.specs.declared.car.CarImage.{CarImage};
 ghost use Rattle.pm_image.specs.declared.fault.PageFault.TheVariants.{Memory};
 ghost use Rattle.pm_image.specs.Steps.{tested};
 ghost use Rattle.pm_image.specs.Answers.{answer, Gives};
-ghost use Rattle.pm_image.specs.CarPages.{HasCarPage, car_at, car_spelling, fault_place, is_named, is_short, is_taken, last_slot, one_car, padded, record_at, records_at, with_identity};
+ghost use Rattle.pm_image.specs.CarPages.{HasCarPage, car_at, car_spelling, fault_place, is_named, is_short, is_taken, one_car, padded, record_at, records_at, with_identity};
 ghost use Rattle.pm_image.specs.CarAnswers.{IsCarInRange, a_car, page_fault};
 ghost use Rattle.pm_image.specs.Graphs.{with_identities};
 
@@ -69,7 +69,7 @@ fn record_at(
     requires most { most ≤ FIELDS }
     ensures exact { Gives result (record_at (a_car most next None) met.now least page.now place) }
     ensures ends { IfOk result (λ read. read.1 ≤ PAGE_BYTES) }
-    ensures last { IfOk result (λ read. read.0.0 ≤ last_slot) }
+    ensures last { IfOk result (λ read. read.0.0 ≤ LAST_SLOT) }
 {
     if page.len() - place < 5 {
         return Err(PageFault::Malformed(place as u32));

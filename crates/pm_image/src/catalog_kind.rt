@@ -19,13 +19,13 @@ pub const ENTRIES: usize = 46;
 pub(crate) const CAR: u8 = 1;
 
 /// How many bytes the entry of a car has.
-pub const CAR_BYTES: usize = 57;
+pub const CAR_ENTRY_BYTES: usize = 57;
 
 /// The byte that the entry of a root begins with.
 pub(crate) const ROOT: u8 = 2;
 
 /// How many bytes the entry of a root has beside its name.
-pub const ROOT_BYTES: usize = 14;
+pub const ROOT_ENTRY_BYTES: usize = 14;
 
 /// How many bytes an address has.
 pub(crate) const ADDRESS_BYTES: usize = 12;

@@ -1,8 +1,16 @@
 ghost use Rattle.std.specs.Prelude.{◌≡◌, ℕ, ◌<◌, ◌^◌, List, length, slice_index, Option, Ok};
 ghost use Rattle.pm_types.specs.declared.limits.TheConstants.{PAGE_BYTES};
 ghost use Rattle.pm_image.specs.declared.catalog.CatalogPage.{CatalogPage};
+ghost use Rattle.pm_image.specs.declared.catalog_kind.TheConstants.{ENTRIES, CAR_ENTRY_BYTES, ROOT_ENTRY_BYTES};
 ghost use Rattle.pm_image.specs.CarPages.{padded};
 ghost use Rattle.pm_image.specs.CatalogPages.{Met, catalog_at, catalog_spelling, HasCatalogPage, IsCatalogInRange};
+
+/// A law of limits: the numbers of a catalog page, in bytes. The entry of a root has the bytes of its name besides.
+pub fn limits_of_catalogs()
+    ensures entries { ENTRIES ≡ 46 }
+    ensures car { CAR_ENTRY_BYTES ≡ 57 }
+    ensures root { ROOT_ENTRY_BYTES ≡ 14 }
+{}
 
 /// The laws of the spelling of catalog pages, in a store of any number of pages or by themselves, whatever was met
 /// before.

@@ -9,8 +9,8 @@ ghost use Rattle.pm_image.specs.CatalogReading.{name_at, root_at, next_page_at, 
 ghost use Rattle.pm_image.specs.CatalogPages.{nothing_met, meeting_all, meeting_page, has_next_digest, car_entry_at, root_entry_at, entry_at, entries_at, catalog_at, catalog_spelling, HasCatalogPage, IsCatalogInRange};
 
 use crate::catalog_kind::{
-    ADDRESS_BYTES, CAR, CAR_BYTES, CATALOG_MAGIC, COUNT, ENTRIES, NEXT, NEXT_DIGEST, ROOT,
-    ROOT_BYTES,
+    ADDRESS_BYTES, CAR, CAR_ENTRY_BYTES, CATALOG_MAGIC, COUNT, ENTRIES, NEXT, NEXT_DIGEST, ROOT,
+    ROOT_ENTRY_BYTES,
 };
 use crate::steps::{check_magic, check_rest};
 use crate::{CatEntry, CatalogPage, EntryList, Met, PageFault};
@@ -63,7 +63,7 @@ fn car_entry_at(
         page: at,
         digest: digest_at(page, place + 25),
     };
-    Ok((entry, place + CAR_BYTES))
+    Ok((entry, place + CAR_ENTRY_BYTES))
 }
 
 // The name of so many bytes from a place on, whose length stands at another.
@@ -145,13 +145,13 @@ fn entry_at(
 {
     match byte_at(page, place) {
         CAR => {
-            if page.len() < place + CAR_BYTES || met.has_root() {
+            if page.len() < place + CAR_ENTRY_BYTES || met.has_root() {
                 return malformed(place);
             }
             car_entry_at(count, met, page, place)
         }
         ROOT => {
-            if page.len() < place + ROOT_BYTES + byte_at(page, place + 1) as usize {
+            if page.len() < place + ROOT_ENTRY_BYTES + byte_at(page, place + 1) as usize {
                 return malformed(place);
             }
             root_entry_at(alloc, count, met, page, place)

@@ -7,7 +7,7 @@ use Rattle.std.specs.Prelude.{IfSome}
 use Rattle.std.proofs.lemmas.Bool.{ltb-false}
 use Rattle.byteorder.specs.Numbers.{big_from-lt}
 use Rattle.pm_types.specs.declared.address.Addr.{Addr}
-use Rattle.pm_types.specs.declared.limits.TheConstants.{NAME_BYTES, PAGE_BYTES}
+use Rattle.pm_types.specs.declared.limits.TheConstants.{LAST_SLOT, NAME_BYTES, PAGE_BYTES}
 use Rattle.pm_types.specs.declared.object.Slot.{Slot}
 use Rattle.pm_types.specs.declared.object.Slot.TheVariants.{Live, Moved}
 use Rattle.pm_layout.specs.declared.fault.LayoutFault.{LayoutFault}
@@ -24,7 +24,7 @@ use Rattle.pm_image.specs.declared.catalog.CatEntry.{CatEntry}
 use Rattle.pm_image.specs.declared.catalog.CatEntry.TheVariants.{Car, Root}
 use Rattle.pm_image.specs.declared.catalog.CatalogPage.{CatalogPage}
 use Rattle.pm_image.specs.Steps.{tested, magic_at, rest_at}
-use Rattle.pm_image.specs.CarPages.{CarScope, Numbers, car_at, car_magic, is_named, is_short, is_taken, last_slot, numbered, record_at, records_at, with_identity}
+use Rattle.pm_image.specs.CarPages.{CarScope, Numbers, car_at, car_magic, is_named, is_short, is_taken, numbered, record_at, records_at, with_identity}
 use Rattle.pm_image.specs.CarAnswers.{IsCarInRange}
 use Rattle.pm_image.specs.CatalogPages.{IsCatalogInRange, IsEntryInRange, Met, bad_name_byte, car_entry_at, catalog_at, catalog_magic, entries_at, entry_at, has_next_digest, has_root_left, is_free_page, is_next_name, is_next_page, meeting, meeting_next, name_bytes, root_entry_at}
 use Rattle.pm_image.proofs.CatalogReads.{part_length}
@@ -106,7 +106,7 @@ record_range scope met least page place x fits is =
     let number = number_from 4 page place in
     let read = slot_at scope.most page (place + 4) in
     let id = number_from 8 page (place + 5) in
-    let g = if_ok (is_short read || (ltb number least || ltb last_slot number)) place (cond (eqb (get_or page (place + 4) 0) 1 && is_taken scope.next met id) (Err (place + 5)) (numbered place number read)) x is in
+    let g = if_ok (is_short read || (ltb number least || ltb LAST_SLOT number)) place (cond (eqb (get_or page (place + 4) 0) 1 && is_taken scope.next met id) (Err (place + 5)) (numbered place number read)) x is in
     let h = if_ok (eqb (get_or page (place + 4) 0) 1 && is_taken scope.next met id) (place + 5) (numbered place number read) x g.1 in
     let n = numbered_ok place number read x h.1 in
     subst (λ (y : (ℕ × Slot) × ℕ). IsInRange y.0.1) {x = ((number, n.0.0), n.0.1)} n.2 (slot_range scope.most page (place + 4) n.0 fits n.1)

@@ -15,7 +15,9 @@ ghost use Rattle.pm_reopen.specs.Reading.{IsMeasured};
 
 use crate::fault::Place;
 use crate::held::HeldCars;
-use pm_image::{CAR_BYTES, CatEntry, CatalogPage, ENTRIES, KeptPage, RECORDS_AT, ROOT_BYTES};
+use pm_image::{
+    CAR_ENTRY_BYTES, CatEntry, CatalogPage, ENTRIES, KeptPage, RECORDS_AT, ROOT_ENTRY_BYTES,
+};
 use pm_layout::size;
 use pm_types::{Addr, Slot};
 
@@ -100,8 +102,8 @@ fn entry_bytes(entry: &CatEntry) -> u32
     ensures { result ≡ entry_size entry.now }
 {
     match entry {
-        CatEntry::Car { .. } => CAR_BYTES as u32,
-        CatEntry::Root { name, .. } => ROOT_BYTES as u32 + name.as_slice().len() as u32,
+        CatEntry::Car { .. } => CAR_ENTRY_BYTES as u32,
+        CatEntry::Root { name, .. } => ROOT_ENTRY_BYTES as u32 + name.as_slice().len() as u32,
     }
 }
 

@@ -5,7 +5,7 @@ ghost use Rattle.std.specs.Prelude.{◌≤◌};
 ghost use Rattle.pm_types.specs.declared.limits.TheConstants.{PAGE_BYTES};
 
 use crate::place::PlacedCar;
-use pm_image::{CAR_BYTES, ENTRIES, ROOT_BYTES};
+use pm_image::{CAR_ENTRY_BYTES, ENTRIES, ROOT_ENTRY_BYTES};
 use pm_law_layout::{cutting_goes_on_at_the_last_page, entries_are_cut_in_one_way};
 use pm_types::{Addr, Name, NoMemory, PAGE_BYTES};
 use std::alloc::Global;
@@ -86,7 +86,7 @@ impl Counter {
         ensures { OnOk result (CountsOn (map drafted cars.now) self.old self.new) }
     {
         for _car in cars {
-            self.put(CAR_BYTES)?;
+            self.put(CAR_ENTRY_BYTES)?;
         }
         Ok(())
     }
@@ -96,7 +96,7 @@ impl Counter {
         ensures { OnOk result (CountsOn (map root_entry roots.now) self.old self.new) }
     {
         for (name, _) in roots {
-            self.put(ROOT_BYTES + name.as_slice().len())?;
+            self.put(ROOT_ENTRY_BYTES + name.as_slice().len())?;
         }
         Ok(())
     }
