@@ -25,7 +25,8 @@ pub fn limits_of_scripts()
 /// that says `new` with that word, of 16,384 bytes at most, makes an object of these bytes.
 pub fn what_data_prints_is_taken()
     ensures spells { (bytes : List ℕ) → IsBytes bytes → IsHexWord (reply_words (Shown bytes)) bytes }
-    ensures taken { (client reg count : ℕ) (bytes : List ℕ) → client < CLIENTS → reg < REGISTERS → count < 2 ^ 32 → IsBytes bytes
+    ensures taken { (client reg count : ℕ) (bytes : List ℕ)
+        → client < CLIENTS → reg < REGISTERS → count < 2 ^ 32 → IsBytes bytes
         → length (new_body client reg count (reply_words (Shown bytes))) ≤ LINE_BYTES
         → IsBody (new_body client reg count (reply_words (Shown bytes))) (Client client (New reg count bytes)) }
 {}

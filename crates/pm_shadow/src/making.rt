@@ -1,7 +1,7 @@
 //! Making a store.
-ghost use Rattle.std.specs.Prelude.{◌≡◌, ◌+◌, ◌*◌, ◌-◌, ◌^◌, ◌≤◌, [], List, ℕ, Some, length, option_map, IfOk, IfErr, OnOk, OnErr};
+ghost use Rattle.std.specs.Prelude.{◌≡◌, ◌+◌, ◌*◌, ◌-◌, ◌^◌, ◌<◌, ◌≤◌, [], List, ℕ, Some, length, option_map, IfOk, IfErr, OnOk, OnErr};
 ghost use Rattle.pm_disk.specs.Writes.{written};
-ghost use Rattle.pm_disk.specs.Disk.{IfTold, SameImages, HasCause};
+ghost use Rattle.pm_disk.specs.Disk.{IfTold, SameImages, LeavesOnly, HasCause};
 ghost use Rattle.pm_layout.specs.Headers.{header_spelling};
 ghost use Rattle.pm_image.specs.CarPages.{padded};
 ghost use Rattle.pm_image.specs.Opening.{open_gate};
@@ -109,9 +109,12 @@ pub fn init<D: Disk>(alloc: Global, disk: &mut D) -> Result<(), InitFault>
     ensures cause { IfErr result (IsInitFault (D.count disk.old) (D.count disk.new)) }
     // Whatever it answers, a disk that told of some byte is as it was.
     ensures kept { KeepsBytes (D.contents disk.old) (D.contents disk.new) (D.image disk.old) (D.image disk.new) }
+    // And a crash at any moment of the call leaves then what it might have left before.
+    ensures leaves { IfTold (D.contents disk.old) (λ bytes. 0 < length bytes
+        → LeavesOnly D.moment D.since disk.old disk.new (D.image disk.old)) }
     ensures past { (D.made disk.new).past ≡ (D.made disk.old).past }
-    ensures still { IfErr result (λ fault. UnlessFailed fault (D.contents disk.new ≡ D.contents disk.old)) }
-    ensures images { IfErr result (λ fault. UnlessFailed fault (SameImages (D.image disk.old) (D.image disk.new))) }
+    ensures still { IfErr result (λ fault. UnlessFailed fault
+        ((D.contents disk.new ≡ D.contents disk.old) × SameImages (D.image disk.old) (D.image disk.new))) }
 {
     let before = disk.faults();
     match disk.len() {

@@ -38,9 +38,9 @@ module _ {D S K : Type 0} (disk_count : D → ℕ) (made : D → Made) (source_c
         absurd (never_shut store.bytes store.number store.copy fault store.stands (runs.store.leaves.refused store.bytes store.is_told))
     run_complete Memory journal tally runs causes none store script = inr refl
 
-  module _ (contents : D → Option (List ℕ)) (image : D → List ℕ → Type 0) where
+  module _ (contents : D → Option (List ℕ)) (image : D → List ℕ → Type 0) (moment : D → ℕ) (since : D → ℕ → List ℕ → Type 0) where
     pub make_complete : (detail : Detail) (journal : List Entry) (tally : Option Tally)
-        → MakesStore contents image disk disk_end source source_end sink sink_end detail journal tally
+        → MakesStore contents image moment since disk disk_end source source_end sink sink_end detail journal tally
         → ShowsCauses disk_count made source_count sink_count disk disk_end source source_end sink sink_end detail
         → NothingFails disk_count source_count sink_count disk disk_end source source_end sink sink_end
         → contents disk ≡ Some [] → IsComplete detail
@@ -112,7 +112,7 @@ module _ {D S K : Type 0} (disk_count : D → ℕ) (made : D → Made) (source_c
         → ShowsCauses disk_count made source_count sink_count disk disk_end source source_end sink sink_end detail
         → HasNeeds command (contents disk) (left source)
         → NothingFails disk_count source_count sink_count disk disk_end source source_end sink sink_end → IsComplete detail
-    complete Init detail journal tally does causes needs none = make_complete contents image detail journal tally does causes none needs
+    complete Init detail journal tally does causes needs none = make_complete contents image moment since detail journal tally does causes none needs
     complete Run detail journal tally does causes needs none = run_complete contents image moment since left written finished detail journal tally does causes none needs.0 needs.1
     complete Inspect detail journal tally does causes needs none = inspect_complete contents image moment since written finished detail journal tally does causes none needs
     complete (Make seed turns) detail journal tally does causes needs none = script_complete written finished seed turns detail journal tally does causes none

@@ -9,8 +9,8 @@ use Rattle.pm_top.specs.Disks.{LeavesMade}
 
 pub none_made : {D : Type 0} (contents : D → Option (List ℕ)) (image : D → List ℕ → Type 0) (before after : ℕ) (start end : D) (fault : InitFault)
     → IfTold (contents start) (λ bytes. IsInitFaultOf bytes fault) → IsInitFault before after fault
-    → UnlessFailed fault (contents end ≡ contents start) → UnlessFailed fault (SameImages (image start) (image end))
+    → UnlessFailed fault ((contents end ≡ contents start) × SameImages (image start) (image end))
     → KeepsBytes (contents start) (contents end) (image start) (image end) → LeavesMade contents image start end (not_made fault)
-none_made contents image before after start end (NotEmpty n) fault cause still images kept = (cause.0, fault, still, images)
-none_made contents image before after start end (Disk b a) fault cause still images kept = kept
-none_made contents image before after start end Memory fault cause still images kept = (still, images)
+none_made contents image before after start end (NotEmpty n) fault cause still kept = (cause.0, fault, still.0, still.1)
+none_made contents image before after start end (Disk b a) fault cause still kept = kept
+none_made contents image before after start end Memory fault cause still kept = still

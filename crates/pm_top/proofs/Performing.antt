@@ -43,7 +43,7 @@ ends_run detail journal past is = let ended : IsPast the_words Usage journal = s
 module _ {D S K : Type 0} (contents : D → Option (List ℕ)) (image : D → List ℕ → Type 0) (moment : D → ℕ) (since : D → ℕ → List ℕ → Type 0) (made : D → Made) (left : S → Option (List ℕ)) (written : K → Option (List ℕ)) (finished sink_count : K → ℕ) where
   pub no_usage : (command : Command) (disk disk_end : D) (source source_end : S) (sink sink_end : K) (detail : Detail) (journal : List Entry) (tally : Option Tally)
       → Does command contents image moment since made left written finished sink_count disk disk_end source source_end sink sink_end detail journal tally → detail ≡ Usage → ⊥
-  no_usage Init disk disk_end source source_end sink sink_end detail journal tally does is = (subst (λ (d : Detail). MakesStore contents image disk disk_end source source_end sink sink_end d journal tally) is does).makes
+  no_usage Init disk disk_end source source_end sink sink_end detail journal tally does is = (subst (λ (d : Detail). MakesStore contents image moment since disk disk_end source source_end sink sink_end d journal tally) is does).makes
   no_usage Run disk disk_end source source_end sink sink_end detail journal tally does is = ends_run detail journal does.ends is
   no_usage Inspect disk disk_end source source_end sink sink_end detail journal tally does is = subst EndsInspecting is does.ends
   no_usage (Make seed turns) disk disk_end source source_end sink sink_end detail journal tally does is = subst EndsMaking is does.ends
@@ -68,7 +68,14 @@ module _ {D S K : Type 0} (contents : D → Option (List ℕ)) (image : D → Li
 
   pub untouched_does : (command : Command) (disk : D) (source : S) (sink : K) → ((at : List ℕ) → since disk (moment disk) at → image disk at) → SameImages (image disk) (image disk)
       → Does command contents image moment since made left written finished sink_count disk disk source source sink sink Memory [] None
-  untouched_does Init disk source sink now same = record { makes = (refl, same); source_stays = refl; sink_stays = refl; no_event = refl; no_tally = refl }
+  untouched_does Init disk source sink now same = record {
+    makes = (refl, same);
+    leaves = λ bytes told some. started moment since disk (image disk) now;
+    source_stays = refl;
+    sink_stays = refl;
+    no_event = refl;
+    no_tally = refl;
+  }
   untouched_does Run disk source sink now same = record {
     ends = omega arith;
     read = λ past. absurd (omega arith);

@@ -1,5 +1,5 @@
 -- What each command does, from its start to its end, by how it ended: a record of named facts for each.
-use Rattle.std.specs.Prelude.{◌≡◌, ℕ, ◌≤◌, List, [], Option, Some, None, IsSome, IfSome, IfNone}
+use Rattle.std.specs.Prelude.{◌≡◌, ℕ, ◌<◌, ◌≤◌, List, [], length, Option, Some, None, IsSome, IfSome, IfNone}
 use Rattle.pm_types.specs.declared.entry.Entry.{Entry}
 use Rattle.pm_disk.specs.Disk.{LeavesOnly}
 use Rattle.pm_disk.specs.Made.{Made}
@@ -44,8 +44,10 @@ pub record IsUntouched {D S K : Type 0} (disk disk_end : D) (source source_end :
   pub no_tally : tally ≡ None
 
 -- What `init FILE` does: a store is made, and source and sink are not called.
-pub record MakesStore {D S K : Type 0} (contents : D → Option (List ℕ)) (image : D → List ℕ → Type 0) (disk disk_end : D) (source source_end : S) (sink sink_end : K) (detail : Detail) (journal : List Entry) (tally : Option Tally) : Type 0 where
+pub record MakesStore {D S K : Type 0} (contents : D → Option (List ℕ)) (image : D → List ℕ → Type 0) (moment : D → ℕ) (since : D → ℕ → List ℕ → Type 0) (disk disk_end : D) (source source_end : S) (sink sink_end : K) (detail : Detail) (journal : List Entry) (tally : Option Tally) : Type 0 where
   pub makes : LeavesMade contents image disk disk_end detail
+  -- where the disk told some byte, a crash at any moment leaves what it might have left at the start
+  pub leaves : (bytes : List ℕ) → contents disk ≡ Some bytes → 0 < length bytes → LeavesOnly moment since disk disk_end (image disk)
   pub source_stays : source_end ≡ source
   pub sink_stays : sink_end ≡ sink
   pub no_event : journal ≡ []
@@ -156,7 +158,7 @@ MayPerform command = Unit {0}
 -- what each command does
 abbrev pub Does : {D S K : Type 0} → Command → (D → Option (List ℕ)) → (D → List ℕ → Type 0) → (D → ℕ) → (D → ℕ → List ℕ → Type 0) → (D → Made) → (S → Option (List ℕ)) → (K → Option (List ℕ)) → (K → ℕ) → (K → ℕ) → D → D → S → S → K → K → Detail → List Entry → Option Tally → Type 0
 Does Init contents image moment since made left written finished sink_count disk disk_end source source_end sink sink_end detail journal tally =
-    MakesStore contents image disk disk_end source source_end sink sink_end detail journal tally
+    MakesStore contents image moment since disk disk_end source source_end sink sink_end detail journal tally
 Does Run contents image moment since made left written finished sink_count disk disk_end source source_end sink sink_end detail journal tally =
     RunsScript contents image moment since left written finished sink_count disk disk_end source source_end sink sink_end detail journal tally
 Does Inspect contents image moment since made left written finished sink_count disk disk_end source source_end sink sink_end detail journal tally =

@@ -32,7 +32,7 @@ pub(crate) fn make_store<D: Disk, S: Source, K: Sink>(
     ensures status { result.status ≡ status_of result.detail }
     ensures causes { ShowsCauses D.count D.made S.count K.count disk result.disk source result.source
         sink result.sink result.detail }
-    ensures makes { MakesStore D.contents D.image disk result.disk source result.source
+    ensures makes { MakesStore D.contents D.image D.moment D.since disk result.disk source result.source
         sink result.sink result.detail result.journal.items result.tally }
 {
     match init(alloc, &mut disk) {

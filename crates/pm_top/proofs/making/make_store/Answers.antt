@@ -22,12 +22,13 @@ returns-in-Ok-clause-causes g c =
 pub returns-in-Ok-clause-makes : goal.returns-in-Ok-clause-makes
 returns-in-Ok-clause-makes g c =
     let e = c.end_unopened.ensures in
-    at_end (λ (d : Detail) (j : List Entry) (t : Option Tally) (disk : g.row.D.Denot) (source : g.row.S.Denot) (sink : g.row.K.Denot). MakesStore g.D.Disk.contents g.D.Disk.image c.args.disk disk c.args.source source c.args.sink sink d j t)
+    at_end (λ (d : Detail) (j : List Entry) (t : Option Tally) (disk : g.row.D.Denot) (source : g.row.S.Denot) (sink : g.row.K.Denot). MakesStore g.D.Disk.contents g.D.Disk.image g.D.Disk.moment g.D.Disk.since c.args.disk disk c.args.source source c.args.sink sink d j t)
     e.detail e.journal e.tally e.disk e.source e.sink
     (record {
       makes = λ bytes told.
           let is = c.in-Ok.ensures.blank bytes told in
           (c.in-Ok.ensures.empty bytes told, is, λ left now. subst (λ (image : List ℕ). Stands image 0 empty_copy) (sym (c.in-Ok.ensures.only blank_store is left now)) blank_stands);
+      leaves = c.init.ensures.leaves;
       source_stays = refl;
       sink_stays = refl;
       no_event = refl;
@@ -45,10 +46,11 @@ pub returns-in-Err-clause-makes : goal.returns-in-Err-clause-makes
 returns-in-Err-clause-makes g c =
     let e = c.end_unopened-in-Err.ensures in
     let f = c.in-Err.ensures in
-    at_end (λ (d : Detail) (j : List Entry) (t : Option Tally) (disk : g.row.D.Denot) (source : g.row.S.Denot) (sink : g.row.K.Denot). MakesStore g.D.Disk.contents g.D.Disk.image c.args.disk disk c.args.source source c.args.sink sink d j t)
+    at_end (λ (d : Detail) (j : List Entry) (t : Option Tally) (disk : g.row.D.Denot) (source : g.row.S.Denot) (sink : g.row.K.Denot). MakesStore g.D.Disk.contents g.D.Disk.image g.D.Disk.moment g.D.Disk.since c.args.disk disk c.args.source source c.args.sink sink d j t)
     (e.detail ∙ c.not_made.ensures) e.journal e.tally e.disk e.source e.sink
     (record {
-      makes = none_made g.D.Disk.contents g.D.Disk.image (g.D.Disk.count c.args.disk) (g.D.Disk.count c.init.new.disk) c.args.disk c.init.new.disk c.in-Err.fault f.fault f.cause f.still f.images f.kept;
+      makes = none_made g.D.Disk.contents g.D.Disk.image (g.D.Disk.count c.args.disk) (g.D.Disk.count c.init.new.disk) c.args.disk c.init.new.disk c.in-Err.fault f.fault f.cause f.still f.kept;
+      leaves = c.init.ensures.leaves;
       source_stays = refl;
       sink_stays = refl;
       no_event = refl;
