@@ -1,134 +1,37 @@
 //! Where the addresses of a store lead.
 
 ghost use Rattle.std.specs.Prelude.{◌≡◌, IfOk};
-ghost use Rattle.pm_opening.specs.Leading.{moved_to, lead_slots, lead_cars, resolved_by};
+ghost use Rattle.pm_opening.specs.Leading.{moved_to, lead_slots, lead_cars, lead_at, resolved_by};
 
 use pm_image::KeptPage;
+use pm_reopen::Numbered;
 use pm_types::{Addr, NoMemory, Slot};
 use std::alloc::Global;
-use std::collections::BTreeMap;
-use std::marker::Model;
 
-/// The slots of a car that are listed, seen as a finite map: where the object went, or none where it stands.
-#[derive(Drop)]
-pub(crate) struct SlotLeads {
-    slots: BTreeMap<u32, Option<Addr>>,
-}
+/// The slots of a car that are listed: where the object went, or none where it stands.
+pub(crate) type SlotLeads = Numbered<Option<Addr>>;
 
-impl Model for SlotLeads {
-    ghost use Rattle.std.specs.Prelude.{ℕ, Option};
-    ghost use Rattle.std.specs.Ordering.{nat_cmp};
-    ghost use Rattle.std.specs.FinMap as map;
-    ghost use Rattle.std.specs.Coded.{coded_ℕ, coded_option};
-    ghost use Rattle.pm_types.specs.declared.address.Addr.{Addr};
-    ghost use Rattle.pm_types.specs.contracts.address.Addr as address;
+/// The listed slots of cars, at their numbers.
+pub(crate) type Leads = Numbered<SlotLeads>;
 
-    ghost Value = { map.FinMap nat_cmp (Option Addr) };
-
-    ghost coded = { map.code coded_ℕ (coded_option address.the_row.coded) };
-
-    ghost view = { λ it. map.from_entries it.slots.entries };
-}
-
-impl SlotLeads {
-    ghost use Rattle.std.specs.Prelude.{◌≡◌, OnOk};
-    ghost use Rattle.std.specs.FinMap as map;
-
-    /// No slot is listed.
-    fn new(alloc: Global) -> Self
-        ensures { result ≡ map.empty }
-    {
-        SlotLeads {
-            slots: BTreeMap::new(alloc),
-        }
-    }
-
-    /// Where the object of a slot went, if the slot is listed.
-    fn get(&self, slot: u32) -> Option<Option<Addr>>
-        ensures { result ≡ map.get self.now slot }
-    {
-        self.slots.get(&slot).copied()
-    }
-
-    /// The object of the slot went there.
-    fn insert(&mut self, slot: u32, to: Option<Addr>) -> Result<(), NoMemory>
-        ensures { OnOk result (self.new ≡ map.insert self.old slot to) }
-    {
-        self.slots.insert(slot, to)?;
-        Ok(())
+// Where the object at an address went, if the slot is listed.
+fn find(leads: &Leads, at: Addr) -> Option<Option<Addr>>
+    ensures { result ≡ lead_at leads.now at }
+{
+    match leads.get(at.car) {
+        Some(slots) => slots.get(at.slot as u64).copied(),
+        None => None,
     }
 }
 
-/// The listed slots of cars, at their numbers, seen as a finite map.
-#[derive(Drop)]
-pub(crate) struct Leads {
-    cars: BTreeMap<u64, SlotLeads>,
-}
-
-impl Model for Leads {
-    ghost use Rattle.std.specs.Prelude.{ℕ, Option};
-    ghost use Rattle.std.specs.Ordering.{nat_cmp};
-    ghost use Rattle.std.specs.FinMap as map;
-    ghost use Rattle.std.specs.Coded.{coded_ℕ, coded_option};
-    ghost use Rattle.pm_types.specs.declared.address.Addr.{Addr};
-    ghost use Rattle.pm_types.specs.contracts.address.Addr as address;
-
-    ghost Value = { map.FinMap nat_cmp (map.FinMap nat_cmp (Option Addr)) };
-
-    ghost coded = { map.code coded_ℕ (map.code coded_ℕ (coded_option address.the_row.coded)) };
-
-    ghost view = { λ it. map.from_entries it.cars.entries };
-}
-
-impl Leads {
-    ghost use Rattle.std.specs.Prelude.{◌≡◌, OnOk};
-    ghost use Rattle.std.specs.Option.{option_map};
-    ghost use Rattle.std.specs.FinMap as map;
-    ghost use Rattle.pm_opening.specs.Leading.{lead_at, resolved_by};
-
-    /// No car.
-    fn new(alloc: Global) -> Self
-        ensures { result ≡ map.empty }
-    {
-        Leads {
-            cars: BTreeMap::new(alloc),
-        }
-    }
-
-    /// The listed slots of a car.
-    fn car(&self, number: u64) -> Option<&SlotLeads>
-        ensures { option_map (λ slots. slots.now) result ≡ map.get self.now number }
-    {
-        self.cars.get(&number)
-    }
-
-    /// Where the object at an address went, if the slot is listed.
-    fn find(&self, at: Addr) -> Option<Option<Addr>>
-        ensures { result ≡ lead_at self.now at }
-    {
-        match self.car(at.car) {
-            Some(slots) => slots.get(at.slot),
-            None => None,
-        }
-    }
-
-    /// These are the listed slots of the car.
-    fn insert(&mut self, number: u64, slots: SlotLeads) -> Result<(), NoMemory>
-        ensures { OnOk result (self.new ≡ map.insert self.old number slots) }
-    {
-        self.cars.insert(number, slots)?;
-        Ok(())
-    }
-
-    /// Where an address leads, through at most one Moved slot.
-    pub(crate) fn resolve(&self, at: Addr) -> Addr
-        ensures { result ≡ resolved_by self.now at }
-    {
-        match self.find(at) {
-            Some(Some(to)) => to,
-            Some(None) => at,
-            None => at,
-        }
+/// Where an address leads, through at most one Moved slot.
+pub(crate) fn resolve(leads: &Leads, at: Addr) -> Addr
+    ensures { result ≡ resolved_by leads.now at }
+{
+    match find(leads, at) {
+        Some(Some(to)) => to,
+        Some(None) => at,
+        None => at,
     }
 }
 
@@ -151,7 +54,7 @@ fn lead_slots(alloc: Global, slots: &[(u32, Slot)]) -> Result<SlotLeads, NoMemor
     while left > 0 {
         left -= 1;
         let (number, slot) = &slots[left];
-        leads.insert(*number, moved_to(slot))?;
+        leads.insert(*number as u64, moved_to(slot))?;
     }
     Ok(leads)
 }

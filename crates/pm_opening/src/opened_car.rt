@@ -6,7 +6,7 @@ ghost use Rattle.pm_image.specs.CarPages.{Ascend, car_used};
 ghost use Rattle.pm_opening.specs.Leading.{resolved_by};
 ghost use Rattle.pm_opening.specs.Making.{followed_object, with_slot, with_slots};
 
-use crate::leading::Leads;
+use crate::leading::{Leads, resolve};
 use pm_cars::{Car, slots_are_counted};
 use pm_image::CarImage;
 use pm_types::{Addr, Fields, NoMemory, Object, Slot};
@@ -17,7 +17,7 @@ fn follow(leads: &Leads, field: Option<Addr>) -> Option<Addr>
     ensures { result ≡ option_map (resolved_by leads.now) field }
 {
     match field {
-        Some(at) => Some(leads.resolve(at)),
+        Some(at) => Some(resolve(leads, at)),
         None => None,
     }
 }

@@ -5,7 +5,7 @@ ghost use Rattle.pm_copies.specs.Accepted.{root_in, roots_in};
 ghost use Rattle.pm_opening.specs.Listing.{followed_root};
 
 use crate::RootList;
-use crate::leading::Leads;
+use crate::leading::{Leads, resolve};
 use pm_image::CatEntry;
 use pm_types::{Addr, Name, NoMemory};
 use std::alloc::Global;
@@ -22,7 +22,7 @@ fn open_root(
     let CatEntry::Root { name, at } = entry else {
         return Ok(());
     };
-    roots.push((name.copy(alloc)?, leads.resolve(*at)))?;
+    roots.push((name.copy(alloc)?, resolve(leads, *at)))?;
     Ok(())
 }
 

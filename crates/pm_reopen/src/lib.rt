@@ -5,8 +5,10 @@ mod chain;
 mod fault;
 mod held;
 mod links;
+mod numbered;
 mod opening;
 mod reading;
 
 pub use chain::Chain;
+pub use numbered::Numbered;
 pub use opening::{flatten, read_graph, with_cars};

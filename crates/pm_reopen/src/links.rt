@@ -14,7 +14,7 @@ ghost use Rattle.pm_reopen.specs.Linking.{held_cars, led, linked_by};
 ghost use Rattle.pm_reopen.specs.Reading.{IsMeasured};
 
 use crate::fault::Place;
-use crate::held::HeldCars;
+use crate::held::{HeldCars, may_name};
 use pm_image::{
     CAR_ENTRY_BYTES, CatEntry, CatalogPage, ENTRIES, KeptPage, RECORDS_AT, ROOT_ENTRY_BYTES,
 };
@@ -26,7 +26,7 @@ use pm_types::{Addr, Slot};
 fn check_site(held: &HeldCars, page: u64, at: u32, to: Addr, to_live: bool) -> Result<(), Place>
     ensures { led result ≡ linked_by held.now (record { page = page; at = at; to = to; to_live = to_live } ∷ []) }
 {
-    if held.may_name(to, to_live) {
+    if may_name(held, to, to_live) {
         return Ok(());
     }
     Err(Place { page, at })

@@ -7,6 +7,6 @@ loop-left-preserved c =
     let l = c.loop-left in
     let inside = l.invariant.inside in
     record {
-      so_far = c.in_ok-insert.ensures ∙ lead_more c.args.slots.now l.left c.index-slots-left.result l.leads c.moved_to.result c.loop-left-test.true inside c.index-slots-left.is l.invariant.so_far c.moved_to.ensures;
+      so_far = c.in_ok-insert.ensures.ok ∙ lead_more c.args.slots.now l.left c.index-slots-left.result l.leads c.moved_to.result c.loop-left-test.true inside c.index-slots-left.is l.invariant.so_far c.moved_to.ensures;
       inside = omega arith;
     }

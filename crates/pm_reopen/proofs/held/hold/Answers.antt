@@ -7,6 +7,6 @@ loop-left-preserved c =
     let l = c.loop-left in
     let inside = l.invariant.inside in
     record {
-      so_far = c.in_ok-insert.ensures ∙ held_more c.args.slots.now l.left c.index-slots-left.result l.held c.identity_of.result c.loop-left-test.true inside c.index-slots-left.is l.invariant.so_far c.identity_of.ensures;
+      so_far = c.in_ok-insert.ensures.ok ∙ held_more c.args.slots.now l.left c.index-slots-left.result l.held c.identity_of.result c.loop-left-test.true inside c.index-slots-left.is l.invariant.so_far c.identity_of.ensures;
       inside = omega arith;
     }
