@@ -1,5 +1,5 @@
--- Steps that end well, and the tests in them.
-use Rattle.std.proofs.Common.{◌≡◌, Bool, true, false, Result, Ok, Err, refl, ap, ◌∙◌, if◌then◌else◌}
+-- Steps one after another: those that end well, those that end in a fault, and the tests in them.
+use Rattle.std.proofs.Common.{◌≡◌, ◌⊎◌, inl, inr, Bool, true, false, Result, Ok, Err, refl, ap, ◌∙◌, if◌then◌else◌}
 use Rattle.pm_base.specs.Results.{◌>>=◌}
 
 -- two results that are Ok and equal hold equal values
@@ -10,6 +10,20 @@ ok_same x y e = cc
 pub bind_ok : {A B E : Type 0} (m : Result A E) (f : A → Result B E) (y : B) → (m >>= f) ≡ Ok y → (x : A) × (m ≡ Ok x) × (f x ≡ Ok y)
 bind_ok (Ok x) f y e = (x, refl, e)
 bind_ok (Err d) f y e = absurd cc
+
+-- two results that are the same fault hold one fault
+pub err_same : {A E : Type 0} (d e : E) → ◌≡◌ {A = Result A E} (Err d) (Err e) → d ≡ e
+err_same d e is = cc
+
+-- where two steps end in a fault, the first does, or it ends well and the second does
+pub either_fails : {A B E : Type 0} (m : Result A E) (f : A → Result B E) (e : E) → (m >>= f) ≡ Err e → (m ≡ Err e) ⊎ ((x : A) × (m ≡ Ok x) × (f x ≡ Err e))
+either_fails (Ok x) f e is = inr (x, refl, is)
+either_fails {A} {B} {E} (Err d) f e is = inl (ap (λ (e : E). Err e) (err_same {A = B} d e is))
+
+-- two second steps that are alike make both alike
+pub same_after : {A B E : Type 0} (m : Result A E) (f g : A → Result B E) → ((x : A) → f x ≡ g x) → (m >>= f) ≡ (m >>= g)
+same_after (Ok x) f g same = same x
+same_after (Err e) f g same = refl
 
 -- where the first step ends well, both are the second
 pub bound : {A B E : Type 0} (m : Result A E) (f : A → Result B E) (x : A) (r : Result B E) → m ≡ Ok x → f x ≡ r → (m >>= f) ≡ r

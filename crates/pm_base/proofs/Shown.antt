@@ -17,7 +17,8 @@ both : (a b : Bool) → T a → T b → T (a && b)
 both true b p q = q
 both false b p q = absurd p
 
-tied : (r : Ordering) → is_eq r ≡ true → r ≡ Equal
+-- keys that compare as equal tie
+pub tied : (r : Ordering) → is_eq r ≡ true → r ≡ Equal
 tied Less is = cc
 tied Equal is = refl
 tied Greater is = cc

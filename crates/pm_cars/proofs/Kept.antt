@@ -7,6 +7,7 @@ use Rattle.std.proofs.lemmas.List.Sums.{fails_before_first, passes_at_first}
 use Rattle.std.proofs.lemmas.Bool.{cases_lt}
 use Rattle.std.proofs.lemmas.Grind.{common_steps}
 use denote.Bor.{Bor}
+use Rattle.pm_types.specs.declared.limits.TheConstants.{CAR_HEAD_BYTES, CAR_BYTES, LAST_SLOT}
 use Rattle.pm_types.specs.declared.address.Addr.{Addr}
 use Rattle.pm_types.specs.declared.object.Object.{Object}
 use Rattle.pm_types.specs.declared.object.Slot.{Slot}
@@ -55,7 +56,7 @@ numbers_push : (es : List Entry) (e : Entry) → numbers (es ++ e ∷ []) ≡ nu
 numbers_push es e = map-append (λ (e : Entry). e.0) es (e ∷ [])
 
 -- a car with no slot keeps what a car keeps
-pub kept_new : (capacity : ℕ) → IsKept [] 0 14 0 0 0 capacity
+pub kept_new : (capacity : ℕ) → IsKept [] 0 CAR_HEAD_BYTES 0 0 0 capacity
 kept_new capacity = record {
   ascending = λ i j lt within. absurd (omega arith);
   below = λ i within. absurd (omega arith);
@@ -84,13 +85,13 @@ module _ (es : List Entry) (next all live first spare capacity : ℕ) (kept : Is
   }
 
   -- what a slot holds has its room in the car
-  pub room_within : (k : ℕ) (held : Slot) → content_at es k ≡ Some held → 14 + slot_room held ≤ all
+  pub room_within : (k : ℕ) (held : Slot) → content_at es k ≡ Some held → CAR_HEAD_BYTES + slot_room held ≤ all
   room_within k held found =
       let here : counted slot_room (get (slots_of es) k) ≡ slot_room held = ap (counted slot_room) (get_slots es k ∙ found) in
       omega (arith, total_remove slot_room (slots_of es) k, kept.counted)
 
   -- the same of a slot that was lent
-  pub lent_within : (k : ℕ) (lent : Option (Bor Slot)) → option_copied lent ≡ content_at es k → IfSome lent (λ content. slot_room content.now ≤ 16384)
+  pub lent_within : (k : ℕ) (lent : Option (Bor Slot)) → option_copied lent ≡ content_at es k → IfSome lent (λ content. slot_room content.now ≤ CAR_BYTES)
   lent_within k None is = tt
   lent_within k (Some content) is = omega (arith, room_within k content.now (sym is), kept.within)
 
@@ -135,7 +136,7 @@ module _ (es : List Entry) (next all live first spare capacity : ℕ) (kept : Is
         let none = ap (counted f) free in
         omega (arith, law, filled, none)
 
-    pub kept_place : (more : ℕ) → more ≡ all + object_room object → more ≤ 16384 → slot ≤ 65535 → 0 < spare → IsKept (es ++ (slot, Live object) ∷ []) (slot + 1) more (live + 1) first (spare - 1) capacity
+    pub kept_place : (more : ℕ) → more ≡ all + object_room object → more ≤ CAR_BYTES → slot ≤ LAST_SLOT → 0 < spare → IsKept (es ++ (slot, Live object) ∷ []) (slot + 1) more (live + 1) first (spare - 1) capacity
     kept_place more is fits low some =
         let e : Entry = (slot, Live object) in
         let under = lower (numbers es) next slot above kept.below in
@@ -155,7 +156,7 @@ module _ (es : List Entry) (next all live first spare capacity : ℕ) (kept : Is
     seen_place number = ap (λ (slots : Slots). record { number = number; slots = slots; next = slot + 1 }) pushed
 
   -- after the next slot was raised
-  pub kept_next : (slot : ℕ) → next ≤ slot → slot ≤ 65536 → IsKept es slot all live first spare capacity
+  pub kept_next : (slot : ℕ) → next ≤ slot → slot ≤ LAST_SLOT + 1 → IsKept es slot all live first spare capacity
   kept_next slot above last = record {
     ascending = kept.ascending;
     below = lower (numbers es) next slot above kept.below;
@@ -175,7 +176,7 @@ module _ (es : List Entry) (next all live first spare capacity : ℕ) (kept : Is
     told_by : (f : Slot → ℕ) (content : Slot) → total f (slots_of (with_content es k content)) + f held ≡ total f (slots_of es) + f content
     told_by f content = omega (arith, ap (total f) (slots_with es k held content found), total_insert f (slots_of es) k content, here_by f)
 
-    pub kept_with : (content : Slot) (left alive place : ℕ) → left + slot_room held ≡ all + slot_room content → alive + one_live held ≡ live + one_live content → left ≤ 16384 → place ≡ first_place (with_content es k content)
+    pub kept_with : (content : Slot) (left alive place : ℕ) → left + slot_room held ≡ all + slot_room content → alive + one_live held ≡ live + one_live content → left ≤ CAR_BYTES → place ≡ first_place (with_content es k content)
         → IsKept (with_content es k content) next left alive place spare capacity
     kept_with content left alive place is lives fits lowest =
         let same = length_with es k content in

@@ -4,4 +4,3 @@ pub mod Places
 pub mod Kept
 pub mod Taken
 pub mod Counts
-pub mod Same

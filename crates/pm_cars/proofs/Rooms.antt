@@ -4,12 +4,12 @@ use Rattle.std.specs.Prelude.{T}
 use Rattle.std.specs.declared.cmp.Ordering.{Ordering}
 use Rattle.std.specs.declared.cmp.Ordering.TheVariants.{Less, Equal, Greater}
 use Rattle.std.specs.Cmp.{nat_cmp_total, unsigned_tied}
-use Rattle.std.specs.Ordering.{nat_cmp, is_lt, is_eq, eq_by_cmp, match_ordering}
+use Rattle.std.specs.Ordering.{nat_cmp, is_lt, eq_by_cmp, match_ordering}
 use Rattle.std.specs.List.{AllByRecursion, sum_by}
 use Rattle.std.specs.List.Sorted.{IsStrictlySortedBy}
 use Rattle.std.specs.Map.{lookup, keys_of, values_of}
 use Rattle.std.specs.BTreeMap.{insert_entry, is_at}
-use Rattle.std.specs.FinMap.{find, put, is_sorted, entries, entries_sorted, entries-insert, get, get-entries, get-insert, get-remove, insert, remove, empty, len-empty, len-entries, same_map, nat_cmp-IsAntisymmetric}
+use Rattle.std.specs.FinMap.{put, is_sorted, entries, entries_sorted, entries-insert, get, get-entries, get-insert, get-remove, insert, remove, empty, len-empty, len-entries, same_map, nat_cmp-IsAntisymmetric}
 use Rattle.std.specs.FinMap.Entries.{below_all, by_order}
 use Rattle.std.proofs.lemmas.Bool.{eqb-true}
 use Rattle.std.proofs.lemmas.Bool.Decides.{nat_tests}
@@ -18,6 +18,7 @@ use Rattle.pm_types.specs.declared.object.Slot.{Slot}
 use Rattle.pm_types.specs.declared.object.Object.{Object}
 use Rattle.pm_types.specs.declared.object.Slot.TheVariants.{Live, Moved}
 use Rattle.pm_cars.specs.Cars.{Slots, total, object_of}
+use Rattle.pm_base.proofs.Shown.{find-lookup}
 
 both_of : (a b : Bool) → T (a && b) → T a × T b
 both_of true b h = (tt, h)
@@ -46,10 +47,6 @@ module _ {K X : Type 0} (R : K → K → Ordering) where
         | Equal ↦ refl
         | Greater ↦ ap (λ rest. e ∷ rest) (put_is k v es)
       ]
-
-  find_is : (q : K) (es : List (K × X)) → find R q es ≡ lookup (is_at (R q)) es
-  find_is q [] = refl
-  find_is q (e ∷ es) = ap (cond (is_eq (R q e.0)) (Some e.1)) (find_is q es)
 
 no_length : {A : Type 0} (xs : List A) → length xs ≡ 0 → xs ≡ []
 no_length [] is = refl
@@ -105,7 +102,7 @@ module _ (f : Slot → ℕ) where
       let es = entries slots in
       let filled : entries (insert slots k content) ≡ insert_entry nat_cmp es k content = entries-insert nat_cmp_total slots k content ∙ put_is nat_cmp k content es in
       let held : counted (get slots k) ≡ unwrap_or (option_map f (lookup (is_at (nat_cmp k)) es)) 0 =
-      sym (counted_is (get slots k)) ∙ ap (λ (o : Option Slot). unwrap_or (option_map f o) 0) (get-entries slots k ∙ find_is nat_cmp k es) in
+      sym (counted_is (get slots k)) ∙ ap (λ (o : Option Slot). unwrap_or (option_map f o) 0) (get-entries slots k ∙ find-lookup nat_cmp_total k es) in
       (λ i. sum_by f (values_of (filled i)) + held i) ∙ sum_by-insert_entry f nat_cmp_total es k content (keys_sorted nat_cmp es (entries_sorted slots))
 
   total_remove_of : (slots : Slots) (k : ℕ) (o : Option Slot) → get slots k ≡ o → total f (remove slots k) + counted o ≡ total f slots

@@ -12,6 +12,7 @@ use Rattle.pm_types.specs.declared.object.Slot.TheVariants.{Live, Moved}
 use Rattle.pm_types.specs.contracts.object.Slot as slot
 use Rattle.pm_cars.specs.declared.look.Look.{Look}
 use Rattle.pm_cars.specs.declared.look.Look.TheVariants as looks
+use Rattle.pm_types.specs.declared.limits.TheConstants.{CAR_BYTES, CAR_HEAD_BYTES, LAST_SLOT, OBJECT_HEAD_BYTES, FIELD_BYTES, MOVED_BYTES}
 
 -- what each Live or Moved slot holds; a slot below the next one that is in no entry is Gone
 abbrev pub Slots : Type 0
@@ -46,16 +47,16 @@ total f slots = sum_by f (values slots)
 
 -- the room of an object, in bytes: a head, each field, and the bytes
 abbrev pub object_room : Object → ℕ
-object_room object = 17 + 12 * length object.fields + length object.bytes
+object_room object = OBJECT_HEAD_BYTES + FIELD_BYTES * length object.fields + length object.bytes
 
 -- the room of a slot that is Live or Moved
 abbrev pub slot_room : Slot → ℕ
 slot_room (Live object) = object_room object
-slot_room (Moved to) = 17
+slot_room (Moved to) = MOVED_BYTES
 
 -- the room that is used: the head of the car, and its slots
 abbrev pub used : Car → ℕ
-used car = 14 + total slot_room car.slots
+used car = CAR_HEAD_BYTES + total slot_room car.slots
 
 -- one for a Live slot
 abbrev pub one_live : Slot → ℕ
@@ -77,16 +78,16 @@ moved_count car = total one_moved car.slots
 
 -- an object of this room fits the car at this slot: its room is left, no slot is given twice, and there is such a slot
 abbrev pub FitsAt : Car → ℕ → ℕ → Type 0
-FitsAt car slot room = (used car + room ≤ 16384) × (car.next ≤ slot) × (slot ≤ 65535)
+FitsAt car slot room = (used car + room ≤ CAR_BYTES) × (car.next ≤ slot) × (slot ≤ LAST_SLOT)
 
 -- an object of this room fits the car: its room is left, and a slot number is
 abbrev pub Fits : Car → ℕ → Type 0
-Fits car room = (used car + room ≤ 16384) × (car.next ≤ 65535)
+Fits car room = (used car + room ≤ CAR_BYTES) × (car.next ≤ LAST_SLOT)
 
 -- what is true of every car
 pub record IsSound (car : Car) : Type 0 where
-  pub room : used car ≤ 16384
-  pub next : car.next ≤ 65536
+  pub room : used car ≤ CAR_BYTES
+  pub next : car.next ≤ LAST_SLOT + 1
   pub below : (slot : ℕ) → car.next ≤ slot → get car.slots slot ≡ None
 
 -- ---- what stands in a slot

@@ -5,6 +5,7 @@ use Rattle.std.specs.FinMap.{from_entries}
 use Rattle.pm_types.specs.declared.object.Slot.{Slot}
 use Rattle.pm_types.specs.declared.object.Slot.TheVariants.{Live, Moved}
 use Rattle.pm_cars.specs.Cars.{Slots, total, slot_room, one_live}
+use Rattle.pm_types.specs.declared.limits.TheConstants.{CAR_BYTES, CAR_HEAD_BYTES, LAST_SLOT}
 
 -- a slot, and what it holds
 abbrev pub Entry : Type 0
@@ -64,9 +65,9 @@ HasNone es slot = (i : ℕ) → i < length es → slice_index (numbers es) i ≢
 pub record IsKept (es : List Entry) (next used live first spare capacity : ℕ) : Type 0 where
   pub ascending : IsAscending (numbers es)
   pub below : (i : ℕ) → i < length (numbers es) → slice_index (numbers es) i < next
-  pub last : next ≤ 65536
-  pub counted : used ≡ 14 + total slot_room (slots_of es)
-  pub within : used ≤ 16384
+  pub last : next ≤ LAST_SLOT + 1
+  pub counted : used ≡ CAR_HEAD_BYTES + total slot_room (slots_of es)
+  pub within : used ≤ CAR_BYTES
   pub lives : live ≡ total one_live (slots_of es)
   pub lowest : first ≡ first_place es
   pub space : length es + spare ≤ capacity

@@ -8,10 +8,11 @@ ghost use Rattle.pm_cars.specs.Cars.{object_room, slot_room, used, live_count, m
 use crate::entry::{
     Entry, content_of, copy_all, exchange, first_live, make_space, put_back, take_object,
 };
-use crate::limits::{CAR_BYTES, MOVED_BYTES};
 use crate::look::Look;
 use crate::object::{room_of, set_bytes, set_field};
-use pm_types::{Addr, CAR_HEAD_BYTES, Id, LAST_SLOT, NoMemory, Object, Slot};
+use pm_types::{
+    Addr, CAR_BYTES, CAR_HEAD_BYTES, Id, LAST_SLOT, MOVED_BYTES, NoMemory, Object, Slot,
+};
 use std::alloc::Global;
 use std::marker::Model;
 
@@ -162,7 +163,7 @@ impl Car {
     /// Lets this be the next slot, which is not lower than that of now.
     pub fn set_next(&mut self, slot: u32)
         requires upward { self.old.car.next ≤ slot }
-        requires last { slot ≤ 65536 }
+        requires last { slot ≤ LAST_SLOT + 1 }
         ensures { self.new ≡ record self.old { car = with_next self.old.car slot } }
     {
         self.next = slot;
@@ -188,19 +189,11 @@ impl Car {
         &self.entries
     }
 
-    /// Whether these are the Live and the Moved slots with what they hold, in their order. It takes no
-    /// memory.
-    pub fn has_slots(&self, slots: &[(u32, Slot)]) -> bool
-        ensures { IsTrue result ↔ (entries self.now.car.slots ≡ slots.now) }
-    {
-        self.slots() == slots
-    }
-
     /// The slot's object, lent.
     pub fn object(&self, slot: u32) -> &Object
         requires live { IsLive self.now.car slot }
         ensures object { object_at self.now.car slot ≡ Some result.now }
-        ensures room { object_room result.now ≤ 16384 }
+        ensures room { object_room result.now ≤ CAR_BYTES }
     {
         match self.slot(slot) {
             Some(Slot::Live(object)) => object,
@@ -318,7 +311,7 @@ impl Car {
     // What the slot holds.
     fn slot(&self, slot: u32) -> Option<&Slot>
         ensures content { option_copied result ≡ get self.now.car.slots slot }
-        ensures small { IfSome result (λ content. slot_room content.now ≤ 16384) }
+        ensures small { IfSome result (λ content. slot_room content.now ≤ CAR_BYTES) }
     {
         content_of(&self.entries, slot)
     }

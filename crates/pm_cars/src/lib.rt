@@ -4,11 +4,9 @@
 mod car;
 mod entry;
 mod law;
-mod limits;
 mod look;
 mod object;
 
 pub use car::Car;
 pub use law::slots_are_counted;
-pub use limits::{CAR_BYTES, FIELD_BYTES, MOVED_BYTES, OBJECT_HEAD_BYTES};
 pub use look::Look;

@@ -1,17 +1,16 @@
 ghost use Rattle.std.specs.Prelude.{◌≡◌, ◌+◌, ◌<◌, ◌≤◌, length};
 ghost use Rattle.pm_cars.specs.Cars.{object_room, with_field, with_bytes};
 
-use crate::limits::{FIELD_BYTES, OBJECT_HEAD_BYTES};
-use pm_types::{Addr, Bytes, Fields, Object};
+use pm_types::{Addr, Bytes, CAR_BYTES, Fields, Object, room};
 
 /// The room of the object, in bytes.
 pub(crate) fn room_of(object: &Object) -> u32
-    requires { object_room object.now ≤ 16384 }
+    requires { object_room object.now ≤ CAR_BYTES }
     ensures { result ≡ object_room object.now }
 {
     let fields = object.fields.as_slice().len() as u32;
     let bytes = object.bytes.as_slice().len() as u32;
-    OBJECT_HEAD_BYTES + FIELD_BYTES * fields + bytes
+    room(fields, bytes)
 }
 
 /// The object with this value in the field.

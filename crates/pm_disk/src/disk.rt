@@ -36,7 +36,8 @@ pub trait Disk {
     /// How many calls have failed. At 2^64 - 1 it stays, and has risen all the same.
     ghost count: { Self → ℕ };
 
-    /// How many syncs, writes and reads past the end of what the disk told were made, whatever they answered.
+    /// How many syncs, writes and reads past the end of what the disk told were made, whatever they answered, and the
+    /// moment of the last sync.
     ghost made: { Self → Made };
 
     /// The count of failed calls.
@@ -85,7 +86,7 @@ pub trait Disk {
         ensures failed { OnErr result (SameImages (image self.old) (image self.new)) }
         ensures time { Elapses (moment self.old) (moment self.new) (since self.old) (since self.new) (image self.new) }
         ensures cause { HasCause (count self.old) (count self.new) result }
-        ensures made { made self.new ≡ with_sync (made self.old) };
+        ensures made { made self.new ≡ with_sync (moment self.old) (made self.old) };
 
     /// This moment is one of those since an earlier one.
     ghost counts_now: { (disk : Self) (t : ℕ) (bytes : List ℕ) → t ≤ moment disk → image disk bytes → since disk t bytes };

@@ -102,7 +102,7 @@ impl MemDisk {
         ensures looks { IsLook call → SameImages (MayLeave self.old) (MayLeave self.new) }
         ensures time { Elapses (moment_of self.old) (moment_of self.new) (MayHaveLeft self.old) (MayHaveLeft self.new) (MayLeave self.new) }
         ensures cause { HasCause (count_of self.old) (count_of self.new) result }
-        ensures made { made_of self.new ≡ with_kind kind (made_of self.old) }
+        ensures made { made_of self.new ≡ with_kind kind (moment_of self.old) (made_of self.old) }
     {
         let mark = Mark {
             number: self.calls.len() as u64,
@@ -233,7 +233,7 @@ impl Disk for MemDisk {
         ensures failed { OnErr result (SameImages (MayLeave self.old) (MayLeave self.new)) }
         ensures time { Elapses (moment_of self.old) (moment_of self.new) (MayHaveLeft self.old) (MayHaveLeft self.new) (MayLeave self.new) }
         ensures cause { HasCause (count_of self.old) (count_of self.new) result }
-        ensures made { made_of self.new ≡ with_sync (made_of self.old) }
+        ensures made { made_of self.new ≡ with_sync (moment_of self.old) (made_of self.old) }
         ensures exact { Answers (fails_next self.old) DiskCall.Sync self.old self.new result }
     {
         self.pass(false, CallKind::Sync, DiskCall::Sync)

@@ -25,11 +25,11 @@ use Rattle.pm_saver.specs.Answers.{IsFlushed, KeepsCopy, Spares}
 use Rattle.pm_saver.specs.declared.fault.SaveFault.{SaveFault}
 use Rattle.pm_saver.specs.declared.fault.SaveFault.TheVariants.{Disk, Memory}
 use Rattle.pm_saver.specs.Settling.{SparesEither, StandsThen}
-use Rattle.pm_serving.specs.Serving.{one_more}
 use Rattle.pm_serving.specs.Events.{StaysBegun}
 use Rattle.pm_mutate.specs.Acts as mutate
 use Rattle.pm_law_work.specs.Raises.{raises}
 use Rattle.pm_engine.specs.declared.works.Works.{Works}
+use Rattle.pm_base.specs.Counts.{raised}
 
 module _ {D : Type 0} {F : Type 0} {g : Ghosts D} where
   -- what is seen of the space, its cars as they were frozen, the saver, the pages and the disk
@@ -68,7 +68,7 @@ module _ {D : Type 0} {F : Type 0} {g : Ghosts D} where
   pub record Adds (client : ℕ) (cmd : Cmd) (reply : Reply) (old new : Works D F g) : Type 0 where
     pub journal : new.journal.items ≡ old.journal.items ++ record { client = client; cmd = cmd; reply = reply } ∷ []
     pub watches : watches_in new ≡ watches_in old
-    pub events : new.events ≡ one_more old.events
+    pub events : new.events ≡ raised old.events
     pub steps : new.steps ≡ old.steps
     pub room : room_in old ≤ room_in new + 1
 
@@ -177,7 +177,7 @@ module _ {D : Type 0} {F : Type 0} {g : Ghosts D} where
   pub record SetsWatch (client : ℕ) (old new : Works D F g) (number : ℕ) : Type 0 where
     pub journal : new.journal.items ≡ old.journal.items ++ record { client = client; cmd = cmds.Watch; reply = Watching number } ∷ []
     pub watches : watches_in new ≡ watches_in old ++ watch_in (view_in old) (length old.journal.items) ∷ []
-    pub events : new.events ≡ one_more old.events
+    pub events : new.events ≡ raised old.events
     pub steps : new.steps ≡ old.steps
     pub room : room_in old ≤ room_in new + 1
     pub keeps : Keeps old new
@@ -258,7 +258,7 @@ module _ {D : Type 0} {F : Type 0} {g : Ghosts D} where
   pub record FlushesOn (old new : Works D F g) (answer : Flushed) : Type 0 where
     pub journal : new.journal.items ≡ old.journal.items
     pub watches : watches_in new ≡ watches_in old
-    pub events : new.events ≡ one_more old.events
+    pub events : new.events ≡ raised old.events
     pub steps : new.steps ≡ old.steps
     pub space : new.space ≡ old.space
     pub flushed : IsFlushed (saving_in old) (saving_in new) (cars_or_none (frozen_in old)) (state_in old) (state_in new) (contents_in old) (contents_in new) answer
@@ -274,5 +274,5 @@ module _ {D : Type 0} {F : Type 0} {g : Ghosts D} where
     pub frozen : frozen_in new ≡ frozen_in old
     pub journal : new.journal.items ≡ old.journal.items
     pub watches : watches_in new ≡ watches_in old
-    pub events : new.events ≡ one_more old.events
-    pub steps : new.steps ≡ one_more old.steps
+    pub events : new.events ≡ raised old.events
+    pub steps : new.steps ≡ raised old.steps

@@ -34,7 +34,7 @@ impl<D: Disk, F: Drop> Engine<D, F> {
     ghost use Rattle.pm_serving.specs.Images.{IsSettled, IsTold, KeepsImages};
     ghost use Rattle.pm_view.specs.Counts.{old, standing};
     ghost use Rattle.pm_view.specs.Watches.{lines_from};
-    ghost use Rattle.pm_space.specs.Counted.{capped};
+    ghost use Rattle.pm_base.specs.Counts.{capped};
     ghost use Rattle.pm_engine.specs.Shown.{KeepsStart, disk_in, opened_disk, room, serving, tally_in, tally_of};
 
     /// What was asked and answered since the opening, in order.

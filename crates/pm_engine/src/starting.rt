@@ -53,8 +53,8 @@ impl<D: Disk, F: Drop> Engine<D, F> {
             (λ e. D.contents e.0 ≡ D.contents disk) }
         ensures leaves { MatchResult result (λ it. LeavesOnly D.moment D.since disk (disk_in it) (D.image disk))
             (λ e. LeavesOnly D.moment D.since disk e.0 (D.image disk)) }
-        ensures made { MatchResult result (λ it. D.made (disk_in it) ≡ with_sync (D.made disk))
-            (λ e. D.made e.0 ≡ with_sync (D.made disk)) }
+        ensures made { MatchResult result (λ it. D.made (disk_in it) ≡ with_sync (D.moment disk) (D.made disk))
+            (λ e. D.made e.0 ≡ with_sync (D.moment disk) (D.made disk)) }
         ensures count { IfOk result (λ it. (D.count (disk_in it) ≡ D.count disk)
             × (opened_count it ≡ D.count disk)) }
         ensures fault { IfErr result (λ e. IfTold (D.contents disk) (λ bytes. IsRefusal bytes e.1)) }

@@ -1,10 +1,10 @@
 -- What the heap law gives for the next event.
-use Rattle.std.proofs.Common.{◌≡◌, ℕ, ◌<◌, ◌==◌, arith, Bool, true, false, cond, refl, ap, sym, subst, ◌∙◌, List, [], ◌∷◌, length, Option, Some, None, IsSome, IsSomeAnd, IsTrue, is_some}
+use Rattle.std.proofs.Common.{◌≡◌, ℕ, ◌<◌, arith, true, false, refl, ap, sym, subst, ◌∙◌, List, [], ◌∷◌, length, Option, Some, None, IsSome, IsSomeAnd, IsTrue, is_some}
 use Rattle.std.specs.Option.{option_map, option_and_then, option_flatten, unwrap_or}
 use Rattle.std.specs.List.{slice_get}
 use Rattle.std.specs.List as list
 use Rattle.std.specs.FinMap.{get, entries, empty, get-empty}
-use Rattle.std.proofs.lemmas.Bool.{true≢false, eqb-true, eq-eqb}
+use Rattle.std.proofs.lemmas.Bool.{true≢false}
 use Rattle.pm_types.specs.Orders.{source_cmp}
 use Rattle.pm_types.specs.declared.address.Addr.{Addr}
 use Rattle.pm_types.specs.declared.object.Object.{Object}
@@ -17,7 +17,6 @@ use Rattle.pm_cars.specs.Entries.{holds_object}
 use Rattle.pm_trains.specs.Trains.{Train, cars_at, first_car, oldest, train_of, HasCar, is_among}
 use Rattle.pm_trains.specs.Sound as line
 use Rattle.pm_trains.specs.Changes.{StandsIn}
-use Rattle.pm_trains.proofs.Found.{stands_over}
 use Rattle.pm_remset.specs.Remembered.{FindsFirstThat}
 use Rattle.pm_remset.proofs.First.{first_found}
 use Rattle.pm_law_rows.proofs.OpenTrain.{first_home}
@@ -33,32 +32,11 @@ use Rattle.pm_space.specs.Linked.{AreHoused}
 use Rattle.pm_space.specs.Shown.{IsThere}
 use Rattle.pm_evac.proofs.Searches.{found_there}
 use Rattle.pm_evac.proofs.Lowest.{holds_some}
+use Rattle.pm_law_phases.proofs.PhaseRows.{oldest_has}
 
 -- each car that has a remembered set is in a train
 pub law_houses : (v : SpaceView) → HeapLaw v → AreHoused v.sets v.trains.trains
 law_houses v law car there = law.built.linked car ∙ sym (law.built.sets car) ∙ there
-
--- the oldest train with a car has a car
-pub oldest_has : (low n : ℕ) (ts : List Train) → line.Rise low ts → oldest ts ≡ Some n → HasCar ts n
-oldest_has low n [] rising is = absurd cc
-oldest_has low n (t ∷ ts) rising is = by_case (length t.cars == 0) refl is (oldest_has t.number n ts rising.1)
-  where
-    later : (o : Option (List ℕ)) → cars_at ts n ≡ o → IsSomeAnd o (λ cars. 0 < length cars) → (b : Bool) → (t.number == n) ≡ b → IsSomeAnd (cond b (Some t.cars) o) (λ cars. 0 < length cars)
-    later None at has b same = absurd has
-    later (Some cars) at has true same = let over = stands_over t.number n cars ts rising.1 at in let one = eqb-true t.number n same in absurd (omega (arith, over, one))
-    later (Some cars) at has false same = has
-
-    some_cars : (cars : List ℕ) → (length cars == 0) ≡ false → 0 < length cars
-    some_cars [] none = absurd (true≢false none)
-    some_cars (c ∷ cs) some = omega arith
-
-    here : (b : Bool) → b ≡ true → (o : Option (List ℕ)) → 0 < length t.cars → IsSomeAnd (cond b (Some t.cars) o) (λ cars. 0 < length cars)
-    here true is o has = has
-    here false is o has = absurd (true≢false (sym is))
-
-    by_case : (b : Bool) → (length t.cars == 0) ≡ b → cond b (oldest ts) (Some t.number) ≡ Some n → (oldest ts ≡ Some n → HasCar ts n) → HasCar (t ∷ ts) n
-    by_case true none is rest = later (cars_at ts n) refl (rest is) (t.number == n) refl
-    by_case false some is rest = let same : t.number ≡ n = cc in here (t.number == n) (eq-eqb t.number n same) (cars_at ts n) (some_cars t.cars some)
 
 some_of : {X : Type 0} (o : Option X) (P : X → Type 0) → IsSomeAnd o P → IsSome o
 some_of None P there = absurd there

@@ -15,7 +15,7 @@ use Rattle.pm_view.specs.Barrier.{entered, told}
 use Rattle.pm_view.specs.Rows.{with_stored}
 use Rattle.pm_view.specs.Collecting.{applied_front, fixed, without_car}
 use Rattle.pm_space.specs.declared.held.Held.{Held}
-use Rattle.pm_space.specs.Counted.{capped}
+use Rattle.pm_base.specs.Counts.{capped}
 use Rattle.pm_space.specs.Linked.{Linked, sets_of, queues_of, with_front, without_front, without_source}
 use Rattle.pm_space.specs.Linked as linked
 use Rattle.pm_space.specs.Shown.{car_of, cars_of}

@@ -22,7 +22,7 @@ use Rattle.pm_view.specs.Counts.{IsStanding, IsStandingAt, IsPlaced}
 use Rattle.pm_view.specs.Work.{work, lowers}
 use Rattle.pm_law_course.specs.Course.{completes}
 use Rattle.pm_space.specs.declared.parts.Parts.{Parts}
-use Rattle.pm_space.specs.Counted.{capped}
+use Rattle.pm_base.specs.Counts.{capped}
 use Rattle.pm_space.specs.Shown.{view, KeepsRest}
 
 -- a space whose count of completed collections stands still at the greatest number of 64 bits

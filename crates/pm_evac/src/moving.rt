@@ -1,5 +1,5 @@
 ghost use Rattle.std.specs.Prelude.{◌≡◌, ℕ, ◌≤◌, ◌==◌, true, false, ◌+◌, length, Some, IsSome, IfOk, OnErr, option_map};
-ghost use Rattle.pm_types.specs.declared.limits.TheConstants.{FIELDS, OBJECT_BYTES};
+ghost use Rattle.pm_types.specs.declared.limits.TheConstants.{FIELDS, OBJECT_BYTES, CAR_ROOM};
 ghost use Rattle.pm_snap.specs.Snapped.{is_ready};
 ghost use Rattle.pm_cars.specs.Cars.{object_room};
 ghost use Rattle.pm_trains.specs.Trains.{cars_at, tail};
@@ -72,7 +72,7 @@ fn room_of(object: &Object) -> u32
     requires fields { length object.now.fields ≤ FIELDS }
     requires bytes { length object.now.bytes ≤ OBJECT_BYTES }
     ensures room { result ≡ object_room object.now }
-    ensures small { result ≤ 16370 }
+    ensures small { result ≤ CAR_ROOM }
 {
     let fields = object.fields.as_slice().len() as u32;
     let bytes = object.bytes.as_slice().len() as u32;

@@ -54,14 +54,14 @@ where
 {
     ghost use Rattle.std.specs.Prelude.{length};
     ghost use Rattle.pm_disk.specs.Images.{IsBytes};
-    ghost use Rattle.pm_disk.specs.Made.{made_in};
+    ghost use Rattle.pm_disk.specs.Made.{numbers, made_in};
     ghost use Rattle.pm_file.specs.Untold.{untold, not_told};
 
     ghost contents = { λ _. untold };
 
     ghost image = { λ _. IsBytes };
 
-    ghost moment = { λ disk. length disk.moments.marks };
+    ghost moment = { λ disk. length (numbers disk.moments.marks) };
 
     ghost since = { λ _ _. IsBytes };
 

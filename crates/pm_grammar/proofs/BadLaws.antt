@@ -9,10 +9,11 @@ use Rattle.pm_grammar.specs.Lines.{lines_of, is_silent, spoken}
 use Rattle.pm_grammar.specs.Reading.{Stops, line_at, numbered, lines_at, script_at}
 use Rattle.pm_grammar.specs.Script.{AreBodies, IsScript}
 use Rattle.pm_grammar.specs.Bad.{IsBadAmong, IsBad}
-use Rattle.pm_grammar.proofs.ResultSteps.{one_err, first_err}
+use Rattle.pm_grammar.proofs.ResultSteps.{first_err}
 use Rattle.pm_grammar.proofs.BodyLaws.{body_found, body_again}
 use Rattle.pm_grammar.proofs.CauseLaws.{cause_found, cause_again}
 use Rattle.pm_grammar.proofs.ScriptLaws.{numbered_ok, not_many, are_many, script_many, script_few, script_again}
+use Rattle.pm_base.proofs.Results.{either_fails}
 
 -- one line, and those after it
 abbrev then_lines : ℕ → List ℕ → List (List ℕ) → Result (List Line) ScriptFault
@@ -60,7 +61,7 @@ spoken_err start body bodies f spoken (inr (line, read, err)) more =
 err_by : (start : ℕ) (body : List ℕ) (bodies : List (List ℕ)) (f : ScriptFault) (silent : Bool) → is_silent body ≡ silent → (if silent then lines_at (start + 1) bodies else then_lines start body bodies) ≡ Err f
     → (lines_at (start + 1) bodies ≡ Err f → BadLine (start + 1) bodies f) → BadLine start (body ∷ bodies) f
 err_by start body bodies f true is err more = let bad = more err in later start body bodies f true [] is tt bad bad.3.good
-err_by start body bodies f false is err more = spoken_err start body bodies f is (one_err (numbered start (line_at body)) (λ line. lines_at (start + 1) bodies >>= λ lines. Ok (line ∷ lines)) f err) more
+err_by start body bodies f false is err more = spoken_err start body bodies f is (either_fails (numbered start (line_at body)) (λ line. lines_at (start + 1) bodies >>= λ lines. Ok (line ∷ lines)) f err) more
 
 -- where lines are not read, one is bad, and the first such is told
 bad_line : (start : ℕ) (bodies : List (List ℕ)) (f : ScriptFault) → lines_at start bodies ≡ Err f → BadLine start bodies f

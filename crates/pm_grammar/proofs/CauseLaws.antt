@@ -16,11 +16,12 @@ use Rattle.pm_grammar.specs.Words.{word_of, kinds, belongs, kind_cause, first_wo
 use Rattle.pm_grammar.specs.Values.{first_at, verb_at, value_of, line_of}
 use Rattle.pm_grammar.specs.Reading.{values_at, counted_at, said_at, first_said_at, line_at}
 use Rattle.pm_grammar.specs.Bad.{LacksFirst, LacksVerb, Asks, HasOtherCount, IsOfKind, IsFirstWrong, HasWrongWord, IsCause}
-use Rattle.pm_grammar.proofs.ResultSteps.{some_ok, one_err, none_err, first_err}
+use Rattle.pm_grammar.proofs.ResultSteps.{some_ok, none_err, first_err}
 use Rattle.pm_grammar.proofs.ValueLaws.{value_found, value_again}
 use Rattle.pm_grammar.proofs.FirstLaws.{first_found, first_again, verb_found, verb_again}
 use Rattle.pm_grammar.proofs.SaidLaws.{made_of}
 use Rattle.pm_grammar.proofs.BodyLaws.{counted_found, same_count, within, not_long}
+use Rattle.pm_base.proofs.Results.{either_fails}
 
 -- what the words of a line that is not too long tell
 abbrev pub IsWordsCause : Cause → List (List ℕ) → Type 0
@@ -56,7 +57,7 @@ wrong_found [] words c same is = absurd cc
 wrong_found (k ∷ ks) [] c same is = absurd (let bad : 0 ≡ suc (length ks) = same in omega (arith, bad))
 wrong_found (k ∷ ks) (word ∷ words) c same is =
     let long : suc (length words) ≡ suc (length ks) = same in
-    wrong_by k ks word words c (one_err (ok_or (value_of k word) (kind_cause k)) (λ v. values_at ks words >>= λ vs. Ok (v ∷ vs)) c is) (wrong_found ks words c (omega (arith, long)))
+    wrong_by k ks word words c (either_fails (ok_or (value_of k word) (kind_cause k)) (λ v. values_at ks words >>= λ vs. Ok (v ∷ vs)) c is) (wrong_found ks words c (omega (arith, long)))
 
 wrong_again : (ks : List Kind) (words : List (List ℕ)) (c : Cause) → IsFirstWrong ks words c → values_at ks words ≡ Err c
 unfolding values_at
@@ -152,13 +153,13 @@ verb_told f word rest c is (inl err) =
 verb_told f word rest c is (inr (v, read, later)) =
     let named = verb_found f word v (some_ok (verb_at f word) cause.Word v read) in
     values_told f v (first_word f ∷ word ∷ rest) rest c (record { is_first = is; may = named.1; begins = ap (λ w. first_word f ∷ w ∷ rest) named.0 })
-    (one_err (counted_at (kinds v) rest) (λ values. ok_or (line_of f v values) cause.Count) c later)
+    (either_fails (counted_at (kinds v) rest) (λ values. ok_or (line_of f v values) cause.Count) c later)
 
 said_told : (f : First) (rest : List (List ℕ)) (c : Cause) → IsFirst f → said_at f rest ≡ Err c → IsWordsCause c (first_word f ∷ rest)
 unfolding said_at
 said_told f [] c is err = let word : cause.Word ≡ c = cc err in subst (λ (c : Cause). IsWordsCause c (first_word f ∷ [])) word (lacks_verb f [] is (no_words f))
 said_told f (word ∷ rest) c is err =
-    verb_told f word rest c is (one_err (ok_or (verb_at f word) cause.Word) (λ v. counted_at (kinds v) rest >>= λ values. ok_or (line_of f v values) cause.Count) c err)
+    verb_told f word rest c is (either_fails (ok_or (verb_at f word) cause.Word) (λ v. counted_at (kinds v) rest >>= λ values. ok_or (line_of f v values) cause.Count) c err)
 
 no_first : (word : List ℕ) (words : List (List ℕ)) → first_at word ≡ None → LacksFirst (word ∷ words)
 no_first word words none f rest is begins =
@@ -179,7 +180,7 @@ first_told word words c (inr (f, read, later)) =
 words_told : (words : List (List ℕ)) (c : Cause) → first_said_at words ≡ Err c → IsWordsCause c words
 unfolding first_said_at
 words_told [] c err = let client : cause.Client ≡ c = cc err in subst (λ (c : Cause). IsWordsCause c []) client lacks_words
-words_told (word ∷ words) c err = first_told word words c (one_err (ok_or (first_at word) cause.Client) (λ f. said_at f words) c err)
+words_told (word ∷ words) c err = first_told word words c (either_fails (ok_or (first_at word) cause.Client) (λ f. said_at f words) c err)
 
 of_words : (c : Cause) (body : List ℕ) → length body ≤ 16384 → IsWordsCause c (words_of body) → IsCause c body
 of_words cause.LineTooLong body short is = absurd is

@@ -1,5 +1,5 @@
 -- Steps that may end in a fault, one after another.
-use Rattle.std.proofs.Common.{◌≡◌, ◌⊎◌, inl, inr, Option, Some, None, Result, Ok, Err, refl, ap}
+use Rattle.std.proofs.Common.{◌≡◌, Option, Some, None, Result, Ok, Err, refl, ap}
 use Rattle.std.specs.Option.{ok_or}
 use Rattle.pm_base.specs.Results.{◌>>=◌}
 
@@ -7,11 +7,6 @@ use Rattle.pm_base.specs.Results.{◌>>=◌}
 pub some_ok : {A E : Type 0} (o : Option A) (e : E) (x : A) → ok_or o e ≡ Ok x → o ≡ Some x
 some_ok (Some y) e x is = cc
 some_ok None e x is = absurd cc
-
--- where two steps ended in a fault, one of them did
-pub one_err : {A B E : Type 0} (first : Result A E) (second : A → Result B E) (e : E) → (first >>= second) ≡ Err e → (first ≡ Err e) ⊎ ((x : A) × (first ≡ Ok x) × (second x ≡ Err e))
-one_err (Ok x) second e is = inr (x, refl, is)
-one_err (Err d) second e is = let same : d ≡ e = cc is in inl (ap Err same)
 
 -- where nothing was there, that is the fault
 pub none_err : {A E : Type 0} (o : Option A) (d e : E) → ok_or o d ≡ Err e → (o ≡ None) × (d ≡ e)

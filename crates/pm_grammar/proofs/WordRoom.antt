@@ -15,6 +15,7 @@ use Rattle.pm_grammar.specs.declared.value.Value.{Value}
 use Rattle.pm_grammar.specs.Words.{kinds}
 use Rattle.pm_grammar.specs.Values.{first_at, verb_at, line_of}
 use Rattle.pm_grammar.specs.Reading.{values_at, counted_at, said_at, first_said_at}
+use Rattle.pm_base.proofs.Results.{same_after}
 
 -- one item more, where there is room
 pub taken_more : {A : Type 0} (n : ℕ) (xs : List A) (x : A) → length (take n xs) < n → take n xs ++ x ∷ [] ≡ take n (xs ++ x ∷ [])
@@ -58,11 +59,6 @@ miscounted ks words few many = ap (λ b. if b then values_at ks words else Err c
 
 counted_in_five : (ks : List Kind) (words : List (List ℕ)) → length ks ≤ 4 → (n : ℕ) → length words ≡ n → counted_at ks (take 5 words) ≡ counted_at ks words
 counted_in_five ks words few n is = grind (arith, take_all 5 words, length-take 5 words, miscounted ks words few, miscounted ks (take 5 words) few)
-
--- two steps alike after one
-same_after : {A B E : Type 0} (r : Result A E) (f g : A → Result B E) → ((x : A) → f x ≡ g x) → (r >>= f) ≡ (r >>= g)
-same_after (Ok x) f g same = same x
-same_after (Err e) f g same = refl
 
 said_in_six : (f : First) (words : List (List ℕ)) → said_at f (take 6 words) ≡ said_at f words
 unfolding said_at

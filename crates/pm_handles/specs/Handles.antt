@@ -3,6 +3,7 @@ use Rattle.std.specs.Prelude.{ℕ, ◌+◌, ◌/◌, ◌%◌, List, [], ◌∷�
 use Rattle.std.specs.FinMap.{FinMap, insert, remove}
 use Rattle.pm_types.specs.declared.address.Addr.{Addr}
 use Rattle.pm_types.specs.Orders.{place_cmp}
+use Rattle.pm_types.specs.declared.limits.TheConstants.{REGISTERS}
 
 -- the address that each register holds, at (client, register); an empty register has none
 abbrev pub Registers : Type 0
@@ -17,4 +18,4 @@ with_register registers place (Some at) = insert registers place at
 abbrev pub held_from : ℕ → List (Option Addr) → List ((ℕ × ℕ) × Addr)
 held_from number [] = []
 held_from number (None ∷ rest) = held_from (number + 1) rest
-held_from number (Some at ∷ rest) = ((number / 1024, number % 1024), at) ∷ held_from (number + 1) rest
+held_from number (Some at ∷ rest) = ((number / REGISTERS, number % REGISTERS), at) ∷ held_from (number + 1) rest

@@ -42,7 +42,7 @@ impl Model for Handles {
 fn place_of(client: u32, register: u32) -> usize
     requires client { client < CLIENTS }
     requires register { register < REGISTERS }
-    ensures { result ≡ client * 1024 + register }
+    ensures { result ≡ client * REGISTERS + register }
 {
     client as usize * REGISTERS as usize + register as usize
 }

@@ -10,10 +10,10 @@ exact_gives (Ok x) = refl
 exact_gives (Err at) = refl
 
 -- an exact answer is what reading gives
-pub given : {X : Type 0} (answered : Result X PageFault) (read : Result X ℕ) → answered ≡ answer read → Gives answered read
-given answered read exact = subst (λ (r : Result _ PageFault). Gives r read) (sym exact) (exact_gives read)
+pub answer_gives : {X : Type 0} (answered : Result X PageFault) (read : Result X ℕ) → answered ≡ answer read → Gives answered read
+answer_gives answered read exact = subst (λ (r : Result _ PageFault). Gives r read) (sym exact) (exact_gives read)
 
 -- a fault of the first step is that of both
-pub first_fault : {A B : Type 0} (fault : PageFault) (read : Result A ℕ) (f : A → Result B ℕ) → Gives (Err fault) read → Gives (Err fault) (read >>= f)
-first_fault (Malformed at) read f is = ap (λ (r : Result _ ℕ). r >>= f) is
-first_fault Memory read f is = tt
+pub fails_too : {A B : Type 0} (fault : PageFault) (read : Result A ℕ) (f : A → Result B ℕ) → Gives (Err fault) read → Gives (Err fault) (read >>= f)
+fails_too (Malformed at) read f is = ap (λ (r : Result _ ℕ). r >>= f) is
+fails_too Memory read f is = tt

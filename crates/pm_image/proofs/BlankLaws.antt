@@ -82,7 +82,7 @@ length-spelled : length spelled ≡ 96
 unfolding spelled
 length-spelled = spelled_length blank_header (length-sha256 blank_catalog_page)
 
-length-catalog : length blank_catalog_page ≡ 16384
+length-catalog : length blank_catalog_page ≡ PAGE_BYTES
 unfolding blank_catalog_page catalog_spelling
 length-catalog = omega (arith, length-append (catalog_spelling blank_catalog) (replicate (PAGE_BYTES - length (catalog_spelling blank_catalog)) 0), length-replicate {A = ℕ} (PAGE_BYTES - length (catalog_spelling blank_catalog)) 0)
 
@@ -93,9 +93,9 @@ front : List ℕ
 front = spelled ++ (gap ++ 0xa5 ∷ [])
 
 zeros : List ℕ
-zeros = replicate 16384 0
+zeros = replicate PAGE_BYTES 0
 
-length-front : length front ≡ 16384
+length-front : length front ≡ PAGE_BYTES
 unfolding front gap
 length-front = omega (arith, length-append {A = ℕ} spelled (replicate 16287 0 ++ 0xa5 ∷ []), length-append {A = ℕ} (replicate 16287 0) (0xa5 ∷ []), length-replicate {A = ℕ} 16287 0, length-spelled)
 
@@ -104,7 +104,7 @@ store = front ++ (zeros ++ blank_catalog_page)
 
 length-store : length store ≡ 49152
 unfolding store zeros
-length-store = omega (arith, length-append {A = ℕ} front (replicate 16384 0 ++ blank_catalog_page), length-append {A = ℕ} (replicate 16384 0) blank_catalog_page, length-replicate {A = ℕ} 16384 0, length-front, length-catalog)
+length-store = omega (arith, length-append {A = ℕ} front (replicate PAGE_BYTES 0 ++ blank_catalog_page), length-append {A = ℕ} (replicate PAGE_BYTES 0) blank_catalog_page, length-replicate {A = ℕ} PAGE_BYTES 0, length-front, length-catalog)
 
 store_is : blank_store ≡ store
 unfolding blank_store store front zeros gap spelled
@@ -120,9 +120,9 @@ gate_0 =
 gate_1 : get_or store 32767 0 ≡ 0
 unfolding store zeros
 gate_1 =
-    get_or-append_right {X = ℕ} front (replicate 16384 0 ++ blank_catalog_page) 16384 32767 0 length-front (omega arith)
-    ∙ get_or_append_left {A = ℕ} (replicate 16384 0) blank_catalog_page 0 16383 (omega (arith, length-replicate {A = ℕ} 16384 0))
-    ∙ get_or-replicate {A = ℕ} 16384 16383 0 0 (omega arith)
+    get_or-append_right {X = ℕ} front (replicate PAGE_BYTES 0 ++ blank_catalog_page) PAGE_BYTES 32767 0 length-front (omega arith)
+    ∙ get_or_append_left {A = ℕ} (replicate PAGE_BYTES 0) blank_catalog_page 0 16383 (omega (arith, length-replicate {A = ℕ} PAGE_BYTES 0))
+    ∙ get_or-replicate {A = ℕ} PAGE_BYTES 16383 0 0 (omega arith)
 
 body_0 : header_body_of store 0 ≡ spelled
 unfolding store front
@@ -131,8 +131,8 @@ body_0 = ap (take 96) (append_assoc spelled (gap ++ 0xa5 ∷ []) (zeros ++ blank
 page_2 : page_of store 2 ≡ blank_catalog_page
 unfolding store zeros
 page_2 =
-    ap (take 16384) (ap (drop 32768) (sym (append_assoc {A = ℕ} front (replicate 16384 0) blank_catalog_page)) ∙ drop_at {A = ℕ} (front ++ replicate 16384 0) blank_catalog_page 32768 (omega (arith, length-append {A = ℕ} front (replicate 16384 0), length-front, length-replicate {A = ℕ} 16384 0)))
-    ∙ take_all 16384 blank_catalog_page (omega (arith, length-catalog))
+    ap (take PAGE_BYTES) (ap (drop 32768) (sym (append_assoc {A = ℕ} front (replicate PAGE_BYTES 0) blank_catalog_page)) ∙ drop_at {A = ℕ} (front ++ replicate PAGE_BYTES 0) blank_catalog_page 32768 (omega (arith, length-append {A = ℕ} front (replicate PAGE_BYTES 0), length-front, length-replicate {A = ℕ} PAGE_BYTES 0)))
+    ∙ take_all PAGE_BYTES blank_catalog_page (omega (arith, length-catalog))
 
 open_is : open_slot store ≡ Some 0
 open_is =
@@ -150,7 +150,7 @@ current_is =
     ap (λ (n : ℕ). if nat_lt n 32768 then Err NotAStore else header_in store (open_slot store)) length-store
     ∙ ap (header_in store) open_is
     ∙ ap (sound_header (page_count store) 0) header_is
-    ∙ ap (λ (n : ℕ). sound_header (n / 16384) 0 (Ok blank_header)) length-store
+    ∙ ap (λ (n : ℕ). sound_header (n / PAGE_BYTES) 0 (Ok blank_header)) length-store
 
 -- the store that has just been made stands for copy 0, of nothing
 pub blank_stands : Stands blank_store 0 empty_copy

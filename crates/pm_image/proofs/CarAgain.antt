@@ -4,7 +4,7 @@ use Rattle.std.specs.List.{flat_map, AllByRecursion}
 use Rattle.std.proofs.lemmas.Bool.{le-ltb}
 use Rattle.std.proofs.lemmas.List.{take_at, drop_at, length-replicate}
 use Rattle.byteorder.specs.Endian.{big_bytes}
-use Rattle.pm_types.specs.declared.limits.TheConstants.{PAGE_BYTES, LAST_SLOT}
+use Rattle.pm_types.specs.declared.limits.TheConstants.{PAGE_BYTES, LAST_SLOT, CAR_HEAD_BYTES}
 use Rattle.pm_types.specs.declared.object.Slot.{Slot}
 use Rattle.pm_types.specs.declared.object.Slot.TheVariants.{Live, Moved}
 use Rattle.pm_layout.specs.declared.fault.LayoutFault.{LayoutFault}
@@ -83,8 +83,8 @@ page_length car fits =
 record CarParts (page : List ℕ) (car : CarImage) (end : ℕ) : Type 0 where
   magic : take 4 page ≡ car_magic
   number : Stands page 4 (big_bytes 8 car.number) 12
-  count : Stands page 12 (big_bytes 2 (length car.slots)) 14
-  records : Stands page 14 (flat_map record_spelling car.slots) end
+  count : Stands page 12 (big_bytes 2 (length car.slots)) CAR_HEAD_BYTES
+  records : Stands page CAR_HEAD_BYTES (flat_map record_spelling car.slots) end
 
 parts_of : (page : List ℕ) (car : CarImage) (end : ℕ) → Stands page 0 (car_spelling car) end → CarParts page car end
 unfolding car_spelling
@@ -94,7 +94,7 @@ parts_of page car end whole =
     let number = big_bytes 8 car.number in
     let s0 = Stands-split page car_magic (number ++ (count ++ records)) 0 4 end (omega arith) refl whole in
     let s1 = Stands-split page number (count ++ records) 4 12 end s0.first.inside refl s0.second in
-    let s2 = Stands-split page count records 12 14 end s1.first.inside refl s1.second in
+    let s2 = Stands-split page count records 12 CAR_HEAD_BYTES end s1.first.inside refl s1.second in
     record { magic = ap (λ (t : List ℕ). take 4 t) s0.first.parts ∙ take_at car_magic (drop 4 page) 4 refl; number = s1.first; count = s2.first; records = s2.second }
 
 -- what is spelled as a car's page is read
@@ -110,10 +110,10 @@ car_again scope met page car small has range named spelled =
     let parts = parts_of page car (length text) whole in
     let rest : drop (length text) page ≡ zeros = ap (λ (t : List ℕ). drop (length text) t) spelled ∙ drop_at text zeros (length text) refl in
     let number_read : number_from 8 page 4 ≡ car.number = number_is 8 page 4 12 car.number range.number parts.number in
-    let count_read : number_from 2 page 12 ≡ length rs = number_is 2 page 12 14 (length rs) (few_slots rs has.fits) parts.count in
-    let records_read : records_at scope met 0 page (length rs) 14 ≡ Ok (rs, length text) = records_again scope page rs met 0 14 (length text) small parts.count.inside range.slots (record { stands = parts.records; ascend = has.ascend; free = has.free; slots = has.slots }) in
+    let count_read : number_from 2 page 12 ≡ length rs = number_is 2 page 12 CAR_HEAD_BYTES (length rs) (few_slots rs has.fits) parts.count in
+    let records_read : records_at scope met 0 page (length rs) CAR_HEAD_BYTES ≡ Ok (rs, length text) = records_again scope page rs met 0 CAR_HEAD_BYTES (length text) small parts.count.inside range.slots (record { stands = parts.records; ascend = has.ascend; free = has.free; slots = has.slots }) in
     let after : ℕ → List (ℕ × Slot) × ℕ → Result CarImage ℕ = λ number records. rest_at page records.1 >>= λ is_all. Ok (record { number = number; slots = records.0 }) in
-    let counted : ℕ → ℕ → Result CarImage ℕ = λ number n. records_at scope met 0 page n 14 >>= after number in
+    let counted : ℕ → ℕ → Result CarImage ℕ = λ number n. records_at scope met 0 page n CAR_HEAD_BYTES >>= after number in
     let numbered_ : ℕ → Result CarImage ℕ = λ number. tested (is_named scope.number number) 4 >>= λ is_right. counted number (number_from 2 page 12) in
     rw (magic_again car_magic page parts.magic)
     (ap numbered_ number_read

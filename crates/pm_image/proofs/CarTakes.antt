@@ -4,7 +4,7 @@ use Rattle.std.specs.List.{flat_map, AllByRecursion}
 use Rattle.std.proofs.lemmas.Bool.{ltb-false}
 use Rattle.std.proofs.lemmas.List.{take-append-drop}
 use Rattle.byteorder.specs.Endian.{big_bytes}
-use Rattle.pm_types.specs.declared.limits.TheConstants.{PAGE_BYTES, LAST_SLOT}
+use Rattle.pm_types.specs.declared.limits.TheConstants.{PAGE_BYTES, LAST_SLOT, CAR_HEAD_BYTES}
 use Rattle.pm_types.specs.declared.object.Slot.{Slot}
 use Rattle.pm_types.specs.declared.object.Slot.TheVariants.{Live, Moved}
 use Rattle.pm_layout.specs.declared.fault.LayoutFault.{LayoutFault}
@@ -117,14 +117,14 @@ pub record IsCar (scope : CarScope) (met : Numbers) (page : List ℕ) (car : Car
   pub named : is_named scope.number car.number ≡ true
 
 -- the parts of a page stand one after the other
-whole_car : (page : List ℕ) (rs : List (ℕ × Slot)) (end : ℕ) → length page ≡ PAGE_BYTES → IsBytes page → take 4 page ≡ car_magic → length rs ≡ number_from 2 page 12 → Stands page 14 (flat_map record_spelling rs) end
+whole_car : (page : List ℕ) (rs : List (ℕ × Slot)) (end : ℕ) → length page ≡ PAGE_BYTES → IsBytes page → take 4 page ≡ car_magic → length rs ≡ number_from 2 page 12 → Stands page CAR_HEAD_BYTES (flat_map record_spelling rs) end
     → Stands page 0 (car_spelling (record { number = number_from 8 page 4; slots = rs })) end
 unfolding car_spelling
 whole_car page rs end len fits is_magic counted records =
     let s0 : Stands page 0 car_magic 4 = record { inside = omega arith; parts = sym (take-append-drop 4 page) ∙ ap (λ (t : List ℕ). t ++ drop 4 page) is_magic } in
     let s1 = number_stands 8 wide_8 page 4 12 refl (omega arith) fits in
-    let s2 : Stands page 12 (big_bytes 2 (length rs)) 14 = subst (λ (k : ℕ). Stands page 12 (big_bytes 2 k) 14) (sym counted) (number_stands 2 wide_2 page 12 14 refl (omega arith) fits) in
-    let t2 = Stands-then page (big_bytes 2 (length rs)) (flat_map record_spelling rs) 12 14 end s2 records in
+    let s2 : Stands page 12 (big_bytes 2 (length rs)) CAR_HEAD_BYTES = subst (λ (k : ℕ). Stands page 12 (big_bytes 2 k) CAR_HEAD_BYTES) (sym counted) (number_stands 2 wide_2 page 12 CAR_HEAD_BYTES refl (omega arith) fits) in
+    let t2 = Stands-then page (big_bytes 2 (length rs)) (flat_map record_spelling rs) 12 CAR_HEAD_BYTES end s2 records in
     let t1 = Stands-then page (big_bytes 8 (number_from 8 page 4)) (big_bytes 2 (length rs) ++ flat_map record_spelling rs) 4 12 end s1 t2 in
     Stands-then page car_magic (big_bytes 8 (number_from 8 page 4) ++ (big_bytes 2 (length rs) ++ flat_map record_spelling rs)) 0 4 end s0 t1
 
@@ -141,13 +141,13 @@ unfolding car_at
 car_takes scope met page car len fits read =
     let number = number_from 8 page 4 in
     let made : List (ℕ × Slot) → CarImage = λ rs. record { number = number; slots = rs } in
-    let a = bind_ok (magic_at car_magic page) (λ is_car. tested (is_named scope.number number) 4 >>= λ is_right. records_at scope met 0 page (number_from 2 page 12) 14 >>= λ records. rest_at page records.1 >>= λ is_all. Ok (made records.0)) car read in
-    let b = bind_ok (tested (is_named scope.number number) 4) (λ is_right. records_at scope met 0 page (number_from 2 page 12) 14 >>= λ records. rest_at page records.1 >>= λ is_all. Ok (made records.0)) car a.2 in
-    let c = bind_ok (records_at scope met 0 page (number_from 2 page 12) 14) (λ records. rest_at page records.1 >>= λ is_all. Ok (made records.0)) car b.2 in
+    let a = bind_ok (magic_at car_magic page) (λ is_car. tested (is_named scope.number number) 4 >>= λ is_right. records_at scope met 0 page (number_from 2 page 12) CAR_HEAD_BYTES >>= λ records. rest_at page records.1 >>= λ is_all. Ok (made records.0)) car read in
+    let b = bind_ok (tested (is_named scope.number number) 4) (λ is_right. records_at scope met 0 page (number_from 2 page 12) CAR_HEAD_BYTES >>= λ records. rest_at page records.1 >>= λ is_all. Ok (made records.0)) car a.2 in
+    let c = bind_ok (records_at scope met 0 page (number_from 2 page 12) CAR_HEAD_BYTES) (λ records. rest_at page records.1 >>= λ is_all. Ok (made records.0)) car b.2 in
     let d = bind_ok (rest_at page c.0.1) (λ is_all. Ok (made c.0.0)) car c.2 in
-    let records = records_take scope page (number_from 2 page 12) met 0 14 c.0 fits (omega arith) c.1 in
+    let records = records_take scope page (number_from 2 page 12) met 0 CAR_HEAD_BYTES c.0 fits (omega arith) c.1 in
     let front = whole_car page c.0.0 c.0.1 len fits (magic_takes car_magic page a.0 a.1) records.counted records.records.stands in
-    let end : 14 + length (flat_map record_spelling c.0.0) ≡ c.0.1 = Stands-end page (flat_map record_spelling c.0.0) 14 c.0.1 (omega arith) records.records.stands in
+    let end : CAR_HEAD_BYTES + length (flat_map record_spelling c.0.0) ≡ c.0.1 = Stands-end page (flat_map record_spelling c.0.0) CAR_HEAD_BYTES c.0.1 (omega arith) records.records.stands in
     let inside = records.records.stands.inside in
     let is : IsCar scope met page (made c.0.0) = record {
       spelled = with_zeros page (car_spelling (made c.0.0)) c.0.1 len front (rest_takes page c.0.1 d.0 d.1);

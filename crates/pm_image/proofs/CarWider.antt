@@ -1,13 +1,12 @@
 -- What is read of a car's page within one limit on the fields of an object is read alike within a greater one.
-use Rattle.std.proofs.Common.{◌≡◌, ℕ, zero, suc, ◌+◌, ◌≤◌, cond, eqb, ltb, ◌||◌, ◌&&◌, false, List, get_or, Result, Ok, Err, refl, sym, ap, ◌∙◌}
-use Rattle.pm_types.specs.declared.limits.TheConstants.{LAST_SLOT}
+use Rattle.std.proofs.Common.{◌≡◌, ℕ, zero, suc, ◌+◌, ◌≤◌, cond, eqb, ltb, ◌||◌, ◌&&◌, List, get_or, Result, Ok, Err, refl, sym, ap, ◌∙◌}
+use Rattle.pm_types.specs.declared.limits.TheConstants.{LAST_SLOT, CAR_HEAD_BYTES}
 use Rattle.pm_types.specs.declared.object.Slot.{Slot}
 use Rattle.pm_layout.specs.declared.fault.LayoutFault.{LayoutFault}
 use Rattle.pm_layout.specs.Reading.{number_from, slot_at}
 use Rattle.pm_layout.proofs.Wider.{slot_more}
 use Rattle.pm_image.specs.declared.car.CarImage.{CarImage}
-use Rattle.pm_image.specs.Steps.{tested, magic_at, rest_at}
-use Rattle.pm_base.specs.Results.{◌>>=◌}
+use Rattle.pm_image.specs.Steps.{tested, magic_at}
 use Rattle.pm_base.proofs.Results.{bind_ok, bound, if_ok}
 use Rattle.pm_image.specs.CarPages.{CarScope, Numbers, car_at, car_magic, is_named, is_short, is_taken, numbered, record_at, records_at, with_identity}
 
@@ -50,7 +49,7 @@ unfolding car_at
 car_more scope more met page car le is =
     let a = bind_ok (magic_at car_magic page) _ car is in
     let b = bind_ok (tested (is_named scope.number (number_from 8 page 4)) 4) _ car a.2 in
-    let c = bind_ok (records_at scope met 0 page (number_from 2 page 12) 14) _ car b.2 in
+    let c = bind_ok (records_at scope met 0 page (number_from 2 page 12) CAR_HEAD_BYTES) _ car b.2 in
     bound (magic_at car_magic page) _ a.0 (Ok car) a.1
     (bound (tested (is_named scope.number (number_from 8 page 4)) 4) _ b.0 (Ok car) b.1
-    (bound (records_at (wider scope more) met 0 page (number_from 2 page 12) 14) _ c.0 (Ok car) (records_more scope more page (number_from 2 page 12) met 0 14 c.0 le c.1) c.2))
+    (bound (records_at (wider scope more) met 0 page (number_from 2 page 12) CAR_HEAD_BYTES) _ c.0 (Ok car) (records_more scope more page (number_from 2 page 12) met 0 CAR_HEAD_BYTES c.0 le c.1) c.2))

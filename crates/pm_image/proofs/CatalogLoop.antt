@@ -1,9 +1,9 @@
 -- Reading entries one after the other, as a loop does.
-use Rattle.std.proofs.Common.{◌≡◌, ℕ, suc, ◌-◌, ◌+◌, ◌≤◌, ◌<◌, List, [], ◌∷◌, ◌++◌, length, Option, Some, None, Result, Ok, Err, refl, sym, ap, subst, ◌∙◌, append_assoc, arith}
+use Rattle.std.proofs.Common.{◌≡◌, ℕ, suc, ◌-◌, ◌+◌, ◌≤◌, ◌<◌, List, [], ◌∷◌, ◌++◌, length, Option, Some, None, Result, Ok, Err, refl, sym, ap, subst, ◌∙◌, arith}
 use Rattle.std.proofs.lemmas.List.{append-nil}
 use Rattle.std.proofs.lemmas.Bool.{ltb-true}
 use Rattle.pm_types.specs.declared.address.Addr.{Addr}
-use Rattle.pm_types.specs.declared.limits.TheConstants.{ROOTS}
+use Rattle.pm_types.specs.declared.limits.TheConstants.{ROOTS, PAGE_BYTES}
 use Rattle.pm_layout.proofs.Numbers.{IsBytes}
 use Rattle.pm_image.specs.declared.fault.PageFault.{PageFault}
 use Rattle.pm_image.specs.declared.catalog.CatEntry.{CatEntry}
@@ -13,7 +13,7 @@ use Rattle.pm_base.proofs.Fronts.{with_front_of, regroup_of}
 use Rattle.pm_image.specs.Answers.{Gives}
 use Rattle.pm_image.specs.CatalogPages.{Met, meeting, meeting_all, entry_at, entries_at}
 use Rattle.pm_image.specs.CatalogReading.{HasRoomForRoots}
-use Rattle.pm_image.proofs.CatalogReads.{fails_too}
+use Rattle.pm_image.proofs.Answered.{fails_too}
 use Rattle.pm_image.proofs.CatalogTakes.{EntryTaken, entry_takes, entry_end}
 
 abbrev pub Read : Type 0
@@ -70,7 +70,7 @@ has_room None met page place (Car car train at digest) next fits start read room
 has_room (Some count) met page place (Car car train at digest) next fits start read room = tt
 
 -- a root that was read is within the limit
-pub one_more_root : (count : Option ℕ) (met : Met) (page : List ℕ) (place : ℕ) (e : CatEntry) (next : ℕ) → IsBytes page → place ≤ length page → length page ≡ 16384 → entry_at count met page place ≡ Ok (e, next) → HasRoomForRoots count met.roots place
+pub one_more_root : (count : Option ℕ) (met : Met) (page : List ℕ) (place : ℕ) (e : CatEntry) (next : ℕ) → IsBytes page → place ≤ length page → length page ≡ PAGE_BYTES → entry_at count met page place ≡ Ok (e, next) → HasRoomForRoots count met.roots place
     → (name : List ℕ) (at : Addr) → e ≡ Root name at → met.roots < ROOTS
 one_more_root None met page place e next fits start whole read room name at is = omega arith
 one_more_root (Some count) met page place e next fits start whole read room name at is =

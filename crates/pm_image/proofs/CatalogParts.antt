@@ -2,6 +2,7 @@
 use Rattle.std.proofs.Common.{◌≡◌, ℕ, List, Option, Result, Ok, Err, refl, sym, ap, subst, ◌∙◌}
 use Rattle.std.specs.List.{slice_range}
 use Rattle.pm_layout.specs.Reading.{number_from}
+use Rattle.pm_image.specs.declared.catalog_kind.TheConstants.{ENTRIES}
 use Rattle.pm_image.specs.declared.fault.PageFault.{PageFault}
 use Rattle.pm_image.specs.declared.catalog.CatEntry.{CatEntry}
 use Rattle.pm_image.specs.declared.catalog.CatalogPage.{CatalogPage}
@@ -10,11 +11,9 @@ use Rattle.pm_base.specs.Results.{◌>>=◌}
 use Rattle.pm_image.specs.Answers.{answer, Gives}
 use Rattle.pm_image.specs.CatalogPages.{Met, meeting_next, catalog_magic, is_next_page, has_next_digest, entries_at, catalog_at}
 use Rattle.pm_image.specs.CatalogReading.{next_page_at, next_digest_at}
-use Rattle.pm_image.proofs.CatalogReads.{answer_gives, fails_too, gives_then}
-
-under : {A B E : Type 0} (r : Result A E) (f g : A → Result B E) → ((x : A) → f x ≡ g x) → (r >>= f) ≡ (r >>= g)
-under (Ok x) f g same = same x
-under (Err e) f g same = refl
+use Rattle.pm_image.proofs.Answered.{answer_gives, fails_too}
+use Rattle.pm_image.proofs.CatalogReads.{gives_then}
+use Rattle.pm_base.proofs.Results.{same_after}
 
 whole : {A B C E : Type 0} (r : Result A E) (x : B) (f : B → Result C E) → (r >>= λ u. f x) ≡ ((r >>= λ u. Ok x) >>= f)
 whole (Ok u) x f = refl
@@ -26,7 +25,7 @@ ended page next digest es = rest_at page es.1 >>= λ v. Ok (record { next = next
 
 -- what is left after the digest of the next page
 abbrev listed : Option ℕ → Met → List ℕ → ℕ → List ℕ → Result CatalogPage ℕ
-listed count met page next digest = entries_at count (meeting_next met next) page (number_from 2 page 44) 46 >>= ended page next digest
+listed count met page next digest = entries_at count (meeting_next met next) page (number_from 2 page 44) ENTRIES >>= ended page next digest
 
 abbrev parts : Option ℕ → Met → List ℕ → Result CatalogPage ℕ
 parts count met page = magic_at catalog_magic page >>= λ u. next_page_at count met.pages page >>= λ next. next_digest_at next page >>= λ digest. listed count met page next digest
@@ -36,9 +35,9 @@ unfolding catalog_at next_page_at next_digest_at
 by_parts count met page =
     let next = number_from 8 page 4 in
     let digest = slice_range page 12 44 in
-    under (magic_at catalog_magic page) _ _ (λ u.
+    same_after (magic_at catalog_magic page) _ _ (λ u.
     whole (tested (is_next_page count met.pages next) 4) next (λ n. tested (has_next_digest n digest) 12 >>= λ w. listed count met page n digest)
-    ∙ under (tested (is_next_page count met.pages next) 4 >>= λ v. Ok next) _ _ (λ n. whole (tested (has_next_digest n digest) 12) digest (λ d. listed count met page n d)))
+    ∙ same_after (tested (is_next_page count met.pages next) 4 >>= λ v. Ok next) _ _ (λ n. whole (tested (has_next_digest n digest) 12) digest (λ d. listed count met page n d)))
 
 -- ---- the step that failed, and those before it that did not
 
@@ -76,26 +75,26 @@ after_digest count met page u next digest y b given =
     after_next count met page u next y b.magic b.next_page (gives_then digest (next_digest_at next page) (λ digest. listed count met page next digest) y (answer_gives (Ok digest) (next_digest_at next page) b.next_digest) given)
 
 pub entries_fail : (count : Option ℕ) (met met2 : Met) (page : List ℕ) (u : Unit {0}) (next len : ℕ) (digest : List ℕ) (fault : PageFault) → Begun count met page u next digest → met2 ≡ meeting_next met next → len ≡ number_from 2 page 44
-    → Gives {X = List CatEntry × ℕ} (Err fault) (entries_at count met2 page len 46) → Gives {X = CatalogPage} (Err fault) (catalog_at count met page)
+    → Gives {X = List CatEntry × ℕ} (Err fault) (entries_at count met2 page len ENTRIES) → Gives {X = CatalogPage} (Err fault) (catalog_at count met page)
 entries_fail count met met2 page u next len digest fault b same counted given =
-    let there : Gives {X = List CatEntry × ℕ} (Err fault) (entries_at count (meeting_next met next) page (number_from 2 page 44) 46) =
-    subst (λ (n : ℕ). Gives {X = List CatEntry × ℕ} (Err fault) (entries_at count (meeting_next met next) page n 46)) counted (subst (λ (m : Met). Gives {X = List CatEntry × ℕ} (Err fault) (entries_at count m page len 46)) same given) in
-    after_digest count met page u next digest (Err fault) b (fails_too fault (entries_at count (meeting_next met next) page (number_from 2 page 44) 46) (ended page next digest) there)
+    let there : Gives {X = List CatEntry × ℕ} (Err fault) (entries_at count (meeting_next met next) page (number_from 2 page 44) ENTRIES) =
+    subst (λ (n : ℕ). Gives {X = List CatEntry × ℕ} (Err fault) (entries_at count (meeting_next met next) page n ENTRIES)) counted (subst (λ (m : Met). Gives {X = List CatEntry × ℕ} (Err fault) (entries_at count m page len ENTRIES)) same given) in
+    after_digest count met page u next digest (Err fault) b (fails_too fault (entries_at count (meeting_next met next) page (number_from 2 page 44) ENTRIES) (ended page next digest) there)
 
 after_entries : (count : Option ℕ) (met met2 : Met) (page : List ℕ) (u : Unit {0}) (next len : ℕ) (digest : List ℕ) (es : List CatEntry × ℕ) (y : Result CatalogPage PageFault) → Begun count met page u next digest → met2 ≡ meeting_next met next → len ≡ number_from 2 page 44
-    → entries_at count met2 page len 46 ≡ Ok es → Gives y (ended page next digest es) → Gives y (catalog_at count met page)
+    → entries_at count met2 page len ENTRIES ≡ Ok es → Gives y (ended page next digest es) → Gives y (catalog_at count met page)
 after_entries count met met2 page u next len digest es y b same counted read given =
-    let there : entries_at count (meeting_next met next) page (number_from 2 page 44) 46 ≡ Ok es =
-    ap (λ (n : ℕ). entries_at count (meeting_next met next) page n 46) (sym counted) ∙ ap (λ (m : Met). entries_at count m page len 46) (sym same) ∙ read in
-    after_digest count met page u next digest y b (gives_then es (entries_at count (meeting_next met next) page (number_from 2 page 44) 46) (ended page next digest) y there given)
+    let there : entries_at count (meeting_next met next) page (number_from 2 page 44) ENTRIES ≡ Ok es =
+    ap (λ (n : ℕ). entries_at count (meeting_next met next) page n ENTRIES) (sym counted) ∙ ap (λ (m : Met). entries_at count m page len ENTRIES) (sym same) ∙ read in
+    after_digest count met page u next digest y b (gives_then es (entries_at count (meeting_next met next) page (number_from 2 page 44) ENTRIES) (ended page next digest) y there given)
 
 pub rest_fails : (count : Option ℕ) (met met2 : Met) (page : List ℕ) (u : Unit {0}) (next len : ℕ) (digest : List ℕ) (es : List CatEntry × ℕ) (fault : PageFault) → Begun count met page u next digest → met2 ≡ meeting_next met next → len ≡ number_from 2 page 44
-    → entries_at count met2 page len 46 ≡ Ok es → ◌≡◌ {A = Result (Unit {0}) PageFault} (Err fault) (answer (rest_at page es.1)) → Gives {X = CatalogPage} (Err fault) (catalog_at count met page)
+    → entries_at count met2 page len ENTRIES ≡ Ok es → ◌≡◌ {A = Result (Unit {0}) PageFault} (Err fault) (answer (rest_at page es.1)) → Gives {X = CatalogPage} (Err fault) (catalog_at count met page)
 rest_fails count met met2 page u next len digest es fault b same counted read e =
     after_entries count met met2 page u next len digest es (Err fault) b same counted read (fails_too fault (rest_at page es.1) (λ v. Ok (record { next = next; digest = digest; entries = es.0 })) (answer_gives (Err fault) (rest_at page es.1) e))
 
 pub all_read : (count : Option ℕ) (met met2 : Met) (page : List ℕ) (u v : Unit {0}) (next len : ℕ) (digest : List ℕ) (es : List CatEntry × ℕ) → Begun count met page u next digest → met2 ≡ meeting_next met next → len ≡ number_from 2 page 44
-    → entries_at count met2 page len 46 ≡ Ok es → Ok v ≡ answer (rest_at page es.1) → catalog_at count met page ≡ Ok (record { next = next; digest = digest; entries = es.0 })
+    → entries_at count met2 page len ENTRIES ≡ Ok es → Ok v ≡ answer (rest_at page es.1) → catalog_at count met page ≡ Ok (record { next = next; digest = digest; entries = es.0 })
 all_read count met met2 page u v next len digest es b same counted read e =
     after_entries count met met2 page u next len digest es (Ok (record { next = next; digest = digest; entries = es.0 })) b same counted read
     (gives_then v (rest_at page es.1) (λ v. Ok (record { next = next; digest = digest; entries = es.0 })) (Ok (record { next = next; digest = digest; entries = es.0 })) (answer_gives (Ok v) (rest_at page es.1) e) refl)

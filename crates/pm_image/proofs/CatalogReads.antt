@@ -7,27 +7,15 @@ use Rattle.std.proofs.lemmas.List.Quantifiers.{position-Some}
 use Rattle.pm_types.specs.Names.{is_name_byte, IsName}
 use Rattle.pm_types.specs.declared.limits.TheConstants.{NAME_BYTES}
 use Rattle.pm_layout.specs.Reading.{address_at}
+use Rattle.pm_image.specs.declared.catalog_kind.TheConstants.{ROOT_ENTRY_BYTES}
 use Rattle.pm_image.specs.declared.catalog.CatEntry.{CatEntry}
 use Rattle.pm_image.specs.declared.catalog.CatEntry.TheVariants.{Root}
 use Rattle.pm_image.specs.declared.fault.PageFault.{PageFault}
-use Rattle.pm_image.specs.declared.fault.PageFault.TheVariants.{Malformed, Memory}
-use Rattle.pm_image.specs.Answers.{answer, Gives}
+use Rattle.pm_image.specs.Answers.{Gives}
 use Rattle.pm_image.specs.Steps.{tested}
 use Rattle.pm_base.specs.Results.{◌>>=◌}
 use Rattle.pm_image.specs.CatalogPages.{Met, bad_name_byte, name_bytes, is_next_name, has_root_left, root_entry_at}
 use Rattle.pm_image.specs.CatalogReading.{name_at, root_at}
-
--- ---- answers
-
--- a reader that takes no memory gives what it reads
-pub answer_gives : {X : Type 0} (y : Result X PageFault) (read : Result X ℕ) → y ≡ answer read → Gives y read
-answer_gives y (Ok x) e = subst (λ (z : Result _ PageFault). Gives z (Ok x)) (sym e) refl
-answer_gives y (Err at) e = subst (λ (z : Result _ PageFault). Gives z (Err at)) (sym e) refl
-
--- a fault of the first step is that of all
-pub fails_too : {X Y : Type 0} (e : PageFault) (read : Result X ℕ) (f : X → Result Y ℕ) → Gives {X = X} (Err e) read → Gives {X = Y} (Err e) (read >>= f)
-fails_too (Malformed at) read f given = rw given refl
-fails_too Memory read f given = tt
 
 -- what the second step gives is what all give
 pub gives_then : {X Y : Type 0} (x : X) (read : Result X ℕ) (f : X → Result Y ℕ) (y : Result Y PageFault) → read ≡ Ok x → Gives y (f x) → Gives y (read >>= f)
@@ -102,6 +90,6 @@ root_by_name count met page place =
     let name = slice_range page (place + 2) (place + 2 + len) in
     let at = address_at page (place + 2 + len) in
     let rest : ℕ → List ℕ → Result (CatEntry × ℕ) ℕ = λ end word. tested (is_next_name met.name word && has_root_left count met.roots) (place + 1) >>= λ u. tested (ltb 0 at.car) (place + 2 + len) >>= λ v. Ok (Root word at, end) in
-    let same : place + 14 + len ≡ place + 2 + len + 12 = omega arith in
+    let same : place + ROOT_ENTRY_BYTES + len ≡ place + 2 + len + 12 = omega arith in
     ap (λ (end : ℕ). tested (ltb 0 len && leb len NAME_BYTES) (place + 1) >>= λ u. name_bytes (place + 2) (bad_name_byte name) >>= λ v. rest end name) same
     ∙ passed_on (tested (ltb 0 len && leb len NAME_BYTES) (place + 1)) (name_bytes (place + 2) (bad_name_byte name)) name (CatEntry × ℕ) (rest (place + 2 + len + 12))

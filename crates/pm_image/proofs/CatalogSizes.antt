@@ -6,15 +6,16 @@ use Rattle.std.proofs.lemmas.List.{take-append-drop, take_more, append-nil}
 use Rattle.std.proofs.lemmas.Grind.{flat_map-append}
 use Rattle.pm_layout.specs.Room.{Appends}
 use Rattle.pm_layout.proofs.Sizes.{Appends-then}
+use Rattle.pm_image.specs.declared.catalog_kind.TheConstants.{ENTRIES}
 use Rattle.pm_image.specs.declared.catalog.CatEntry.{CatEntry}
 use Rattle.pm_image.specs.CatalogPages.{entry_spelling, entry_size, catalog_used}
 
 -- what two lists of entries use
-used_both : (xs ys : List CatEntry) → catalog_used (xs ++ ys) + 46 ≡ catalog_used xs + catalog_used ys
+used_both : (xs ys : List CatEntry) → catalog_used (xs ++ ys) + ENTRIES ≡ catalog_used xs + catalog_used ys
 used_both [] ys = omega arith
 used_both (x ∷ xs) ys = let others = used_both xs ys in omega arith
 
-used_at_least : (xs : List CatEntry) → 46 ≤ catalog_used xs
+used_at_least : (xs : List CatEntry) → ENTRIES ≤ catalog_used xs
 used_at_least [] = omega arith
 used_at_least (x ∷ xs) = let others = used_at_least xs in omega arith
 

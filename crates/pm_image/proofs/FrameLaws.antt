@@ -7,6 +7,7 @@ use Rattle.std.proofs.lemmas.List.Elements.{Contains-append_left, Contains-appen
 use Rattle.pm_types.specs.declared.fault.OpenFault.TheVariants.{Damaged}
 use Rattle.pm_layout.specs.declared.header.Header.{Header}
 use Rattle.pm_layout.specs.Reading.{number_from}
+use Rattle.pm_image.specs.declared.catalog_kind.TheConstants.{ENTRIES, CAR_ENTRY_BYTES, ROOT_ENTRY_BYTES}
 use Rattle.pm_image.specs.declared.catalog.CatEntry.{CatEntry}
 use Rattle.pm_image.specs.declared.catalog.CatEntry.TheVariants.{Car, Root}
 use Rattle.pm_image.specs.declared.catalog.CatalogPage.{CatalogPage}
@@ -56,11 +57,11 @@ module _ (a b : ℕ) where
       let car = number_from 8 page (place + 1) in
       let train = number_from 8 page (place + 9) in
       let at = number_from 8 page (place + 17) in
-      let read = Car car train at (slice_range page (place + 25) (place + 57)) in
+      let read = Car car train at (slice_range page (place + 25) (place + CAR_ENTRY_BYTES)) in
       let one = if_ok ((car == 0) || set.contains met.cars car) (place + 1) _ r is in
       let two = if_ok (nat_lt train met.train) (place + 9) _ r one.1 in
       let three = if_ok (not (is_free_page (Some a) met.pages at)) (place + 17) _ r two.1 in
-      let same = entry_car read (place + 57) r.0 r.1 three.1 in
+      let same = entry_car read (place + CAR_ENTRY_BYTES) r.0 r.1 three.1 in
       let lt = subst (IsBelow b) (sym same) below in
       if_not _ _ _ _ one.0 (if_not _ _ _ _ two.0 (if_not _ _ _ _ (true_not _ (free_too a b met.pages at (not_false _ three.0) lt)) three.1))
 
@@ -74,10 +75,10 @@ module _ (a b : ℕ) where
   entry_too met page place r is below = of_kind (slice_index page place == 1) (slice_index page place == 2) is
     where
       of_kind : (car root : Bool)
-          → (if car then (if nat_lt (length page) (place + 57) || not (is_none met.name) then Err place else car_entry_at (Some a) met page place) else
-          if root then (if nat_lt (length page) (place + 14 + slice_index page (place + 1)) then Err place else root_entry_at (Some a) met page place) else Err place) ≡ Ok r
-          → (if car then (if nat_lt (length page) (place + 57) || not (is_none met.name) then Err place else car_entry_at (Some b) met page place) else
-          if root then (if nat_lt (length page) (place + 14 + slice_index page (place + 1)) then Err place else root_entry_at (Some b) met page place) else Err place) ≡ Ok r
+          → (if car then (if nat_lt (length page) (place + CAR_ENTRY_BYTES) || not (is_none met.name) then Err place else car_entry_at (Some a) met page place) else
+          if root then (if nat_lt (length page) (place + ROOT_ENTRY_BYTES + slice_index page (place + 1)) then Err place else root_entry_at (Some a) met page place) else Err place) ≡ Ok r
+          → (if car then (if nat_lt (length page) (place + CAR_ENTRY_BYTES) || not (is_none met.name) then Err place else car_entry_at (Some b) met page place) else
+          if root then (if nat_lt (length page) (place + ROOT_ENTRY_BYTES + slice_index page (place + 1)) then Err place else root_entry_at (Some b) met page place) else Err place) ≡ Ok r
       of_kind true root is = let parts = if_ok _ place _ r is in if_not _ _ _ _ parts.0 (car_entry_too met page place r parts.1 below)
       of_kind false true is = let parts = if_ok _ place _ r is in if_not _ _ _ _ parts.0 (root_entry_too met page place r parts.1)
       of_kind false false is = cc
@@ -105,7 +106,7 @@ module _ (a b : ℕ) where
       let one = bind_ok (magic_at catalog_magic page) _ r is in
       let two = bind_ok (tested (is_next_page (Some a) met.pages (number_from 8 page 4)) 4) _ r one.2 in
       let three = bind_ok (tested (has_next_digest (number_from 8 page 4) (slice_range page 12 44)) 12) _ r two.2 in
-      let four = bind_ok (entries_at (Some a) (meeting_next met (number_from 8 page 4)) page (number_from 2 page 44) 46) _ r three.2 in
+      let four = bind_ok (entries_at (Some a) (meeting_next met (number_from 8 page 4)) page (number_from 2 page 44) ENTRIES) _ r three.2 in
       let five = bind_ok (rest_at page four.0.1) _ r four.2 in
       let made : CatalogPage = record { next = number_from 8 page 4; digest = slice_range page 12 44; entries = four.0.0 } in
       let same : made ≡ r = ok_same made r five.2 in
@@ -113,7 +114,7 @@ module _ (a b : ℕ) where
       bound _ _ one.0 _ one.1
       (bound _ _ tt _ (passed _ 4 free)
       (bound _ _ three.0 _ three.1
-      (bound _ _ four.0 _ (entries_too (meeting_next met (number_from 8 page 4)) page (number_from 2 page 44) 46 four.0 four.1 (subst (λ (c : CatalogPage). AreBelow b c.entries) (sym same) below))
+      (bound _ _ four.0 _ (entries_too (meeting_next met (number_from 8 page 4)) page (number_from 2 page 44) ENTRIES four.0 four.1 (subst (λ (c : CatalogPage). AreBelow b c.entries) (sym same) below))
       (bound _ _ five.0 _ five.1 five.2))))
     where
       lt_of : (next : ℕ) → (next == 0) ≡ false → ((next ≡ 0) ⊎ (next < b)) → next < b

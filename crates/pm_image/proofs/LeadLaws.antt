@@ -1,17 +1,15 @@
--- Each address of a graph that was found leads to an object.
-use Rattle.std.proofs.Common.{◌≡◌, ℕ, ◌+◌, Bool, true, false, ◌==◌, List, [], ◌∷◌, ◌++◌, length, Option, Some, None, is_some, Result, Ok, Err, refl, sym, ap, subst, ◌∙◌, if◌then◌else◌}
-use Rattle.std.specs.Prelude.{IsSome, IfSome}
+-- Each address of a catalog and of cars leads to an object, where each leads where it may, and so each of a graph that was found.
+use Rattle.std.proofs.Common.{◌≡◌, ℕ, ◌+◌, true, false, ◌==◌, List, [], ◌∷◌, ◌++◌, length, Option, Some, None, is_some, Ok, refl, subst, if◌then◌else◌}
 use Rattle.std.specs.List.{flat_map, AllByRecursion}
 use Rattle.std.specs.FinSet as set
+use Rattle.pm_types.specs.declared.limits.TheConstants.{CAR_HEAD_BYTES}
 use Rattle.pm_types.specs.declared.address.Addr.{Addr}
-use Rattle.pm_types.specs.declared.fault.OpenFault.{OpenFault}
 use Rattle.pm_types.specs.declared.fault.OpenFault.TheVariants.{Malformed}
 use Rattle.pm_types.specs.declared.object.Slot.{Slot}
 use Rattle.pm_types.specs.declared.object.Slot.TheVariants.{Live, Moved}
 use Rattle.pm_layout.specs.declared.header.Header.{Header}
 use Rattle.pm_layout.specs.Headers.{most_fields}
 use Rattle.pm_layout.specs.Spelling.{slot_size}
-use Rattle.pm_base.specs.Results.{◌>>=◌}
 use Rattle.pm_base.proofs.Results.{bind_ok, ok_same, wanted_ok}
 use Rattle.pm_image.specs.declared.car.CarImage.{CarImage}
 use Rattle.pm_image.specs.declared.catalog.CatEntry.{CatEntry}
@@ -20,6 +18,7 @@ use Rattle.pm_image.specs.declared.catalog.CatalogPage.{CatalogPage}
 use Rattle.pm_image.specs.declared.settled.KeptPage.{KeptPage}
 use Rattle.pm_image.specs.Leading.{FieldLeads, SlotLeads, CarLeads, RootLeads}
 use Rattle.pm_image.specs.Graphs.{images_of, Pages, Catalog, Graph, Site, entries_of, catalog_of, cars_from, slot_in, slot_named, is_live, leads, linked, field_sites, slot_sites, record_sites, root_sites, sites_of, graph_of, identity_in, identity_through, resolved}
+use Rattle.pm_image.specs.declared.catalog_kind.TheConstants.{ENTRIES, CAR_ENTRY_BYTES, ROOT_ENTRY_BYTES}
 
 -- ---- each address of a list
 
@@ -69,12 +68,12 @@ slots_settled cars page place (first ∷ slots) all = (
 )
 
 abbrev car_sites : KeptPage → List Site
-car_sites kept = record_sites kept.page 14 kept.image.slots
+car_sites kept = record_sites kept.page CAR_HEAD_BYTES kept.image.slots
 
 cars_settled : (cars : List CarImage) (these : List KeptPage) → Lead cars (flat_map car_sites these) → AllByRecursion (λ (car : CarImage). AreSettled cars car.slots) (images_of these)
 cars_settled cars [] all = tt
 cars_settled cars (kept ∷ these) all = (
-  slots_settled cars kept.page 14 kept.image.slots (lead_front cars (car_sites kept) (flat_map car_sites these) all),
+  slots_settled cars kept.page CAR_HEAD_BYTES kept.image.slots (lead_front cars (car_sites kept) (flat_map car_sites these) all),
   cars_settled cars these (lead_back cars (car_sites kept) (flat_map car_sites these) all),
 )
 
@@ -121,24 +120,35 @@ module _ (cars : List CarImage) (settled : AllByRecursion (λ (car : CarImage). 
   cars_lead : (these : List KeptPage) → Lead cars (flat_map car_sites these) → AllByRecursion (CarLeads cars) (images_of these)
   cars_lead [] all = tt
   cars_lead (kept ∷ these) all = (
-    slots_lead kept.page 14 kept.image.slots (lead_front cars (car_sites kept) (flat_map car_sites these) all),
+    slots_lead kept.page CAR_HEAD_BYTES kept.image.slots (lead_front cars (car_sites kept) (flat_map car_sites these) all),
     cars_lead these (lead_back cars (car_sites kept) (flat_map car_sites these) all),
   )
 
   roots_lead : (page place : ℕ) (entries : List CatEntry) → Lead cars (root_sites page place entries) → AllByRecursion (RootLeads cars) entries
   roots_lead page place [] all = tt
-  roots_lead page place (Car car train at digest ∷ entries) all = (tt, roots_lead page (place + 57) entries all)
-  roots_lead page place (Root name to ∷ entries) all = (known to all.0, roots_lead page (place + 14 + length name) entries all.1)
+  roots_lead page place (Car car train at digest ∷ entries) all = (tt, roots_lead page (place + CAR_ENTRY_BYTES) entries all)
+  roots_lead page place (Root name to ∷ entries) all = (known to all.0, roots_lead page (place + ROOT_ENTRY_BYTES + length name) entries all.1)
 
   both_lead : (xs ys : List CatEntry) → AllByRecursion (RootLeads cars) xs → AllByRecursion (RootLeads cars) ys → AllByRecursion (RootLeads cars) (xs ++ ys)
   both_lead [] ys one two = two
   both_lead (x ∷ xs) ys one two = (one.0, both_lead xs ys one.1 two)
 
-  catalog_leads : (catalog : Catalog) → Lead cars (flat_map (λ (page : ℕ × CatalogPage). root_sites page.0 46 page.1.entries) catalog) → AllByRecursion (RootLeads cars) (entries_of catalog)
+  catalog_leads : (catalog : Catalog) → Lead cars (flat_map (λ (page : ℕ × CatalogPage). root_sites page.0 ENTRIES page.1.entries) catalog) → AllByRecursion (RootLeads cars) (entries_of catalog)
   catalog_leads [] all = tt
   catalog_leads (page ∷ catalog) all =
-      let rest : List Site = flat_map (λ (page : ℕ × CatalogPage). root_sites page.0 46 page.1.entries) catalog in
-      both_lead page.1.entries (entries_of catalog) (roots_lead page.0 46 page.1.entries (lead_front cars (root_sites page.0 46 page.1.entries) rest all)) (catalog_leads catalog (lead_back cars (root_sites page.0 46 page.1.entries) rest all))
+      let rest : List Site = flat_map (λ (page : ℕ × CatalogPage). root_sites page.0 ENTRIES page.1.entries) catalog in
+      both_lead page.1.entries (entries_of catalog) (roots_lead page.0 ENTRIES page.1.entries (lead_front cars (root_sites page.0 ENTRIES page.1.entries) rest all)) (catalog_leads catalog (lead_back cars (root_sites page.0 ENTRIES page.1.entries) rest all))
+
+-- where each address leads where it may, it leads to an object
+pub linked_leads : (catalog : Catalog) (kept : List KeptPage) (u : Unit {0}) → linked (images_of kept) (sites_of catalog kept) ≡ Ok u
+    → AllByRecursion (CarLeads (images_of kept)) (images_of kept) × AllByRecursion (RootLeads (images_of kept)) (entries_of catalog)
+linked_leads catalog kept u is =
+    let cars = images_of kept in
+    let roots : List Site = flat_map (λ (page : ℕ × CatalogPage). root_sites page.0 ENTRIES page.1.entries) catalog in
+    let all = linked_lead cars (sites_of catalog kept) u is in
+    let of_cars = lead_front cars (flat_map car_sites kept) roots all in
+    let settled = cars_settled cars kept of_cars in
+    (cars_lead cars settled kept of_cars, catalog_leads cars settled catalog (lead_back cars (flat_map car_sites kept) roots all))
 
 -- in a graph that was found each address leads to an object
 pub graph_leads : (pages : Pages) (header : Header) (graph : Graph) → graph_of pages header ≡ Ok graph
@@ -147,12 +157,7 @@ unfolding graph_of
 graph_leads pages header graph is =
     let one = bind_ok (catalog_of pages header) _ graph is in
     let two = bind_ok (cars_from (most_fields header.version) header.next pages set.empty (entries_of one.0)) _ graph one.2 in
-    let cars = images_of two.0 in
-    let three = bind_ok (linked cars (sites_of one.0 two.0)) _ graph two.2 in
+    let three = bind_ok (linked (images_of two.0) (sites_of one.0 two.0)) _ graph two.2 in
     let made : Graph = record { catalog = one.0; cars = two.0 } in
-    let roots : List Site = flat_map (λ (page : ℕ × CatalogPage). root_sites page.0 46 page.1.entries) one.0 in
-    let all = linked_lead cars (sites_of one.0 two.0) three.0 three.1 in
-    let of_cars = lead_front cars (flat_map car_sites two.0) roots all in
-    let settled = cars_settled cars two.0 of_cars in
     subst (λ (g : Graph). AllByRecursion (CarLeads (images_of g.cars)) (images_of g.cars) × AllByRecursion (RootLeads (images_of g.cars)) (entries_of g.catalog)) (ok_same made graph three.2)
-    (cars_lead cars settled two.0 of_cars, catalog_leads cars settled one.0 (lead_back cars (flat_map car_sites two.0) roots all))
+    (linked_leads one.0 two.0 three.0 three.1)

@@ -1,5 +1,5 @@
 -- Opening has no answer but those of the rules: a page is never met twice, so no chain is longer than there are pages.
-use Rattle.std.proofs.Common.{◌≡◌, ◌⊎◌, inl, inr, ℕ, zero, suc, ◌+◌, ◌-◌, ◌*◌, ◌<◌, ◌≤◌, ◌^◌, Bool, true, false, not, cond, eqb, ltb, leb, ◌==◌, ◌||◌, ◌&&◌, nat_lt, nat_le, List, [], ◌∷◌, length, get_or, Option, Some, None, Result, Ok, Err, refl, sym, ap, subst, ◌∙◌, arith, if◌then◌else◌}
+use Rattle.std.proofs.Common.{◌≡◌, inl, inr, ℕ, zero, suc, ◌+◌, ◌-◌, ◌*◌, ◌<◌, ◌≤◌, ◌^◌, Bool, true, false, not, cond, eqb, ltb, leb, ◌==◌, ◌||◌, ◌&&◌, nat_lt, nat_le, List, [], ◌∷◌, length, get_or, Option, Some, None, Result, Ok, Err, refl, sym, ap, subst, ◌∙◌, arith, if◌then◌else◌}
 use Rattle.std.specs.List.{slice_range}
 use Rattle.std.specs.Str.{bytes_eq}
 use Rattle.std.specs.Option.{is_none}
@@ -15,9 +15,8 @@ use Rattle.pm_layout.specs.declared.header.HeaderFault.TheVariants.{Magic, Versi
 use Rattle.pm_layout.specs.Headers.{header_at, most_fields}
 use Rattle.pm_layout.specs.Reading.{number_from, address_at}
 use Rattle.pm_layout.proofs.Steps.{chosen}
-use Rattle.pm_base.specs.Results.{◌>>=◌}
-use Rattle.pm_base.proofs.Results.{bind_ok, ok_same, if_ok, wanted_ok}
-use Rattle.pm_image.specs.declared.car.CarImage.{CarImage}
+use Rattle.pm_base.proofs.Results.{bind_ok, ok_same, if_ok, wanted_ok, err_same, either_fails}
+use Rattle.pm_image.specs.declared.catalog_kind.TheConstants.{ENTRIES, CAR_ENTRY_BYTES, ROOT_ENTRY_BYTES}
 use Rattle.pm_image.specs.declared.catalog.CatEntry.{CatEntry}
 use Rattle.pm_image.specs.declared.catalog.CatEntry.TheVariants.{Car, Root}
 use Rattle.pm_image.specs.declared.catalog.CatalogPage.{CatalogPage}
@@ -27,21 +26,11 @@ use Rattle.pm_image.specs.Rules.{IsOfPages, IsOfRules}
 use Rattle.pm_image.specs.CarPages.{Numbers, car_at}
 use Rattle.pm_image.specs.CatalogPages.{Met, meeting, meeting_next, meeting_all, meeting_page, catalog_magic, is_free_page, is_next_page, has_next_digest, is_next_name, has_root_left, bad_name_byte, name_bytes, car_entry_at, root_entry_at, entry_at, entries_at, catalog_at}
 use Rattle.pm_image.specs.Opening.{Current, current, page_count, is_placed, header_refusal, sound_header, header_in, header_body_of, open_slot}
-use Rattle.pm_image.specs.Graphs.{images_of, Pages, Catalog, Graph, Site, undamaged, on_page, catalog_from, catalog_of, entries_of, cars_from, with_identities, linked, leads, sites_of, graph_of, most_pages}
-use Rattle.pm_image.specs.Stands.{Opened, opened, pages_of}
+use Rattle.pm_image.specs.Graphs.{images_of, Pages, Catalog, Site, undamaged, on_page, catalog_from, catalog_of, entries_of, cars_from, with_identities, linked, leads, sites_of, graph_of, most_pages}
+use Rattle.pm_image.specs.Stands.{opened, pages_of}
 use Rattle.pm_image.proofs.Results.{both_true, not_false}
 use Rattle.pm_image.proofs.PageEnds.{tested_ok}
 use Rattle.pm_image.proofs.SetSizes.{AreWithin, few_members, within_insert, len_more, one_member, one_within}
-
--- ---- which step failed
-
-err_same : {A : Type 0} (d e : OpenFault) → ◌≡◌ {A = Result A OpenFault} (Err d) (Err e) → d ≡ e
-err_same d e is = cc
-
--- the first step failed so, or the second
-pub either_fails : {A B : Type 0} (m : Result A OpenFault) (f : A → Result B OpenFault) (fault : OpenFault) → (m >>= f) ≡ Err fault → (m ≡ Err fault) ⊎ ((x : A) × (m ≡ Ok x) × (f x ≡ Err fault))
-either_fails (Ok x) f fault is = inr (x, refl, is)
-either_fails {A} {B} (Err d) f fault is = inl (ap (λ (e : OpenFault). Err e) (err_same {A = B} d fault is))
 
 -- a test that did not hold
 if_fault : {A : Type 0} (b : Bool) (x : A) (e fault : OpenFault) → (if b then Ok x else Err e) ≡ Err fault → e ≡ fault
@@ -93,7 +82,7 @@ car_free count met page place x read =
     let car = number_from 8 page (place + 1) in
     let train = number_from 8 page (place + 9) in
     let at = number_from 8 page (place + 17) in
-    let made : CatEntry × ℕ = (Car car train at (slice_range page (place + 25) (place + 57)), place + 57) in
+    let made : CatEntry × ℕ = (Car car train at (slice_range page (place + 25) (place + CAR_ENTRY_BYTES)), place + CAR_ENTRY_BYTES) in
     let g = if_ok (eqb car 0 || set.contains met.cars car) (place + 1) (cond (ltb train met.train) (Err (place + 9)) (cond (not (is_free_page (Some count) met.pages at)) (Err (place + 17)) (Ok made))) x read in
     let h = if_ok (ltb train met.train) (place + 9) (cond (not (is_free_page (Some count) met.pages at)) (Err (place + 17)) (Ok made)) x g.1 in
     let k = if_ok (not (is_free_page (Some count) met.pages at)) (place + 17) (Ok made) x h.1 in
@@ -105,7 +94,7 @@ root_free count met page place x read =
     let len = get_or page (place + 1) 0 in
     let name = slice_range page (place + 2) (place + 2 + len) in
     let at = address_at page (place + 2 + len) in
-    let made : CatEntry × ℕ = (Root name at, place + 14 + len) in
+    let made : CatEntry × ℕ = (Root name at, place + ROOT_ENTRY_BYTES + len) in
     let a = bind_ok (tested (ltb 0 len && leb len NAME_BYTES) (place + 1)) _ x read in
     let b = bind_ok (name_bytes (place + 2) (bad_name_byte name)) _ x a.2 in
     let d = bind_ok (tested (is_next_name met.name name && has_root_left (Some count) met.roots) (place + 1)) _ x b.2 in
@@ -116,15 +105,15 @@ entry_free : (count : ℕ) (met : Met) (page : List ℕ) (place : ℕ) (x : CatE
 unfolding entry_at
 entry_free count met page place x read =
     let kind = get_or page place 0 in
-    let as_car = cond (ltb (length page) (place + 57) || not (is_none met.name)) (Err place) (car_entry_at (Some count) met page place) in
-    let as_root = cond (ltb (length page) (place + 14 + get_or page (place + 1) 0)) (Err place) (root_entry_at (Some count) met page place) in
+    let as_car = cond (ltb (length page) (place + CAR_ENTRY_BYTES) || not (is_none met.name)) (Err place) (car_entry_at (Some count) met page place) in
+    let as_root = cond (ltb (length page) (place + ROOT_ENTRY_BYTES + get_or page (place + 1) 0)) (Err place) (root_entry_at (Some count) met page place) in
     elim (chosen (eqb kind 1) as_car (cond (eqb kind 2) as_root (Err place)) (Ok x) read) [
       | inl car ↦
-          let g = if_ok (ltb (length page) (place + 57) || not (is_none met.name)) place (car_entry_at (Some count) met page place) x car.1 in
+          let g = if_ok (ltb (length page) (place + CAR_ENTRY_BYTES) || not (is_none met.name)) place (car_entry_at (Some count) met page place) x car.1 in
           car_free count met page place x g.1
       | inr other ↦
           let h = wanted_ok (eqb kind 2) place as_root x other.1 in
-          let g = if_ok (ltb (length page) (place + 14 + get_or page (place + 1) 0)) place (root_entry_at (Some count) met page place) x h.1 in
+          let g = if_ok (ltb (length page) (place + ROOT_ENTRY_BYTES + get_or page (place + 1) 0)) place (root_entry_at (Some count) met page place) x h.1 in
           root_free count met page place x g.1
     ]
 
@@ -159,10 +148,10 @@ page_grows count before met page read grows is =
     let a = bind_ok (magic_at catalog_magic page) _ read is in
     let b = bind_ok (tested (is_next_page (Some count) met.pages next) 4) _ read a.2 in
     let d = bind_ok (tested (has_next_digest next digest) 12) _ read b.2 in
-    let e = bind_ok (entries_at (Some count) (meeting_next met next) page (number_from 2 page 44) 46) _ read d.2 in
+    let e = bind_ok (entries_at (Some count) (meeting_next met next) page (number_from 2 page 44) ENTRIES) _ read d.2 in
     let f = bind_ok (rest_at page e.0.1) (λ z. Ok (made e.0.0)) read e.2 in
     subst (λ (r : CatalogPage). (r.next == 0) ≡ false → Grows count (before + 1) (meeting_page met r).pages) {x = made e.0.0} (ok_same (made e.0.0) read f.2)
-    (λ some. entries_grow (number_from 2 page 44) count (before + 1) (meeting_next met next) page 46 e.0 (next_grows count before met next grows (tested_ok _ 4 b.0 b.1) some) e.1)
+    (λ some. entries_grow (number_from 2 page 44) count (before + 1) (meeting_next met next) page ENTRIES e.0 (next_grows count before met next grows (tested_ok _ 4 b.0 b.1) some) e.1)
 
 -- ---- the catalog
 

@@ -5,7 +5,7 @@ use Rattle.std.specs.List.{flat_map, AllByRecursion}
 use Rattle.std.specs.Ordering.{nat_cmp}
 use Rattle.std.specs.FinSet as set
 use Rattle.byteorder.specs.Endian.{big_bytes}
-use Rattle.pm_types.specs.declared.limits.TheConstants.{PAGE_BYTES, LAST_SLOT}
+use Rattle.pm_types.specs.declared.limits.TheConstants.{PAGE_BYTES, LAST_SLOT, CAR_HEAD_BYTES}
 use Rattle.pm_types.specs.declared.object.Slot.{Slot}
 use Rattle.pm_types.specs.declared.object.Slot.TheVariants.{Live, Moved}
 use Rattle.pm_layout.specs.declared.fault.LayoutFault.{LayoutFault}
@@ -30,7 +30,7 @@ car_spelling car = car_magic ++ (big_bytes 8 car.number ++ (big_bytes 2 (length 
 
 -- so many bytes are used
 abbrev pub car_used : List (ℕ × Slot) → ℕ
-car_used [] = 14
+car_used [] = CAR_HEAD_BYTES
 car_used ((number, slot) ∷ records) = (4 + slot_size slot) + car_used records
 
 -- used bytes, and zeros to the page's end
@@ -115,7 +115,7 @@ unfoldable pub car_at : CarScope → Numbers → List ℕ → Result CarImage �
 car_at scope met page = do
   is_car ← magic_at car_magic page
   is_right ← tested (is_named scope.number (number_from 8 page 4)) 4
-  records ← records_at scope met 0 page (number_from 2 page 12) 14
+  records ← records_at scope met 0 page (number_from 2 page 12) CAR_HEAD_BYTES
   is_all ← rest_at page records.1
   Ok (record { number = number_from 8 page 4; slots = records.0 })
 

@@ -17,6 +17,7 @@ use Rattle.pm_image.specs.declared.catalog.CatalogPage.{CatalogPage}
 use Rattle.pm_image.specs.Steps.{tested, magic_at, rest_at}
 use Rattle.pm_base.specs.Results.{◌>>=◌}
 use Rattle.pm_image.specs.CarPages.{Numbers}
+use Rattle.pm_image.specs.declared.catalog_kind.TheConstants.{ENTRIES, CAR_ENTRY_BYTES, ROOT_ENTRY_BYTES}
 
 -- PCAT
 abbrev pub catalog_magic : List ℕ
@@ -29,8 +30,8 @@ entry_spelling (Root name at) = 2 ∷ (length name ∷ (name ++ address at))
 
 -- how many bytes an entry is spelled in
 abbrev pub entry_size : CatEntry → ℕ
-entry_size (Car car train page digest) = 57
-entry_size (Root name at) = 14 + length name
+entry_size (Car car train page digest) = CAR_ENTRY_BYTES
+entry_size (Root name at) = ROOT_ENTRY_BYTES + length name
 
 -- the used bytes of a catalog page: the magic, the next page and its digest, how many entries there are, and these
 unfoldable pub catalog_spelling : CatalogPage → List ℕ
@@ -38,7 +39,7 @@ catalog_spelling page = catalog_magic ++ (big_bytes 8 page.next ++ (page.digest 
 
 -- so many bytes are used
 abbrev pub catalog_used : List CatEntry → ℕ
-catalog_used [] = 46
+catalog_used [] = ENTRIES
 catalog_used (entry ∷ entries) = entry_size entry + catalog_used entries
 
 -- What was met before an entry: the numbers of the cars, the pages that stand as a catalog page or as a car's
@@ -84,7 +85,7 @@ car_entry_at count met page place =
     if (car == 0) || set.contains met.cars car then Err (place + 1) else
     if nat_lt train met.train then Err (place + 9) else
     if not (is_free_page count met.pages at) then Err (place + 17) else
-    Ok (Car car train at (slice_range page (place + 25) (place + 57)), place + 57)
+    Ok (Car car train at (slice_range page (place + 25) (place + CAR_ENTRY_BYTES)), place + CAR_ENTRY_BYTES)
 
 -- the place of the first byte that no name has
 abbrev pub bad_name_byte : List ℕ → Option ℕ
@@ -106,14 +107,14 @@ root_entry_at count met page place =
       is_spelled ← name_bytes (place + 2) (bad_name_byte name)
       is_next ← tested (is_next_name met.name name && has_root_left count met.roots) (place + 1)
       has_car ← tested (nat_lt 0 at.car) (place + 2 + len)
-      Ok (Root name at, place + 14 + len)
+      Ok (Root name at, place + ROOT_ENTRY_BYTES + len)
 
 -- An entry: its kind is one of the two, it ends inside the page, and no car comes after a root.
 unfoldable pub entry_at : Option ℕ → Met → List ℕ → ℕ → Result (CatEntry × ℕ) ℕ
 entry_at count met page place =
     let kind = slice_index page place in
-    if kind == 1 then (if nat_lt (length page) (place + 57) || not (is_none met.name) then Err place else car_entry_at count met page place) else
-    if kind == 2 then (if nat_lt (length page) (place + 14 + slice_index page (place + 1)) then Err place else root_entry_at count met page place) else
+    if kind == 1 then (if nat_lt (length page) (place + CAR_ENTRY_BYTES) || not (is_none met.name) then Err place else car_entry_at count met page place) else
+    if kind == 2 then (if nat_lt (length page) (place + ROOT_ENTRY_BYTES + slice_index page (place + 1)) then Err place else root_entry_at count met page place) else
     Err place
 
 -- so many entries from a place on, and the place after the last of them
@@ -146,7 +147,7 @@ catalog_at count met page =
       is_catalog ← magic_at catalog_magic page
       is_next ← tested (is_next_page count met.pages next) 4
       has_digest ← tested (has_next_digest next digest) 12
-      entries ← entries_at count (meeting_next met next) page (number_from 2 page 44) 46
+      entries ← entries_at count (meeting_next met next) page (number_from 2 page 44) ENTRIES
       is_all ← rest_at page entries.1
       Ok (record { next = next; digest = digest; entries = entries.0 })
 

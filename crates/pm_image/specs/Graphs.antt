@@ -24,6 +24,8 @@ use Rattle.pm_image.specs.declared.settled.KeptPage.{KeptPage}
 use Rattle.pm_base.specs.Results.{◌>>=◌}
 use Rattle.pm_image.specs.CarPages.{Numbers, car_at, with_identity}
 use Rattle.pm_image.specs.CatalogPages.{Met, nothing_met, catalog_at, meeting_page}
+use Rattle.pm_image.specs.declared.catalog_kind.TheConstants.{ENTRIES, CAR_ENTRY_BYTES, ROOT_ENTRY_BYTES}
+use Rattle.pm_types.specs.declared.limits.TheConstants.{CAR_HEAD_BYTES}
 
 -- the pages of a store: how many there are, and the bytes of each
 pub record Pages : Type 0 where
@@ -124,12 +126,12 @@ record_sites page place (first ∷ records) = slot_sites page place first.1 ++ r
 -- the addresses of roots, the first entry being at this place: after the kind, the length and the name
 abbrev pub root_sites : ℕ → ℕ → List CatEntry → List Site
 root_sites page place [] = []
-root_sites page place (Car car train at digest ∷ entries) = root_sites page (place + 57) entries
-root_sites page place (Root name to ∷ entries) = record { page = page; at = place + 2 + length name; to = to; to_live = false } ∷ root_sites page (place + 14 + length name) entries
+root_sites page place (Car car train at digest ∷ entries) = root_sites page (place + CAR_ENTRY_BYTES) entries
+root_sites page place (Root name to ∷ entries) = record { page = page; at = place + 2 + length name; to = to; to_live = false } ∷ root_sites page (place + ROOT_ENTRY_BYTES + length name) entries
 
 -- all addresses: of the cars, in order, and then of the roots
 abbrev pub sites_of : Catalog → List KeptPage → List Site
-sites_of catalog cars = flat_map (λ (kept : KeptPage). record_sites kept.page 14 kept.image.slots) cars ++ flat_map (λ (page : ℕ × CatalogPage). root_sites page.0 46 page.1.entries) catalog
+sites_of catalog cars = flat_map (λ (kept : KeptPage). record_sites kept.page CAR_HEAD_BYTES kept.image.slots) cars ++ flat_map (λ (page : ℕ × CatalogPage). root_sites page.0 ENTRIES page.1.entries) catalog
 
 -- the slot is Live
 abbrev pub is_live : Option Slot → Bool

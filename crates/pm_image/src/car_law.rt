@@ -1,4 +1,4 @@
-ghost use Rattle.std.specs.Prelude.{◌≡◌, ℕ, ◌<◌, ◌≤◌, List, length, Ok, true};
+ghost use Rattle.std.specs.Prelude.{◌≡◌, ℕ, ◌^◌, ◌<◌, ◌≤◌, List, length, Ok, true};
 ghost use Rattle.pm_types.specs.declared.limits.TheConstants.{PAGE_BYTES};
 ghost use Rattle.pm_image.specs.declared.car.CarImage.{CarImage};
 ghost use Rattle.pm_image.specs.CarPages.{CarScope, Numbers, HasCarPage, car_at, car_spelling, is_named, padded};
@@ -8,7 +8,7 @@ ghost use Rattle.pm_image.specs.CarAnswers.{IsCarInRange, AreBytes};
 /// whichever identities were met before.
 pub fn car_pages_are_read_again()
     // What is written is read again.
-    ensures again { (scope : CarScope) (met : Numbers) (car : CarImage) → scope.most < 65536 → HasCarPage scope met car → IsCarInRange car → is_named scope.number car.number ≡ true → car_at scope met (padded (car_spelling car)) ≡ Ok car }
+    ensures again { (scope : CarScope) (met : Numbers) (car : CarImage) → scope.most < 2 ^ 16 → HasCarPage scope met car → IsCarInRange car → is_named scope.number car.number ≡ true → car_at scope met (padded (car_spelling car)) ≡ Ok car }
     // What is read is spelled so, and nothing else is.
     ensures found { (scope : CarScope) (met : Numbers) (page : List ℕ) (car : CarImage) → length page ≡ PAGE_BYTES → AreBytes page → car_at scope met page ≡ Ok car → page ≡ padded (car_spelling car) }
     // What is read has a page.

@@ -1,6 +1,6 @@
 ghost use Rattle.std.specs.Prelude.{◌≡◌, ◌+◌, ◌≤◌, length, IfOk, OnOk, OnErr, Option, None, Some, Ok, Err};
 ghost use Rattle.std.specs.FinSet as set;
-ghost use Rattle.pm_types.specs.declared.limits.TheConstants.{FIELDS, PAGE_BYTES};
+ghost use Rattle.pm_types.specs.declared.limits.TheConstants.{FIELDS, PAGE_BYTES, CAR_HEAD_BYTES};
 ghost use Rattle.pm_layout.specs.Reading.{number_from};
 ghost use Rattle.pm_image.specs.declared.car.CarImage.{CarImage};
 ghost use Rattle.pm_image.specs.declared.fault.PageFault.TheVariants.{Memory};
@@ -13,12 +13,9 @@ ghost use Rattle.pm_image.specs.Graphs.{with_identities};
 use crate::car::{MAGIC, RECORDS_AT};
 use crate::steps::{check_magic, check_rest};
 use crate::{CarImage, NumberSet, PageFault, SlotList};
-use pm_layout::{LayoutFault, read_slot, u16_at, u32_at, u64_at};
+use pm_layout::{LIVE, LayoutFault, read_slot, u16_at, u32_at, u64_at};
 use pm_types::{LAST_SLOT, Slot};
 use std::alloc::Global;
-
-// The kind of a slot that has an identity.
-const LIVE: u8 = 1;
 
 // A page by itself is read with each identity that there is: the next one would be this.
 const NO_IDENTITY: u64 = 4_294_967_296;
@@ -113,7 +110,7 @@ fn records_at(
 ) -> Result<(SlotList, usize), PageFault>
     requires whole { length page.now ≡ PAGE_BYTES }
     requires most { most ≤ FIELDS }
-    ensures exact { Gives result (records_at (a_car most next None) met.old 0 page.now count 14) }
+    ensures exact { Gives result (records_at (a_car most next None) met.old 0 page.now count CAR_HEAD_BYTES) }
     ensures ends { IfOk result (λ read. read.1 ≤ PAGE_BYTES) }
     ensures met { IfOk result (λ read. met.new ≡ with_identities met.old read.0) }
 {

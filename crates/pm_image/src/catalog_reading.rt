@@ -42,7 +42,7 @@ fn car_entry_at(
     place: usize,
 ) -> Result<(CatEntry, usize), PageFault>
     requires whole { length page.now ≡ PAGE_BYTES }
-    requires inside { place + 57 ≤ PAGE_BYTES }
+    requires inside { place + CAR_ENTRY_BYTES ≤ PAGE_BYTES }
     ensures { result ≡ answer (car_entry_at count met.now page.now place) }
 {
     let car = u64_at(page, place + 1);
@@ -122,7 +122,7 @@ fn root_entry_at(
     place: usize,
 ) -> Result<(CatEntry, usize), PageFault>
     requires whole { length page.now ≡ PAGE_BYTES }
-    requires inside { place + 14 + slice_index page.now (place + 1) ≤ PAGE_BYTES }
+    requires inside { place + ROOT_ENTRY_BYTES + slice_index page.now (place + 1) ≤ PAGE_BYTES }
     ensures { Gives result (root_entry_at count met.now page.now place) }
 {
     let len = page[place + 1] as usize;
@@ -232,7 +232,7 @@ fn catalog_at(
     page: &[u8],
 ) -> Result<CatalogPage, PageFault>
     requires whole { length page.now ≡ PAGE_BYTES }
-    requires room { HasRoomForRoots count met.old.roots 46 }
+    requires room { HasRoomForRoots count met.old.roots ENTRIES }
     ensures exact { Gives result (catalog_at count met.old page.now) }
     ensures met { IfOk result (λ read. met.new ≡ meeting_page met.old read) }
 {

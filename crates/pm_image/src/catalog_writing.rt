@@ -6,6 +6,7 @@ ghost use Rattle.pm_layout.specs.Room.{HasRoom, Appends};
 ghost use Rattle.pm_image.specs.declared.catalog.CatEntry.TheVariants.{Car, Root};
 ghost use Rattle.pm_image.specs.CarPages.{padded};
 ghost use Rattle.pm_image.specs.CatalogPages.{nothing_met, entry_spelling, entry_size, catalog_used, catalog_spelling, HasCatalogPage};
+ghost use Rattle.pm_image.specs.declared.catalog_kind.TheConstants.{ENTRIES, CAR_ENTRY_BYTES, ROOT_ENTRY_BYTES};
 
 use crate::catalog_kind::{CAR, CATALOG_MAGIC, ROOT};
 use crate::{CatEntry, CatalogPage};
@@ -16,9 +17,9 @@ use std::alloc::Global;
 // The entry of a car.
 #[tactic(auto, using(crate::proofs::CatalogTakes::car_size), unfolding(crate::specs::CatalogPages::entry_spelling))]
 fn put_car(out: &mut Vec<u8>, car: u64, train: u64, page: u64, digest: &[u8; 32])
-    requires { HasRoom out.old 57 }
+    requires { HasRoom out.old CAR_ENTRY_BYTES }
     ensures text { Appends out.old out.new (entry_spelling (Car car train page digest.now)) }
-    ensures sized { length (entry_spelling (Car car train page digest.now)) ≡ 57 }
+    ensures sized { length (entry_spelling (Car car train page digest.now)) ≡ CAR_ENTRY_BYTES }
 {
     put_u8(out, CAR);
     put_u64(out, car);
@@ -30,9 +31,9 @@ fn put_car(out: &mut Vec<u8>, car: u64, train: u64, page: u64, digest: &[u8; 32]
 // The entry of a root.
 #[tactic(auto, using(crate::proofs::CatalogTakes::root_size), unfolding(crate::specs::CatalogPages::entry_spelling))]
 fn put_root(out: &mut Vec<u8>, name: &Name, at: &Addr)
-    requires { HasRoom out.old (14 + length name.now) }
+    requires { HasRoom out.old (ROOT_ENTRY_BYTES + length name.now) }
     ensures text { Appends out.old out.new (entry_spelling (Root name.now at.now)) }
-    ensures sized { length (entry_spelling (Root name.now at.now)) ≡ 14 + length name.now }
+    ensures sized { length (entry_spelling (Root name.now at.now)) ≡ ROOT_ENTRY_BYTES + length name.now }
 {
     let bytes = name.as_slice();
     put_u8(out, ROOT);
@@ -58,9 +59,9 @@ fn put_entry(out: &mut Vec<u8>, entry: &CatEntry)
 }
 
 fn put_entries(out: &mut Vec<u8>, entries: &[CatEntry])
-    requires { vec_len out.old + catalog_used entries.now ≤ 46 + vec_capacity out.old }
+    requires { vec_len out.old + catalog_used entries.now ≤ ENTRIES + vec_capacity out.old }
     ensures text { Appends out.old out.new (flat_map entry_spelling entries.now) }
-    ensures sized { 46 + vec_len out.new ≡ vec_len out.old + catalog_used entries.now }
+    ensures sized { ENTRIES + vec_len out.new ≡ vec_len out.old + catalog_used entries.now }
 {
     for entry in entries {
         put_entry(out, entry);

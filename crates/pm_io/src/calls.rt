@@ -1,6 +1,7 @@
 ghost use Rattle.std.specs.Prelude.{◌≡◌, is_err, IsErr, OnOk, OnErr, MatchResult};
 ghost use Rattle.pm_base.specs.Counts.{Rose};
-ghost use Rattle.pm_io.specs.Calls.{raised, is_listed};
+ghost use Rattle.pm_base.specs.Counts.{raised};
+ghost use Rattle.pm_io.specs.Calls.{is_listed};
 
 use crate::Failed;
 use std::io;

@@ -13,7 +13,7 @@ use Rattle.std.proofs.lemmas.Bool.{eq-eqb, ltb-true, ltb-false}
 use Rattle.std.proofs.lemmas.List.Sums.{sum_by-cons}
 use Rattle.pm_types.specs.Orders.{name_cmp}
 use Rattle.pm_types.proofs.Orders.{names_total}
-use Rattle.pm_types.specs.declared.limits.TheConstants.{FIELDS, ROOTS}
+use Rattle.pm_types.specs.declared.limits.TheConstants.{FIELDS, ROOTS, CAR_HEAD_BYTES, CAR_BYTES, LAST_SLOT}
 use Rattle.pm_types.specs.declared.address.Addr.{Addr}
 use Rattle.pm_types.specs.declared.object.Object.{Object}
 use Rattle.pm_types.specs.declared.object.Slot.{Slot}
@@ -48,7 +48,7 @@ below m n less = less_holds (nat_cmp m n) (m < n) (m ≡ n) (n < m) less (ranks 
 
 -- a slot from a least one on, and none over the last
 abbrev IsFrom : ℕ → ℕ × Slot → Type 0
-IsFrom least e = (least ≤ e.0) × (e.0 ≤ 65535)
+IsFrom least e = (least ≤ e.0) × (e.0 ≤ LAST_SLOT)
 
 above : (n : ℕ) (es : List (ℕ × Slot)) → T (below_all nat_cmp n es) → (least : ℕ) → AllByRecursion (IsFrom least) es → AllByRecursion (IsFrom (n + 1)) es
 above n [] less least all = tt
@@ -64,7 +64,7 @@ room_spelled : (slot : Slot) → 4 + slot_size slot ≡ slot_room slot
 room_spelled (Live object) = omega arith
 room_spelled (Moved to) = refl
 
-pub room_used : (es : List (ℕ × Slot)) → car_used es ≡ 14 + sum_by slot_room (map (λ (e : ℕ × Slot). e.1) es)
+pub room_used : (es : List (ℕ × Slot)) → car_used es ≡ CAR_HEAD_BYTES + sum_by slot_room (map (λ (e : ℕ × Slot). e.1) es)
 room_used [] = refl
 room_used (e ∷ es) =
     let first = room_spelled e.1 in
@@ -209,7 +209,7 @@ module _ (view : SpaceView) (law : HeapLaw view) where
   slot_below n car s slot is here =
       (omega arith, within (nat_lt s car.next) refl)
     where
-      within : (b : Bool) → nat_lt s car.next ≡ b → s ≤ 65535
+      within : (b : Bool) → nat_lt s car.next ≡ b → s ≤ LAST_SLOT
       within true is_below = let next = (law.built.cars n car is).sound.next in let less = ltb-true s car.next is_below in omega (arith, next, less)
       within false is_past =
           let gone : slot_at view.cars (record { car = n; slot = s }) ≡ None = ap (option_and_then (λ (car : Car). get car.slots s)) is ∙ (law.built.cars n car is).sound.below s (ltb-false s car.next is_past) in
@@ -234,7 +234,7 @@ module _ (view : SpaceView) (law : HeapLaw view) where
       record {
         from_one = known.from_one;
         ascend = ascending 0 (entries car.slots) (entries_sorted car.slots) (in_slots (IsFrom 0) n car is (λ s slot here. slot_below n car s slot is here));
-        fits = subst (λ m. m ≤ 16384) (sym (room_used (entries car.slots))) known.sound.room;
+        fits = subst (λ m. m ≤ CAR_BYTES) (sym (room_used (entries car.slots))) known.sound.room;
         slots = in_slots (λ (e : ℕ × Slot). HasSpelling FIELDS e.1) n car is (λ s slot here. slot_spelled (record { car = n; slot = s }) slot free here);
       }
 

@@ -12,6 +12,7 @@ use Rattle.pm_roots.proofs.Sorted.{first, second, find_first}
 use Rattle.std.proofs.lemmas.Bool.{eqb-true, eq-eqb, true≢false}
 use Rattle.std.proofs.lemmas.Option.{same_Some}
 use Rattle.pm_model.proofs.Unused.{tied_nat}
+use Rattle.pm_base.proofs.Shown.{tied}
 
 -- ---- what holds of each element
 
@@ -73,11 +74,6 @@ not_equal Less h = refl
 not_equal Equal h = absurd h
 not_equal Greater h = absurd h
 
-pub is_tie : (r : Ordering) → is_eq r ≡ true → r ≡ Equal
-is_tie Less is = cc
-is_tie Equal is = refl
-is_tie Greater is = cc
-
 some_is_none : {X : Type 0} (x : X) → None ≡ Some x → ⊥
 some_is_none x is = cc
 
@@ -94,7 +90,7 @@ module _ {K X : Type 0} {R : K → K → Ordering} (o : IsTotalOrder R) where
   pub found_later : (e : K × X) (es : List (K × X)) (q : K) (x : X) → T (is_sorted R (e ∷ es)) → find R q es ≡ Some x → find R q (e ∷ es) ≡ Some x
   found_later e es q x sorted is =
       elim (eq_by_cmp R q e.0) as (λ b. eq_by_cmp R q e.0 ≡ b → cond b (Some e.1) (find R q es) ≡ Some x) [
-        | true ↦ λ tied. absurd (some_is_none x (sym (tied_below q e.0 es (is_tie (R q e.0) tied) (first _ _ sorted)) ∙ is))
+        | true ↦ λ same. absurd (some_is_none x (sym (tied_below q e.0 es (tied (R q e.0) same) (first _ _ sorted)) ∙ is))
         | false ↦ λ apart. is
       ] refl
 

@@ -12,6 +12,7 @@ use Rattle.std.proofs.lemmas.Bool.{eqb-true}
 use Rattle.std.proofs.lemmas.List.{length-map}
 use Rattle.std.proofs.lemmas.List.Sums.{sum_by-cons}
 use Rattle.std.proofs.lemmas.Option.{same_Some}
+use Rattle.pm_types.specs.declared.limits.TheConstants.{CAR_BYTES, LAST_SLOT}
 use Rattle.pm_types.specs.declared.address.Addr.{Addr}
 use Rattle.pm_types.specs.declared.object.Object.{Object}
 use Rattle.pm_types.specs.declared.object.Slot.{Slot}
@@ -153,7 +154,7 @@ module _ (all : List CarImage) where
     | false ↦ λ there is. next_past (e.0 + 1) es n slot ascend.2 is
   ] refl is
 
-  next_small : (next least : ℕ) (es : List (ℕ × Slot)) → next ≤ 65536 → Ascend least es → next_after next es ≤ 65536
+  next_small : (next least : ℕ) (es : List (ℕ × Slot)) → next ≤ LAST_SLOT + 1 → Ascend least es → next_after next es ≤ LAST_SLOT + 1
   next_small next least [] small ascend = small
   next_small next least (e ∷ es) small ascend = next_small (e.0 + 1) (e.0 + 1) es (let low = ascend.1 in omega (arith, low)) ascend.2
 
@@ -170,7 +171,7 @@ module _ (all : List CarImage) where
     values_opened : values (opened_car all car).slots ≡ map (λ (e : ℕ × Slot). e.1) (opened_slots all car.slots)
     values_opened = ap (map (λ (e : ℕ × Slot). e.1)) (entries_opened 0 car.slots ascend)
 
-    pub car_sound : car_used car.slots ≤ 16384 → cars_of.IsSound (opened_car all car)
+    pub car_sound : car_used car.slots ≤ CAR_BYTES → cars_of.IsSound (opened_car all car)
     car_sound fits = record {
       room =
           let kept = room_kept car.slots in

@@ -1,11 +1,13 @@
 -- Where each address of a graph leads to an object, none is at fault.
 use Rattle.std.proofs.Common.{◌≡◌, ℕ, ◌+◌, Bool, true, List, [], ◌∷◌, length, Option, Some, None, is_some, Ok, Err, refl, ap, ◌∙◌, if◌then◌else◌}
 use Rattle.std.specs.List.{flat_map, AllByRecursion}
+use Rattle.pm_types.specs.declared.limits.TheConstants.{CAR_HEAD_BYTES}
 use Rattle.pm_types.specs.declared.address.Addr.{Addr}
 use Rattle.pm_types.specs.declared.fault.OpenFault.TheVariants.{Malformed}
 use Rattle.pm_types.specs.declared.object.Slot.{Slot}
 use Rattle.pm_types.specs.declared.object.Slot.TheVariants.{Live, Moved}
 use Rattle.pm_layout.specs.Spelling.{slot_size}
+use Rattle.pm_image.specs.declared.catalog_kind.TheConstants.{ENTRIES, CAR_ENTRY_BYTES, ROOT_ENTRY_BYTES}
 use Rattle.pm_image.specs.declared.catalog.CatEntry.{CatEntry}
 use Rattle.pm_image.specs.declared.catalog.CatEntry.TheVariants.{Car, Root}
 use Rattle.pm_image.specs.declared.catalog.CatalogPage.{CatalogPage}
@@ -48,25 +50,25 @@ module _ (cars : List CarImage) where
   record_sites_lead page place (first ∷ slots) all =
       all_both (Leads cars) (slot_sites page place first.1) (record_sites page (place + 4 + slot_size first.1) slots) (slot_sites_lead page place first.1 all.0) (record_sites_lead page (place + 4 + slot_size first.1) slots all.1)
 
-  car_sites_lead : (these : List KeptPage) → AllByRecursion (CarLeads cars) (images_of these) → AllByRecursion (Leads cars) (flat_map (λ (kept : KeptPage). record_sites kept.page 14 kept.image.slots) these)
+  car_sites_lead : (these : List KeptPage) → AllByRecursion (CarLeads cars) (images_of these) → AllByRecursion (Leads cars) (flat_map (λ (kept : KeptPage). record_sites kept.page CAR_HEAD_BYTES kept.image.slots) these)
   car_sites_lead [] all = tt
   car_sites_lead (kept ∷ these) all =
-      all_both (Leads cars) (record_sites kept.page 14 kept.image.slots) (flat_map (λ (kept : KeptPage). record_sites kept.page 14 kept.image.slots) these) (record_sites_lead kept.page 14 kept.image.slots all.0) (car_sites_lead these all.1)
+      all_both (Leads cars) (record_sites kept.page CAR_HEAD_BYTES kept.image.slots) (flat_map (λ (kept : KeptPage). record_sites kept.page CAR_HEAD_BYTES kept.image.slots) these) (record_sites_lead kept.page CAR_HEAD_BYTES kept.image.slots all.0) (car_sites_lead these all.1)
 
   root_sites_lead : (page place : ℕ) (entries : List CatEntry) → AllByRecursion (RootLeads cars) entries → AllByRecursion (Leads cars) (root_sites page place entries)
   root_sites_lead page place [] all = tt
-  root_sites_lead page place (Car car train at digest ∷ entries) all = root_sites_lead page (place + 57) entries all.1
-  root_sites_lead page place (Root name to ∷ entries) all = (through_some cars (slot_named cars to) all.0, root_sites_lead page (place + 14 + length name) entries all.1)
+  root_sites_lead page place (Car car train at digest ∷ entries) all = root_sites_lead page (place + CAR_ENTRY_BYTES) entries all.1
+  root_sites_lead page place (Root name to ∷ entries) all = (through_some cars (slot_named cars to) all.0, root_sites_lead page (place + ROOT_ENTRY_BYTES + length name) entries all.1)
 
-  catalog_sites_lead : (catalog : Catalog) → AllByRecursion (RootLeads cars) (entries_of catalog) → AllByRecursion (Leads cars) (flat_map (λ (page : ℕ × CatalogPage). root_sites page.0 46 page.1.entries) catalog)
+  catalog_sites_lead : (catalog : Catalog) → AllByRecursion (RootLeads cars) (entries_of catalog) → AllByRecursion (Leads cars) (flat_map (λ (page : ℕ × CatalogPage). root_sites page.0 ENTRIES page.1.entries) catalog)
   catalog_sites_lead [] all = tt
   catalog_sites_lead (page ∷ catalog) all =
-      all_both (Leads cars) (root_sites page.0 46 page.1.entries) (flat_map (λ (page : ℕ × CatalogPage). root_sites page.0 46 page.1.entries) catalog)
-      (root_sites_lead page.0 46 page.1.entries (all_front (RootLeads cars) page.1.entries (entries_of catalog) all)) (catalog_sites_lead catalog (all_back (RootLeads cars) page.1.entries (entries_of catalog) all))
+      all_both (Leads cars) (root_sites page.0 ENTRIES page.1.entries) (flat_map (λ (page : ℕ × CatalogPage). root_sites page.0 ENTRIES page.1.entries) catalog)
+      (root_sites_lead page.0 ENTRIES page.1.entries (all_front (RootLeads cars) page.1.entries (entries_of catalog) all)) (catalog_sites_lead catalog (all_back (RootLeads cars) page.1.entries (entries_of catalog) all))
 
 -- where each address leads to an object, none is at fault
 pub all_linked : (catalog : Catalog) (kept : List KeptPage) → AllByRecursion (CarLeads (images_of kept)) (images_of kept) → AllByRecursion (RootLeads (images_of kept)) (entries_of catalog) → linked (images_of kept) (sites_of catalog kept) ≡ Ok tt
 all_linked catalog kept of_cars of_roots =
     let cars = images_of kept in
-    linked_again cars (sites_of catalog kept) (all_both (Leads cars) (flat_map (λ (kept : KeptPage). record_sites kept.page 14 kept.image.slots) kept) (flat_map (λ (page : ℕ × CatalogPage). root_sites page.0 46 page.1.entries) catalog)
+    linked_again cars (sites_of catalog kept) (all_both (Leads cars) (flat_map (λ (kept : KeptPage). record_sites kept.page CAR_HEAD_BYTES kept.image.slots) kept) (flat_map (λ (page : ℕ × CatalogPage). root_sites page.0 ENTRIES page.1.entries) catalog)
     (car_sites_lead cars kept of_cars) (catalog_sites_lead cars catalog of_roots))

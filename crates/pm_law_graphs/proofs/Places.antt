@@ -3,13 +3,14 @@ use Rattle.std.proofs.Common.{◌≡◌, ℕ, ◌+◌, ◌-◌, ◌*◌, ◌≤�
 use Rattle.std.specs.List.{flat_map, slice_range, AllByRecursion}
 use Rattle.std.proofs.lemmas.List.{take_at, drop_at}
 use Rattle.byteorder.specs.Endian.{big_bytes}
-use Rattle.pm_types.specs.declared.limits.TheConstants.{PAGE_BYTES}
+use Rattle.pm_types.specs.declared.limits.TheConstants.{PAGE_BYTES, CAR_HEAD_BYTES}
 use Rattle.pm_types.specs.declared.address.Addr.{Addr}
 use Rattle.pm_types.specs.declared.object.Slot.{Slot}
 use Rattle.pm_types.specs.declared.object.Slot.TheVariants.{Live, Moved}
 use Rattle.pm_layout.specs.Spelling.{address, field, spelling, slot_size, Stands}
 use Rattle.pm_layout.proofs.Sizes.{field_length, fields_length}
 use Rattle.pm_layout.proofs.Texts.{Stands-split}
+use Rattle.pm_image.specs.declared.catalog_kind.TheConstants.{ENTRIES, CAR_ENTRY_BYTES, ROOT_ENTRY_BYTES}
 use Rattle.pm_image.specs.declared.car.CarImage.{CarImage}
 use Rattle.pm_image.specs.declared.catalog.CatEntry.{CatEntry}
 use Rattle.pm_image.specs.declared.catalog.CatEntry.TheVariants.{Car, Root}
@@ -93,10 +94,10 @@ module _ (bytes : List ℕ) (page : ℕ) where
   pub entries_stand : (place end : ℕ) (entries : List CatEntry) → place ≤ length bytes → AllByRecursion HasSize entries → Stands bytes place (flat_map entry_spelling entries) end → AreAt bytes page (root_sites page place entries)
   entries_stand place end [] start sizes stands = tt
   entries_stand place end (Car car train at digest ∷ entries) start sizes stands =
-      let parts = Stands-split bytes (entry_spelling (Car car train at digest)) (flat_map entry_spelling entries) place (place + 57) end start (ap (λ (n : ℕ). place + n) sizes.0) stands in
-      entries_stand (place + 57) end entries parts.first.inside sizes.1 parts.second
+      let parts = Stands-split bytes (entry_spelling (Car car train at digest)) (flat_map entry_spelling entries) place (place + CAR_ENTRY_BYTES) end start (ap (λ (n : ℕ). place + n) sizes.0) stands in
+      entries_stand (place + CAR_ENTRY_BYTES) end entries parts.first.inside sizes.1 parts.second
   entries_stand place end (Root name to ∷ entries) start sizes stands =
-      let next : ℕ = place + 14 + length name in
+      let next : ℕ = place + ROOT_ENTRY_BYTES + length name in
       let sized : place + length (entry_spelling (Root name to)) ≡ next = omega (arith, root_size name to) in
       let parts = Stands-split bytes (entry_spelling (Root name to)) (flat_map entry_spelling entries) place next end start sized stands in
       all_both (IsAt bytes page) (record { page = page; at = place + 2 + length name; to = to; to_live = false } ∷ []) (root_sites page next entries) (entry_stands place next name to start parts.first) (entries_stand next end entries parts.first.inside sizes.1 parts.second)
@@ -112,24 +113,24 @@ whole_stands bytes text whole spelled =
     }
 
 -- the addresses of the page of a car
-pub car_places : (bytes : List ℕ) (page : ℕ) (car : CarImage) → length bytes ≡ PAGE_BYTES → bytes ≡ padded (car_spelling car) → AreAt bytes page (record_sites page 14 car.slots)
+pub car_places : (bytes : List ℕ) (page : ℕ) (car : CarImage) → length bytes ≡ PAGE_BYTES → bytes ≡ padded (car_spelling car) → AreAt bytes page (record_sites page CAR_HEAD_BYTES car.slots)
 unfolding car_spelling
 car_places bytes page car whole spelled =
     let records : List ℕ = flat_map record_spelling car.slots in
     let head : List ℕ = car_magic ++ (big_bytes 8 car.number ++ big_bytes 2 (length car.slots)) in
     let stands = whole_stands bytes (car_spelling car) whole spelled in
-    let parts = Stands-split bytes head records 0 14 (length (car_spelling car)) (omega arith) refl stands in
-    records_stand bytes page 14 (length (car_spelling car)) car.slots parts.first.inside parts.second
+    let parts = Stands-split bytes head records 0 CAR_HEAD_BYTES (length (car_spelling car)) (omega arith) refl stands in
+    records_stand bytes page CAR_HEAD_BYTES (length (car_spelling car)) car.slots parts.first.inside parts.second
 
 -- the addresses of a page of the catalog
-pub catalog_places : (bytes : List ℕ) (page : ℕ) (catalog : CatalogPage) → length bytes ≡ PAGE_BYTES → IsCatalogInRange catalog → bytes ≡ padded (catalog_spelling catalog) → AreAt bytes page (root_sites page 46 catalog.entries)
+pub catalog_places : (bytes : List ℕ) (page : ℕ) (catalog : CatalogPage) → length bytes ≡ PAGE_BYTES → IsCatalogInRange catalog → bytes ≡ padded (catalog_spelling catalog) → AreAt bytes page (root_sites page ENTRIES catalog.entries)
 unfolding catalog_spelling
 catalog_places bytes page catalog whole range spelled =
     let entries : List ℕ = flat_map entry_spelling catalog.entries in
     let head : List ℕ = catalog_magic ++ (big_bytes 8 catalog.next ++ (catalog.digest ++ big_bytes 2 (length catalog.entries))) in
     let stands = whole_stands bytes (catalog_spelling catalog) whole spelled in
-    let sized : 0 + length head ≡ 46 = omega (arith, range.digest, length-append catalog.digest (big_bytes 2 (length catalog.entries))) in
+    let sized : 0 + length head ≡ ENTRIES = omega (arith, range.digest, length-append catalog.digest (big_bytes 2 (length catalog.entries))) in
     let same : catalog_spelling catalog ≡ head ++ entries =
     ap (λ (t : List ℕ). catalog_magic ++ (big_bytes 8 catalog.next ++ t)) (sym (append_assoc catalog.digest (big_bytes 2 (length catalog.entries)) entries)) in
-    let parts = Stands-split bytes head entries 0 46 (length (catalog_spelling catalog)) (omega arith) sized (subst (λ (t : List ℕ). Stands bytes 0 t (length (catalog_spelling catalog))) same stands) in
-    entries_stand bytes page 46 (length (catalog_spelling catalog)) catalog.entries parts.first.inside (sizes catalog.entries range.entries) parts.second
+    let parts = Stands-split bytes head entries 0 ENTRIES (length (catalog_spelling catalog)) (omega arith) sized (subst (λ (t : List ℕ). Stands bytes 0 t (length (catalog_spelling catalog))) same stands) in
+    entries_stand bytes page ENTRIES (length (catalog_spelling catalog)) catalog.entries parts.first.inside (sizes catalog.entries range.entries) parts.second

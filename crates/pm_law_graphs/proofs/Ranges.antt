@@ -7,7 +7,7 @@ use Rattle.std.specs.Prelude.{IfSome}
 use Rattle.std.proofs.lemmas.Bool.{ltb-false}
 use Rattle.byteorder.specs.Numbers.{big_from-lt}
 use Rattle.pm_types.specs.declared.address.Addr.{Addr}
-use Rattle.pm_types.specs.declared.limits.TheConstants.{LAST_SLOT, NAME_BYTES, PAGE_BYTES}
+use Rattle.pm_types.specs.declared.limits.TheConstants.{LAST_SLOT, NAME_BYTES, PAGE_BYTES, CAR_HEAD_BYTES}
 use Rattle.pm_types.specs.declared.object.Slot.{Slot}
 use Rattle.pm_types.specs.declared.object.Slot.TheVariants.{Live, Moved}
 use Rattle.pm_layout.specs.declared.fault.LayoutFault.{LayoutFault}
@@ -19,6 +19,7 @@ use Rattle.pm_layout.proofs.Numbers.{IsBytes, IsBytes-drop}
 use Rattle.pm_layout.proofs.Slots.{ident_takes}
 use Rattle.pm_base.specs.Results.{◌>>=◌}
 use Rattle.pm_base.proofs.Results.{bind_ok, ok_same, if_ok, wanted_ok}
+use Rattle.pm_image.specs.declared.catalog_kind.TheConstants.{ENTRIES, CAR_ENTRY_BYTES, ROOT_ENTRY_BYTES}
 use Rattle.pm_image.specs.declared.car.CarImage.{CarImage}
 use Rattle.pm_image.specs.declared.catalog.CatEntry.{CatEntry}
 use Rattle.pm_image.specs.declared.catalog.CatEntry.TheVariants.{Car, Root}
@@ -130,25 +131,25 @@ car_range scope met page car fits read =
     let made : List (ℕ × Slot) → CarImage = λ rs. record { number = number_from 8 page 4; slots = rs } in
     let a = bind_ok (magic_at car_magic page) _ car read in
     let b = bind_ok (tested (is_named scope.number (number_from 8 page 4)) 4) _ car a.2 in
-    let c = bind_ok (records_at scope met 0 page (number_from 2 page 12) 14) _ car b.2 in
+    let c = bind_ok (records_at scope met 0 page (number_from 2 page 12) CAR_HEAD_BYTES) _ car b.2 in
     let d = bind_ok (rest_at page c.0.1) (λ is_all. Ok (made c.0.0)) car c.2 in
     subst IsCarInRange {x = made c.0.0} (ok_same (made c.0.0) car d.2)
-    (record { number = eight page 4 fits; slots = records_range scope page (number_from 2 page 12) met 0 14 c.0 fits c.1 })
+    (record { number = eight page 4 fits; slots = records_range scope page (number_from 2 page 12) met 0 CAR_HEAD_BYTES c.0 fits c.1 })
 
 -- ---- the catalog
 
-car_entry_range : (count : Option ℕ) (met : Met) (page : List ℕ) (place : ℕ) (x : CatEntry × ℕ) → IsBytes page → place + 57 ≤ length page → car_entry_at count met page place ≡ Ok x → IsEntryInRange x.0
+car_entry_range : (count : Option ℕ) (met : Met) (page : List ℕ) (place : ℕ) (x : CatEntry × ℕ) → IsBytes page → place + CAR_ENTRY_BYTES ≤ length page → car_entry_at count met page place ≡ Ok x → IsEntryInRange x.0
 unfolding car_entry_at
 car_entry_range count met page place x fits inside read =
     let car = number_from 8 page (place + 1) in
     let train = number_from 8 page (place + 9) in
     let at = number_from 8 page (place + 17) in
-    let digest = slice_range page (place + 25) (place + 57) in
-    let made : CatEntry × ℕ = (Car car train at digest, place + 57) in
+    let digest = slice_range page (place + 25) (place + CAR_ENTRY_BYTES) in
+    let made : CatEntry × ℕ = (Car car train at digest, place + CAR_ENTRY_BYTES) in
     let g = if_ok (eqb car 0 || set.contains met.cars car) (place + 1) (cond (ltb train met.train) (Err (place + 9)) (cond (not (is_free_page count met.pages at)) (Err (place + 17)) (Ok made))) x read in
     let h = if_ok (ltb train met.train) (place + 9) (cond (not (is_free_page count met.pages at)) (Err (place + 17)) (Ok made)) x g.1 in
     let k = if_ok (not (is_free_page count met.pages at)) (place + 17) (Ok made) x h.1 in
-    let long : length digest ≡ 32 = omega (arith, length-take (place + 57 - (place + 25)) (drop (place + 25) page), length-drop (place + 25) page) in
+    let long : length digest ≡ 32 = omega (arith, length-take (place + CAR_ENTRY_BYTES - (place + 25)) (drop (place + 25) page), length-drop (place + 25) page) in
     subst (λ (y : CatEntry × ℕ). IsEntryInRange y.0) (ok_same made x k.1) (eight page (place + 1) fits, eight page (place + 9) fits, eight page (place + 17) fits, long)
 
 root_entry_range : (count : Option ℕ) (met : Met) (page : List ℕ) (place : ℕ) (x : CatEntry × ℕ) → IsBytes page → root_entry_at count met page place ≡ Ok x → IsEntryInRange x.0
@@ -157,7 +158,7 @@ root_entry_range count met page place x fits read =
     let len = get_or page (place + 1) 0 in
     let name = slice_range page (place + 2) (place + 2 + len) in
     let at = address_at page (place + 2 + len) in
-    let made : CatEntry × ℕ = (Root name at, place + 14 + len) in
+    let made : CatEntry × ℕ = (Root name at, place + ROOT_ENTRY_BYTES + len) in
     let a = bind_ok (tested (ltb 0 len && leb len NAME_BYTES) (place + 1)) _ x read in
     let b = bind_ok (name_bytes (place + 2) (bad_name_byte name)) _ x a.2 in
     let d = bind_ok (tested (is_next_name met.name name && has_root_left count met.roots) (place + 1)) _ x b.2 in
@@ -168,16 +169,16 @@ entry_range : (count : Option ℕ) (met : Met) (page : List ℕ) (place : ℕ) (
 unfolding entry_at
 entry_range count met page place x fits read =
     let kind = get_or page place 0 in
-    let as_car = cond (ltb (length page) (place + 57) || not (is_none met.name)) (Err place) (car_entry_at count met page place) in
-    let as_root = cond (ltb (length page) (place + 14 + get_or page (place + 1) 0)) (Err place) (root_entry_at count met page place) in
+    let as_car = cond (ltb (length page) (place + CAR_ENTRY_BYTES) || not (is_none met.name)) (Err place) (car_entry_at count met page place) in
+    let as_root = cond (ltb (length page) (place + ROOT_ENTRY_BYTES + get_or page (place + 1) 0)) (Err place) (root_entry_at count met page place) in
     elim (chosen (eqb kind 1) as_car (cond (eqb kind 2) as_root (Err place)) (Ok x) read) [
       | inl car ↦
-          let g = if_ok (ltb (length page) (place + 57) || not (is_none met.name)) place (car_entry_at count met page place) x car.1 in
-          let inside = neither (ltb (length page) (place + 57)) (not (is_none met.name)) g.0 in
+          let g = if_ok (ltb (length page) (place + CAR_ENTRY_BYTES) || not (is_none met.name)) place (car_entry_at count met page place) x car.1 in
+          let inside = neither (ltb (length page) (place + CAR_ENTRY_BYTES)) (not (is_none met.name)) g.0 in
           car_entry_range count met page place x fits (ltb-false _ _ inside.0) g.1
       | inr other ↦
           let h = wanted_ok (eqb kind 2) place as_root x other.1 in
-          let g = if_ok (ltb (length page) (place + 14 + get_or page (place + 1) 0)) place (root_entry_at count met page place) x h.1 in
+          let g = if_ok (ltb (length page) (place + ROOT_ENTRY_BYTES + get_or page (place + 1) 0)) place (root_entry_at count met page place) x h.1 in
           root_entry_range count met page place x fits g.1
     ]
 
@@ -203,7 +204,7 @@ catalog_range count met page read whole fits is =
     let a = bind_ok (magic_at catalog_magic page) _ read is in
     let b = bind_ok (tested (is_next_page count met.pages next) 4) _ read a.2 in
     let d = bind_ok (tested (has_next_digest next digest) 12) _ read b.2 in
-    let e = bind_ok (entries_at count (meeting_next met next) page (number_from 2 page 44) 46) _ read d.2 in
+    let e = bind_ok (entries_at count (meeting_next met next) page (number_from 2 page 44) ENTRIES) _ read d.2 in
     let f = bind_ok (rest_at page e.0.1) (λ z. Ok (made e.0.0)) read e.2 in
     subst IsCatalogInRange {x = made e.0.0} (ok_same (made e.0.0) read f.2)
-    (record { next = eight page 4 fits; digest = part_length page 12 32 (omega arith); entries = entries_range (number_from 2 page 44) count (meeting_next met next) page 46 e.0 fits e.1 })
+    (record { next = eight page 4 fits; digest = part_length page 12 32 (omega arith); entries = entries_range (number_from 2 page 44) count (meeting_next met next) page ENTRIES e.0 fits e.1 })

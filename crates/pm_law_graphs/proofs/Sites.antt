@@ -4,16 +4,17 @@ use Rattle.std.specs.Prelude.{Contains}
 use Rattle.std.specs.List.{AllByRecursion, flat_map}
 use Rattle.std.specs.FinSet as set
 use Rattle.std.proofs.lemmas.List.Elements.{Contains-append_left, Contains-append_right}
+use Rattle.pm_types.specs.declared.limits.TheConstants.{CAR_HEAD_BYTES}
 use Rattle.pm_types.specs.declared.fault.OpenFault.{OpenFault}
 use Rattle.pm_layout.specs.declared.header.Header.{Header}
 use Rattle.pm_layout.specs.Headers.{most_fields}
 use Rattle.pm_base.specs.Results.{◌>>=◌}
+use Rattle.pm_image.specs.declared.catalog_kind.TheConstants.{ENTRIES}
 use Rattle.pm_image.specs.declared.catalog.CatalogPage.{CatalogPage}
 use Rattle.pm_image.specs.declared.settled.KeptPage.{KeptPage}
 use Rattle.pm_image.specs.CatalogPages.{IsCatalogInRange}
 use Rattle.pm_image.specs.Opening.{is_placed}
 use Rattle.pm_image.specs.Graphs.{Catalog, Graph, Pages, Site, cars_from, entries_of, graph_of, images_of, linked, record_sites, root_sites, sites_of, used_pages}
-use Rattle.pm_image.proofs.RuleLaws.{either_fails}
 use Rattle.pm_law_graphs.specs.Places.{AreRead, IsOfFirstAstray, StandsAtPlace}
 use Rattle.pm_law_graphs.specs.Spelled.{AreWhole, IsCarSpelled, IsCatalogSpelled}
 use Rattle.pm_law_graphs.proofs.Lists.{all_back, all_both, all_follow}
@@ -23,6 +24,7 @@ use Rattle.pm_law_graphs.proofs.Cars.{are_spelled, cars_found}
 use Rattle.pm_law_graphs.proofs.Order.{IsPlaced}
 use Rattle.pm_law_graphs.proofs.Whole.{numbers_of}
 use Rattle.pm_law_graphs.proofs.Found.{pages_below, catalog_whole, same_pages}
+use Rattle.pm_base.proofs.Results.{either_fails}
 
 module _ (pages : Pages) (graph : Graph) (all : AreWhole pages) where
   -- an address that stands in the bytes of a page that is used
@@ -34,24 +36,24 @@ module _ (pages : Pages) (graph : Graph) (all : AreWhole pages) where
 
   car_sites_stand : (most : ℕ) (cars : List KeptPage) → ((page : ℕ) → Contains (map (λ (kept : KeptPage). kept.page) cars) page → Contains (used_pages graph) page)
       → AllByRecursion (IsPlaced pages.count) (map (λ (kept : KeptPage). kept.page) cars) → AllByRecursion (IsCarSpelled pages most) cars
-      → AllByRecursion (StandsAtPlace pages graph) (flat_map (λ (kept : KeptPage). record_sites kept.page 14 kept.image.slots) cars)
+      → AllByRecursion (StandsAtPlace pages graph) (flat_map (λ (kept : KeptPage). record_sites kept.page CAR_HEAD_BYTES kept.image.slots) cars)
   car_sites_stand most [] used placed spelled = tt
   car_sites_stand most (kept ∷ cars) used placed spelled =
       let here = used kept.page (Contains-append_left (kept.page ∷ []) (map (λ (kept : KeptPage). kept.page) cars) kept.page (0, omega arith, refl)) in
       let sites = car_places (pages.page kept.page) kept.page kept.image (all kept.page placed.0.1).0 spelled.0.spelled in
-      all_both (StandsAtPlace pages graph) (record_sites kept.page 14 kept.image.slots) (flat_map (λ (kept : KeptPage). record_sites kept.page 14 kept.image.slots) cars)
-      (all_follow (IsAt (pages.page kept.page) kept.page) (StandsAtPlace pages graph) (record_sites kept.page 14 kept.image.slots) (λ site is. at_place kept.page site here is) sites)
+      all_both (StandsAtPlace pages graph) (record_sites kept.page CAR_HEAD_BYTES kept.image.slots) (flat_map (λ (kept : KeptPage). record_sites kept.page CAR_HEAD_BYTES kept.image.slots) cars)
+      (all_follow (IsAt (pages.page kept.page) kept.page) (StandsAtPlace pages graph) (record_sites kept.page CAR_HEAD_BYTES kept.image.slots) (λ site is. at_place kept.page site here is) sites)
       (car_sites_stand most cars (λ page in_. used page (Contains-append_right (kept.page ∷ []) (map (λ (kept : KeptPage). kept.page) cars) page in_)) placed.1 spelled.1)
 
   catalog_sites_stand : (catalog : Catalog) → ((page : ℕ) → Contains (numbers_of catalog) page → Contains (used_pages graph) page)
       → AllByRecursion (IsPlaced pages.count) (numbers_of catalog) → AllByRecursion (IsCatalogSpelled pages) catalog → AllByRecursion (λ (page : ℕ × CatalogPage). IsCatalogInRange page.1) catalog
-      → AllByRecursion (StandsAtPlace pages graph) (flat_map (λ (page : ℕ × CatalogPage). root_sites page.0 46 page.1.entries) catalog)
+      → AllByRecursion (StandsAtPlace pages graph) (flat_map (λ (page : ℕ × CatalogPage). root_sites page.0 ENTRIES page.1.entries) catalog)
   catalog_sites_stand [] used placed spelled range = tt
   catalog_sites_stand (first ∷ catalog) used placed spelled range =
       let here = used first.0 (Contains-append_left (first.0 ∷ []) (numbers_of catalog) first.0 (0, omega arith, refl)) in
       let sites = catalog_places (pages.page first.0) first.0 first.1 (all first.0 placed.0.1).0 range.0 spelled.0.spelled in
-      all_both (StandsAtPlace pages graph) (root_sites first.0 46 first.1.entries) (flat_map (λ (page : ℕ × CatalogPage). root_sites page.0 46 page.1.entries) catalog)
-      (all_follow (IsAt (pages.page first.0) first.0) (StandsAtPlace pages graph) (root_sites first.0 46 first.1.entries) (λ site is. at_place first.0 site here is) sites)
+      all_both (StandsAtPlace pages graph) (root_sites first.0 ENTRIES first.1.entries) (flat_map (λ (page : ℕ × CatalogPage). root_sites page.0 ENTRIES page.1.entries) catalog)
+      (all_follow (IsAt (pages.page first.0) first.0) (StandsAtPlace pages graph) (root_sites first.0 ENTRIES first.1.entries) (λ site is. at_place first.0 site here is) sites)
       (catalog_sites_stand catalog (λ page in_. used page (Contains-append_right (first.0 ∷ []) (numbers_of catalog) page in_)) placed.1 spelled.1 range.1)
 
 -- each address of what was read stands at its place
@@ -64,7 +66,7 @@ all_stand pages header graph all placed read =
     let there = catalog_whole pages header catalog all placed read.catalog in
     let found = cars_found most header.next pages set.empty (entries_of catalog) cars all (pages_below pages.count _ there.cars_placed) read.cars in
     let cars_placed = subst (AllByRecursion (IsPlaced pages.count)) (same_pages _ cars found.0) there.cars_placed in
-    all_both (StandsAtPlace pages graph) (flat_map (λ (kept : KeptPage). record_sites kept.page 14 kept.image.slots) cars) (flat_map (λ (page : ℕ × CatalogPage). root_sites page.0 46 page.1.entries) catalog)
+    all_both (StandsAtPlace pages graph) (flat_map (λ (kept : KeptPage). record_sites kept.page CAR_HEAD_BYTES kept.image.slots) cars) (flat_map (λ (page : ℕ × CatalogPage). root_sites page.0 ENTRIES page.1.entries) catalog)
     (car_sites_stand pages graph all most cars (Contains-append_right (numbers_of catalog) car_numbers) cars_placed (are_spelled most header.next pages set.empty cars found.1))
     (catalog_sites_stand pages graph all catalog (Contains-append_left (numbers_of catalog) car_numbers) there.placed there.spelled there.range)
 

@@ -2,6 +2,7 @@
 use Rattle.std.proofs.Common.{◌≡◌, ℕ, zero, suc, ◌+◌, ◌*◌, ◌<◌, ◌≤◌, List, [], ◌∷◌, ◌++◌, replicate, refl, sym, arith}
 use Rattle.std.proofs.lemmas.List.{append-nil, length-replicate}
 use Rattle.pm_types.specs.declared.limits.TheConstants.{PAGE_BYTES}
+use Rattle.pm_image.specs.declared.catalog_kind.TheConstants.{ENTRIES, CAR_ENTRY_BYTES, ROOT_ENTRY_BYTES}
 use Rattle.pm_image.specs.declared.catalog.CatEntry.{CatEntry}
 use Rattle.pm_image.specs.CatalogPages.{catalog_used, entry_size}
 use Rattle.pm_law_layout.specs.Cutting.{FitsAlone, cut}
@@ -15,24 +16,24 @@ two_pages : (page : List CatEntry) (entry : CatEntry) → catalog_used page ≤ 
 two_pages page entry fits full alone =
     sym (one_cut (page ++ entry ∷ []) (page ∷ (entry ∷ []) ∷ []) (record { whole = refl; fit = (fits, (alone, tt)); filled = (full, tt); some = omega arith }))
 
-cars_used : (n : ℕ) → catalog_used (replicate n a_car) ≡ 57 * n + 46
+cars_used : (n : ℕ) → catalog_used (replicate n a_car) ≡ CAR_ENTRY_BYTES * n + ENTRIES
 cars_used zero = refl
 cars_used (suc n) = let rest = cars_used n in omega (arith, rest)
 
-cars_and_root : (n bytes : ℕ) → catalog_used (replicate n a_car ++ a_root bytes ∷ []) ≡ 57 * n + (60 + bytes)
+cars_and_root : (n bytes : ℕ) → catalog_used (replicate n a_car ++ a_root bytes ∷ []) ≡ CAR_ENTRY_BYTES * n + (ENTRIES + ROOT_ENTRY_BYTES + bytes)
 cars_and_root zero bytes = omega (arith, length-replicate {A = ℕ} bytes 97)
 cars_and_root (suc n) bytes = let rest = cars_and_root n bytes in omega (arith, rest)
 
-pub only_cars : (n : ℕ) → 57 * n + 46 ≤ 16384 → cut (replicate n a_car) ≡ replicate n a_car ∷ []
+pub only_cars : (n : ℕ) → CAR_ENTRY_BYTES * n + ENTRIES ≤ PAGE_BYTES → cut (replicate n a_car) ≡ replicate n a_car ∷ []
 only_cars n fits = one_page (replicate n a_car) (let used = cars_used n in omega (arith, used, fits))
 
-pub one_car_more : (n : ℕ) → 57 * n + 46 ≤ 16384 → 16384 < 57 * n + 103 → cut (replicate n a_car ++ a_car ∷ []) ≡ replicate n a_car ∷ (a_car ∷ []) ∷ []
+pub one_car_more : (n : ℕ) → CAR_ENTRY_BYTES * n + ENTRIES ≤ PAGE_BYTES → PAGE_BYTES < CAR_ENTRY_BYTES * n + (ENTRIES + CAR_ENTRY_BYTES) → cut (replicate n a_car ++ a_car ∷ []) ≡ replicate n a_car ∷ (a_car ∷ []) ∷ []
 one_car_more n fits full = let used = cars_used n in two_pages (replicate n a_car) a_car (omega (arith, used, fits)) (omega (arith, used, full)) (omega arith)
 
-pub with_root : (n bytes : ℕ) → 57 * n + (60 + bytes) ≤ 16384 → cut (replicate n a_car ++ a_root bytes ∷ []) ≡ (replicate n a_car ++ a_root bytes ∷ []) ∷ []
+pub with_root : (n bytes : ℕ) → CAR_ENTRY_BYTES * n + (ENTRIES + ROOT_ENTRY_BYTES + bytes) ≤ PAGE_BYTES → cut (replicate n a_car ++ a_root bytes ∷ []) ≡ (replicate n a_car ++ a_root bytes ∷ []) ∷ []
 with_root n bytes fits = one_page (replicate n a_car ++ a_root bytes ∷ []) (let used = cars_and_root n bytes in omega (arith, used, fits))
 
-pub then_root : (n bytes : ℕ) → 57 * n + 46 ≤ 16384 → 16384 < 57 * n + (60 + bytes) → bytes ≤ 64 → cut (replicate n a_car ++ a_root bytes ∷ []) ≡ replicate n a_car ∷ (a_root bytes ∷ []) ∷ []
+pub then_root : (n bytes : ℕ) → CAR_ENTRY_BYTES * n + ENTRIES ≤ PAGE_BYTES → PAGE_BYTES < CAR_ENTRY_BYTES * n + (ENTRIES + ROOT_ENTRY_BYTES + bytes) → bytes ≤ 64 → cut (replicate n a_car ++ a_root bytes ∷ []) ≡ replicate n a_car ∷ (a_root bytes ∷ []) ∷ []
 then_root n bytes fits full short =
     let used = cars_used n in
     let name = length-replicate {A = ℕ} bytes 97 in

@@ -4,7 +4,7 @@ use Rattle.std.specs.List.{AllByRecursion}
 use Rattle.std.proofs.lemmas.Bool.{eqb-true}
 use Rattle.std.proofs.lemmas.List.{length-map}
 use Rattle.pm_types.specs.declared.address.Addr.{Addr}
-use Rattle.pm_types.specs.declared.limits.TheConstants.{ROOTS}
+use Rattle.pm_types.specs.declared.limits.TheConstants.{ROOTS, LAST_SLOT}
 use Rattle.pm_types.specs.declared.object.Slot.{Slot}
 use Rattle.pm_types.specs.Names.{IsName}
 use Rattle.pm_layout.specs.Spelling.{IsAddress}
@@ -135,11 +135,11 @@ addressed : (cars : List CarImage) → AllByRecursion IsAcceptedCar cars → All
 addressed [] accepted range = tt
 addressed (car ∷ cars) accepted range = (record { from_one = accepted.0.from_one; below = range.0.number; ascend = accepted.0.ascend }, addressed cars accepted.1 range.1)
 
-last_of : (least : ℕ) (slots : List (ℕ × Slot)) (number : ℕ) (slot : Slot) → Ascend least slots → slot_in slots number ≡ Some slot → number ≤ 65535
+last_of : (least : ℕ) (slots : List (ℕ × Slot)) (number : ℕ) (slot : Slot) → Ascend least slots → slot_in slots number ≡ Some slot → number ≤ LAST_SLOT
 last_of least [] number slot ascend is = absurd cc
 last_of least (first ∷ slots) number slot ascend is = by (first.0 == number) refl (last_of (first.0 + 1) slots number slot ascend.2) is
   where
-    by : (b : Bool) → (first.0 == number) ≡ b → (slot_in slots number ≡ Some slot → number ≤ 65535) → (if b then Some first.1 else slot_in slots number) ≡ Some slot → number ≤ 65535
+    by : (b : Bool) → (first.0 == number) ≡ b → (slot_in slots number ≡ Some slot → number ≤ LAST_SLOT) → (if b then Some first.1 else slot_in slots number) ≡ Some slot → number ≤ LAST_SLOT
     by true here later is = let same = eqb-true first.0 number here in let last = ascend.1 in omega (arith, same, last)
     by false there later is = later is
 

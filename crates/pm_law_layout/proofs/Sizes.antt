@@ -5,6 +5,7 @@ use Rattle.std.proofs.lemmas.List.{length-map, map-append}
 use Rattle.pm_types.specs.Names.{IsName}
 use Rattle.pm_types.specs.declared.address.Addr.{Addr}
 use Rattle.pm_types.specs.declared.limits.TheConstants.{PAGE_BYTES}
+use Rattle.pm_image.specs.declared.catalog_kind.TheConstants.{ENTRIES, CAR_ENTRY_BYTES, ROOT_ENTRY_BYTES}
 use Rattle.pm_image.specs.declared.catalog.CatEntry.{CatEntry}
 use Rattle.pm_image.specs.CatalogPages.{entry_size}
 use Rattle.pm_law_graphs.proofs.Lists.{all_both}
@@ -40,15 +41,15 @@ by_sizes used (entry ∷ first) [] same = absurd cc
 by_sizes used (one ∷ first) (other ∷ second) same =
     let parts = sizes_parts (entry_size one) (entry_size other) (map entry_size first) (map entry_size second) same in
     either (entry_size one) (nat_le (used + entry_size one) PAGE_BYTES) (λ n. by_sizes n first second parts.1)
-    ∙ ap (λ (size : ℕ). lengths (if nat_le (used + size) PAGE_BYTES then onto_first other (cut_from (used + size) second) else [] ∷ onto_first other (cut_from (size + 46) second))) parts.0
+    ∙ ap (λ (size : ℕ). lengths (if nat_le (used + size) PAGE_BYTES then onto_first other (cut_from (used + size) second) else [] ∷ onto_first other (cut_from (size + ENTRIES) second))) parts.0
   where
     either : (size : ℕ) (b : Bool) → ((n : ℕ) → lengths (cut_from n first) ≡ lengths (cut_from n second))
-        → lengths (if b then onto_first one (cut_from (used + size) first) else [] ∷ onto_first one (cut_from (size + 46) first)) ≡ lengths (if b then onto_first other (cut_from (used + size) second) else [] ∷ onto_first other (cut_from (size + 46) second))
+        → lengths (if b then onto_first one (cut_from (used + size) first) else [] ∷ onto_first one (cut_from (size + ENTRIES) first)) ≡ lengths (if b then onto_first other (cut_from (used + size) second) else [] ∷ onto_first other (cut_from (size + ENTRIES) second))
     either size true rest = one_by_sizes one other (cut_from (used + size) first) (cut_from (used + size) second) (rest (used + size))
-    either size false rest = ap (λ (ns : List ℕ). 0 ∷ ns) (one_by_sizes one other (cut_from (size + 46) first) (cut_from (size + 46) second) (rest (size + 46)))
+    either size false rest = ap (λ (ns : List ℕ). 0 ∷ ns) (one_by_sizes one other (cut_from (size + ENTRIES) first) (cut_from (size + ENTRIES) second) (rest (size + ENTRIES)))
 
 pub lengths_by_sizes : (first second : List CatEntry) → map entry_size first ≡ map entry_size second → lengths (cut first) ≡ lengths (cut second)
-lengths_by_sizes first second same = by_sizes 46 first second same
+lengths_by_sizes first second same = by_sizes ENTRIES first second same
 
 pub count_by_sizes : (first second : List CatEntry) → map entry_size first ≡ map entry_size second → length (cut first) ≡ length (cut second)
 count_by_sizes first second same =
@@ -56,30 +57,30 @@ count_by_sizes first second same =
 
 -- ---- the entries of a plan
 
-car_sizes : (cars : List CarInTrain) → map entry_size (map car_entry cars) ≡ replicate (length cars) 57
+car_sizes : (cars : List CarInTrain) → map entry_size (map car_entry cars) ≡ replicate (length cars) CAR_ENTRY_BYTES
 car_sizes [] = refl
-car_sizes (car ∷ cars) = ap (λ (sizes : List ℕ). 57 ∷ sizes) (car_sizes cars)
+car_sizes (car ∷ cars) = ap (λ (sizes : List ℕ). CAR_ENTRY_BYTES ∷ sizes) (car_sizes cars)
 
-root_sizes : (roots : List (List ℕ × Addr)) → map entry_size (map root_entry roots) ≡ map (λ (root : List ℕ × Addr). 14 + length root.0) roots
+root_sizes : (roots : List (List ℕ × Addr)) → map entry_size (map root_entry roots) ≡ map (λ (root : List ℕ × Addr). ROOT_ENTRY_BYTES + length root.0) roots
 root_sizes [] = refl
-root_sizes (root ∷ roots) = ap (λ (sizes : List ℕ). (14 + length root.0) ∷ sizes) (root_sizes roots)
+root_sizes (root ∷ roots) = ap (λ (sizes : List ℕ). (ROOT_ENTRY_BYTES + length root.0) ∷ sizes) (root_sizes roots)
 
-pub planned_sizes : (plan : CarPlan) → map entry_size (planned_entries plan) ≡ replicate (length (cars_in plan)) 57 ++ map (λ (root : List ℕ × Addr). 14 + length root.0) plan.roots
+pub planned_sizes : (plan : CarPlan) → map entry_size (planned_entries plan) ≡ replicate (length (cars_in plan)) CAR_ENTRY_BYTES ++ map (λ (root : List ℕ × Addr). ROOT_ENTRY_BYTES + length root.0) plan.roots
 planned_sizes plan =
     map-append entry_size (map car_entry (cars_in plan)) (map root_entry plan.roots)
     ∙ ap (λ (sizes : List ℕ). sizes ++ map entry_size (map root_entry plan.roots)) (car_sizes (cars_in plan))
-    ∙ ap (λ (sizes : List ℕ). replicate (length (cars_in plan)) 57 ++ sizes) (root_sizes plan.roots)
+    ∙ ap (λ (sizes : List ℕ). replicate (length (cars_in plan)) CAR_ENTRY_BYTES ++ sizes) (root_sizes plan.roots)
 
-size_of_name : (roots : List (List ℕ × Addr)) → map (λ (root : List ℕ × Addr). 14 + length root.0) roots ≡ map (λ (n : ℕ). 14 + n) (map (λ (root : List ℕ × Addr). length root.0) roots)
+size_of_name : (roots : List (List ℕ × Addr)) → map (λ (root : List ℕ × Addr). ROOT_ENTRY_BYTES + length root.0) roots ≡ map (λ (n : ℕ). ROOT_ENTRY_BYTES + n) (map (λ (root : List ℕ × Addr). length root.0) roots)
 size_of_name [] = refl
-size_of_name (root ∷ roots) = ap (λ (sizes : List ℕ). (14 + length root.0) ∷ sizes) (size_of_name roots)
+size_of_name (root ∷ roots) = ap (λ (sizes : List ℕ). (ROOT_ENTRY_BYTES + length root.0) ∷ sizes) (size_of_name roots)
 
 same_sizes : (first second : CarPlan) → length (cars_in first) ≡ length (cars_in second) → map (λ (root : List ℕ × Addr). length root.0) first.roots ≡ map (λ (root : List ℕ × Addr). length root.0) second.roots
     → map entry_size (planned_entries first) ≡ map entry_size (planned_entries second)
 same_sizes first second cars names =
     planned_sizes first
-    ∙ ap (λ (n : ℕ). replicate n 57 ++ map (λ (root : List ℕ × Addr). 14 + length root.0) first.roots) cars
-    ∙ ap (λ (sizes : List ℕ). replicate (length (cars_in second)) 57 ++ sizes) (size_of_name first.roots ∙ ap (map (λ (n : ℕ). 14 + n)) names ∙ sym (size_of_name second.roots))
+    ∙ ap (λ (n : ℕ). replicate n CAR_ENTRY_BYTES ++ map (λ (root : List ℕ × Addr). ROOT_ENTRY_BYTES + length root.0) first.roots) cars
+    ∙ ap (λ (sizes : List ℕ). replicate (length (cars_in second)) CAR_ENTRY_BYTES ++ sizes) (size_of_name first.roots ∙ ap (map (λ (n : ℕ). ROOT_ENTRY_BYTES + n)) names ∙ sym (size_of_name second.roots))
     ∙ sym (planned_sizes second)
 
 -- the pages of a catalog are as many as those that its entries are cut into

@@ -4,6 +4,7 @@ use Rattle.std.specs.Option.{IsSome, option_map, option_and_then, unwrap_or}
 use Rattle.std.specs.List.{find, slice_get}
 use Rattle.std.specs.FinMap.{get, entries}
 use Rattle.std.proofs.lemmas.Bool.{eqb-true, eq-eqb, and_from, both_ways, true≢false, false_from_ne_true}
+use Rattle.pm_types.specs.declared.limits.TheConstants.{CAR_ROOM}
 use Rattle.pm_types.proofs.Orders.{sources_total, sources_antisymmetric}
 use Rattle.pm_types.specs.declared.address.Addr.{Addr}
 use Rattle.pm_types.specs.declared.object.Object.{Object}
@@ -45,7 +46,7 @@ pub record IsMoveTo (view : SpaceView) (from : Addr) (y : ℕ) (object : Object)
 
 module _ (view : SpaceView) (from : Addr) (y number : ℕ) (object : Object) (anchor : Option (Addr × ℕ)) (law : HeapLaw view) (is : IsMoveTo view from y object) (vacant : IsVacant view.cars number)
     (anchors : (a : Addr) (to : ℕ) → anchor ≡ Some (a, to) → IsAnchor view a to × ((from.car == a.car) ≡ false)) where
-  small : object_room object ≤ 16370
+  small : object_room object ≤ CAR_ROOM
   small = let was = law.built.objects from object is.here in small_room object was.fields was.bytes
 
   abbrev put_by : Option ℕ → SpaceView

@@ -7,6 +7,7 @@ use Rattle.std.specs.FinMap.{get, insert, empty, get-empty}
 use Rattle.std.proofs.lemmas.Bool.{eqb-true, eq-eqb, cond-true, cond-false, true≢false, false_from_ne_true}
 use Rattle.std.proofs.lemmas.Bool.Decides.{nat_tests}
 use Rattle.std.proofs.lemmas.List.Sums.{sum_by-cons, sum_by_push}
+use Rattle.pm_types.specs.declared.limits.TheConstants.{CAR_HEAD_BYTES, CAR_ROOM}
 use Rattle.pm_types.specs.declared.address.Addr.{Addr}
 use Rattle.pm_types.specs.declared.object.Object.{Object}
 use Rattle.pm_types.specs.declared.object.Slot.{Slot}
@@ -202,7 +203,7 @@ module _ (view : SpaceView) (from : Addr) (old : Car) (object : Object) (law : H
 
   -- ---- in a new car at the end of a train
 
-  module _ (c y : ℕ) (anchor : Option (Addr × ℕ)) (vacant : get view.cars c ≡ None) (from_one : 0 < c) (small : object_room object ≤ 16370) (stands : IsSome (cars_at ts y)) where
+  module _ (c y : ℕ) (anchor : Option (Addr × ℕ)) (vacant : get view.cars c ≡ None) (from_one : 0 < c) (small : object_room object ≤ CAR_ROOM) (stands : IsSome (cars_at ts y)) where
     abbrev pub in_new : SpaceView
     in_new = record (put_away view from None y c object) { anchor = anchor }
 
@@ -275,7 +276,7 @@ module _ (view : SpaceView) (from : Addr) (old : Car) (object : Object) (law : H
       from_one = from_one;
       sound = new_sound c;
       unmoved = (new_counts c).1;
-      fits = (let bare : used (new_car c) ≡ 14 = (new_counts c).2 in omega (arith, small, bare), omega arith);
+      fits = (let bare : used (new_car c) ≡ CAR_HEAD_BYTES = (new_counts c).2 in omega (arith, small, bare), omega arith);
       apart = new_apart;
       linked = new_linked;
       sets = λ e. ap is_some (at_insert view.sets c empty e) ∙ some_empty (c == e) empty (get view.sets e) ∙ ap (λ b. (c == e) || b) (law.built.sets e) ∙ sym (new_stand e);

@@ -4,7 +4,7 @@ use Rattle.std.specs.Option.{IsSomeAnd, option_map, option_and_then, option_flat
 use Rattle.std.specs.List.{sum_by, slice_get, Contains}
 use Rattle.std.specs.FinMap.{get, insert, len}
 use Rattle.std.proofs.lemmas.Bool.{eqb-true, eq-eqb, both_ways, cond-true, cond-false, false_from_ne_true, and_from}
-use Rattle.pm_types.specs.declared.limits.TheConstants.{ROOTS}
+use Rattle.pm_types.specs.declared.limits.TheConstants.{ROOTS, CAR_HEAD_BYTES, CAR_BYTES}
 use Rattle.pm_types.specs.declared.address.Addr.{Addr}
 use Rattle.pm_types.specs.declared.object.Object as stored_objects
 use Rattle.pm_types.specs.declared.object.Slot.{Slot}
@@ -209,7 +209,7 @@ module _ (view t : SpaceView) (c : ℕ) (car : Car) (object : stored_objects.Obj
       let room = total_born slot_room car.slots car.next (Live object) (birth.sound.below car.next (omega arith)) in
       let fits = birth.fits in
       record {
-        room = let sum : used (with_birth car object) ≡ used car + object_room object = (ap (λ n. 14 + n) room ∙ omega arith) in subst (λ n. n ≤ 16384) (sym sum) fits.0;
+        room = let sum : used (with_birth car object) ≡ used car + object_room object = (ap (λ n. CAR_HEAD_BYTES + n) room ∙ omega arith) in subst (λ n. n ≤ CAR_BYTES) (sym sum) fits.0;
         next = let low = fits.1 in omega arith;
         below = λ slot after. at_insert car.slots car.next (Live object) slot ∙ later slot after;
       }

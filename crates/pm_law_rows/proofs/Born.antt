@@ -36,7 +36,7 @@ use Rattle.pm_view.specs.Sources.{same_address}
 use Rattle.pm_view.specs.Objects.{AddsObject}
 use Rattle.pm_law_rows.proofs.Rotating.{opened, aside_opened, youngest_rotated, opening_keeps_law, opening_stands}
 use Rattle.pm_law_rows.proofs.Birth.{IsBirth, live_after, birth_keeps_law, birth_stands, born_here, none_before, others_stay}
-use Rattle.pm_types.specs.declared.limits.TheConstants.{FIELDS, OBJECT_BYTES}
+use Rattle.pm_types.specs.declared.limits.TheConstants.{FIELDS, OBJECT_BYTES, CAR_HEAD_BYTES, CAR_BYTES, CAR_ROOM, LAST_SLOT}
 use Rattle.pm_model.specs.Heap.{Object}
 use Rattle.pm_model.specs.World.{World, changing}
 use Rattle.pm_view.specs.Represents.{meaning, Represents}
@@ -61,8 +61,8 @@ pub record InTrains (view t : SpaceView) (p : Addr) : Type 0 where
 -- what is read of a test of room
 pub room_fits : (car : Car) (room : ℕ) → has_room car room ≡ true → Fits car room
 room_fits car room has =
-    let both = and_parts (nat_le (used car + room) 16384) (nat_le car.next 65535) has in
-    (leb-true (used car + room) 16384 both.0, leb-true car.next 65535 both.1)
+    let both = and_parts (nat_le (used car + room) CAR_BYTES) (nat_le car.next LAST_SLOT) has in
+    (leb-true (used car + room) CAR_BYTES both.0, leb-true car.next LAST_SLOT both.1)
 
 pub stood : (cars : Cars) (c e : ℕ) (car d : Car) (b : Bool) → (c == e) ≡ b → get cars c ≡ Some car → is_some (cond b (Some d) (get cars e)) ≡ is_some (get cars e)
 stood cars c e car d true same is = sym (ap (λ e. is_some (get cars e)) (sym (eqb-true c e same)) ∙ ap is_some is)
@@ -152,11 +152,11 @@ module _ (view : SpaceView) (c number : ℕ) (car : Car) (object : stored_object
 -- ---- in a new car at the end of the open train
 
 -- a car with no slot has no room taken, and no object
-pub new_counts : (c : ℕ) → (live_count (new_car c) ≡ 0) × (moved_count (new_car c) ≡ 0) × (used (new_car c) ≡ 14)
-new_counts c = (total_empty one_live, total_empty one_moved, ap (λ n. 14 + n) (total_empty slot_room))
+pub new_counts : (c : ℕ) → (live_count (new_car c) ≡ 0) × (moved_count (new_car c) ≡ 0) × (used (new_car c) ≡ CAR_HEAD_BYTES)
+new_counts c = (total_empty one_live, total_empty one_moved, ap (λ n. CAR_HEAD_BYTES + n) (total_empty slot_room))
 
 pub new_sound : (c : ℕ) → IsSound (new_car c)
-new_sound c = record { room = subst (λ n. n ≤ 16384) (sym (new_counts c).2) (omega arith); next = omega arith; below = λ slot after. get-empty nat_cmp slot }
+new_sound c = record { room = subst (λ n. n ≤ CAR_BYTES) (sym (new_counts c).2) (omega arith); next = omega arith; below = λ slot after. get-empty nat_cmp slot }
 
 pub some_empty : (b : Bool) {A : Type 0} (x : A) (o : Option A) → is_some (cond b (Some x) o) ≡ (b || is_some o)
 some_empty true x o = refl
@@ -170,7 +170,7 @@ pub none_from_some : {A : Type 0} (o : Option A) → is_some o ≡ false → o �
 none_from_some None no_one = refl
 none_from_some (Some x) no_one = absurd (true≢false no_one)
 
-module _ (view : SpaceView) (c : ℕ) (object : stored_objects.Object) (law : HeapLaw view) (vacant : get view.cars c ≡ None) (from_one : 0 < c) (small : object_room object ≤ 16370) (births : view.trains.births < 1024)
+module _ (view : SpaceView) (c : ℕ) (object : stored_objects.Object) (law : HeapLaw view) (vacant : get view.cars c ≡ None) (from_one : 0 < c) (small : object_room object ≤ CAR_ROOM) (births : view.trains.births < 1024)
     (stands : IsSome (cars_at view.trains.trains (youngest view.trains.trains))) where
   abbrev trains_now : List Train
   trains_now = view.trains.trains
@@ -278,7 +278,7 @@ module _ (view : SpaceView) (c : ℕ) (object : stored_objects.Object) (law : He
     from_one = from_one;
     sound = new_sound c;
     unmoved = (new_counts c).1;
-    fits = (let bare : used (new_car c) ≡ 14 = (new_counts c).2 in omega (arith, small, bare), omega arith);
+    fits = (let bare : used (new_car c) ≡ CAR_HEAD_BYTES = (new_counts c).2 in omega (arith, small, bare), omega arith);
     free = new_free;
     aside = aside_then;
     linked = new_linked;
@@ -350,7 +350,7 @@ from_birth view t c car object law may birth trains = record {
   trains = trains;
 }
 
-pub small_room : (object : stored_objects.Object) → length object.fields ≤ FIELDS → length object.bytes ≤ OBJECT_BYTES → object_room object ≤ 16370
+pub small_room : (object : stored_objects.Object) → length object.fields ≤ FIELDS → length object.bytes ≤ OBJECT_BYTES → object_room object ≤ CAR_ROOM
 small_room object fields bytes = let f : FIELDS ≤ 255 = omega arith in let b : OBJECT_BYTES ≤ 4096 = omega arith in omega (arith, fields, bytes, f, b)
 
 module _ (view : SpaceView) (number : ℕ) (object : stored_objects.Object) (law : HeapLaw view) (may : MayBeBorn view object) (vacant : IsVacant view.cars number) (births : view.trains.births < 1024) where

@@ -1,8 +1,8 @@
 -- A space whose cars and objects keep their shape stays built as the heap law says.
-use Rattle.std.proofs.Common.{◌≡◌, ◌≢◌, ℕ, ◌<◌, ◌≤◌, cond, refl, ap, sym, subst, ◌∙◌, Option, Some, None, is_some}
+use Rattle.std.proofs.Common.{◌≡◌, ◌≢◌, ℕ, ◌+◌, ◌<◌, ◌≤◌, cond, refl, ap, sym, subst, ◌∙◌, Option, Some, None, is_some}
 use Rattle.std.specs.List.{sum_by}
 use Rattle.std.specs.FinMap.{get}
-use Rattle.pm_types.specs.declared.limits.TheConstants.{FIELDS, OBJECT_BYTES}
+use Rattle.pm_types.specs.declared.limits.TheConstants.{FIELDS, OBJECT_BYTES, CAR_BYTES, LAST_SLOT}
 use Rattle.pm_types.specs.declared.address.Addr.{Addr}
 use Rattle.pm_types.specs.declared.object.Object.{Object}
 use Rattle.pm_cars.specs.Cars.{Car, IsSound, look_of}
@@ -46,8 +46,8 @@ shaped_from (Some c) d shaped = (c, refl, shaped)
 
 sound_still : (c d : Car) → IsShapedCar c d → IsSound c → IsSound d
 sound_still c d shaped sound = record {
-  room = subst (λ n. n ≤ 16384) (sym shaped.room) sound.room;
-  next = subst (λ n. n ≤ 65536) (sym shaped.next) sound.next;
+  room = subst (λ n. n ≤ CAR_BYTES) (sym shaped.room) sound.room;
+  next = subst (λ n. n ≤ LAST_SLOT + 1) (sym shaped.next) sound.next;
   below = λ slot after. shaped.gone slot (sound.below slot (subst (λ n. n ≤ slot) shaped.next after));
 }
 

@@ -2,6 +2,7 @@
 use Rattle.std.proofs.Common.{◌≡◌, ℕ, ◌+◌, ◌*◌, ◌==◌, Bool, true, false, cond, refl, ap, sym, subst, ◌∙◌, length, Option, Some, None, arith}
 use Rattle.std.specs.FinMap.{get, insert}
 use Rattle.std.proofs.lemmas.Bool.{eqb-true}
+use Rattle.pm_types.specs.declared.limits.TheConstants.{CAR_HEAD_BYTES}
 use Rattle.pm_types.specs.declared.address.Addr.{Addr}
 use Rattle.pm_types.specs.declared.object.Object.{Object}
 use Rattle.pm_types.specs.declared.object.Slot.{Slot}
@@ -50,7 +51,7 @@ shaped_slot : (car : Car) (k : ℕ) (o p : Object) → get car.slots k ≡ Some 
 shaped_slot car k o p is shaped = record {
   number = refl;
   next = refl;
-  room = ap (λ n. 14 + n) (total_same slot_room car.slots k (Live o) (Live p) is (room_same o p shaped));
+  room = ap (λ n. CAR_HEAD_BYTES + n) (total_same slot_room car.slots k (Live o) (Live p) is (room_same o p shaped));
   live = total_same one_live car.slots k (Live o) (Live p) is refl;
   moved = total_same one_moved car.slots k (Live o) (Live p) is refl;
   gone = λ slot none. at_insert car.slots k (Live p) slot ∙ gone_still car.slots k (Live o) (Live p) is slot none (k == slot) refl;

@@ -1,6 +1,7 @@
 -- How many pages a catalog has, and how many are left.
 use Rattle.std.proofs.Common.{◌≡◌, ℕ, ◌+◌, ◌<◌, Bool, true, false, nat_le, List, [], ◌∷◌, ◌++◌, length, map, arith, if◌then◌else◌}
 use Rattle.pm_types.specs.declared.limits.TheConstants.{PAGE_BYTES}
+use Rattle.pm_image.specs.declared.catalog_kind.TheConstants.{ENTRIES}
 use Rattle.pm_image.specs.declared.catalog.CatEntry.{CatEntry}
 use Rattle.pm_image.specs.CatalogPages.{entry_size}
 use Rattle.pm_law_layout.specs.Cutting.{OnePage, cut_from, onto_first}
@@ -17,12 +18,12 @@ pub cut_some : (used : ℕ) (entries : List CatEntry) → 0 < length (cut_from u
 cut_some used [] = omega arith
 cut_some used (entry ∷ entries) = by (nat_le (used + entry_size entry) PAGE_BYTES)
   where
-    by : (b : Bool) → 0 < length (if b then onto_first entry (cut_from (used + entry_size entry) entries) else [] ∷ onto_first entry (cut_from (entry_size entry + 46) entries))
+    by : (b : Bool) → 0 < length (if b then onto_first entry (cut_from (used + entry_size entry) entries) else [] ∷ onto_first entry (cut_from (entry_size entry + ENTRIES) entries))
     by true = onto_some entry (cut_from (used + entry_size entry) entries)
     by false = omega arith
 
 pub catalog_some : (progress : Progress) → 0 < catalog_len progress
-catalog_some progress = cut_some 46 (map draft_entry progress.cars ++ roots_of progress)
+catalog_some progress = cut_some ENTRIES (map draft_entry progress.cars ++ roots_of progress)
 
 -- what holds where nothing is left
 pub record IsAllWritten (progress : Progress) : Type 0 where

@@ -10,6 +10,7 @@ use Rattle.pm_types.specs.declared.limits.TheConstants.{FIELDS}
 use Rattle.pm_types.specs.declared.object.Slot.{Slot}
 use Rattle.pm_types.specs.declared.object.Slot.TheVariants.{Live, Moved}
 use Rattle.pm_layout.specs.Spelling.{HasSpelling, IsAddress, IsInRange, IsWithinLimits}
+use Rattle.pm_image.specs.declared.catalog_kind.TheConstants.{CAR_ENTRY_BYTES}
 use Rattle.pm_image.specs.declared.car.CarImage.{CarImage}
 use Rattle.pm_image.specs.declared.catalog.CatEntry.{CatEntry}
 use Rattle.pm_image.specs.declared.settled.KeptPage.{KeptPage}
@@ -90,7 +91,7 @@ module _ (settled : List KeptPage) (cars : Cars) where
       let here = page_holds settled (image_of cars one) one.place stand.0 (on_page (is_unwritten one.place) (unwritten placed) none) in
       let rest = sizes_same placed roots stand.1 (omega (arith, none)) in
       ap (λ (pages : List KeptPage). map entry_size (map car_entry (flat_map cars_of_train (map (λ (kept : KeptPage). record { number = one.train; cars = kept ∷ [] }) pages ++ flat_map planned placed)) ++ roots)) here.1
-      ∙ ap (λ (sizes : List ℕ). 57 ∷ sizes) rest
+      ∙ ap (λ (sizes : List ℕ). CAR_ENTRY_BYTES ∷ sizes) rest
 
   pub parts_count : (progress : Progress) → IsInProgress settled cars progress → unwritten progress.cars ≡ 0 → length (parts_of progress) ≡ catalog_len progress
   parts_count progress copy none =

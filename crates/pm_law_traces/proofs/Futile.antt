@@ -6,6 +6,7 @@ use Rattle.std.specs.Ordering.{nat_cmp}
 use Rattle.std.specs.Cmp.{nat_cmp_total}
 use Rattle.std.specs.FinMap.{get, insert, empty, entries, get-insert, entries-insert, nat_cmp-IsAntisymmetric}
 use Rattle.std.specs.FinMap.Entries.{put}
+use Rattle.pm_types.specs.declared.limits.TheConstants.{CAR_HEAD_BYTES, CAR_BYTES, LAST_SLOT}
 use Rattle.pm_types.proofs.Orders.{sources_total, sources_antisymmetric}
 use Rattle.pm_types.specs.declared.address.Addr.{Addr}
 use Rattle.pm_types.specs.declared.object.Object.{Object}
@@ -134,8 +135,8 @@ module _ (bytes : List ℕ) where
   no_room : length bytes ≡ 4096 → tail_for begun 1 (object_room first_object) ≡ None
   no_room is =
       ap (option_and_then (λ (car : Car). if has_room car (object_room first_object) then Some 2 else None)) car_two
-      ∙ ap (λ es. if nat_le (14 + sum_by slot_room (map (λ (e : ℕ × Slot). e.1) es) + object_room first_object) 16384 && nat_le 3 65535 then Some 2 else None) slots_two
-      ∙ ap (λ n. if nat_le (14 + (0 + (17 + 12 * 1 + n) + (17 + 12 * 0 + n) + (17 + 12 * 0 + n)) + (17 + 12 * 1 + n)) 16384 && nat_le 3 65535 then Some 2 else None) is
+      ∙ ap (λ es. if nat_le (CAR_HEAD_BYTES + sum_by slot_room (map (λ (e : ℕ × Slot). e.1) es) + object_room first_object) CAR_BYTES && nat_le 3 LAST_SLOT then Some 2 else None) slots_two
+      ∙ ap (λ n. if nat_le (CAR_HEAD_BYTES + (0 + (17 + 12 * 1 + n) + (17 + 12 * 0 + n) + (17 + 12 * 0 + n)) + (17 + 12 * 1 + n)) CAR_BYTES && nat_le 3 LAST_SLOT then Some 2 else None) is
 
   object_there : object_at now.cars (at 1 0) ≡ Some first_object
   object_there = ap object_of object_one

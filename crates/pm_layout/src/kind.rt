@@ -1,7 +1,7 @@
-// The byte that a slot begins with.
+//! The byte that the spelling of a slot begins with.
 
 /// The slot of an object.
-pub(crate) const LIVE: u8 = 1;
+pub const LIVE: u8 = 1;
 
 /// The slot of an object that went to another address.
-pub(crate) const MOVED: u8 = 2;
+pub const MOVED: u8 = 2;

@@ -1,16 +1,11 @@
 -- What a finite map answers at a key, once a key got a value or was taken away.
 use Rattle.std.proofs.Common.{◌≡◌, Bool, true, false, cond, ◌⊎◌, inl, inr, Option, Some, None, refl, ap, sym, subst, ◌∙◌}
 use Rattle.std.specs.declared.cmp.Ordering.{Ordering}
-use Rattle.std.specs.declared.cmp.Ordering.TheVariants.{Less, Equal, Greater}
 use Rattle.std.specs.Option.{IsSome}
 use Rattle.std.specs.Ordering.{is_eq, eq_by_cmp}
 use Rattle.std.specs.Cmp.{IsTotalOrder, eq_by_cmp_equiv}
 use Rattle.std.specs.FinMap.{FinMap, IsAntisymmetric, get, insert, remove, retain_keys, get-insert, get-remove, get-retain_keys}
-
-tied : (r : Ordering) → is_eq r ≡ true → r ≡ Equal
-tied Less is = cc
-tied Equal is = refl
-tied Greater is = cc
+use Rattle.pm_base.proofs.Shown.{tied}
 
 picked_value : {X : Type 0} (b : Bool) (v x : X) (old : Option X) → cond b (Some v) old ≡ Some x → ((b ≡ true) × (v ≡ x)) ⊎ ((b ≡ false) × (old ≡ Some x))
 picked_value true v x old is = inl (refl, cc)

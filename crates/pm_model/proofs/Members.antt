@@ -8,6 +8,7 @@ use Rattle.std.specs.FinMap.{FinMap, find, is_sorted, get, values, entries, entr
 use Rattle.std.specs.FinMap.Entries.{below_all}
 use Rattle.std.proofs.lemmas.List.Elements.{Contains-append_right, Contains-append_cases}
 use Rattle.std.proofs.lemmas.Option.{same_Some, none-some}
+use Rattle.pm_base.proofs.Shown.{tied}
 
 -- a list has its first element, and those of its rest
 pub at_first : {X : Type 0} (x : X) (xs : List X) → Contains (x ∷ xs) x
@@ -40,11 +41,6 @@ second : (a b : Bool) → T (a && b) → T b
 second true b h = h
 second false b h = absurd h
 
-equal : (r : Ordering) → is_eq r ≡ true → r ≡ Equal
-equal Less is = cc
-equal Equal is = refl
-equal Greater is = cc
-
 module _ {K X : Type 0} {R : K → K → Ordering} (o : IsTotalOrder R) where
   -- what a map answers is one of its values
   found_in : (q : K) (x : X) (es : List (K × X)) → find R q es ≡ Some x → Contains (map (λ e. e.1) es) x
@@ -69,7 +65,7 @@ module _ {K X : Type 0} {R : K → K → Ordering} (o : IsTotalOrder R) where
   later : (e : K × X) (es : List (K × X)) (q : K) (x : X) → T (below_all R e.0 es) → find R q es ≡ Some x → find R q (e ∷ es) ≡ Some x
   later e es q x below is =
       elim (eq_by_cmp R q e.0) as (λ b. eq_by_cmp R q e.0 ≡ b → cond b (Some e.1) (find R q es) ≡ Some x) [
-        | true ↦ λ tied. absurd (none-some x (sym (not_below q e.0 es (equal (R q e.0) tied) below) ∙ is))
+        | true ↦ λ same. absurd (none-some x (sym (not_below q e.0 es (tied (R q e.0) same) below) ∙ is))
         | false ↦ λ apart. is
       ] refl
 

@@ -11,6 +11,7 @@ use Rattle.pm_view.specs.View.{Cars, SpaceView}
 use Rattle.pm_view.specs.Rows.{with_car, tail_for, put_car, with_count, born, birthplace, spent, spread, IsVacant}
 use Rattle.pm_view.specs.Commands.{row_new}
 use Rattle.pm_mutate.specs.Picked.{IsForSomeCar}
+use Rattle.pm_trains.specs.declared.trains.TheConstants.{BIRTHS}
 
 -- the tail of the open train, where an object of this room fits it
 abbrev pub open_tail : SpaceView → ℕ → Option ℕ
@@ -60,4 +61,4 @@ IsRowOfNew view client reg count bytes given = IsForSomeCar view (λ number. row
 
 -- where 1,024 objects were born in the open train it has a car
 abbrev pub HasCarWhereFull : Trains → Type 0
-HasCarWhereFull it = 1024 ≤ it.births → HasCar it.trains (youngest it.trains)
+HasCarWhereFull it = BIRTHS ≤ it.births → HasCar it.trains (youngest it.trains)

@@ -1,6 +1,6 @@
 ghost use Rattle.std.specs.Prelude.{◌≡◌, ◌≤◌, ◌<◌, ◌||◌, nat_lt, true, replicate, length, None, Some, IsSomeAnd, IfOk, OnErr};
 ghost use Rattle.std.specs.FinMap.{get};
-ghost use Rattle.pm_types.specs.declared.limits.TheConstants.{CLIENTS, REGISTERS, FIELDS, OBJECT_BYTES};
+ghost use Rattle.pm_types.specs.declared.limits.TheConstants.{CLIENTS, REGISTERS, FIELDS, OBJECT_BYTES, CAR_ROOM};
 ghost use Rattle.pm_types.specs.declared.source.RefSource.TheVariants.{Handle};
 ghost use Rattle.pm_trains.specs.declared.trains.TheConstants.{BIRTHS};
 ghost use Rattle.pm_cars.specs.Cars.{object_room, with_birth};
@@ -70,7 +70,7 @@ fn room_of(object: &Object) -> u32
     requires fields { length object.now.fields ≤ FIELDS }
     requires bytes { length object.now.bytes ≤ OBJECT_BYTES }
     ensures room { result ≡ object_room object.now }
-    ensures small { result ≤ 16370 }
+    ensures small { result ≤ CAR_ROOM }
 {
     let fields = object.fields.as_slice().len() as u32;
     let bytes = object.bytes.as_slice().len() as u32;

@@ -6,14 +6,12 @@ ghost use Rattle.pm_view.specs.Rows.{if_fits, with_open_train};
 ghost use Rattle.pm_space.specs.Linked.{KeepsRoom};
 ghost use Rattle.pm_space.specs.Shown.{view, IsLinked, IsPrepared, KeepsRest};
 ghost use Rattle.pm_mutate.specs.Births.{open_tail, IsOpened, FitsIn, HasCarWhereFull};
+ghost use Rattle.pm_types.specs.declared.limits.TheConstants.{CAR_ROOM};
 
 use pm_space::{Parts, make_room_for_birth, open_car, open_car_in_new_train};
-use pm_trains::{BIRTHS, a_new_train_is_the_youngest};
+use pm_trains::{BIRTHS, MOST_TRAINS, a_new_train_is_the_youngest};
 use pm_types::NoMemory;
 use std::alloc::Global;
-
-/// The number at which no new train is opened.
-const LAST_TRAIN: u64 = 1 << 62;
 
 // The car, where it stands and an object of this room, in bytes, fits it.
 fn if_fits<F>(parts: &Parts<F>, room: u32, car: u64) -> Option<u64>
@@ -54,7 +52,7 @@ fn prepare<F>(parts: &mut Parts<F>, car: u64) -> Result<(), NoMemory>
 // The car of the open train in which an object of this room is born: its tail, or a new car.
 fn place_in_open_train<F>(parts: &mut Parts<F>, alloc: Global, room: u32) -> Result<u64, NoMemory>
     requires linked { IsLinked (view parts.old) }
-    requires small { room ≤ 16370 }
+    requires small { room ≤ CAR_ROOM }
     ensures place { IfOk result (λ car. IsOpened (view parts.old) room (view parts.new) car) }
     ensures fits { IfOk result (λ car. FitsIn (view parts.new).cars car room) }
     ensures prepared { IfOk result (λ car. IsPrepared parts.new car 1) }
@@ -81,7 +79,7 @@ fn place_in_open_train<F>(parts: &mut Parts<F>, alloc: Global, room: u32) -> Res
 // The car in which an object of this room is born, in a new open train.
 fn place_in_new_train<F>(parts: &mut Parts<F>, alloc: Global, room: u32) -> Result<u64, NoMemory>
     requires linked { IsLinked (view parts.old) }
-    requires small { room ≤ 16370 }
+    requires small { room ≤ CAR_ROOM }
     requires full { BIRTHS ≤ parts.old.trains.births }
     requires filled { HasCar parts.old.trains.trains (youngest parts.old.trains.trains) }
     ensures place { IfOk result (λ car. IsOpened (with_open_train (view parts.old)) room (view parts.new) car) }
@@ -95,7 +93,7 @@ fn place_in_new_train<F>(parts: &mut Parts<F>, alloc: Global, room: u32) -> Resu
 {
     parts.trains.sound();
     a_new_train_is_the_youngest();
-    if parts.trains.youngest() >= LAST_TRAIN {
+    if parts.trains.youngest() >= MOST_TRAINS {
         return Err(NoMemory);
     }
     let car = open_car_in_new_train(parts, alloc, 1)?;
@@ -108,7 +106,7 @@ fn place_in_new_train<F>(parts: &mut Parts<F>, alloc: Global, room: u32) -> Resu
 /// number has reached its bound, 2^62.
 pub(crate) fn place_for<F>(parts: &mut Parts<F>, alloc: Global, room: u32) -> Result<u64, NoMemory>
     requires linked { IsLinked (view parts.old) }
-    requires small { room ≤ 16370 }
+    requires small { room ≤ CAR_ROOM }
     requires filled { HasCarWhereFull parts.old.trains }
     ensures place { IfOk result (λ car. IsOpened (with_open_train (view parts.old)) room (view parts.new) car) }
     ensures fits { IfOk result (λ car. FitsIn (view parts.new).cars car room) }

@@ -24,7 +24,7 @@ use Rattle.pm_law_copies.proofs.Lists.{all_weaker}
 use Rattle.pm_law_copies.proofs.FoundCars.{CarsRead}
 use Rattle.pm_law_copies.proofs.Identities.{not_old, free_named, apart_named}
 use Rattle.pm_reopen.specs.Reading.{Follow, AreRead, IsWhole, root_count}
-use Rattle.pm_opening.proofs.LeadLaws.{linked_leads}
+use Rattle.pm_image.proofs.LeadLaws.{linked_leads}
 
 -- as many cars were read as are listed
 pub reads_paired : (most next : ℕ) (met : Numbers) (entries : List CatEntry) (cars : List KeptPage) → AreRead most next met entries cars → images (listed_in entries (images_of cars)) ≡ images_of cars
@@ -86,7 +86,7 @@ pub whole_accepted : (count next : ℕ) (catalog : Catalog) (cars : List KeptPag
 whole_accepted count next catalog cars some last whole =
     let read = cars_read whole.most next whole.few set.empty set.empty 0 None (entries_of catalog) cars whole.follow whole.reads in
     let same = sym (reads_paired whole.most next set.empty (entries_of catalog) cars whole.reads) in
-    let lead = linked_leads catalog cars whole.links in
+    let lead = linked_leads catalog cars tt whole.links in
     record {
       next = (omega (arith, some), last);
       trains = read.fall;

@@ -7,6 +7,7 @@ use Rattle.std.specs.FinMap.{get, get-insert, get-empty, get-from_entries, from_
 use Rattle.std.specs.FinMap.Entries.{find}
 use Rattle.std.proofs.lemmas.Bool.{eqb-true}
 use Rattle.std.proofs.lemmas.List.{length-map}
+use Rattle.pm_types.specs.declared.limits.TheConstants.{CAR_HEAD_BYTES}
 use Rattle.pm_types.specs.declared.object.Object.{Object}
 use Rattle.pm_types.specs.declared.object.Slot.{Slot}
 use Rattle.pm_types.specs.declared.object.Slot.TheVariants.{Live, Moved}
@@ -37,12 +38,12 @@ pub same_room : (leads : Leads) (object : Object) → object_room (followed_obje
 same_room leads object = ap (λ n. 17 + 12 * n + length object.bytes) (length-map object.fields (option_map (resolved_by leads)))
 
 -- the head of a car's page is counted in what is used
-pub head_used : (es : List (ℕ × Slot)) → 14 ≤ car_used es
+pub head_used : (es : List (ℕ × Slot)) → CAR_HEAD_BYTES ≤ car_used es
 head_used [] = omega arith
 head_used ((number, slot) ∷ es) = let rest = head_used es in omega (arith, rest)
 
 -- a car with no slot uses the room of its head
-pub new_used : (number : ℕ) → used (new_car number) ≡ 14
+pub new_used : (number : ℕ) → used (new_car number) ≡ CAR_HEAD_BYTES
 new_used number = sym (kept_new 0).counted
 
 -- ---- the next slot

@@ -7,7 +7,6 @@ pub mod TellingLaws
 pub mod BuiltLaws
 pub mod LeadingLaws
 pub mod ListLaws
-pub mod LeadLaws
 pub mod AcceptedLaws
 pub mod OpenLaws
 pub mod Refusals

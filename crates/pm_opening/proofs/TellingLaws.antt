@@ -8,6 +8,7 @@ use Rattle.std.specs.FinMap.{get, insert, empty, get-insert, from_entries}
 use Rattle.std.proofs.lemmas.Bool.{eqb-true}
 use Rattle.std.specs.List.{slice_get}
 use Rattle.std.proofs.lemmas.Option.{slice_get_within, get_or_from_slice_get}
+use Rattle.pm_types.specs.declared.limits.TheConstants.{CAR_BYTES}
 use Rattle.pm_types.specs.declared.address.Addr.{Addr}
 use Rattle.pm_types.specs.declared.source.RefSource.{RefSource}
 use Rattle.pm_types.specs.declared.source.Change.{Change}
@@ -142,7 +143,7 @@ module _ (source : RefSource) (to : Addr) where
 -- ---- the room of a slot
 
 -- a slot takes no more room than all together
-pub all_small : (es : List (ℕ × Slot)) → sum_by slot_room (map (λ (e : ℕ × Slot). e.1) es) ≤ 16384 → AllByRecursion (λ (e : ℕ × Slot). slot_room e.1 ≤ 16384) es
+pub all_small : (es : List (ℕ × Slot)) → sum_by slot_room (map (λ (e : ℕ × Slot). e.1) es) ≤ CAR_BYTES → AllByRecursion (λ (e : ℕ × Slot). slot_room e.1 ≤ CAR_BYTES) es
 all_small [] fits = tt
 all_small (e ∷ es) fits =
     let sum = sum_by-cons slot_room e.1 (map (λ (e : ℕ × Slot). e.1) es) in

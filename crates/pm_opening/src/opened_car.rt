@@ -5,6 +5,7 @@ ghost use Rattle.pm_cars.specs.Cars.{new_car, slot_room, used};
 ghost use Rattle.pm_image.specs.CarPages.{Ascend, car_used};
 ghost use Rattle.pm_opening.specs.Leading.{resolved_by};
 ghost use Rattle.pm_opening.specs.Making.{followed_object, with_slot, with_slots};
+ghost use Rattle.pm_types.specs.declared.limits.TheConstants.{CAR_BYTES, CAR_HEAD_BYTES, LAST_SLOT};
 
 use crate::leading::{Leads, resolve};
 use pm_cars::{Car, slots_are_counted};
@@ -56,8 +57,8 @@ fn open_slot(
     content: &Slot,
 ) -> Result<(), NoMemory>
     requires behind { car.old.car.next ≤ slot }
-    requires last { slot ≤ 65535 }
-    requires fits { used car.old.car + slot_room content.now ≤ 16384 }
+    requires last { slot ≤ LAST_SLOT }
+    requires fits { used car.old.car + slot_room content.now ≤ CAR_BYTES }
     ensures car { OnOk result (car.new.car ≡ with_slot leads.now car.old.car (slot, content.now)) }
     ensures used { OnOk result (used car.new.car ≤ used car.old.car + slot_room content.now) }
 {
@@ -82,7 +83,7 @@ fn open_slots(
     slots: &[(u32, Slot)],
 ) -> Result<(), NoMemory>
     requires ascend { Ascend car.old.car.next slots.now }
-    requires fits { used car.old.car + car_used slots.now ≤ 16398 }
+    requires fits { used car.old.car + car_used slots.now ≤ CAR_BYTES + CAR_HEAD_BYTES }
     ensures { OnOk result (car.new.car ≡ with_slots leads.now car.old.car slots.now) }
 {
     for listed in slots {
@@ -95,7 +96,7 @@ fn open_slots(
 /// and the next slot is one more than the greatest that is listed.
 pub(crate) fn open_car(alloc: Global, leads: &Leads, image: &CarImage) -> Result<Car, NoMemory>
     requires ascend { Ascend 0 image.now.slots }
-    requires fits { car_used image.now.slots ≤ 16384 }
+    requires fits { car_used image.now.slots ≤ CAR_BYTES }
     ensures { IfOk result (λ car. car.car ≡ with_slots leads.now (new_car image.now.number) image.now.slots) }
 {
     let mut car = Car::new(alloc, image.number);

@@ -9,6 +9,7 @@ ghost use Rattle.pm_view.specs.Sources.{outside};
 ghost use Rattle.pm_law_copies.specs.Storing.{field_sources, slot_sources, car_sources, root_source, stored_of};
 ghost use Rattle.pm_opening.specs.Lists.{placed_of, rows};
 ghost use Rattle.pm_opening.specs.Remembering.{Adds};
+ghost use Rattle.pm_types.specs.declared.limits.TheConstants.{CAR_BYTES};
 
 use pm_cars::Car;
 use pm_roots::Roots;
@@ -70,7 +71,7 @@ fn tell_fields(links: &mut LinkTable, at: Addr, fields: &[Option<Addr>]) -> Resu
 
 // This stands in a slot of the car.
 fn tell_slot(links: &mut LinkTable, car: u64, slot: u32, content: &Slot) -> Result<(), NoMemory>
-    requires { slot_room content.now ≤ 16384 }
+    requires { slot_room content.now ≤ CAR_BYTES }
     ensures { OnOk result (Adds links.old links.new (slot_sources car (slot, content.now))) }
 {
     match content {
@@ -81,7 +82,7 @@ fn tell_slot(links: &mut LinkTable, car: u64, slot: u32, content: &Slot) -> Resu
 
 // This stands in the slots of the car.
 fn tell_slots(links: &mut LinkTable, car: u64, slots: &[(u32, Slot)]) -> Result<(), NoMemory>
-    requires { AllByRecursion (λ (e : ℕ × Slot). slot_room e.1 ≤ 16384) slots.now }
+    requires { AllByRecursion (λ (e : ℕ × Slot). slot_room e.1 ≤ CAR_BYTES) slots.now }
     ensures { OnOk result (Adds links.old links.new (flat_map (slot_sources car) slots.now)) }
 {
     let mut left = slots.len();

@@ -1,18 +1,15 @@
 //! Putting cars into trains.
 
-ghost use Rattle.std.specs.Prelude.{◌≡◌, ◌<◌, ◌^◌, IsTrue, IsSome, IfOk, OnOk, None, map};
+ghost use Rattle.std.specs.Prelude.{◌≡◌, ◌<◌, IsTrue, IsSome, IfOk, OnOk, None, map};
 ghost use Rattle.pm_trains.specs.Trains.{HasCar, train_of, youngest};
 ghost use Rattle.pm_copies.specs.Built.{CarsDiffer, built_trains};
 ghost use Rattle.pm_opening.specs.Lists.{placed_of};
 ghost use Rattle.pm_opening.specs.Trains.{goes_on, with_kept, closed};
 
 use pm_cars::Car;
-use pm_trains::{Trains, a_new_train_is_the_youngest, an_appended_car_is_the_last};
+use pm_trains::{MOST_TRAINS, Trains, a_new_train_is_the_youngest, an_appended_car_is_the_last};
 use pm_types::NoMemory;
 use std::alloc::Global;
-
-/// More trains than any memory holds.
-const TRAINS: u64 = 1 << 62;
 
 // A car of this train goes into the train of the one before it, or it is the first.
 fn goes_on(last: Option<u64>, train: u64) -> bool
@@ -26,9 +23,9 @@ fn goes_on(last: Option<u64>, train: u64) -> bool
 
 // One more train can be opened.
 fn can_open(trains: &Trains) -> bool
-    ensures { IsTrue result → youngest trains.now.trains < 2 ^ 62 }
+    ensures { IsTrue result → youngest trains.now.trains < MOST_TRAINS }
 {
-    trains.youngest() < TRAINS
+    trains.youngest() < MOST_TRAINS
 }
 
 // Puts a car into the youngest train where it goes on, and else into a new one.

@@ -1,17 +1,16 @@
 -- Packed slots, and what they are.
-use Rattle.std.proofs.Common.{◌≡◌, ℕ, zero, suc, ◌+◌, ◌-◌, ◌<◌, ◌≤◌, ◌^◌, Bool, true, false, get_or, replicate, List, [], ◌∷◌, ◌++◌, length, take, drop, Result, Ok, refl, sym, ap, subst, ◌∙◌, append_assoc, arith, length-append}
+use Rattle.std.proofs.Common.{◌≡◌, ℕ, zero, suc, ◌+◌, ◌-◌, ◌<◌, ◌≤◌, Bool, true, false, get_or, replicate, List, [], ◌∷◌, ◌++◌, length, take, drop, refl, sym, ap, subst, ◌∙◌, append_assoc, arith, length-append}
 use Rattle.std.specs.List.{flat_map, AllByRecursion}
 use Rattle.std.specs.FinSet as set
-use Rattle.std.proofs.lemmas.List.{append_cancel_left, take_at, drop_at, take_more}
+use Rattle.std.proofs.lemmas.List.{take_at, drop_at, take_more}
 use Rattle.byteorder.specs.Endian.{big_bytes, big_number}
 use Rattle.byteorder.specs.Numbers.{big_number-reads_back}
-use Rattle.pm_types.specs.declared.limits.TheConstants.{FIELDS, PAGE_BYTES}
+use Rattle.pm_types.specs.declared.limits.TheConstants.{FIELDS, PAGE_BYTES, CAR_HEAD_BYTES}
 use Rattle.pm_types.specs.declared.object.Slot.{Slot}
-use Rattle.pm_layout.specs.Spelling.{HasSpelling, IsInRange, slot_size, spelling}
+use Rattle.pm_layout.specs.Spelling.{IsInRange, slot_size, spelling}
 use Rattle.pm_layout.proofs.Laws.{apart}
 use Rattle.pm_image.specs.declared.car.CarImage.{CarImage}
-use Rattle.pm_image.specs.CarPages.{HasCarPage, car_at, car_magic, car_spelling, car_used, one_car, padded, record_spelling}
-use Rattle.pm_image.specs.CarAnswers.{IsCarInRange}
+use Rattle.pm_image.specs.CarPages.{HasCarPage, car_spelling, car_used, one_car, padded, record_spelling}
 use Rattle.pm_image.proofs.CarAgain.{car_again}
 use Rattle.pm_image.proofs.CarSizes.{record_length, records_length, used_counts}
 use Rattle.pm_packed.specs.Packed.{IsPacked, IsRecord, slots_read, unpacked}
@@ -73,14 +72,14 @@ none_packed = is_packed [] no_page tt
 -- ---- a car that is packed
 
 -- the records of a car's page
-pub page_records : (car : CarImage) → take (car_used car.slots - 14) (drop 14 (padded (car_spelling car))) ≡ flat_map record_spelling car.slots
+pub page_records : (car : CarImage) → take (car_used car.slots - CAR_HEAD_BYTES) (drop CAR_HEAD_BYTES (padded (car_spelling car))) ≡ flat_map record_spelling car.slots
 unfolding car_spelling
 page_records car =
     let records = flat_map record_spelling car.slots in
     let zeros : List ℕ = replicate (PAGE_BYTES - length (car_spelling car)) 0 in
-    let behind : drop 14 (padded (car_spelling car)) ≡ records ++ zeros = refl in
-    let counted : car_used car.slots - 14 ≡ length records = let all = records_length car.slots in omega (arith, all) in
-    ap (take (car_used car.slots - 14)) behind ∙ ap (λ (n : ℕ). take n (records ++ zeros)) counted ∙ take_at records zeros (length records) refl
+    let behind : drop CAR_HEAD_BYTES (padded (car_spelling car)) ≡ records ++ zeros = refl in
+    let counted : car_used car.slots - CAR_HEAD_BYTES ≡ length records = let all = records_length car.slots in omega (arith, all) in
+    ap (take (car_used car.slots - CAR_HEAD_BYTES)) behind ∙ ap (λ (n : ℕ). take n (records ++ zeros)) counted ∙ take_at records zeros (length records) refl
 
 -- a car whose slots have a page has one under any number
 pub under_none : (car : CarImage) → HasCarPage (one_car FIELDS) set.empty car → HasCarPage (one_car FIELDS) set.empty (record { number = 0; slots = car.slots })

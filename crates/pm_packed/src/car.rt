@@ -1,6 +1,6 @@
 ghost use Rattle.std.specs.Prelude.{◌≡◌, ◌≤◌, ◌↔◌, [], length, IsTrue, IfOk};
 ghost use Rattle.std.specs.FinSet as set;
-ghost use Rattle.pm_types.specs.declared.limits.TheConstants.{FIELDS, PAGE_BYTES};
+ghost use Rattle.pm_types.specs.declared.limits.TheConstants.{FIELDS, PAGE_BYTES, CAR_HEAD_BYTES};
 ghost use Rattle.pm_image.specs.CarPages.{HasCarPage, car_spelling, car_used, one_car, padded};
 
 use crate::known::know_records;
@@ -37,7 +37,7 @@ impl Model for PackedCar {
 fn used(slots: &[(u32, Slot)]) -> usize
     requires has { HasCarPage (one_car FIELDS) set.empty (record { number = 0; slots = slots.now }) }
     ensures used { result ≡ car_used slots.now }
-    ensures from { 14 ≤ result }
+    ensures from { CAR_HEAD_BYTES ≤ result }
     ensures to { result ≤ PAGE_BYTES }
 {
     let mut used = RECORDS_AT;

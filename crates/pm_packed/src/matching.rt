@@ -9,13 +9,8 @@ ghost use Rattle.pm_packed.specs.Behind.{IsBehind, IsBehindOf};
 ghost use Rattle.pm_packed.specs.Packed.{IsRecord, head_spelling};
 
 use crate::behind::{behind, behind_u16, behind_u32, behind_u64};
+use pm_layout::{LIVE, MOVED};
 use pm_types::{Addr, FIELDS, OBJECT_BYTES, Object, Slot};
-
-/// The byte that the spelling of a Live slot begins with.
-const LIVE: u8 = 1;
-
-/// The byte that the spelling of a Moved slot begins with.
-const MOVED: u8 = 2;
 
 // The bytes behind an address, which has a car.
 fn behind_address(bytes: &[u8], to: Addr) -> Option<&[u8]>

@@ -7,4 +7,4 @@ mod selecting;
 
 pub use collecting::{Kind, collect_one, next_kind};
 pub use deciding::{decide, decide_next};
-pub use selecting::{MOST_TRAINS, select, select_next};
+pub use selecting::{select, select_next};

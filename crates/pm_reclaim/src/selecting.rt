@@ -9,12 +9,10 @@ ghost use Rattle.pm_reclaim.specs.Rows.{IsSelect};
 
 use pm_evac::an_event_that_was_made_keeps_all;
 use pm_space::{Parts, Space};
+use pm_trains::MOST_TRAINS;
 use pm_types::{NoMemory, Step};
 use pm_view::Phase;
 use std::alloc::Global;
-
-/// No train is opened behind one of this number: 2^62.
-pub const MOST_TRAINS: u64 = 4_611_686_018_427_387_904;
 
 // A train that has a car is selected, after a new open train was opened where it is the open one. Want of memory is
 // answered too where the open train's number is at its bound. After that answer all is as it was.

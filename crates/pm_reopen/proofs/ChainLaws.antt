@@ -20,11 +20,10 @@ use Rattle.pm_image.specs.Opening.{is_placed}
 use Rattle.pm_image.proofs.RuleLaws.{catalog_fault}
 use Rattle.pm_image.proofs.Results.{both_true}
 use Rattle.pm_base.proofs.Fronts.{with_front, regroup}
-use Rattle.pm_base.proofs.Results.{bind_ok, bound}
+use Rattle.pm_base.proofs.Results.{bind_ok, bound, err_same}
 use Rattle.pm_reopen.specs.declared.fault.ReadFault.{ReadFault}
 use Rattle.pm_reopen.specs.Reading.{Fails, link_at, IsThere, IsEntryThere, IsEntryNamed, root_count, page_numbers, IsSound, Follow, AreRead, LeadsOn, car_list, with_car}
 use Rattle.pm_reopen.proofs.Faults.{fails_too}
-use Rattle.pm_reopen.proofs.ReadLaws.{err_same}
 use Rattle.pm_reopen.proofs.Lists.{all_both}
 
 -- the pages behind the first

@@ -20,7 +20,7 @@ use Rattle.pm_image.specs.declared.catalog.CatEntry.{CatEntry}
 use Rattle.pm_image.specs.declared.catalog.CatEntry.TheVariants.{Car, Root}
 use Rattle.pm_image.specs.Graphs.{Pages as Store, Catalog, undamaged, on_page, entries_of, cars_from, with_identities}
 use Rattle.pm_base.proofs.Fronts.{with_front, regroup}
-use Rattle.pm_base.proofs.Results.{ok_same, bind_ok, bound}
+use Rattle.pm_base.proofs.Results.{ok_same, bind_ok, bound, err_same}
 use Rattle.pm_reopen.specs.declared.fault.ReadFault.{ReadFault}
 use Rattle.pm_reopen.proofs.Faults.{fails_too, first_fails, then_fails}
 use Rattle.pm_reopen.specs.Reading.{of_page, Fails, link_at, car_on, entry_car, with_car, car_list}
@@ -73,9 +73,6 @@ car_read most next store met number page kept bytes u image is read given =
     (bound (on_page page (car_at (a_car most next (Some number)) met (store.page page))) _ image _ (ap (on_page page) (ap (λ (b : List ℕ). car_at (a_car most next (Some number)) met b) (sym read) ∙ given)) refl)
 
 -- ---- cars one after another
-
-pub err_same : {A : Type 0} (d e : OpenFault) → ◌≡◌ {A = Result A OpenFault} (Err d) (Err e) → d ≡ e
-err_same d e is = cc
 
 -- one of two steps failed
 fails_chain : {A B C D F : Type 0} (first : Result A OpenFault) (second : Result B OpenFault) (f : B → C) (g : C → D) (rest : B → Result F OpenFault) (fault : OpenFault)

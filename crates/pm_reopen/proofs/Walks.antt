@@ -2,13 +2,14 @@
 use Rattle.std.proofs.Common.{◌≡◌, ℕ, ◌+◌, ◌≤◌, true, false, List, [], ◌∷◌, ◌++◌, length, drop, Option, Some, None, Ok, Err, refl, ap, ◌∙◌, arith, if◌then◌else◌}
 use Rattle.std.proofs.Math.ListN.{drop_of_length-le}
 use Rattle.std.specs.List.{flat_map, AllByRecursion}
-use Rattle.pm_types.specs.declared.limits.TheConstants.{FIELDS}
+use Rattle.pm_types.specs.declared.limits.TheConstants.{FIELDS, CAR_HEAD_BYTES}
 use Rattle.pm_types.specs.declared.address.Addr.{Addr}
 use Rattle.pm_types.specs.declared.fault.OpenFault.{OpenFault}
 use Rattle.pm_types.specs.declared.fault.OpenFault.TheVariants.{Malformed}
 use Rattle.pm_types.specs.declared.object.Slot.{Slot}
 use Rattle.pm_types.specs.declared.object.Slot.TheVariants.{Live, Moved}
 use Rattle.pm_layout.specs.Spelling.{slot_size, HasSpelling, IsWithinLimits}
+use Rattle.pm_image.specs.declared.catalog_kind.TheConstants.{ENTRIES, ROOT_ENTRY_BYTES}
 use Rattle.pm_image.specs.declared.catalog.CatEntry.{CatEntry}
 use Rattle.pm_image.specs.declared.catalog.CatEntry.TheVariants.{Car, Root}
 use Rattle.pm_image.specs.declared.settled.KeptPage.{KeptPage}
@@ -95,7 +96,7 @@ root_at page place entry = root_sites page place (entry ∷ [])
 pub root_step : (page place : ℕ) (x : CatEntry) (xs : List CatEntry) → root_sites page place (x ∷ xs) ≡ root_at page place x ++ root_sites page (place + entry_size x) xs
 root_step page place (Car car train at digest) xs = refl
 root_step page place (Root name to) xs =
-    let same : place + 14 + length name ≡ place + (14 + length name) = omega arith in
+    let same : place + ROOT_ENTRY_BYTES + length name ≡ place + (ROOT_ENTRY_BYTES + length name) = omega arith in
     ap (λ (k : ℕ). record { page = page; at = place + 2 + length name; to = to; to_live = false } ∷ root_sites page k xs) same
 
 pub root_none : (page place : ℕ) → root_sites page place [] ≡ []
@@ -119,11 +120,11 @@ listed_none one place = refl
 
 -- ---- where they stand
 
-pub used_records : (slots : List (ℕ × Slot)) → 14 ≤ car_used slots
+pub used_records : (slots : List (ℕ × Slot)) → CAR_HEAD_BYTES ≤ car_used slots
 used_records [] = omega arith
 used_records ((number, slot) ∷ slots) = let rest = used_records slots in omega (arith, rest)
 
-pub used_entries : (entries : List CatEntry) → 46 ≤ catalog_used entries
+pub used_entries : (entries : List CatEntry) → ENTRIES ≤ catalog_used entries
 used_entries [] = omega arith
 used_entries (entry ∷ entries) = let rest = used_entries entries in omega (arith, rest)
 

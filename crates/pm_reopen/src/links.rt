@@ -2,7 +2,7 @@
 
 ghost use Rattle.std.specs.Prelude.{◌≡◌, ◌∷◌, [], ◌+◌, ◌*◌, ◌≤◌, ℕ, List, length, map};
 ghost use Rattle.std.specs.List.{AllByRecursion, flat_map};
-ghost use Rattle.pm_types.specs.declared.limits.TheConstants.{FIELDS, PAGE_BYTES};
+ghost use Rattle.pm_types.specs.declared.limits.TheConstants.{FIELDS, PAGE_BYTES, CAR_HEAD_BYTES};
 ghost use Rattle.pm_types.specs.declared.object.Slot.{Slot};
 ghost use Rattle.pm_layout.specs.Spelling.{IsWithinLimits, slot_size};
 ghost use Rattle.pm_image.specs.declared.catalog.CatalogPage.{CatalogPage};
@@ -76,7 +76,7 @@ fn check_record(held: &HeldCars, page: u64, at: u32, slot: &Slot) -> Result<(), 
 fn check_records(held: &HeldCars, page: u64, slots: &[(u32, Slot)]) -> Result<(), Place>
     requires fits { car_used slots.now ≤ PAGE_BYTES }
     requires within { AllByRecursion (λ (entry : ℕ × Slot). IsWithinLimits FIELDS entry.1) slots.now }
-    ensures { led result ≡ linked_by held.now (record_sites page 14 slots.now) }
+    ensures { led result ≡ linked_by held.now (record_sites page CAR_HEAD_BYTES slots.now) }
 {
     let mut at = RECORDS_AT as u32;
     for listed in slots {
@@ -89,7 +89,7 @@ fn check_records(held: &HeldCars, page: u64, slots: &[(u32, Slot)]) -> Result<()
 // Each address of these cars' pages does.
 fn check_cars(held: &HeldCars, cars: &[KeptPage]) -> Result<(), Place>
     requires { AllByRecursion IsMeasured cars.now }
-    ensures { led result ≡ linked_by held.now (flat_map (λ (kept : KeptPage). record_sites kept.page 14 kept.image.slots) cars.now) }
+    ensures { led result ≡ linked_by held.now (flat_map (λ (kept : KeptPage). record_sites kept.page CAR_HEAD_BYTES kept.image.slots) cars.now) }
 {
     for kept in cars {
         check_records(held, kept.page, kept.image.slots.as_slice())?;
@@ -130,7 +130,7 @@ fn check_root(held: &HeldCars, page: u64, at: u32, entry: &CatEntry) -> Result<(
 // The address of each root of a catalog page does.
 fn check_roots(held: &HeldCars, page: u64, entries: &[CatEntry]) -> Result<(), Place>
     requires { catalog_used entries.now ≤ PAGE_BYTES }
-    ensures { led result ≡ linked_by held.now (root_sites page 46 entries.now) }
+    ensures { led result ≡ linked_by held.now (root_sites page ENTRIES entries.now) }
 {
     let mut at = ENTRIES as u32;
     for entry in entries {
@@ -143,7 +143,7 @@ fn check_roots(held: &HeldCars, page: u64, entries: &[CatEntry]) -> Result<(), P
 // The address of each root of a catalog does.
 fn check_catalog(held: &HeldCars, catalog: &[(u64, CatalogPage)]) -> Result<(), Place>
     requires { AllByRecursion (λ (page : ℕ × CatalogPage). catalog_used page.1.entries ≤ PAGE_BYTES) catalog.now }
-    ensures { led result ≡ linked_by held.now (flat_map (λ (page : ℕ × CatalogPage). root_sites page.0 46 page.1.entries) catalog.now) }
+    ensures { led result ≡ linked_by held.now (flat_map (λ (page : ℕ × CatalogPage). root_sites page.0 ENTRIES page.1.entries) catalog.now) }
 {
     for page in catalog {
         check_roots(held, page.0, page.1.entries.as_slice())?;

@@ -6,6 +6,7 @@ use Rattle.std.specs.FinMap.{find, is_sorted, from_sorted}
 use Rattle.pm_types.specs.declared.address.Addr.{Addr}
 use Rattle.pm_types.specs.Orders.{name_cmp}
 use Rattle.pm_roots.specs.Bindings.{Bindings}
+use Rattle.pm_types.specs.declared.limits.TheConstants.{ROOTS}
 
 -- names with their numbers
 abbrev pub Numbered : Type 0
@@ -36,7 +37,7 @@ shown names addresses = from_sorted (rows addresses names)
 -- the names rise, their numbers differ, and just their numbers have addresses
 pub record IsKept (names : Numbered) (addresses : ℕ → Option Addr) : Type 0 where
   pub sorted : T (is_sorted name_cmp names)
-  pub few : length names ≤ 4096
+  pub few : length names ≤ ROOTS
   pub addressed : (p : List ℕ) (number : ℕ) → find name_cmp p names ≡ Some number → IsSome (addresses number)
   pub named : (number : ℕ) → IsSome (addresses number) → (p : List ℕ) × (find name_cmp p names ≡ Some number)
   pub differ : (p q : List ℕ) (number : ℕ) → find name_cmp p names ≡ Some number → find name_cmp q names ≡ Some number → p ≡ q

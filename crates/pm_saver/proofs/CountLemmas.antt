@@ -2,6 +2,7 @@
 use Rattle.std.proofs.Common.{◌≡◌, ℕ, ◌+◌, ◌<◌, ◌≤◌, arith, sym, ap, subst, ◌∙◌, List, [], ◌∷◌, ◌++◌, length, map, take, get_or, append_assoc}
 use Rattle.std.proofs.lemmas.List.{length-append, map-append, take_more}
 use Rattle.pm_types.specs.declared.limits.TheConstants.{PAGE_BYTES}
+use Rattle.pm_image.specs.declared.catalog_kind.TheConstants.{ENTRIES}
 use Rattle.pm_image.specs.declared.catalog.CatEntry.{CatEntry}
 use Rattle.pm_image.specs.CatalogPages.{catalog_used, entry_size}
 use Rattle.pm_law_layout.specs.Cutting.{OnePage, FitsAlone, IsCutInto, cut}
@@ -28,7 +29,7 @@ still_roomy met entry size it had is room law = record {
 
 -- it has none, and the next one was begun
 pub page_ended : (met : List CatEntry) (entry : CatEntry) (size : ℕ) (old new : Counter) → IsCounted met old → size ≡ entry_size entry → size ≤ 78 → PAGE_BYTES < old.used + size
-    → new.counts.items ≡ old.counts.items ++ old.count ∷ [] → new.count ≡ 0 → new.used ≡ 46
+    → new.counts.items ≡ old.counts.items ++ old.count ∷ [] → new.count ≡ 0 → new.used ≡ ENTRIES
     → ((entries : List CatEntry) (pages : List OnePage) (last : OnePage) (entry : CatEntry) → IsCutInto entries (pages ++ last ∷ []) → FitsAlone entry → PAGE_BYTES < catalog_used last + entry_size entry → IsCutInto (entries ++ entry ∷ []) (pages ++ last ∷ (entry ∷ []) ∷ []))
     → IsRoomy met entry new
 page_ended met entry size old new had is small past counts count used law = record {

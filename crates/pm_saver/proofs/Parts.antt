@@ -8,6 +8,7 @@ use Rattle.std.proofs.Math.Seq.{drop-append-add}
 use Rattle.std.proofs.lemmas.List.{length-map, length-append, length-drop, map-append, take_at, take_more, same_from_push, get_or-map, reverse-append, length-reverse}
 use Rattle.std.proofs.lemmas.List.Sums.{sum_by-cons, sum_by_push, sum_by-take-le}
 use Rattle.pm_types.specs.declared.limits.TheConstants.{PAGE_BYTES}
+use Rattle.pm_image.specs.declared.catalog_kind.TheConstants.{ENTRIES, CAR_ENTRY_BYTES}
 use Rattle.pm_image.specs.declared.catalog.CatEntry.{CatEntry}
 use Rattle.pm_image.specs.declared.catalog.CatalogPage.{CatalogPage}
 use Rattle.pm_image.specs.CatalogPages.{HasCatalogPage, entry_size, has_next_digest, nothing_met}
@@ -33,12 +34,12 @@ joined_from : (used : ℕ) (entries : List CatEntry) → joined (cut_from used e
 joined_from used [] = refl
 joined_from used (entry ∷ entries) = by (λ n. joined_from n entries) (nat_le (used + entry_size entry) PAGE_BYTES)
   where
-    by : ((n : ℕ) → joined (cut_from n entries) ≡ entries) → (b : Bool) → joined (if b then onto_first entry (cut_from (used + entry_size entry) entries) else [] ∷ onto_first entry (cut_from (entry_size entry + 46) entries)) ≡ entry ∷ entries
+    by : ((n : ℕ) → joined (cut_from n entries) ≡ entries) → (b : Bool) → joined (if b then onto_first entry (cut_from (used + entry_size entry) entries) else [] ∷ onto_first entry (cut_from (entry_size entry + ENTRIES) entries)) ≡ entry ∷ entries
     by others true = joined_onto entry (cut_from (used + entry_size entry) entries) ∙ ap (λ (rest : List CatEntry). entry ∷ rest) (others (used + entry_size entry))
-    by others false = joined_onto entry (cut_from (entry_size entry + 46) entries) ∙ ap (λ (rest : List CatEntry). entry ∷ rest) (others (entry_size entry + 46))
+    by others false = joined_onto entry (cut_from (entry_size entry + ENTRIES) entries) ∙ ap (λ (rest : List CatEntry). entry ∷ rest) (others (entry_size entry + ENTRIES))
 
 joined_cut : (entries : List CatEntry) → joined (cut entries) ≡ entries
-joined_cut entries = joined_from 46 entries
+joined_cut entries = joined_from ENTRIES entries
 
 sum_one : (n : ℕ) (ns : List ℕ) → sum (n ∷ ns) ≡ n + sum ns
 sum_one n ns = sum_by-cons (λ (n : ℕ). n) n ns
@@ -80,14 +81,14 @@ parts_are progress placed = ap (λ (front : List CatEntry). cut (front ++ roots_
 
 -- ---- how many entries each page has
 
-size_of_entry : (train number : ℕ) (place : Place) → entry_size (entry_of (record { train = train; number = number; place = place })) ≡ 57
+size_of_entry : (train number : ℕ) (place : Place) → entry_size (entry_of (record { train = train; number = number; place = place })) ≡ CAR_ENTRY_BYTES
 size_of_entry train number (Clean kept) = refl
 size_of_entry train number Unwritten = refl
 size_of_entry train number (Written kept) = refl
 
 sizes_of_cars : (cars : List PlacedCar) → map entry_size (map entry_of cars) ≡ map entry_size (map draft_entry cars)
 sizes_of_cars [] = refl
-sizes_of_cars (one ∷ others) = ap (λ (n : ℕ). n ∷ map entry_size (map entry_of others)) (size_of_entry one.train one.number one.place) ∙ ap (λ (sizes : List ℕ). 57 ∷ sizes) (sizes_of_cars others)
+sizes_of_cars (one ∷ others) = ap (λ (n : ℕ). n ∷ map entry_size (map entry_of others)) (size_of_entry one.train one.number one.place) ∙ ap (λ (sizes : List ℕ). CAR_ENTRY_BYTES ∷ sizes) (sizes_of_cars others)
 
 same_sizes : (progress : Progress) → map entry_size (entries_in progress) ≡ map entry_size (map draft_entry progress.cars ++ roots_of progress)
 same_sizes progress =

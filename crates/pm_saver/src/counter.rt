@@ -47,7 +47,7 @@ impl Counter {
     fn end_page(&mut self) -> Result<(), NoMemory>
         ensures counts { OnOk result (self.new.counts.items ≡ self.old.counts.items ++ self.old.count ∷ []) }
         ensures count { OnOk result (self.new.count ≡ 0) }
-        ensures used { OnOk result (self.new.used ≡ 46) }
+        ensures used { OnOk result (self.new.used ≡ ENTRIES) }
     {
         self.counts.push(self.count)?;
         self.count = 0;

@@ -1,6 +1,6 @@
 -- A run of lines over an engine.
-use Rattle.std.specs.Prelude.{◌≡◌, ◌⊎◌, ℕ, ◌<◌, min, List, [], ◌∷◌, ◌++◌, Option, Some, None}
-use Rattle.pm_base.specs.Counts.{greatest_count}
+use Rattle.std.specs.Prelude.{◌≡◌, ◌⊎◌, ℕ, ◌<◌, List, [], ◌∷◌, ◌++◌, Option, Some, None}
+use Rattle.pm_base.specs.Counts.{greatest_count, capped}
 use Rattle.pm_disk.specs.declared.disk.Disk.{Ghosts}
 use Rattle.pm_disk.specs.Disk.{LeavesOnly}
 use Rattle.pm_types.specs.declared.command.Cmd.TheVariants.{Settle}
@@ -34,8 +34,8 @@ pub record AnswersLines (lines : List Line) (new : Serving) (stop : Option Stop)
   pub served : requests_of new.journal ++ rest ≡ requests_asked lines
   -- where the run is done, it is all, and every event that the lines ask for was made, each by the call for its kind
   pub all : IsDone stop → requests_of new.journal ≡ requests_asked lines
-  pub events : IsDone stop → new.events ≡ min (events_asked lines) greatest_count
-  pub steps : IsDone stop → new.steps ≡ min (steps_asked lines) greatest_count
+  pub events : IsDone stop → new.events ≡ capped (events_asked lines)
+  pub steps : IsDone stop → new.steps ≡ capped (steps_asked lines)
   -- where memory runs out in a `settle`, something of the copy is left to be written, unless no event was made at all: so it
   -- does not where all of it was flushed. It is that event which was not made, where as many were made as the lines before
   -- it ask for

@@ -1,6 +1,6 @@
 -- What parts of a run do, one behind another: an event, a line, the lines so far.
-use Rattle.std.specs.Prelude.{◌≡◌, ◌⊎◌, ℕ, ◌+◌, ◌<◌, ◌≤◌, true, min, List, [], ◌∷◌, ◌++◌, Contains, length, Option, Some, None}
-use Rattle.pm_base.specs.Counts.{Rose, greatest_count}
+use Rattle.std.specs.Prelude.{◌≡◌, ◌⊎◌, ℕ, ◌+◌, ◌<◌, ◌≤◌, true, List, [], ◌∷◌, ◌++◌, Contains, length, Option, Some, None}
+use Rattle.pm_base.specs.Counts.{Rose, greatest_count, capped, raised}
 use Rattle.pm_types.specs.declared.command.Cmd.{Cmd}
 use Rattle.pm_types.specs.declared.entry.Entry.{Entry}
 use Rattle.pm_types.specs.declared.fault.EngineFault.{EngineFault}
@@ -17,7 +17,7 @@ use Rattle.pm_grammar.specs.declared.line.Line.{Line}
 use Rattle.pm_grammar.specs.declared.line.Line.TheVariants.{Client}
 use Rattle.pm_output.specs.Writing.{GoesOn, PutsAll, PutsPart}
 use Rattle.pm_saving.specs.Paging.{left_of}
-use Rattle.pm_serving.specs.Serving.{Serving, one_more, opening}
+use Rattle.pm_serving.specs.Serving.{Serving, opening}
 use Rattle.pm_serving.specs.Images.{IsLast, IsOfRun, IsTold}
 use Rattle.pm_engine.specs.declared.engine.Engine.{Engine}
 use Rattle.pm_engine.specs.Shown.{KeepsStart, disk_in, opened_disk, room, serving}
@@ -76,7 +76,7 @@ pub record Adds (client : ℕ) (cmd : Cmd) (old new : Serving) : Type 0 where
   pub client_is : entry.client ≡ client
   pub cmd_is : entry.cmd ≡ cmd
   pub short : IsShortReply entry.reply
-  pub events : new.events ≡ one_more old.events
+  pub events : new.events ≡ raised old.events
   pub steps : new.steps ≡ old.steps
 
 -- nothing was answered, and no event was made
@@ -91,8 +91,8 @@ pub record AnswersPart (asked : List Request) (count of_them : ℕ) (old new : S
   pub served : requests_of new.journal ++ rest ≡ requests_of old.journal ++ asked
   -- where the run does not stop, it is all, and so many events were made, so many of them by the collector
   pub all : IsDone stop → requests_of new.journal ≡ requests_of old.journal ++ asked
-  pub events : IsDone stop → old.events ≤ greatest_count → new.events ≡ min (old.events + count) greatest_count
-  pub steps : IsDone stop → old.steps ≤ greatest_count → new.steps ≡ min (old.steps + of_them) greatest_count
+  pub events : IsDone stop → old.events ≤ greatest_count → new.events ≡ capped (old.events + count)
+  pub steps : IsDone stop → old.steps ≤ greatest_count → new.steps ≡ capped (old.steps + of_them)
 
 -- ---- where a run stops
 
@@ -100,7 +100,7 @@ pub record AnswersPart (asked : List Request) (count of_them : ℕ) (old new : S
 pub record IsCut (count : ℕ) (old new : Serving) : Type 0 where
   pub made : ℕ
   pub within : made < count
-  pub events : old.events ≤ greatest_count → new.events ≡ min (old.events + made) greatest_count
+  pub events : old.events ≤ greatest_count → new.events ≡ capped (old.events + made)
 
 -- something of a copy in progress is left to be written
 abbrev pub IsUnfinished : Serving → Type 0
@@ -123,7 +123,7 @@ pub record CutsLines (lines : List Line) (old new : Serving) : Type 0 where
   pub lines_are : lines ≡ done ++ line ∷ more
   pub made : ℕ
   pub within : made < events_of line
-  pub events : old.events ≤ greatest_count → new.events ≡ min (old.events + (events_asked done + made)) greatest_count
+  pub events : old.events ≤ greatest_count → new.events ≡ capped (old.events + (events_asked done + made))
   pub left : AsksSettle line → IsUnfinished new
 
 -- ---- the engine

@@ -7,12 +7,12 @@ use Rattle.pm_types.specs.declared.reply.Reply.{Reply}
 use Rattle.pm_types.specs.declared.reply.Reply.TheVariants.{Watching}
 use Rattle.pm_types.specs.declared.fault.EngineFault.{EngineFault}
 use Rattle.pm_types.specs.declared.fault.EngineFault.TheVariants.{Memory, Disk, Reopen}
-use Rattle.pm_base.specs.Counts.{ShowsRise}
+use Rattle.pm_base.specs.Counts.{ShowsRise, raised}
 use Rattle.pm_model.specs.Answer.{answer}
 use Rattle.pm_view.specs.Watches.{watch_in}
 use Rattle.pm_saving.specs.Progress.{Progress}
 use Rattle.pm_saving.specs.Tied.{GoesOn}
-use Rattle.pm_serving.specs.Serving.{Serving, KeepsOpening, one_more, world}
+use Rattle.pm_serving.specs.Serving.{Serving, KeepsOpening, world}
 
 -- The watches once a command was answered so: where it is one that sets a watch, that watch is the last.
 abbrev pub watched : Serving → Cmd → Reply → List Watch
@@ -25,7 +25,7 @@ pub record Appends (client : ℕ) (cmd : Cmd) (old new : Serving) (reply : Reply
   pub opening : KeepsOpening old new
   pub journal : new.journal ≡ old.journal ++ record { client = client; cmd = cmd; reply = reply } ∷ []
   pub watches : new.watches ≡ watched old cmd reply
-  pub events : new.events ≡ one_more old.events
+  pub events : new.events ≡ raised old.events
   pub steps : new.steps ≡ old.steps
   pub stopped : new.stopped ≡ old.stopped
 
@@ -42,7 +42,7 @@ pub record Flushes (old new : Serving) : Type 0 where
   pub settled : new.saving.settled ≡ old.saving.settled
   pub journal : new.journal ≡ old.journal
   pub watches : new.watches ≡ old.watches
-  pub events : new.events ≡ one_more old.events
+  pub events : new.events ≡ raised old.events
   pub steps : new.steps ≡ old.steps
   pub stopped : new.stopped ≡ old.stopped
 
@@ -53,8 +53,8 @@ pub record Collects (old new : Serving) : Type 0 where
   pub saving : new.saving ≡ old.saving
   pub journal : new.journal ≡ old.journal
   pub watches : new.watches ≡ old.watches
-  pub events : new.events ≡ one_more old.events
-  pub steps : new.steps ≡ one_more old.steps
+  pub events : new.events ≡ raised old.events
+  pub steps : new.steps ≡ raised old.steps
   pub stopped : new.stopped ≡ old.stopped
 
 -- the copy in progress is the same, of which more pages may have been written

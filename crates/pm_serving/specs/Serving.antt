@@ -1,6 +1,5 @@
 -- What contracts see of an engine, beside its disk.
-use Rattle.std.specs.Prelude.{◌≡◌, ℕ, ◌+◌, min, List, [], length, Option, Some, None, option_map}
-use Rattle.pm_base.specs.Counts.{greatest_count}
+use Rattle.std.specs.Prelude.{◌≡◌, ℕ, List, [], length, Option, None, option_map}
 use Rattle.pm_types.specs.declared.entry.Entry.{Entry}
 use Rattle.pm_types.specs.declared.event.Watch.{Watch}
 use Rattle.pm_model.specs.World.{World, Copy, begin}
@@ -25,10 +24,6 @@ pub record Serving : Type 0 where
   pub events : ℕ
   pub steps : ℕ
   pub stopped : Option ℕ
-
--- one event more; at its greatest value the count stands still
-abbrev pub one_more : ℕ → ℕ
-one_more count = min (count + 1) greatest_count
 
 -- the world as it was opened
 abbrev pub opening : Serving → World

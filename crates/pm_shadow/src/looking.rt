@@ -59,7 +59,7 @@ pub(crate) fn look<D: Disk>(disk: &mut D) -> Result<Option<Seen>, DiskFailed>
     ensures leaves { LeavesOnly D.moment D.since disk.old disk.new (D.image disk.old) }
     ensures cause { HasCause (D.count disk.old) (D.count disk.new) result }
     // One sync is made, and no write and no read past the end of what the disk told, whatever is found.
-    ensures made { D.made disk.new ≡ with_sync (D.made disk.old) }
+    ensures made { D.made disk.new ≡ with_sync (D.moment disk.old) (D.made disk.old) }
 {
     disk.sync()?;
     let len = disk.len()?;
@@ -81,7 +81,7 @@ pub(crate) fn find<D: Disk>(disk: &mut D) -> Result<Found, OpenFault>
     ensures cause { IfErr result (IsAttachFault (D.count disk.old) (D.count disk.new)) }
     ensures told { D.contents disk.new ≡ D.contents disk.old }
     ensures leaves { LeavesOnly D.moment D.since disk.old disk.new (D.image disk.old) }
-    ensures made { D.made disk.new ≡ with_sync (D.made disk.old) }
+    ensures made { D.made disk.new ≡ with_sync (D.moment disk.old) (D.made disk.old) }
 {
     let before = disk.faults();
     match look(disk) {

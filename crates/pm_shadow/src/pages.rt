@@ -83,9 +83,9 @@ impl<D: Disk> Pages<D> {
             (λ e. D.contents e.0 ≡ D.contents disk) }
         ensures leaves { MatchResult result (λ it. LeavesOnly D.moment D.since disk (disk_of it) (D.image disk))
             (λ e. LeavesOnly D.moment D.since disk e.0 (D.image disk)) }
-        // One sync was made, no write, and no read past the end of what the disk told.
-        ensures made { MatchResult result (λ it. D.made (disk_of it) ≡ with_sync (D.made disk))
-            (λ e. D.made e.0 ≡ with_sync (D.made disk)) }
+        // One sync was made, before any other call, no write, and no read past the end of what the disk told.
+        ensures made { MatchResult result (λ it. D.made (disk_of it) ≡ with_sync (D.moment disk) (D.made disk))
+            (λ e. D.made e.0 ≡ with_sync (D.moment disk) (D.made disk)) }
     {
         let mut disk = disk;
         match find(&mut disk) {

@@ -4,14 +4,13 @@ use Rattle.std.specs.List.{sum_by, list_any}
 use Rattle.std.proofs.lemmas.List.{get_or-map}
 use Rattle.std.proofs.lemmas.List.Folds.{list_any_at}
 use Rattle.std.proofs.lemmas.Bool.{eq-eqb}
-use Rattle.pm_base.specs.Counts.{greatest_count}
+use Rattle.pm_base.specs.Counts.{greatest_count, capped}
 use Rattle.pm_trains.specs.Trains.{Train, cars_at, train_of}
 use Rattle.pm_trains.specs.Sound.{Rise}
 use Rattle.pm_trains.specs.Changes.{StandsIn}
 use Rattle.pm_trains.proofs.Numbers.{cars_there}
 use Rattle.pm_view.specs.View.{SpaceView}
 use Rattle.pm_view.specs.Counts.{standing_of, old_in}
-use Rattle.pm_space.specs.Counted.{capped}
 
 -- a count and one more thing to count
 pub capped_more : (m n sum more : ℕ) → sum ≡ capped m → more ≡ capped n → min (sum + more) greatest_count ≡ capped (m + n)

@@ -1,11 +1,6 @@
--- Counts of objects as numbers of 64 bits.
-use Rattle.std.specs.Prelude.{ℕ, ◌<◌, min, List, length, get_or, IsSome}
-use Rattle.pm_base.specs.Counts.{greatest_count}
+-- What counting the objects of cars asks.
+use Rattle.std.specs.Prelude.{ℕ, ◌<◌, List, length, get_or, IsSome}
 use Rattle.pm_trains.specs.Trains.{Train, train_of}
-
--- a count, or the greatest number of 64 bits where it is more
-abbrev pub capped : ℕ → ℕ
-capped count = min count greatest_count
 
 -- each of these cars is in a train
 abbrev pub AreAllHoused : List Train → List ℕ → Type 0

@@ -1,10 +1,11 @@
-ghost use Rattle.std.specs.Prelude.{◌≡◌, ◌<◌, ◌^◌, ℕ, true, [], None, IsSome, IfOk, OnOk, OnErr};
+ghost use Rattle.std.specs.Prelude.{◌≡◌, ◌<◌, ℕ, true, [], None, IsSome, IfOk, OnOk, OnErr};
 ghost use Rattle.std.specs.FinMap as map;
 ghost use Rattle.pm_snap.specs.Snapped.{with_value, without, is_ready, IsLowestUnused};
 ghost use Rattle.pm_trains.specs.Trains.{cars_at, youngest, HasCar};
 ghost use Rattle.pm_view.specs.Rows.{with_car, IsVacant};
 ghost use Rattle.pm_space.specs.Linked.{sets_of, queues_of, HasRoom, KeepsRoom};
 ghost use Rattle.pm_space.specs.Shown.{view, empty_held, IsLinked, IsPrepared, with_car_in_new_train, KeepsReady, KeepsRest};
+ghost use Rattle.pm_trains.specs.declared.trains.TheConstants.{MOST_TRAINS};
 
 use crate::held::Held;
 use crate::links::LinkTable;
@@ -107,7 +108,7 @@ pub fn open_car_in_new_train<F>(
     room: u64,
 ) -> Result<u64, NoMemory>
     requires youngest { HasCar parts.old.trains.trains (youngest parts.old.trains.trains) }
-    requires small { youngest parts.old.trains.trains < 2 ^ 62 }
+    requires small { youngest parts.old.trains.trains < MOST_TRAINS }
     requires linked { IsLinked (view parts.old) }
     ensures vacant { IfOk result (IsVacant (view parts.old).cars) }
     ensures ok { IfOk result (λ number. view parts.new ≡ with_car_in_new_train (view parts.old) number) }

@@ -4,7 +4,7 @@ ghost use Rattle.pm_view.specs.Law.{HeapLaw};
 ghost use Rattle.pm_view.specs.Reading.{Stands, stored, resolve};
 ghost use Rattle.pm_view.specs.Rows.{new_space, spread, HasValue};
 ghost use Rattle.pm_view.specs.Counts.{standing, old};
-ghost use Rattle.pm_space.specs.Counted.{capped};
+ghost use Rattle.pm_base.specs.Counts.{capped};
 ghost use Rattle.pm_space.specs.Shown.{view, LeadsWhereStored, KeepsRest};
 ghost use Rattle.pm_space.specs.KeptOnce.{HeapLaw-prop};
 ghost use Rattle.pm_space.specs.Quiet.{IsQuiet, IsQuiet-prop};

@@ -12,7 +12,7 @@ use Rattle.pm_image.specs.Stands.{Opened}
 use Rattle.pm_view.specs.View.{SpaceView, Sources, Cars}
 use Rattle.pm_view.specs.Candidates.{set_of, queue_of}
 use Rattle.pm_view.specs.Counts.{live_in}
-use Rattle.pm_space.specs.Counted.{capped}
+use Rattle.pm_base.specs.Counts.{capped}
 use Rattle.pm_copies.specs.Listed.{Listed}
 use Rattle.pm_copies.specs.Opened.{IsOpened, IsOpenedFrom, unnumbered}
 use Rattle.pm_inspect.specs.Report.{line, store_line, train_line, line_of_car, car_line, trains_text, total_line, report_text}

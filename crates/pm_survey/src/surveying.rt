@@ -54,8 +54,8 @@ pub fn survey<D: Disk>(alloc: Global, disk: D) -> (D, Result<Vec<u8>, OpenFault>
     // The disk holds what it held, and so does what a crash leaves.
     ensures told { D.contents result.0 ≡ D.contents disk }
     ensures leaves { LeavesOnly D.moment D.since disk result.0 (D.image disk) }
-    // One sync was made, no write, and no read past the end of what the disk told.
-    ensures made { D.made result.0 ≡ with_sync (D.made disk) }
+    // One sync was made, before any other call, no write, and no read past the end of what the disk told.
+    ensures made { D.made result.0 ≡ with_sync (D.moment disk) (D.made disk) }
     ensures count { OnOk result.1 (D.count result.0 ≡ D.count disk) }
     // Why there is no report.
     ensures fault { IfErr result.1 (λ fault. IfTold (D.contents disk) (λ bytes. IsRefusal bytes fault)) }

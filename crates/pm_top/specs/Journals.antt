@@ -1,6 +1,6 @@
 -- What a run answers: its journal, and the events that it made.
-use Rattle.std.specs.Prelude.{◌≡◌, ℕ, ◌+◌, ◌<◌, min, List, ◌++◌, length, Option, IfSome}
-use Rattle.pm_base.specs.Counts.{greatest_count}
+use Rattle.std.specs.Prelude.{◌≡◌, ℕ, ◌+◌, ◌<◌, List, ◌++◌, length, Option, IfSome}
+use Rattle.pm_base.specs.Counts.{capped}
 use Rattle.pm_types.specs.declared.entry.Entry.{Entry}
 use Rattle.pm_model.specs.declared.request.Request.{Request}
 use Rattle.pm_model.specs.World.{Copy, begin}
@@ -43,8 +43,8 @@ pub record ServesLines (lines : List Line) (detail : Detail) (journal : List Ent
   pub served : requests_of journal ++ rest ≡ requests_asked lines
   -- where it is done, it is all of it, and every event was made that the lines ask for
   pub all : IsPast the_output detail journal → requests_of journal ≡ requests_asked lines
-  pub steps : IsPast the_output detail journal → IfSome tally (λ it. (tally_of it).steps ≡ min (steps_asked lines) greatest_count)
-  pub events : IsPast the_output detail journal → IfSome tally (λ it. (tally_of it).events ≡ min (events_asked lines) greatest_count)
+  pub steps : IsPast the_output detail journal → IfSome tally (λ it. (tally_of it).steps ≡ capped (steps_asked lines))
+  pub events : IsPast the_output detail journal → IfSome tally (λ it. (tally_of it).events ≡ capped (events_asked lines))
 
 -- a script that is refused has this fault
 abbrev pub IsScriptEnd : List ℕ → Detail → Type 0

@@ -2,6 +2,7 @@
 use Rattle.std.specs.Prelude.{ℕ, ◌<◌, ◌≤◌, ◌==◌, List, [], ◌∷◌, ◌++◌, length}
 use Rattle.std.specs.List.{count_by}
 use Rattle.pm_trains.specs.Trains.{Train, Trains}
+use Rattle.pm_trains.specs.declared.trains.TheConstants.{BIRTHS}
 
 -- the numbers rise, and the first is over this one
 abbrev pub Rise : ℕ → List Train → Type 0
@@ -29,4 +30,4 @@ pub record IsSound (t : Trains) : Type 0 where
   pub rising : Rise 0 t.trains
   pub filled : Filled t.trains
   pub single : (car : ℕ) → places car t.trains ≤ 1
-  pub bounded : t.births ≤ 1024
+  pub bounded : t.births ≤ BIRTHS

@@ -1,12 +1,13 @@
-ghost use Rattle.std.specs.Prelude.{◌≡◌, ◌↔◌, ◌+◌, [], ℕ, List, Some, None, IsSome};
-ghost use Rattle.pm_trains.specs.declared.trains.TheConstants.{BIRTHS};
+ghost use Rattle.std.specs.Prelude.{◌≡◌, ◌↔◌, ◌+◌, ◌^◌, [], ℕ, List, Some, None, IsSome};
+ghost use Rattle.pm_trains.specs.declared.trains.TheConstants.{BIRTHS, MOST_TRAINS};
 ghost use Rattle.pm_trains.specs.Trains.{Train, Trains as Shown, cars_at, train_of, oldest, youngest, first_car, appended, without_first, rotated};
 ghost use Rattle.pm_trains.specs.Sound.{IsSound, all_cars};
 ghost use Rattle.pm_trains.specs.Changes.{StandsIn, NoneOlder, NoneYounger, cars_with, cars_without_first, cars_with_open, HomesWith, HomesWithout};
 
-/// A law of limits: the most objects that are born in one train.
+/// A law of limits: the most objects that are born in one train, and the number of a train behind which none is opened.
 pub fn limits_of_trains()
-    ensures { BIRTHS ≡ 1024 }
+    ensures births { BIRTHS ≡ 1024 }
+    ensures trains { MOST_TRAINS ≡ 2 ^ 62 }
 {}
 
 /// A law of trains: a car is found in a train exactly where it is one of that train's cars.

@@ -14,4 +14,4 @@ pub use laws::{
     an_appended_car_is_the_last, limits_of_trains, the_oldest_is_the_least_with_a_car,
     the_youngest_is_the_greatest,
 };
-pub use trains::{BIRTHS, Trains};
+pub use trains::{BIRTHS, MOST_TRAINS, Trains};

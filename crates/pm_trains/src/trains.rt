@@ -13,6 +13,9 @@ use std::marker::Model;
 /// The most objects that are born in one train.
 pub const BIRTHS: u32 = 1024;
 
+/// No train is opened behind one of this number, 2^62. No memory holds so many trains.
+pub const MOST_TRAINS: u64 = 1 << 62;
+
 /// The trains, seen as the list of them, the oldest first, and the births in the open train. A train
 /// has a number and a list of cars, the first car first. The youngest train is the open one.
 ///
@@ -169,7 +172,7 @@ impl Trains {
     /// of the youngest. After `NoMemory` all is as it was.
     pub fn rotate(&mut self, alloc: Global) -> Result<u64, NoMemory>
         requires car { HasCar self.old.trains (youngest self.old.trains) }
-        requires small { youngest self.old.trains < 2 ^ 62 }
+        requires small { youngest self.old.trains < MOST_TRAINS }
         ensures number { IfOk result (λ number. number ≡ youngest self.old.trains + 1) }
         ensures ok { OnOk result (self.new ≡ record { trains = rotated self.old.trains; births = 0 }) }
         ensures err { OnErr result (self.new ≡ self.old) }
@@ -201,7 +204,7 @@ impl Trains {
     /// number: one more than that of the youngest. After `NoMemory` all is as it was.
     pub fn append_new(&mut self, alloc: Global, car: u64) -> Result<u64, NoMemory>
         requires youngest { HasCar self.old.trains (youngest self.old.trains) }
-        requires small { youngest self.old.trains < 2 ^ 62 }
+        requires small { youngest self.old.trains < MOST_TRAINS }
         requires car { train_of self.old.trains car ≡ None }
         ensures number { IfOk result (λ number. number ≡ youngest self.old.trains + 1) }
         ensures ok { OnOk result (self.new ≡ opened self.old car) }

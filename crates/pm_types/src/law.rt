@@ -6,7 +6,7 @@ ghost use Rattle.std.specs.declared.cmp.Ordering.TheVariants.{Equal};
 ghost use Rattle.std.specs.Cmp.{IsTotalOrder};
 ghost use Rattle.pm_types.specs.declared.address.Addr.{Addr};
 ghost use Rattle.pm_types.specs.declared.source.RefSource.{RefSource};
-ghost use Rattle.pm_types.specs.declared.limits.TheConstants.{CLIENTS, REGISTERS, FIELDS, OLD_FIELDS, OBJECT_BYTES, LAST_ID, NAME_BYTES, ROOTS, WATCHES, LAST_COPY, PAGE_BYTES, SOURCE_BYTES, SCRIPT_LINES, VERSION, OLD_VERSION, LAST_SLOT, CAR_HEAD_BYTES, MOST_TURNS};
+ghost use Rattle.pm_types.specs.declared.limits.TheConstants.{CLIENTS, REGISTERS, FIELDS, OLD_FIELDS, OBJECT_BYTES, LAST_ID, NAME_BYTES, ROOTS, WATCHES, LAST_COPY, PAGE_BYTES, SOURCE_BYTES, SCRIPT_LINES, VERSION, OLD_VERSION, LAST_SLOT, CAR_BYTES, CAR_HEAD_BYTES, CAR_ROOM, OBJECT_HEAD_BYTES, FIELD_BYTES, MOVED_BYTES, MOST_TURNS};
 ghost use Rattle.pm_types.specs.Orders.{name_cmp, place_cmp, address_cmp, source_cmp};
 ghost use Rattle.pm_types.specs.contracts.address.AddrOrd.TheImpl as address;
 ghost use Rattle.pm_types.specs.contracts.source.RefSourceOrd.TheImpl as source;
@@ -30,11 +30,20 @@ pub fn limits_of_stores()
     ensures old_fields { OLD_FIELDS ≡ 64 }
     ensures last_copy { LAST_COPY ≡ 4294967295 }
     ensures page_bytes { PAGE_BYTES ≡ 16384 }
-    ensures last_slot { LAST_SLOT ≡ 65535 }
-    ensures car_head { CAR_HEAD_BYTES ≡ 14 }
     ensures source_bytes { SOURCE_BYTES ≡ 268435456 }
     ensures script_lines { SCRIPT_LINES ≡ 65536 }
     ensures turns { MOST_TURNS ≡ 16000 }
+{}
+
+/// A law of limits: the numbers of what a car has. Room is counted in bytes.
+pub fn limits_of_cars()
+    ensures last_slot { LAST_SLOT ≡ 65535 }
+    ensures car { CAR_BYTES ≡ 16384 }
+    ensures head { CAR_HEAD_BYTES ≡ 14 }
+    ensures room { CAR_ROOM ≡ 16370 }
+    ensures object_head { OBJECT_HEAD_BYTES ≡ 17 }
+    ensures field { FIELD_BYTES ≡ 12 }
+    ensures moved { MOVED_BYTES ≡ 17 }
 {}
 
 /// A law of names: they are ordered by their bytes, any two can be compared, and only equal ones tie.

@@ -24,12 +24,12 @@ pub use entry::Entry;
 pub use event::{Flushed, Step, Watch, WatchLine};
 pub use fault::{EngineFault, InitFault, OpenFault};
 pub use law::{
-    addresses_are_ordered, limits_of_clients, limits_of_stores, names_are_ordered,
+    addresses_are_ordered, limits_of_cars, limits_of_clients, limits_of_stores, names_are_ordered,
     places_are_ordered, sources_are_ordered,
 };
 pub use limits::{
-    CAR_HEAD_BYTES, CLIENTS, FIELDS, LAST_COPY, LAST_ID, LAST_SLOT, MOST_TURNS, NAME_BYTES,
-    OBJECT_BYTES, OLD_FIELDS, OLD_VERSION, PAGE_BYTES, REGISTERS, ROOTS, SCRIPT_LINES,
+    CAR_BYTES, CAR_HEAD_BYTES, CAR_ROOM, CLIENTS, FIELD_BYTES, FIELDS, LAST_COPY, LAST_ID,
+    LAST_SLOT, MOST_TURNS, MOVED_BYTES, NAME_BYTES, OBJECT_BYTES, OBJECT_HEAD_BYTES, OLD_FIELDS, OLD_VERSION, PAGE_BYTES, REGISTERS, ROOTS, SCRIPT_LINES,
     SOURCE_BYTES, VERSION, WATCHES,
 };
 pub use name::{Name, NameFault};

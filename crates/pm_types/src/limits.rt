@@ -37,8 +37,23 @@ pub const LAST_SLOT: u32 = 65_535;
 /// The room that the head of a car takes, in bytes: on its page the first slot begins behind it.
 pub const CAR_HEAD_BYTES: u32 = 14;
 
+/// The room that the head of an object takes in its car, in bytes.
+pub const OBJECT_HEAD_BYTES: u32 = 17;
+
+/// The room that each field of an object takes, in bytes.
+pub const FIELD_BYTES: u32 = 12;
+
+/// The room that a slot takes from which the object moved away, in bytes.
+pub const MOVED_BYTES: u32 = 17;
+
 /// How many bytes a page of a store has. Page p begins at byte `PAGE_BYTES * p`.
 pub const PAGE_BYTES: usize = 16_384;
+
+/// The room of a car, in bytes: that of a page.
+pub const CAR_BYTES: u32 = PAGE_BYTES as u32;
+
+/// The room for objects that a car has, in bytes.
+pub const CAR_ROOM: u32 = CAR_BYTES - CAR_HEAD_BYTES;
 
 /// The most bytes of a script.
 pub const SOURCE_BYTES: usize = 268_435_456;

@@ -11,12 +11,13 @@ pub struct Reg {
 
 impl Model for Reg {
     ghost use Rattle.std.specs.Prelude.{ℕ, ◌<◌};
+    ghost use Rattle.pm_types.specs.declared.limits.TheConstants.{REGISTERS};
 
     ghost Value = { ℕ };
 
     ghost view = { λ reg. reg.number };
 
-    ghost invariant = { λ reg. reg.number < 1024 };
+    ghost invariant = { λ reg. reg.number < REGISTERS };
 
     ghost inverse = { λ number. record { number = number } };
 }

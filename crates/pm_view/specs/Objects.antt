@@ -7,6 +7,7 @@ use Rattle.pm_trains.specs.Trains as trains
 use Rattle.pm_view.specs.Sources.{same_address}
 use Rattle.pm_view.specs.View.{SpaceView}
 use Rattle.pm_view.specs.Reading.{is_aside, id_at}
+use Rattle.pm_trains.specs.declared.trains.TheConstants.{BIRTHS}
 
 -- the objects of a space stay where they are, in the trains where they are, and the same cars are set aside
 pub record KeepsObjects (view t : SpaceView) : Type 0 where
@@ -24,5 +25,5 @@ pub record AddsObject (view t : SpaceView) (id : ℕ) (place : Addr) : Type 0 wh
   pub ids : (a : Addr) → same_address place a ≡ false → id_at t a ≡ id_at view a
   pub aside : (car : ℕ) → is_aside t car ≡ is_aside view car
   pub homes : (car : ℕ) → IsSome (get view.cars car) → train_of t.trains.trains car ≡ train_of view.trains.trains car
-  pub youngest : trains.youngest t.trains.trains ≡ (if nat_le 1024 view.trains.births then trains.youngest view.trains.trains + 1 else trains.youngest view.trains.trains)
-  pub births : t.trains.births ≡ (if nat_le 1024 view.trains.births then 1 else view.trains.births + 1)
+  pub youngest : trains.youngest t.trains.trains ≡ (if nat_le BIRTHS view.trains.births then trains.youngest view.trains.trains + 1 else trains.youngest view.trains.trains)
+  pub births : t.trains.births ≡ (if nat_le BIRTHS view.trains.births then 1 else view.trains.births + 1)

@@ -2,7 +2,7 @@
 use Rattle.std.specs.Prelude.{◌≡◌, ℕ, ◌+◌, ◌<◌, ◌≤◌, ◌==◌, ◌&&◌, Bool, false, cond, nat_le, if◌then◌else◌, List, [], length, Option, Some, None, IsSome, IsSomeAnd, option_and_then}
 use Rattle.std.specs.FinMap.{get, insert, remove, empty}
 use Rattle.pm_base.specs.Mapped.{mapped}
-use Rattle.pm_types.specs.declared.limits.TheConstants.{FIELDS, OBJECT_BYTES}
+use Rattle.pm_types.specs.declared.limits.TheConstants.{FIELDS, OBJECT_BYTES, CAR_BYTES, LAST_SLOT}
 use Rattle.pm_types.specs.declared.address.Addr.{Addr}
 use Rattle.pm_types.specs.declared.object.Object.{Object}
 use Rattle.pm_types.specs.declared.object.Slot.{Slot}
@@ -16,6 +16,7 @@ use Rattle.pm_view.specs.declared.phase.Phase.TheVariants.{Idle}
 use Rattle.pm_view.specs.View.{Cars, SpaceView}
 use Rattle.pm_view.specs.Reading.{object_at, field_of, stored, is_aside}
 use Rattle.pm_view.specs.Barrier.{barrier, told}
+use Rattle.pm_trains.specs.declared.trains.TheConstants.{BIRTHS}
 
 -- ---- slots and objects
 
@@ -98,11 +99,11 @@ pub record MayBeBorn (view : SpaceView) (object : Object) : Type 0 where
 
 -- where 1,024 objects were born in the open train there is a new one
 abbrev pub with_open_train : SpaceView → SpaceView
-with_open_train view = if nat_le 1024 view.trains.births then record view { trains = record { trains = rotated view.trains.trains; births = 0 } } else view
+with_open_train view = if nat_le BIRTHS view.trains.births then record view { trains = record { trains = rotated view.trains.trains; births = 0 } } else view
 
 -- an object of this room fits the car: its room is left, and a slot is
 abbrev pub has_room : Car → ℕ → Bool
-has_room car room = nat_le (used car + room) 16384 && nat_le car.next 65535
+has_room car room = nat_le (used car + room) CAR_BYTES && nat_le car.next LAST_SLOT
 
 -- this car where an object of this room fits it
 abbrev pub if_fits : SpaceView → ℕ → ℕ → Option ℕ

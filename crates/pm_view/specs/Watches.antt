@@ -1,6 +1,6 @@
 -- What a watch notes when it is set, and what is told of it at the end.
 use Rattle.std.specs.Prelude.{ℕ, ◌+◌, ◌-◌, ◌*◌, min, List, [], ◌∷◌, length}
-use Rattle.pm_base.specs.Counts.{greatest_count}
+use Rattle.pm_base.specs.Counts.{capped}
 use Rattle.pm_types.specs.declared.event.Watch.{Watch}
 use Rattle.pm_types.specs.declared.event.WatchLine.{WatchLine}
 use Rattle.pm_trains.specs.declared.trains.TheConstants.{BIRTHS}
@@ -10,7 +10,7 @@ use Rattle.pm_view.specs.Counts.{standing, old}
 
 -- how many objects stand, and how many more can be born in the open train
 abbrev pub objects_in : SpaceView → ℕ
-objects_in view = min (standing view + (BIRTHS - view.trains.births)) greatest_count
+objects_in view = capped (standing view + (BIRTHS - view.trains.births))
 
 -- the greatest number of 128 bits
 abbrev pub greatest_bound : ℕ
@@ -36,7 +36,7 @@ line_of view number watch = record {
   number = number;
   bound = watch.bound;
   done = view.completed - watch.completed;
-  old = min (old view watch.youngest) greatest_count;
+  old = capped (old view watch.youngest);
 }
 
 -- what is told of watches, the first of which has this number

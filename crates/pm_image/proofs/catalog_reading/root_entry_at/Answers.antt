@@ -1,7 +1,8 @@
 use Rattle.std.proofs.Common.{◌+◌, ℕ, List, get_or}
 use Rattle.std.proofs.lemmas.Result.{err_from_is_err_and}
 use Rattle.pm_image.specs.CatalogReading.{name_at, root_at}
-use Rattle.pm_image.proofs.CatalogReads.{root_by_name, fails_too, gives_then, answer_gives}
+use Rattle.pm_image.proofs.Answered.{answer_gives, fails_too}
+use Rattle.pm_image.proofs.CatalogReads.{root_by_name, gives_then}
 use Rattle.pm_image.proofs.catalog_reading.root_entry_at.Goals as goal
 
 pub returns-in_err-name : goal.returns-in_err-name

@@ -1,8 +1,7 @@
-use Rattle.std.proofs.Common.{◌≡◌, ◌+◌, ◌≤◌, ℕ, arith, ◌∙◌, ap, take, sym, subst}
+use Rattle.std.proofs.Common.{◌+◌, ℕ, arith, sym, subst}
 use Rattle.pm_types.specs.declared.limits.TheConstants.{FIELDS}
 use Rattle.pm_types.specs.declared.object.Slot.{Slot}
-use Rattle.pm_layout.specs.Spelling.{HasSpelling, IsWithinLimits, slot_size}
-use Rattle.pm_image.specs.CarPages.{car_used}
+use Rattle.pm_layout.specs.Spelling.{HasSpelling, IsWithinLimits}
 use Rattle.pm_packed.proofs.Lists.{all_at}
 use Rattle.pm_packed.proofs.PackedLaws.{used_front, used_more}
 use Rattle.pm_packed.proofs.car.used.Goals as goal

@@ -1,4 +1,4 @@
-use Rattle.std.proofs.Common.{ℕ, List, subst, sym, get_or}
+use Rattle.std.proofs.Common.{ℕ, subst, sym, get_or}
 use Rattle.std.proofs.lemmas.List.{take_more}
 use Rattle.std.specs.List.{AllByRecursion}
 use Rattle.pm_types.specs.declared.object.Slot.{Slot}

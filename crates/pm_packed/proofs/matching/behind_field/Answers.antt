@@ -1,5 +1,5 @@
-use Rattle.std.proofs.Common.{Option, Some, None, sym, subst, replicate}
-use Rattle.std.specs.Prelude.{option_map, IfSome}
+use Rattle.std.proofs.Common.{Option, None, sym, subst, replicate}
+use Rattle.std.specs.Prelude.{option_map}
 use Rattle.pm_types.specs.declared.address.Addr.{Addr}
 use Rattle.pm_layout.specs.Spelling.{HasCar, field}
 use Rattle.pm_packed.specs.Behind.{IsBehindOf}

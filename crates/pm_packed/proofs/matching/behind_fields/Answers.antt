@@ -1,7 +1,6 @@
 use Rattle.std.proofs.Common.{None}
 use Rattle.pm_layout.specs.Spelling.{HasCar, field}
-use Rattle.pm_packed.proofs.BehindLaws.{no_more, one_more}
-use Rattle.pm_packed.proofs.Lists.{all_more}
+use Rattle.pm_packed.proofs.BehindLaws.{no_more}
 use Rattle.pm_packed.proofs.matching.behind_fields.Goals as goal
 
 pub returns-in_default-clause-behind : goal.returns-in_default-clause-behind

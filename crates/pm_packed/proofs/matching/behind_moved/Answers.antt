@@ -1,4 +1,4 @@
-use Rattle.std.proofs.Common.{◌<◌, [], ◌∷◌, ◌++◌}
+use Rattle.std.proofs.Common.{◌<◌, [], ◌∷◌}
 use Rattle.std.specs.Prelude.{option_map}
 use Rattle.pm_types.specs.declared.limits.TheConstants.{FIELDS}
 use Rattle.pm_types.specs.declared.object.Slot.TheVariants.{Moved}

@@ -1,11 +1,10 @@
-use Rattle.std.proofs.Common.{◌≡◌, ◌<◌, ◌≤◌, ◌++◌, length, ℕ, List, Option, None, ap, sym, subst, arith, ◌∙◌}
+use Rattle.std.proofs.Common.{◌≡◌, ◌++◌, length, ℕ, List, None, ap, sym, subst, arith}
 use Rattle.std.specs.Prelude.{option_map}
 use Rattle.std.specs.List.{AllByRecursion, flat_map}
 use Rattle.pm_types.specs.declared.limits.TheConstants.{FIELDS}
-use Rattle.pm_types.specs.declared.address.Addr.{Addr}
 use Rattle.pm_types.specs.declared.object.Slot.TheVariants.{Live}
 use Rattle.pm_layout.specs.Spelling.{HasCar, HasSpelling, field, spelling}
-use Rattle.pm_packed.specs.Behind.{IsBehind, IsBehindOf}
+use Rattle.pm_packed.specs.Behind.{IsBehind}
 use Rattle.pm_packed.specs.Packed.{head_spelling}
 use Rattle.pm_packed.proofs.BehindLaws.{behind_both, behind_of, none_first, object_text}
 use Rattle.pm_packed.proofs.matching.behind_object.Goals as goal

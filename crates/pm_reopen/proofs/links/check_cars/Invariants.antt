@@ -1,5 +1,6 @@
 use Rattle.std.proofs.Common.{◌≡◌, drop}
 use Rattle.std.specs.List.{flat_map}
+use Rattle.pm_types.specs.declared.limits.TheConstants.{CAR_HEAD_BYTES}
 use Rattle.pm_image.specs.declared.settled.KeptPage.{KeptPage}
 use Rattle.pm_image.specs.Graphs.{record_sites}
 use Rattle.pm_reopen.specs.Linking.{linked_by}
@@ -7,6 +8,6 @@ use Rattle.pm_reopen.proofs.links.check_cars.Given as goal
 
 abbrev pub invariant-loop-kept : goal.invariant-loop-kept
 invariant-loop-kept l = record {
-  so_far : linked_by l.held (flat_map (λ (kept : KeptPage). record_sites kept.page 14 kept.image.slots) l.cars)
-      ≡ linked_by l.held (flat_map (λ (kept : KeptPage). record_sites kept.page 14 kept.image.slots) (drop l.kept-index l.cars));
+  so_far : linked_by l.held (flat_map (λ (kept : KeptPage). record_sites kept.page CAR_HEAD_BYTES kept.image.slots) l.cars)
+      ≡ linked_by l.held (flat_map (λ (kept : KeptPage). record_sites kept.page CAR_HEAD_BYTES kept.image.slots) (drop l.kept-index l.cars));
 }

@@ -1,4 +1,4 @@
-use Rattle.std.proofs.Common.{ℕ, List, sym, subst, ap, ◌∙◌}
+use Rattle.std.proofs.Common.{sym, subst, ap, ◌∙◌}
 use Rattle.pm_packed.specs.Packed.{IsPacked, unpacked}
 use Rattle.pm_packed.proofs.PackedLaws.{none_packed, none_unpacked}
 use Rattle.pm_packed.proofs.car.PackedCar.empty.Goals as goal

@@ -1,6 +1,6 @@
 use Rattle.std.proofs.Common.{◌≡◌, ◌-◌, ℕ, List, length, take, drop, sym, subst, ap, ◌∙◌}
 use Rattle.std.specs.List.{AllByRecursion, flat_map}
-use Rattle.pm_types.specs.declared.limits.TheConstants.{FIELDS}
+use Rattle.pm_types.specs.declared.limits.TheConstants.{FIELDS, CAR_HEAD_BYTES}
 use Rattle.pm_types.specs.declared.object.Slot.{Slot}
 use Rattle.pm_layout.specs.Spelling.{HasSpelling}
 use Rattle.pm_image.specs.declared.car.CarImage.{CarImage}
@@ -13,10 +13,10 @@ pub know_records-requires : goal.know_records-requires
 know_records-requires c = subst (AllByRecursion (λ (entry : ℕ × Slot). HasSpelling FIELDS entry.1)) (sym c.as_slice-slots.ensures) c.requires.has.slots
 
 -- what was copied of a page
-copied : (car : CarImage) (page items : List ℕ) (end : ℕ) (slots : List (ℕ × Slot)) → items ≡ take (end - 14) (drop 14 page) → page ≡ padded (car_spelling car) → end ≡ car_used slots → slots ≡ car.slots → items ≡ flat_map record_spelling car.slots
+copied : (car : CarImage) (page items : List ℕ) (end : ℕ) (slots : List (ℕ × Slot)) → items ≡ take (end - CAR_HEAD_BYTES) (drop CAR_HEAD_BYTES page) → page ≡ padded (car_spelling car) → end ≡ car_used slots → slots ≡ car.slots → items ≡ flat_map record_spelling car.slots
 copied car page items end slots are spelled used same =
-    are ∙ ap (λ (page : List ℕ). take (end - 14) (drop 14 page)) spelled
-    ∙ ap (λ (end : ℕ). take (end - 14) (drop 14 (padded (car_spelling car)))) (used ∙ ap car_used same) ∙ page_records car
+    are ∙ ap (λ (page : List ℕ). take (end - CAR_HEAD_BYTES) (drop CAR_HEAD_BYTES page)) spelled
+    ∙ ap (λ (end : ℕ). take (end - CAR_HEAD_BYTES) (drop CAR_HEAD_BYTES (padded (car_spelling car)))) (used ∙ ap car_used same) ∙ page_records car
 
 pub invariant_of-result : goal.invariant_of-result
 invariant_of-result c =
