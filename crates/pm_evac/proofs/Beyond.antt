@@ -1,7 +1,6 @@
 -- Sources that are no fields of objects in a train.
 use Rattle.std.proofs.Common.{◌≡◌, ℕ, ◌≤◌, Bool, true, false, cond, not, refl, ap, sym, ◌∙◌, List, Option, Some, None, is_some}
 use Rattle.std.specs.Ordering.{nat_cmp}
-use Rattle.std.specs.Option.{option_map}
 use Rattle.std.specs.FinMap.{get}
 use Rattle.std.proofs.lemmas.Bool.{true≢false, false_from_ne_true}
 use Rattle.pm_base.proofs.Mapped.{get-mapped}
@@ -16,11 +15,8 @@ use Rattle.pm_view.specs.Reading.{cars_of}
 use Rattle.pm_view.specs.Candidates.{is_beyond}
 use Rattle.pm_space.specs.Linked.{Linked, set_of, sets_of}
 use Rattle.pm_space.specs.Shown.{IsLinked}
+use Rattle.pm_space.proofs.OpenedCars.{mapped_some}
 use Rattle.pm_evac.specs.Sought.{inside_car}
-
-mapped_some : {X Y : Type 0} (f : X → Y) (o : Option X) → is_some (option_map f o) ≡ is_some o
-mapped_some f None = refl
-mapped_some f (Some x) = refl
 
 -- a car that stands has links, and one that has is in a train
 pub links_of : (v : SpaceView) (links : Linked) → v.sets ≡ sets_of links → IsLinked v → (car : ℕ) → is_some (get links car) ≡ is_some (train_of v.trains.trains car)

@@ -1,9 +1,8 @@
 -- An object that was carried to another car is one that moved.
 use Rattle.std.proofs.Common.{◌≡◌, ℕ, zero, suc, ◌+◌, ◌≤◌, ◌==◌, arith, Bool, true, false, cond, if◌then◌else◌, refl, ap, sym, subst, ◌∙◌, List, [], ◌∷◌, ◌++◌, get_or, map, Option, Some, None, IsSome}
 use Rattle.std.specs.Option.{option_map, option_and_then}
-use Rattle.std.specs.Ordering.{nat_cmp}
 use Rattle.std.specs.Cmp.{nat_cmp_total}
-use Rattle.std.specs.FinMap.{FinMap, get, insert, same_map, nat_cmp-IsAntisymmetric}
+use Rattle.std.specs.FinMap.{get, insert, same_map, nat_cmp-IsAntisymmetric}
 use Rattle.std.proofs.lemmas.Bool.{cond-true, cond-false, eq-eqb, eqb-true}
 use Rattle.pm_types.specs.declared.address.Addr.{Addr}
 use Rattle.pm_types.specs.declared.object.Object.{Object}
@@ -27,7 +26,9 @@ use Rattle.pm_law_rows.proofs.Born.{room_fits, small_room}
 use Rattle.pm_law_phases.proofs.Small.{some_same, none_some, turned}
 use Rattle.pm_law_moves.proofs.PutAway.{IsPut, next_place, slot_put, nothing_there, new_live}
 use Rattle.pm_law_moves.proofs.PutRow.{in_tail, tail_put, in_new, new_put}
-use Rattle.pm_evac.specs.Moves.{led, led_fields, move_tells, moves_told, with_object_in, with_place, carried}
+use Rattle.pm_space.specs.Places.{with_object_in, with_place}
+use Rattle.pm_space.proofs.Linking.{insert_twice}
+use Rattle.pm_evac.specs.Moves.{led, led_fields, move_tells, moves_told, carried}
 
 -- ---- what cars hear
 
@@ -46,15 +47,6 @@ news_same tell other n (f ∷ fs) same =
     λ j. first j ++ rest j
 
 -- ---- the cars
-
-twice : {X : Type 0} (b : Bool) (v w : X) (o : Option X) → cond b (Some w) (cond b (Some v) o) ≡ cond b (Some w) o
-twice true v w o = refl
-twice false v w o = refl
-
-insert_twice : {X : Type 0} (m : FinMap nat_cmp X) (k : ℕ) (v w : X) → insert (insert m k v) k w ≡ insert m k w
-insert_twice m k v w =
-    same_map nat_cmp_total nat_cmp-IsAntisymmetric _ _ (λ q.
-    at_insert (insert m k v) k w q ∙ ap (cond (k == q) (Some w)) (at_insert m k v q) ∙ twice (k == q) v w (get m q) ∙ sym (at_insert m k w q))
 
 -- a car that stands has a slot that holds something else
 slot_put_there : (cars : Cars) (a : Addr) (content : Slot) (car : Car) → get cars a.car ≡ Some car → with_slot_at cars a content ≡ insert cars a.car (with_slot car a.slot content)

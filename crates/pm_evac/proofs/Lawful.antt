@@ -15,7 +15,6 @@ use Rattle.pm_types.specs.declared.source.Change.{Change}
 use Rattle.pm_cars.specs.Cars.{Car, object_of}
 use Rattle.pm_cars.specs.Entries.{holds_object}
 use Rattle.pm_trains.specs.Trains.{Train, cars_at, first_car, oldest, train_of, HasCar, is_among}
-use Rattle.pm_trains.specs.Sound as line
 use Rattle.pm_trains.specs.Changes.{StandsIn}
 use Rattle.pm_remset.specs.Remembered.{FindsFirstThat}
 use Rattle.pm_remset.proofs.First.{first_found}
@@ -28,26 +27,23 @@ use Rattle.pm_view.specs.Sources.{slot_in}
 use Rattle.pm_view.specs.Law.{HeapLaw, IsAt, IsFront, IsOldest}
 use Rattle.pm_view.specs.Candidates.{set_of, queue_of}
 use Rattle.pm_view.specs.Events.{went, has_gone, named_in, least_stale, to_fix, lowest_live}
+use Rattle.pm_law_phases.proofs.PhaseRows.{oldest_has}
 use Rattle.pm_space.specs.Linked.{AreHoused}
 use Rattle.pm_space.specs.Shown.{IsThere}
+use Rattle.pm_space.proofs.HeldCars.{some_and}
 use Rattle.pm_evac.proofs.Searches.{found_there}
 use Rattle.pm_evac.proofs.Lowest.{holds_some}
-use Rattle.pm_law_phases.proofs.PhaseRows.{oldest_has}
 
 -- each car that has a remembered set is in a train
 pub law_houses : (v : SpaceView) → HeapLaw v → AreHoused v.sets v.trains.trains
 law_houses v law car there = law.built.linked car ∙ sym (law.built.sets car) ∙ there
-
-some_of : {X : Type 0} (o : Option X) (P : X → Type 0) → IsSomeAnd o P → IsSome o
-some_of None P there = absurd there
-some_of (Some x) P there = refl
 
 module _ (v : SpaceView) (law : HeapLaw v) where
   -- a train that is drained stands
   pub drained_stands : (train : ℕ) → v.phase ≡ Draining train → IsSome (cars_at v.trains.trains train)
   drained_stands train at =
       let oldest : IsAt (Draining train) v.trains.trains v.anchor = subst (λ p. IsAt p v.trains.trains v.anchor) at law.phase in
-      some_of (cars_at v.trains.trains train) (λ cars. 0 < length cars) (oldest_has 0 train v.trains.trains law.built.trains.rising oldest.0)
+      some_and (cars_at v.trains.trains train) (λ cars. 0 < length cars) (oldest_has 0 train v.trains.trains law.built.trains.rising oldest.0)
 
   -- a car that is in a train stands
   pub car_stands : (car : ℕ) → IsSome (train_of v.trains.trains car) → IsSome (get v.cars car)

@@ -1,66 +1,25 @@
--- Where there is room for an object, and what is seen of a car that was made ready or opened.
-use Rattle.std.proofs.Common.{◌≡◌, ℕ, ◌+◌, ◌≤◌, ◌==◌, ◌&&◌, Bool, true, false, cond, nat_le, if◌then◌else◌, refl, ap, sym, subst, ◌∙◌, ⊎_elim, List, length, Option, Some, None, IsSome, IsSomeAnd, IfSome, is_some, arith}
+-- A car that was prepared for an object: that it fits there, and the room that its queue and the others have.
+use Rattle.std.proofs.Common.{◌≡◌, ℕ, ◌≤◌, ◌==◌, Bool, true, false, nat_le, refl, ap, sym, subst, ◌∙◌, ⊎_elim, List, length, Option, Some, None, IsSome, IsSomeAnd, IfSome, is_some, arith}
 use Rattle.std.specs.Ordering.{nat_cmp}
-use Rattle.std.specs.Option.{option_and_then, option_map}
+use Rattle.std.specs.Option.{option_map}
 use Rattle.std.specs.FinMap.{get, insert, empty}
-use Rattle.std.proofs.lemmas.Bool.{le-leb, cond-true, cond-false, eq-eqb, eqb-true, cases_Bool, true≢false}
+use Rattle.std.proofs.lemmas.Bool.{cond-false, eqb-true, cases_Bool, true≢false}
 use Rattle.std.proofs.lemmas.Bool.Decides.{nat_tests}
 use Rattle.std.proofs.lemmas.List.Sums.{count_by-le-length}
 use Rattle.pm_base.proofs.Mapped.{get-mapped}
-use Rattle.pm_cars.specs.Cars.{Car, Fits, used, new_car, with_slot}
-use Rattle.pm_snap.specs.Snapped.{Snapped}
+use Rattle.pm_cars.specs.Cars.{Car, Fits, with_slot}
 use Rattle.pm_view.specs.View.{Cars, SpaceView}
 use Rattle.pm_types.specs.declared.address.Addr.{Addr}
 use Rattle.pm_types.specs.declared.object.Slot.{Slot}
-use Rattle.pm_view.specs.Rows.{has_room, put_car, with_slot_at, with_car, IsVacant}
-use Rattle.pm_law_rows.proofs.Born.{new_counts}
+use Rattle.pm_view.specs.Rows.{put_car, with_slot_at, IsVacant}
 use Rattle.pm_law_rows.proofs.News.{at_insert}
-use Rattle.pm_space.specs.declared.held.Held.{Held}
 use Rattle.pm_space.specs.declared.links.Links.{Links}
 use Rattle.pm_space.specs.Linked.{Linked, set_of, sets_of, HasRoom, HasRoomOf, KeepsRoom, times}
-use Rattle.pm_space.specs.Shown as shown
-use Rattle.pm_space.specs.Shown.{car_of}
-use Rattle.pm_space.proofs.HeldCars.{get_car}
-use Rattle.pm_evac.specs.Moves.{FitsIn, with_place, place_of}
+use Rattle.pm_space.specs.Places.{FitsIn, with_place, place_of}
+use Rattle.pm_space.proofs.Places.{fits_opened}
 use Rattle.pm_evac.proofs.Fields.{less_room}
 
-both_hold : (a b : Bool) → a ≡ true → b ≡ true → (a && b) ≡ true
-both_hold true b first second = second
-both_hold false b first second = first
-
--- there is room where an object fits
-pub room_where_fits : (car : Car) (room : ℕ) → Fits car room → has_room car room ≡ true
-room_where_fits car room fits = both_hold (nat_le (used car + room) 16384) (nat_le car.next 65535) (le-leb (used car + room) 16384 fits.0) (le-leb car.next 65535 fits.1)
-
--- a car that is there, where it is asked whether an object fits it
-pub asked : (table : Snapped Held) (room number : ℕ) (held : Held) (b : Bool) → Some held ≡ get table.current number → has_room held.car.car room ≡ b
-    → option_and_then (λ (car : Car). if has_room car room then Some number else None) (get (shown.cars_of table) number) ≡ cond b (Some number) None
-asked table room number held b is has =
-    ap (option_and_then (λ (car : Car). if has_room car room then Some number else None)) (get_car table number (Some held) is) ∙ ap (λ b. cond b (Some number) None) has
-
--- and one that is not there
-pub asked_none : (table : Snapped Held) (room number : ℕ) → None ≡ get table.current number
-    → option_and_then (λ (car : Car). if has_room car room then Some number else None) (get (shown.cars_of table) number) ≡ None
-asked_none table room number is = ap (option_and_then (λ (car : Car). if has_room car room then Some number else None)) (get_car table number None is)
-
-pub fits_there : (table : Snapped Held) (room number : ℕ) (held : Held) → Some held ≡ get table.current number → Fits held.car.car room → FitsIn (shown.cars_of table) number room
-fits_there table room number held is fits = subst (λ o. IsSomeAnd o (λ (car : Car). Fits car room)) (sym (get_car table number (Some held) is)) fits
-
--- a car in which an object fits stands
-pub stands_where_fits : (cars : Cars) (car room : ℕ) → FitsIn cars car room → IsSome (get cars car)
-stands_where_fits cars car room fits = by_case (get cars car) fits
-  where
-    by_case : (o : Option Car) → IsSomeAnd o (λ (it : Car). Fits it room) → IsSome o
-    by_case None fits = absurd fits
-    by_case (Some it) fits = refl
-
--- an object fits a car that was opened
-pub fits_opened : (view : SpaceView) (train number room : ℕ) → room ≤ 16370 → FitsIn (with_car view train number).cars number room
-fits_opened view train number room small =
-    subst (λ o. IsSomeAnd o (λ (car : Car). Fits car room)) (sym (at_insert view.cars number (new_car number) number ∙ cond-true _ _ _ (eq-eqb number number refl)))
-    (let head = (new_counts number).2 in omega (arith, head, small), omega arith)
-
--- and the car that was prepared for it
+-- an object fits the car that was prepared for it
 pub fits_placed : (view : SpaceView) (train : ℕ) (tail : Option ℕ) (number room : ℕ) → room ≤ 16370 → IfSome tail (λ car. FitsIn view.cars car room) → FitsIn (with_place view train tail number).cars (place_of tail number) room
 fits_placed view train None number room small fits = fits_opened view train number room small
 fits_placed view train (Some car) number room small fits = fits

@@ -19,9 +19,10 @@ use Rattle.pm_law_rows.proofs.Places.{slot_of}
 use Rattle.pm_law_rows.proofs.Born.{small_room}
 use Rattle.pm_law_phases.proofs.Small.{none_some}
 use Rattle.pm_space.specs.Linked.{Linked, HasRoom, times}
+use Rattle.pm_space.specs.Places.{FitsIn, with_place, place_of, IsOpened}
 use Rattle.pm_evac.specs.declared.moving.Plan.{Plan}
 use Rattle.pm_evac.specs.Steps.{identity}
-use Rattle.pm_evac.specs.Moves.{led, led_fields, carried, with_place, place_of, IsOpened, MayCarry, FitsIn}
+use Rattle.pm_evac.specs.Moves.{led, led_fields, carried, MayCarry}
 use Rattle.pm_evac.specs.Planned.{IsPlan}
 use Rattle.pm_evac.proofs.Places.{one_vacant, fits_placed}
 use Rattle.pm_evac.proofs.Carried.{is_moved}

@@ -1,5 +1,5 @@
 -- An object that is taken out of its slot.
-use Rattle.std.proofs.Common.{◌≡◌, refl, ap, sym, subst, ◌∙◌, Option, Some, None, IsSome}
+use Rattle.std.proofs.Common.{◌≡◌, ap, sym, ◌∙◌, Some}
 use Rattle.std.specs.Ordering.{nat_cmp}
 use Rattle.std.specs.Cmp.{nat_cmp_total}
 use Rattle.std.specs.FinMap.{get, insert, nat_cmp-IsAntisymmetric}
@@ -7,39 +7,14 @@ use Rattle.pm_base.specs.Mapped.{mapped}
 use Rattle.pm_base.proofs.Mapped.{mapped-insert}
 use Rattle.pm_types.specs.declared.address.Addr.{Addr}
 use Rattle.pm_types.specs.declared.object.Slot.{Slot}
-use Rattle.pm_types.specs.declared.object.Slot.TheVariants.{Live, Moved}
-use Rattle.pm_cars.specs.declared.look.Look.TheVariants as looks
-use Rattle.pm_cars.specs.Cars.{object_of, look_of, without_slot}
+use Rattle.pm_cars.specs.Cars.{without_slot}
 use Rattle.pm_cars.specs.Cars as car
 use Rattle.pm_snap.specs.Snapped.{Snapped}
-use Rattle.pm_view.specs.Reading.{object_at}
 use Rattle.pm_view.specs.Rows.{put_car, with_slot_at}
 use Rattle.pm_view.specs.Collecting.{without_slot_at}
 use Rattle.pm_space.specs.declared.held.Held.{Held}
 use Rattle.pm_space.specs.Shown.{car_of, cars_of}
-use Rattle.pm_space.proofs.HeldCars.{get_car, no_slot, object_there}
-
--- a slot whose object moved away has none
-pub none_moved : (o : Option Slot) (to : Addr) → looks.Moved to ≡ look_of o → None ≡ object_of o
-none_moved None to is = absurd cc
-none_moved (Some (Live object)) to is = absurd cc
-none_moved (Some (Moved b)) to is = refl
-
--- a slot that is Gone has none
-pub none_gone : (o : Option Slot) → looks.Gone ≡ look_of o → None ≡ object_of o
-none_gone None is = refl
-none_gone (Some (Live object)) is = absurd cc
-none_gone (Some (Moved b)) is = absurd cc
-
-module _ (table : Snapped Held) (a : Addr) (there : IsSome (object_at (cars_of table) a)) where
-  -- an object lies in a car that is there
-  pub has_car : (found : Option Held) → found ≡ get table.current a.car → IsSome found
-  has_car None is = let gone = subst (λ (o : Option Slot). IsSome (object_of o)) (no_slot table a is) there in absurd cc
-  has_car (Some held) is = refl
-
-  -- and is the car's own
-  pub in_car : (held : Held) → Some held ≡ get table.current a.car → IsSome (car.object_at held.car.car a.slot)
-  in_car held is = subst IsSome (object_there table a held is) there
+use Rattle.pm_space.proofs.HeldCars.{get_car}
 
 -- the cars where an object was dropped
 pub object_dropped : (table : Snapped Held) (a : Addr) (held w : Held) → Some held ≡ get table.current a.car → w.car.car ≡ without_slot held.car.car a.slot

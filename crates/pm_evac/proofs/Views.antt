@@ -1,9 +1,9 @@
 -- What is seen of the parts of a space after an event.
-use Rattle.std.proofs.Common.{◌≡◌, ℕ, ◌<◌, refl, subst, ◌∙◌, arith, List, [], ◌∷◌, Option, Some, None, IsSome, Result, Ok, Err, OnOk}
+use Rattle.std.proofs.Common.{◌≡◌, ℕ, ◌<◌, refl, ◌∙◌, arith, List, [], ◌∷◌, Some, Result, Ok, Err, OnOk}
 use Rattle.std.specs.Ordering.{nat_cmp}
 use Rattle.std.specs.Cmp.{nat_cmp_total}
-use Rattle.std.specs.FinMap.{get, remove, nat_cmp-IsAntisymmetric}
-use Rattle.pm_base.proofs.Mapped.{get-mapped, mapped-remove}
+use Rattle.std.specs.FinMap.{remove, nat_cmp-IsAntisymmetric}
+use Rattle.pm_base.proofs.Mapped.{mapped-remove}
 use Rattle.pm_types.specs.declared.source.Change.{Change}
 use Rattle.pm_types.specs.declared.source.RefSource.{RefSource}
 use Rattle.pm_types.specs.declared.address.Addr.{Addr}
@@ -48,14 +48,6 @@ sets_without links car = mapped-remove nat_cmp linked.set_of nat_cmp_total nat_c
 
 pub queues_without : (links : Linked) (car : ℕ) → queues_of (remove links car) ≡ remove (queues_of links) car
 queues_without links car = mapped-remove nat_cmp linked.queue_of nat_cmp_total nat_cmp-IsAntisymmetric links car
-
-option_there : {X Y : Type 0} (f : X → Y) (o : Option X) → IsSome (elim o as (λ _. Option Y) [ None ↦ None | Some x ↦ Some (f x) ]) → IsSome o
-option_there f None there = there
-option_there f (Some x) there = refl
-
--- a car that is seen is in the table
-pub held_there : (table : Snapped Held) (car : ℕ) → IsSome (get (cars_of table) car) → IsSome (get table.current car)
-held_there table car there = option_there car_of (get table.current car) (subst IsSome (get-mapped nat_cmp car_of table.current car) there)
 
 -- the count of completed collections, which is a number of 64 bits
 pub is_counted : (v : SpaceView) → v.completed < 18446744073709551616 → v ≡ counted v

@@ -8,9 +8,10 @@ use Rattle.pm_view.specs.View.{SpaceView}
 use Rattle.pm_view.specs.Reading.{object_at}
 use Rattle.pm_view.specs.Rows.{tail_for, place_in, IsVacant}
 use Rattle.pm_space.specs.Linked.{times}
+use Rattle.pm_space.specs.Places.{FitsIn}
 use Rattle.pm_evac.specs.declared.moving.Plan.{Plan}
 use Rattle.pm_evac.specs.Named.{named_by}
-use Rattle.pm_evac.specs.Moves.{FitsIn, led_fields}
+use Rattle.pm_evac.specs.Moves.{led_fields}
 
 -- this is how the object at an address goes to a train
 pub record IsPlan (view : SpaceView) (from : Addr) (train : ℕ) (plan : Plan) : Type 0 where

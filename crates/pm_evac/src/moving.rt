@@ -1,7 +1,5 @@
-ghost use Rattle.std.specs.Prelude.{◌≡◌, ℕ, ◌≤◌, ◌==◌, true, false, ◌+◌, length, Some, IsSome, IfOk, OnErr, option_map};
-ghost use Rattle.pm_types.specs.declared.limits.TheConstants.{FIELDS, OBJECT_BYTES, CAR_ROOM};
+ghost use Rattle.std.specs.Prelude.{◌≡◌, ℕ, ◌==◌, true, false, ◌+◌, Some, IsSome, IfOk, OnErr, option_map};
 ghost use Rattle.pm_snap.specs.Snapped.{is_ready};
-ghost use Rattle.pm_cars.specs.Cars.{object_room};
 ghost use Rattle.pm_trains.specs.Trains.{cars_at, tail};
 ghost use Rattle.pm_view.specs.declared.phase.Phase.TheVariants.{Moving};
 ghost use Rattle.pm_view.specs.Law.{HeapLaw};
@@ -14,12 +12,13 @@ ghost use Rattle.pm_evac.specs.Named.{named_by};
 ghost use Rattle.pm_evac.specs.Moves.{led, led_fields, MayGo, IsCarried, IsMovedTo};
 ghost use Rattle.pm_evac.specs.Planned.{IsPlan};
 
-use crate::placing::{place_in, prepare_place, put_into, tail_for, take_away};
-use crate::sweeping::object_in;
+use crate::placing::{place_in, prepare_place, take_away};
 use crate::telling::{add_named, tell_moved};
 use pm_snap::Table;
-use pm_space::{Held, Parts, make_ready, make_room_for_each, resolve};
-use pm_types::{Addr, Fields, Id, NoMemory, Object, room};
+use pm_space::{
+    Held, Parts, make_ready, make_room_for_each, object_at, put_into, resolve, room_of, tail_for,
+};
+use pm_types::{Addr, Fields, Id, NoMemory, Object};
 use std::alloc::Global;
 
 // What moves an object: where it goes, the tail in which it fits, where it fits one, what its fields store there, and
@@ -67,18 +66,6 @@ fn led_fields(
     Ok(there)
 }
 
-// The room of an object that is within the limits, in bytes.
-fn room_of(object: &Object) -> u32
-    requires fields { length object.now.fields ≤ FIELDS }
-    requires bytes { length object.now.bytes ≤ OBJECT_BYTES }
-    ensures room { result ≡ object_room object.now }
-    ensures small { result ≤ CAR_ROOM }
-{
-    let fields = object.fields.as_slice().len() as u32;
-    let bytes = object.bytes.as_slice().len() as u32;
-    room(fields, bytes)
-}
-
 // The cars that these and those fields name, each as often as it is named.
 fn told_cars(
     alloc: Global,
@@ -100,7 +87,7 @@ fn plan_of<F>(parts: &Parts<F>, alloc: Global, from: Addr, train: u64) -> Result
     ensures { IfOk result (λ plan. IsPlan (view parts.now) from train plan) }
 {
     let number = parts.cars.vacant();
-    let Some(object) = object_in(&parts.cars, from) else {
+    let Some(object) = object_at(&parts.cars, from) else {
         unreachable!()
     };
     let tail = tail_for(parts, train, room_of(object));

@@ -3,39 +3,16 @@ ghost use Rattle.std.specs.FinMap.{get};
 ghost use Rattle.pm_trains.specs.Trains.{cars_at};
 ghost use Rattle.pm_snap.specs.Snapped.{is_ready};
 ghost use Rattle.pm_types.specs.declared.object.Slot.TheVariants.{Moved};
-ghost use Rattle.pm_cars.specs.Cars.{object_room};
 ghost use Rattle.pm_view.specs.Reading.{object_at};
-ghost use Rattle.pm_view.specs.Rows.{if_fits, tail_for, place_in, with_slot_at};
+ghost use Rattle.pm_view.specs.Rows.{place_in, with_slot_at};
 ghost use Rattle.pm_space.specs.Linked.{HasRoom, times};
+ghost use Rattle.pm_space.specs.Places.{IsOpened};
 ghost use Rattle.pm_space.specs.Shown.{view, cars_of, HasBirthRoom, IsLinked, KeepsReady, KeepsRest};
-ghost use Rattle.pm_evac.specs.Moves.{FitsIn, IsOpened, with_object_in};
 
 use pm_snap::Table;
 use pm_space::{Held, Parts, make_room_for_birth, open_car};
 use pm_types::{Addr, NoMemory, Object};
 use std::alloc::Global;
-
-// The car, where it stands and an object of this room, in bytes, fits it.
-fn if_fits<F>(parts: &Parts<F>, room: u32, car: u64) -> Option<u64>
-    ensures car { result ≡ if_fits (view parts.now) room car }
-    ensures fits { IfSome result (λ it. FitsIn (view parts.now).cars it room) }
-{
-    match parts.cars.get(car) {
-        Some(held) => { if held.car.fits(room) { Some(car) } else { None } }
-        None => None,
-    }
-}
-
-/// The tail of a train, where there is one and an object of this room, in bytes, fits it.
-pub(crate) fn tail_for<F>(parts: &Parts<F>, train: u64, room: u32) -> Option<u64>
-    ensures tail { result ≡ tail_for (view parts.now) train room }
-    ensures fits { IfSome result (λ car. FitsIn (view parts.now).cars car room) }
-{
-    match parts.trains.tail(train) {
-        Some(car) => if_fits(parts, room, car),
-        None => None,
-    }
-}
 
 /// The next slot of the car that is given, or the first one of a new car of this number.
 pub(crate) fn place_in(cars: &Table<Held>, tail: Option<u64>, number: u64) -> Addr
@@ -106,18 +83,4 @@ pub(crate) fn take_away(cars: &mut Table<Held>, from: Addr, to: Addr) -> Object
         unreachable!()
     };
     held.car.mark_moved(from.slot, to)
-}
-
-/// Puts an object into the next slot of a car that is prepared for it.
-pub(crate) fn put_into(cars: &mut Table<Held>, car: u64, object: Object)
-    requires ready { is_ready cars.old car ≡ true }
-    requires birth { HasBirthRoom cars.old car }
-    requires fits { FitsIn (cars_of cars.old) car (object_room object) }
-    ensures cars { cars_of cars.new ≡ with_object_in (cars_of cars.old) car object }
-    ensures frozen { cars.new.frozen ≡ cars.old.frozen }
-{
-    let Ok(held) = cars.change(car) else {
-        unreachable!()
-    };
-    held.car.birth(object);
 }

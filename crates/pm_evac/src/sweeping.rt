@@ -1,5 +1,4 @@
-ghost use Rattle.std.specs.Prelude.{◌≡◌, ℕ, IfSome, IfOk, OnOk, OnErr, IsSome, Some, length, ◌<◌, ◌^◌};
-ghost use Rattle.std.specs.Option.{option_copied};
+ghost use Rattle.std.specs.Prelude.{◌≡◌, ℕ, IfOk, OnOk, OnErr, IsSome, Some, length, ◌<◌, ◌^◌};
 ghost use Rattle.pm_view.specs.Reading.{object_at, aside_in};
 ghost use Rattle.pm_view.specs.Collecting.{without_slot_at, swept};
 ghost use Rattle.pm_space.specs.Linked.{sets_of, queues_of, AreHoused, HasRoom, Tells, times};
@@ -8,9 +7,8 @@ ghost use Rattle.pm_evac.specs.Steps.{identity};
 ghost use Rattle.pm_evac.specs.Named.{named_by, withdrawals};
 
 use crate::telling::add_named;
-use pm_cars::Look;
 use pm_snap::Table;
-use pm_space::{Held, LinkTable, Parts, make_room_for_each, tell_all};
+use pm_space::{Held, LinkTable, Parts, make_room_for_each, object_at, tell_all};
 use pm_trains::Trains;
 use pm_types::{Addr, Id, NoMemory, Object, RefSource};
 use pm_view::Phase;
@@ -65,21 +63,6 @@ fn take_object(cars: &mut Table<Held>, at: Addr) -> Result<Object, NoMemory>
     Ok(held.car.drop_slot(at.slot))
 }
 
-/// The object at an address, lent; `None` where there is none.
-pub(crate) fn object_in(cars: &Table<Held>, at: Addr) -> Option<&Object>
-    ensures object { option_copied result ≡ object_at (cars_of cars.now) at }
-    ensures small { IfSome result (λ object. length object.now.fields < 2 ^ 32) }
-{
-    let Some(held) = cars.get(at.car) else {
-        return None;
-    };
-    match held.car.look(at.slot) {
-        Look::Live => Some(held.car.object(at.slot)),
-        Look::Moved(_) => None,
-        Look::Gone => None,
-    }
-}
-
 /// An object is swept: its slot is Gone, and each car that a field of it named hears that it does no more. It answers
 /// the object's identity. After want of memory all is as it was.
 pub fn sweep<F>(parts: &mut Parts<F>, alloc: Global, at: Addr) -> Result<Id, NoMemory>
@@ -90,7 +73,7 @@ pub fn sweep<F>(parts: &mut Parts<F>, alloc: Global, at: Addr) -> Result<Id, NoM
     ensures err { OnErr result (view parts.new ≡ view parts.old) }
     ensures rest { KeepsRest parts.old parts.new }
 {
-    let Some(object) = object_in(&parts.cars, at) else {
+    let Some(object) = object_at(&parts.cars, at) else {
         unreachable!()
     };
     make_room_to_withdraw(&mut parts.links, alloc, object.fields.as_slice())?;

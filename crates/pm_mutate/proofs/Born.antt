@@ -1,8 +1,7 @@
 -- An object that is born in the car that was prepared for it.
-use Rattle.std.proofs.Common.{◌≡◌, ℕ, ◌+◌, ◌==◌, Bool, true, false, cond, nat_le, if◌then◌else◌, refl, ap, sym, subst, ◌∙◌, Option, Some, None}
+use Rattle.std.proofs.Common.{◌≡◌, ℕ, ◌+◌, Bool, true, false, nat_le, if◌then◌else◌, refl, ap, subst, ◌∙◌, Option, Some, None}
 use Rattle.std.specs.Ordering.{nat_cmp}
-use Rattle.std.specs.Cmp.{nat_cmp_total}
-use Rattle.std.specs.FinMap.{FinMap, get, insert, same_map, nat_cmp-IsAntisymmetric}
+use Rattle.std.specs.FinMap.{FinMap, get, insert}
 use Rattle.std.proofs.lemmas.Bool.{cond-true, eq-eqb}
 use Rattle.pm_types.specs.declared.address.Addr.{Addr}
 use Rattle.pm_types.specs.declared.object.Object.{Object}
@@ -13,17 +12,9 @@ use Rattle.pm_view.specs.View.{Cars, SpaceView}
 use Rattle.pm_view.specs.Rows.{put_car, put_in, place_in, next_of, with_car, with_count, with_open_train, spent, spread, born, birthplace, IsVacant}
 use Rattle.pm_law_rows.proofs.News.{at_insert}
 use Rattle.pm_space.specs.Shown.{in_new_train}
-use Rattle.pm_mutate.specs.Births.{with_place, place_of, open_tail, with_object_in, born_held, IsOpened}
-
-twice : {X : Type 0} (b : Bool) (v w : X) (o : Option X) → cond b (Some w) (cond b (Some v) o) ≡ cond b (Some w) o
-twice true v w o = refl
-twice false v w o = refl
-
--- a key that is given a value, and then another
-insert_twice : {X : Type 0} (m : FinMap nat_cmp X) (k : ℕ) (v w : X) → insert (insert m k v) k w ≡ insert m k w
-insert_twice m k v w =
-    same_map nat_cmp_total nat_cmp-IsAntisymmetric _ _ (λ q.
-    at_insert (insert m k v) k w q ∙ ap (cond (k == q) (Some w)) (at_insert m k v q) ∙ twice (k == q) v w (get m q) ∙ sym (at_insert m k w q))
+use Rattle.pm_space.specs.Places.{with_place, place_of}
+use Rattle.pm_space.proofs.Linking.{insert_twice}
+use Rattle.pm_mutate.specs.Births.{open_tail, with_one_born, born_held, IsOpenedFor}
 
 here : {X : Type 0} (m : FinMap nat_cmp X) (k : ℕ) (v : X) → get (insert m k v) k ≡ Some v
 here m k v = at_insert m k v k ∙ cond-true _ _ _ (eq-eqb k k refl)
@@ -34,14 +25,14 @@ put_new cars number car change = ap (λ o. put_car (insert cars number car) numb
 
 -- an object in the car that is given, or in the new one
 placed : (u : SpaceView) (o : Option ℕ) (number : ℕ) (object : Object)
-    → with_object_in (with_place u o number) (place_of o number) object ≡ with_count (put_in u (youngest u.trains.trains) o number object)
+    → with_one_born (with_place u (youngest u.trains.trains) o number) (place_of o number) object ≡ with_count (put_in u (youngest u.trains.trains) o number object)
 placed u None number object = λ i. with_count (record (with_car u (youngest u.trains.trains) number) { cars = put_new u.cars number (new_car number) (λ it. with_birth it object) i })
 placed u (Some car) number object = refl
 
 abbrev next_place : Cars → ℕ → Addr
 next_place cars car = record { car = car; slot = next_of (get cars car) }
 
-place_is : (u : SpaceView) (o : Option ℕ) (number : ℕ) → next_place (with_place u o number).cars (place_of o number) ≡ place_in u.cars o number
+place_is : (u : SpaceView) (o : Option ℕ) (number : ℕ) → next_place (with_place u (youngest u.trains.trains) o number).cars (place_of o number) ≡ place_in u.cars o number
 place_is u None number = λ i. record { car = number; slot = next_of (here u.cars number (new_car number) i) }
 place_is u (Some car) number = refl
 
@@ -70,20 +61,20 @@ cars_kept : (v : SpaceView) (b : Bool) → (opened_if v b).cars ≡ v.cars
 cars_kept v true = refl
 cars_kept v false = refl
 
-pub registers_kept : (v : SpaceView) (b : Bool) (o : Option ℕ) (number : ℕ) → (with_place (opened_if v b) o number).registers ≡ v.registers
+pub registers_kept : (v : SpaceView) (b : Bool) (o : Option ℕ) (number : ℕ) → (with_place (opened_if v b) (youngest (opened_if v b).trains.trains) o number).registers ≡ v.registers
 registers_kept v true None number = refl
 registers_kept v true (Some car) number = refl
 registers_kept v false None number = refl
 registers_kept v false (Some car) number = refl
 
-module _ (v w : SpaceView) (car : ℕ) (object : Object) (opened : IsOpened (with_open_train v) (object_room object) w car) where
+module _ (v w : SpaceView) (car : ℕ) (object : Object) (opened : IsOpenedFor (with_open_train v) (object_room object) w car) where
   abbrev open_view : SpaceView
   open_view = with_open_train v
 
   -- the object is born
-  pub is_born : record (with_object_in w car object) { next = v.next + 1 } ≡ born (spent v) opened.number object
+  pub is_born : record (with_one_born w car object) { next = v.next + 1 } ≡ born (spent v) opened.number object
   is_born =
-      (λ i. record (with_object_in (opened.space i) (opened.place i) object) { next = v.next + 1 })
+      (λ i. record (with_one_born (opened.space i) (opened.place i) object) { next = v.next + 1 })
       ∙ ap (λ (x : SpaceView). record x { next = v.next + 1 }) (placed open_view (open_tail open_view (object_room object)) opened.number object)
       ∙ born_later v (nat_le 1024 v.trains.births) opened.number object
 
@@ -103,7 +94,7 @@ module _ (v w : SpaceView) (car : ℕ) (object : Object) (opened : IsOpened (wit
   same_registers = ap (λ (w : SpaceView). w.registers) opened.space ∙ registers_kept v (nat_le 1024 v.trains.births) (open_tail open_view (object_room object)) opened.number
 
   -- the space where a register holds it
-  pub born_seen : (x : SpaceView) (client register reg : ℕ) (at : Addr) → x ≡ with_object_in w car object → at ≡ next_place w.cars car → register ≡ reg
+  pub born_seen : (x : SpaceView) (client register reg : ℕ) (at : Addr) → x ≡ with_one_born w car object → at ≡ next_place w.cars car → register ≡ reg
       → spread (record x { next = v.next + 1 }) (Handle client register) (Some at) ≡ born_held v client reg object opened.number
   born_seen x client register reg at space place same =
       let born = ap (λ (x : SpaceView). record x { next = v.next + 1 }) space ∙ is_born in

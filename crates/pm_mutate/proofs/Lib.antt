@@ -1,7 +1,6 @@
-pub mod Looks
 pub mod FreeNumbers
 pub mod Emptying
-pub mod Places
+pub mod RegisterRoom
 pub mod Born
 pub mod Carried
 pub mod ShownBytes

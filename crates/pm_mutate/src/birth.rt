@@ -1,23 +1,22 @@
-ghost use Rattle.std.specs.Prelude.{◌≡◌, ◌≤◌, ◌<◌, ◌||◌, nat_lt, true, replicate, length, None, Some, IsSomeAnd, IfOk, OnErr};
+ghost use Rattle.std.specs.Prelude.{◌≡◌, ◌≤◌, ◌<◌, ◌||◌, nat_lt, true, replicate, length, None, Some, IfOk, OnErr};
 ghost use Rattle.std.specs.FinMap.{get};
-ghost use Rattle.pm_types.specs.declared.limits.TheConstants.{CLIENTS, REGISTERS, FIELDS, OBJECT_BYTES, CAR_ROOM};
+ghost use Rattle.pm_types.specs.declared.limits.TheConstants.{CLIENTS, REGISTERS, FIELDS, OBJECT_BYTES};
 ghost use Rattle.pm_types.specs.declared.source.RefSource.TheVariants.{Handle};
 ghost use Rattle.pm_trains.specs.declared.trains.TheConstants.{BIRTHS};
-ghost use Rattle.pm_cars.specs.Cars.{object_room, with_birth};
+ghost use Rattle.pm_cars.specs.Cars.{object_room};
 ghost use Rattle.pm_snap.specs.Snapped.{is_ready};
 ghost use Rattle.pm_view.specs.Law.{HeapLaw};
-ghost use Rattle.pm_view.specs.Rows.{put_car, next_of, spread};
+ghost use Rattle.pm_view.specs.Rows.{next_of, spread};
 ghost use Rattle.pm_space.specs.Linked.{sets_of, AreHoused, HasRoom, HasRoomFor};
-ghost use Rattle.pm_space.specs.Shown.{view, cars_of, KeepsRest};
-ghost use Rattle.pm_mutate.specs.Births.{FitsIn, with_born, with_object_in, IsHeldNew, IsRowOfNew};
+ghost use Rattle.pm_space.specs.Places.{FitsIn};
+ghost use Rattle.pm_space.specs.Shown.{view, HasBirthRoom, KeepsRest};
+ghost use Rattle.pm_mutate.specs.Births.{with_one_born, IsHeldNew, IsRowOfNew};
 
 use crate::placing::place_for;
 use crate::reading::register;
-use pm_snap::Table;
-use pm_space::{Held, Parts, make_room, tell_all};
+use pm_space::{Parts, make_room, put_into, room_of, tell_all};
 use pm_types::{
-    Addr, Bytes, FIELDS, Fields, Id, LAST_ID, NoMemory, OBJECT_BYTES, Object, RefSource, Reg,
-    Reply, room,
+    Addr, Bytes, FIELDS, Fields, Id, LAST_ID, NoMemory, OBJECT_BYTES, Object, RefSource, Reg, Reply,
 };
 use std::alloc::Global;
 
@@ -34,47 +33,20 @@ fn fresh(alloc: Global, id: Id, count: u32, bytes: &Bytes) -> Result<Object, NoM
     })
 }
 
-// Puts the object into the next slot of a car that is prepared for it, and answers that slot.
-fn bear_in(cars: &mut Table<Held>, car: u64, object: Object) -> u32
-    requires ready { is_ready cars.old car ≡ true }
-    requires birth { IsSomeAnd (get cars.old.current car) (λ held. 0 < held.car.spare) }
-    requires fits { FitsIn (cars_of cars.old) car (object_room object) }
-    ensures cars { cars_of cars.new ≡ with_born (cars_of cars.old) car object }
-    ensures slot { result ≡ next_of (get (cars_of cars.old) car) }
-    ensures frozen { cars.new.frozen ≡ cars.old.frozen }
-{
-    let Ok(held) = cars.change(car) else {
-        unreachable!()
-    };
-    held.car.birth(object)
-}
-
 // An object is born in a car that is prepared for it, and is counted. It answers where.
 fn bear<F>(parts: &mut Parts<F>, car: u64, object: Object) -> Addr
     requires ready { is_ready parts.old.cars car ≡ true }
-    requires birth { IsSomeAnd (get parts.old.cars.current car) (λ held. 0 < held.car.spare) }
+    requires birth { HasBirthRoom parts.old.cars car }
     requires fits { FitsIn (view parts.old).cars car (object_room object) }
     requires births { parts.old.trains.births < BIRTHS }
-    ensures view { view parts.new ≡ with_object_in (view parts.old) car object }
+    ensures view { view parts.new ≡ with_one_born (view parts.old) car object }
     ensures place { result ≡ record { car = car; slot = next_of (get (view parts.old).cars car) } }
     ensures links { parts.new.links ≡ parts.old.links }
     ensures rest { KeepsRest parts.old parts.new }
 {
-    let slot = bear_in(&mut parts.cars, car, object);
+    let slot = put_into(&mut parts.cars, car, object);
     parts.trains.born();
     Addr { car, slot }
-}
-
-// The room of an object that is within the limits, in bytes.
-fn room_of(object: &Object) -> u32
-    requires fields { length object.now.fields ≤ FIELDS }
-    requires bytes { length object.now.bytes ≤ OBJECT_BYTES }
-    ensures room { result ≡ object_room object.now }
-    ensures small { result ≤ CAR_ROOM }
-{
-    let fields = object.fields.as_slice().len() as u32;
-    let bytes = object.bytes.as_slice().len() as u32;
-    room(fields, bytes)
 }
 
 // Lets a register hold an object, in room that was made before.

@@ -6,9 +6,9 @@ ghost use Rattle.pm_view.specs.Rows.{with_object, HasBytesAt};
 ghost use Rattle.pm_view.specs.Commands.{register, put_bytes, row_put};
 ghost use Rattle.pm_space.specs.Shown.{view, cars_of, KeepsRest};
 
-use crate::reading::{object_at, register};
+use crate::reading::register;
 use pm_snap::Table;
-use pm_space::{Held, Parts, resolve};
+use pm_space::{Held, Parts, object_at, resolve};
 use pm_types::{Addr, NoMemory, Reg, Reply};
 
 // Writes bytes into an object that has so many from this place on.

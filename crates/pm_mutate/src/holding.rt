@@ -8,8 +8,8 @@ ghost use Rattle.pm_view.specs.Commands.{register, hold, row_copy, row_drop, row
 ghost use Rattle.pm_space.specs.Linked.{sets_of, AreHoused};
 ghost use Rattle.pm_space.specs.Shown.{view, KeepsRest};
 
-use crate::reading::{field_at, object_at, register};
-use pm_space::{Parts, resolve, spread};
+use crate::reading::{field_at, register};
+use pm_space::{Parts, object_at, resolve, spread};
 use pm_types::{Addr, Name, NoMemory, RefSource, Reg, Reply};
 
 // Lets a register store an address, or nothing.

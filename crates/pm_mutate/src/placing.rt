@@ -1,39 +1,18 @@
-ghost use Rattle.std.specs.Prelude.{◌≡◌, ◌≤◌, ◌<◌, IsSome, IfSome, IfOk, OnOk, OnErr};
+ghost use Rattle.std.specs.Prelude.{◌≡◌, ◌≤◌, ◌<◌, IsSome, IfOk, OnOk, OnErr};
 ghost use Rattle.std.specs.FinMap.{get};
 ghost use Rattle.pm_trains.specs.declared.trains.TheConstants.{BIRTHS};
 ghost use Rattle.pm_trains.specs.Trains.{HasCar, youngest};
-ghost use Rattle.pm_view.specs.Rows.{if_fits, with_open_train};
+ghost use Rattle.pm_view.specs.Rows.{with_open_train};
 ghost use Rattle.pm_space.specs.Linked.{KeepsRoom};
+ghost use Rattle.pm_space.specs.Places.{FitsIn};
 ghost use Rattle.pm_space.specs.Shown.{view, IsLinked, IsPrepared, KeepsRest};
-ghost use Rattle.pm_mutate.specs.Births.{open_tail, IsOpened, FitsIn, HasCarWhereFull};
+ghost use Rattle.pm_mutate.specs.Births.{IsOpenedFor, HasCarWhereFull};
 ghost use Rattle.pm_types.specs.declared.limits.TheConstants.{CAR_ROOM};
 
-use pm_space::{Parts, make_room_for_birth, open_car, open_car_in_new_train};
+use pm_space::{Parts, make_room_for_birth, open_car, open_car_in_new_train, tail_for};
 use pm_trains::{BIRTHS, MOST_TRAINS, a_new_train_is_the_youngest};
 use pm_types::NoMemory;
 use std::alloc::Global;
-
-// The car, where it stands and an object of this room, in bytes, fits it.
-fn if_fits<F>(parts: &Parts<F>, room: u32, car: u64) -> Option<u64>
-    ensures car { result ≡ if_fits (view parts.now) room car }
-    ensures fits { IfSome result (λ it. FitsIn (view parts.now).cars it room) }
-{
-    match parts.cars.get(car) {
-        Some(held) => { if held.car.fits(room) { Some(car) } else { None } }
-        None => None,
-    }
-}
-
-// The tail of the open train, where an object of this room, in bytes, fits it.
-fn tail_with_room<F>(parts: &Parts<F>, room: u32) -> Option<u64>
-    ensures tail { result ≡ open_tail (view parts.now) room }
-    ensures fits { IfSome result (λ car. FitsIn (view parts.now).cars car room) }
-{
-    match parts.trains.tail(parts.trains.youngest()) {
-        Some(car) => if_fits(parts, room, car),
-        None => None,
-    }
-}
 
 // Prepares a car that stands for a birth: it is ready, with memory for the birth, and its queue has room for a
 // change.
@@ -53,7 +32,7 @@ fn prepare<F>(parts: &mut Parts<F>, car: u64) -> Result<(), NoMemory>
 fn place_in_open_train<F>(parts: &mut Parts<F>, alloc: Global, room: u32) -> Result<u64, NoMemory>
     requires linked { IsLinked (view parts.old) }
     requires small { room ≤ CAR_ROOM }
-    ensures place { IfOk result (λ car. IsOpened (view parts.old) room (view parts.new) car) }
+    ensures place { IfOk result (λ car. IsOpenedFor (view parts.old) room (view parts.new) car) }
     ensures fits { IfOk result (λ car. FitsIn (view parts.new).cars car room) }
     ensures prepared { IfOk result (λ car. IsPrepared parts.new car 1) }
     ensures err { OnErr result (view parts.new ≡ view parts.old) }
@@ -63,13 +42,13 @@ fn place_in_open_train<F>(parts: &mut Parts<F>, alloc: Global, room: u32) -> Res
     ensures rest { KeepsRest parts.old parts.new }
 {
     let _number = parts.cars.vacant();
-    match tail_with_room(parts, room) {
+    let train = parts.trains.youngest();
+    match tail_for(parts, train, room) {
         Some(car) => {
             prepare(parts, car)?;
             Ok(car)
         }
         None => {
-            let train = parts.trains.youngest();
             let car = open_car(parts, alloc, train, 1)?;
             Ok(car)
         }
@@ -82,7 +61,7 @@ fn place_in_new_train<F>(parts: &mut Parts<F>, alloc: Global, room: u32) -> Resu
     requires small { room ≤ CAR_ROOM }
     requires full { BIRTHS ≤ parts.old.trains.births }
     requires filled { HasCar parts.old.trains.trains (youngest parts.old.trains.trains) }
-    ensures place { IfOk result (λ car. IsOpened (with_open_train (view parts.old)) room (view parts.new) car) }
+    ensures place { IfOk result (λ car. IsOpenedFor (with_open_train (view parts.old)) room (view parts.new) car) }
     ensures fits { IfOk result (λ car. FitsIn (view parts.new).cars car room) }
     ensures prepared { IfOk result (λ car. IsPrepared parts.new car 1) }
     ensures err { OnErr result (view parts.new ≡ view parts.old) }
@@ -108,7 +87,7 @@ pub(crate) fn place_for<F>(parts: &mut Parts<F>, alloc: Global, room: u32) -> Re
     requires linked { IsLinked (view parts.old) }
     requires small { room ≤ CAR_ROOM }
     requires filled { HasCarWhereFull parts.old.trains }
-    ensures place { IfOk result (λ car. IsOpened (with_open_train (view parts.old)) room (view parts.new) car) }
+    ensures place { IfOk result (λ car. IsOpenedFor (with_open_train (view parts.old)) room (view parts.new) car) }
     ensures fits { IfOk result (λ car. FitsIn (view parts.new).cars car room) }
     ensures prepared { IfOk result (λ car. IsPrepared parts.new car 1) }
     ensures err { OnErr result (view parts.new ≡ view parts.old) }

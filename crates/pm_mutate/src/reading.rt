@@ -5,9 +5,8 @@ ghost use Rattle.pm_view.specs.Reading.{object_at};
 ghost use Rattle.pm_view.specs.Commands.{register, field_at, object_held, row_id, row_data};
 ghost use Rattle.pm_space.specs.Shown.{view, cars_of};
 
-use pm_cars::Look;
 use pm_snap::Table;
-use pm_space::{Held, Parts, resolve};
+use pm_space::{Held, Parts, object_at, resolve};
 use pm_types::{Addr, NoMemory, Object, Reg, Reply};
 use std::alloc::Global;
 
@@ -17,20 +16,6 @@ pub(crate) fn register<F>(parts: &Parts<F>, client: u32, reg: Reg) -> Option<Add
     ensures { result ≡ register (view parts.now) client reg }
 {
     parts.handles.get(client, reg.number())
-}
-
-/// The object at an address, lent; `None` where there is none.
-pub(crate) fn object_at(cars: &Table<Held>, at: Addr) -> Option<&Object>
-    ensures { option_copied result ≡ object_at (cars_of cars.now) at }
-{
-    let Some(held) = cars.get(at.car) else {
-        return None;
-    };
-    match held.car.look(at.slot) {
-        Look::Live => Some(held.car.object(at.slot)),
-        Look::Moved(_) => None,
-        Look::Gone => None,
-    }
 }
 
 /// What a field of the object at an address stores; `None` where there is no such field.

@@ -37,6 +37,36 @@ no_slot table a is = ap (option_and_then (λ (car : Car). get car.slots a.slot))
 pub object_there : (table : Snapped Held) (a : Addr) (held : Held) → Some held ≡ get table.current a.car → object_at (cars_of table) a ≡ car.object_at held.car.car a.slot
 object_there table a held is = ap object_of (slot_there table a held is)
 
+-- a car that is seen is in the table
+pub held_there : (table : Snapped Held) (number : ℕ) → IsSome (get (cars_of table) number) → IsSome (get table.current number)
+held_there table number some = by_case (get table.current number) (subst IsSome (get-mapped nat_cmp car_of table.current number) some)
+  where
+    by_case : (o : Option Held) → IsSome (option_map car_of o) → IsSome o
+    by_case None some = absurd cc
+    by_case (Some held) some = refl
+
+-- a slot whose object moved away has none
+pub none_moved : (o : Option Slot) (to : Addr) → looks.Moved to ≡ look_of o → None ≡ object_of o
+none_moved None to is = absurd cc
+none_moved (Some (Live object)) to is = absurd cc
+none_moved (Some (Moved b)) to is = refl
+
+-- a slot that is Gone has none
+pub none_gone : (o : Option Slot) → looks.Gone ≡ look_of o → None ≡ object_of o
+none_gone None is = refl
+none_gone (Some (Live object)) is = absurd cc
+none_gone (Some (Moved b)) is = absurd cc
+
+-- what holds of the value of an option has one
+pub some_and : {X : Type 0} (o : Option X) (P : X → Type 0) → IsSomeAnd o P → IsSome o
+some_and None P holds = absurd holds
+some_and (Some x) P holds = refl
+
+-- an object lies in a car that is there
+pub has_car : (table : Snapped Held) (a : Addr) → IsSome (object_at (cars_of table) a) → (found : Option Held) → found ≡ get table.current a.car → IsSome found
+has_car table a there None is = let gone = subst (λ (o : Option Slot). IsSome (object_of o)) (no_slot table a is) there in absurd cc
+has_car table a there (Some held) is = refl
+
 -- an address is followed through what its slot looks like
 pub followed_moved : (o : Option Slot) (a to : Addr) → looks.Moved to ≡ look_of o → to ≡ followed o a
 followed_moved None a to is = absurd cc

@@ -9,3 +9,4 @@ pub mod Rooms
 pub mod Leading
 pub mod Readiness
 pub mod Fronts
+pub mod Places

@@ -25,6 +25,16 @@ insert_again m k v is =
     same_map nat_cmp_total nat_cmp-IsAntisymmetric _ _ (λ q.
     at_insert m k v q ∙ chosen_anyway (k == q) (Some v) (get m q) (λ here. sym is ∙ ap (get m) (eqb-true k q here)))
 
+twice : {X : Type 0} (b : Bool) (v w : X) (o : Option X) → cond b (Some w) (cond b (Some v) o) ≡ cond b (Some w) o
+twice true v w o = refl
+twice false v w o = refl
+
+-- a key that is given a value, and then another
+pub insert_twice : {X : Type 0} (m : FinMap nat_cmp X) (k : ℕ) (v w : X) → insert (insert m k v) k w ≡ insert m k w
+insert_twice m k v w =
+    same_map nat_cmp_total nat_cmp-IsAntisymmetric _ _ (λ q.
+    at_insert (insert m k v) k w q ∙ ap (cond (k == q) (Some w)) (at_insert m k v q) ∙ twice (k == q) v w (get m q) ∙ sym (at_insert m k w q))
+
 -- what one car has that is there
 abbrev pub at_car : {X : Type 0} (f : Links → X) (v : Linked) (car : ℕ) (it : Links) → get v car ≡ Some it → get (mapped f v) car ≡ Some (f it)
 at_car f v car it found = get-mapped nat_cmp f v car ∙ ap (option_map f) found

@@ -4,3 +4,4 @@ pub mod KeptOnce
 pub mod Counted
 pub mod Quiet
 pub mod Stale
+pub mod Places

@@ -1,4 +1,5 @@
-ghost use Rattle.std.specs.Prelude.{◌≡◌};
+ghost use Rattle.std.specs.Prelude.{◌≡◌, ◌<◌, ◌^◌, IfSome, length};
+ghost use Rattle.std.specs.Option.{option_copied};
 ghost use Rattle.pm_view.specs.Reading.{stored, followed, slot_at, object_at, field_of};
 ghost use Rattle.pm_space.specs.Shown.{view, cars_of, HasFieldAt, IsThere};
 
@@ -6,7 +7,7 @@ use crate::held::Held;
 use crate::parts::Parts;
 use pm_cars::Look;
 use pm_snap::Table;
-use pm_types::{Addr, RefSource};
+use pm_types::{Addr, Object, RefSource};
 
 /// Where an address leads: through a Moved slot one step, and else nowhere else.
 pub fn resolve(cars: &Table<Held>, at: Addr) -> Addr
@@ -19,6 +20,21 @@ pub fn resolve(cars: &Table<Held>, at: Addr) -> Addr
         Look::Moved(to) => to,
         Look::Live => at,
         Look::Gone => at,
+    }
+}
+
+/// The object at an address, lent; `None` where there is none.
+pub fn object_at(cars: &Table<Held>, at: Addr) -> Option<&Object>
+    ensures object { option_copied result ≡ object_at (cars_of cars.now) at }
+    ensures small { IfSome result (λ object. length object.now.fields < 2 ^ 32) }
+{
+    let Some(held) = cars.get(at.car) else {
+        return None;
+    };
+    match held.car.look(at.slot) {
+        Look::Live => Some(held.car.object(at.slot)),
+        Look::Moved(_) => None,
+        Look::Gone => None,
     }
 }
 

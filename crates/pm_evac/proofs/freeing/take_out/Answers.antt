@@ -1,7 +1,8 @@
 use Rattle.std.proofs.Common.{ap, ◌∙◌}
 use Rattle.pm_space.specs.Linked.{sets_of, queues_of}
 use Rattle.pm_space.specs.Shown.{view, cars_of}
-use Rattle.pm_evac.proofs.Views.{is_without, cars_without, sets_without, queues_without, held_there}
+use Rattle.pm_space.proofs.HeldCars.{held_there}
+use Rattle.pm_evac.proofs.Views.{is_without, cars_without, sets_without, queues_without}
 use Rattle.pm_evac.proofs.freeing.take_out.Goals as goal
 
 pub remove-requires : goal.remove-requires

@@ -4,8 +4,9 @@ use Rattle.pm_cars.specs.Cars.{object_room}
 use Rattle.pm_view.specs.View.{Cars}
 use Rattle.pm_view.specs.Reading.{object_at, aside_in}
 use Rattle.pm_view.specs.Barrier.{told}
+use Rattle.pm_space.specs.Places.{FitsIn, with_object_in}
 use Rattle.pm_space.specs.Shown.{view}
-use Rattle.pm_evac.specs.Moves.{FitsIn, MayCarry, with_object_in, moves_told}
+use Rattle.pm_evac.specs.Moves.{MayCarry, moves_told}
 use Rattle.pm_evac.proofs.Places.{some_with, of_some, fits_still}
 use Rattle.pm_evac.proofs.moving.carry.Goals as goal
 

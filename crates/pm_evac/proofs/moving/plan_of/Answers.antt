@@ -1,9 +1,10 @@
 use Rattle.std.proofs.Common.{◌+◌, sym, ap, subst, ◌∙◌, IfSome}
 use Rattle.pm_view.specs.Rows.{tail_for}
+use Rattle.pm_space.specs.Places.{FitsIn}
 use Rattle.pm_space.specs.Shown.{view}
 use Rattle.pm_space.proofs.OpenedCars.{lowest_vacant}
 use Rattle.pm_evac.specs.Named.{named_by}
-use Rattle.pm_evac.specs.Moves.{FitsIn, led_fields}
+use Rattle.pm_evac.specs.Moves.{led_fields}
 use Rattle.pm_evac.proofs.moving.plan_of.Goals as goal
 
 pub room_of-requires-clause-fields : goal.room_of-requires-clause-fields

@@ -5,8 +5,9 @@ use Rattle.pm_view.specs.View.{SpaceView}
 use Rattle.pm_space.specs.Linked.{HasRoom, times}
 use Rattle.pm_snap.specs.Snapped.{is_ready}
 use Rattle.pm_space.specs.Shown.{view, car_of, HasBirthRoom}
-use Rattle.pm_evac.specs.Moves.{IsOpened, MayCarry, carried}
-use Rattle.pm_evac.proofs.Swept.{has_car}
+use Rattle.pm_space.specs.Places.{IsOpened}
+use Rattle.pm_space.proofs.HeldCars.{has_car}
+use Rattle.pm_evac.specs.Moves.{MayCarry, carried}
 use Rattle.pm_evac.proofs.Planning.{car_is, object_then, to_apart, may_carry, carried_moved, same_identity}
 use Rattle.pm_evac.proofs.moving.relocate.Goals as goal
 

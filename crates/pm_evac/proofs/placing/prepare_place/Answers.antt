@@ -2,9 +2,9 @@ use Rattle.std.proofs.Common.{ap, sym, subst, ◌∙◌, IsSome, IfSome}
 use Rattle.std.specs.FinMap.{get}
 use Rattle.pm_view.specs.View.{SpaceView}
 use Rattle.pm_space.specs.Shown.{view}
+use Rattle.pm_space.specs.Places.{with_place, place_of}
+use Rattle.pm_space.proofs.HeldCars.{held_there}
 use Rattle.pm_space.proofs.OpenedCars.{lowest_vacant}
-use Rattle.pm_evac.specs.Moves.{with_place, place_of}
-use Rattle.pm_evac.proofs.Views.{held_there}
 use Rattle.pm_evac.proofs.Places.{room_opened}
 use Rattle.pm_evac.proofs.placing.prepare_place.Goals as goal
 

@@ -1,18 +1,18 @@
-use Rattle.std.proofs.Common.{◌≡◌, ◌<◌, ℕ, refl, sym, ap, subst, ◌∙◌, IsOk, IsSomeAnd}
+use Rattle.std.proofs.Common.{◌≡◌, ◌<◌, ℕ, refl, sym, ap, subst, ◌∙◌, IsOk, IsSome, IsSomeAnd}
 use Rattle.std.specs.FinMap.{get}
 use Rattle.pm_types.specs.declared.object.Slot.TheVariants.{Moved}
 use Rattle.pm_cars.specs.Cars.{CarAndSpare}
 use Rattle.pm_space.specs.Shown.{cars_of, HasBirthRoom, KeepsReady}
-use Rattle.pm_space.proofs.HeldCars.{object_there}
+use Rattle.pm_space.proofs.HeldCars.{object_there, has_car}
 use Rattle.pm_space.proofs.Readiness.{kept_by_value, room_kept}
-use Rattle.pm_evac.proofs.Swept.{has_car, in_car, slot_told}
+use Rattle.pm_evac.proofs.Swept.{slot_told}
 use Rattle.pm_evac.proofs.placing.take_away.Goals as goal
 
 pub change-requires : goal.change-requires
 change-requires c = has_car c.args.cars.now c.args.from c.requires.live (get c.args.cars.now.current c.args.from.car) refl
 
 pub mark_moved-requires : goal.mark_moved-requires
-mark_moved-requires c = record { live = in_car c.args.cars.now c.args.from c.requires.live c.in-Ok.held.now (sym c.in-Ok.ensures.value) }
+mark_moved-requires c = record { live = subst IsSome (object_there c.args.cars.now c.args.from c.in-Ok.held.now (sym c.in-Ok.ensures.value)) c.requires.live }
 
 pub returns-clause-object : goal.returns-clause-object
 returns-clause-object c =

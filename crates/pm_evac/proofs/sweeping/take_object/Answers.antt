@@ -1,15 +1,15 @@
-use Rattle.std.proofs.Common.{refl, sym, ap, subst, ◌∙◌, IsOk}
+use Rattle.std.proofs.Common.{refl, sym, ap, subst, ◌∙◌, IsOk, IsSome}
 use Rattle.std.specs.FinMap.{get}
 use Rattle.pm_space.specs.Shown.{cars_of}
-use Rattle.pm_space.proofs.HeldCars.{object_there}
-use Rattle.pm_evac.proofs.Swept.{has_car, in_car, object_dropped}
+use Rattle.pm_space.proofs.HeldCars.{object_there, has_car}
+use Rattle.pm_evac.proofs.Swept.{object_dropped}
 use Rattle.pm_evac.proofs.sweeping.take_object.Goals as goal
 
 pub change-requires : goal.change-requires
 change-requires c = has_car c.args.cars.now c.args.at c.requires.live (get c.args.cars.now.current c.args.at.car) refl
 
 pub drop_slot-requires : goal.drop_slot-requires
-drop_slot-requires c = record { live = in_car c.args.cars.now c.args.at c.requires.live c.in_ok-held.held.now (sym c.in_ok-held.ensures.value) }
+drop_slot-requires c = record { live = subst IsSome (object_there c.args.cars.now c.args.at c.in_ok-held.held.now (sym c.in_ok-held.ensures.value)) c.requires.live }
 
 pub returns-clause-ok : goal.returns-clause-ok
 returns-clause-ok c =

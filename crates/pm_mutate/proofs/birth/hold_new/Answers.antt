@@ -8,8 +8,8 @@ use Rattle.pm_view.specs.Rows.{with_open_train}
 use Rattle.pm_space.specs.Linked.{Linked, sets_of, HasRoomFor}
 use Rattle.pm_space.specs.Shown.{view}
 use Rattle.pm_space.proofs.OpenedCars.{same_view}
-use Rattle.pm_mutate.specs.Births.{IsOpened}
-use Rattle.pm_mutate.proofs.Places.{register_leads, room_stays}
+use Rattle.pm_mutate.specs.Births.{IsOpenedFor}
+use Rattle.pm_mutate.proofs.RegisterRoom.{register_leads, room_stays}
 use Rattle.pm_mutate.proofs.Born.{same_registers, is_vacant, born_seen}
 use Rattle.pm_mutate.proofs.birth.hold_new.Goals as goal
 
@@ -17,9 +17,9 @@ pub hold_in_room-requires-clause-old_room : goal.hold_in_room-requires-clause-ol
 hold_in_room-requires-clause-old_room g c =
     let v = view c.args.parts.now in
     let same = same_view v _ _ _ _ refl c.in_ok-make_room.ensures.sets c.in_ok-make_room.ensures.queues refl in
-    let opened : IsOpened (with_open_train v) (object_room c.args.object) (view c.place_for.new.parts) c.in_ok-car.car =
-    subst (λ room. IsOpened (with_open_train v) room (view c.place_for.new.parts) c.in_ok-car.car) c.room_of-room.ensures.room
-    (subst (λ (v : SpaceView). IsOpened (with_open_train v) c.room_of-room.result (view c.place_for.new.parts) c.in_ok-car.car) same c.in_ok-car.ensures.place) in
+    let opened : IsOpenedFor (with_open_train v) (object_room c.args.object) (view c.place_for.new.parts) c.in_ok-car.car =
+    subst (λ room. IsOpenedFor (with_open_train v) room (view c.place_for.new.parts) c.in_ok-car.car) c.room_of-room.ensures.room
+    (subst (λ (v : SpaceView). IsOpenedFor (with_open_train v) c.room_of-room.result (view c.place_for.new.parts) c.in_ok-car.car) same c.in_ok-car.ensures.place) in
     let leads : (a : Addr) → c.register-old.result ≡ Some a → IsSome (get (sets_of c.make_room.new.links) a.car) =
     λ a is. subst (λ (sets : Sets). IsSome (get sets a.car)) (sym c.in_ok-make_room.ensures.sets) (register_leads v c.requires.law c.args.client c.args.reg a (sym c.register-old.ensures ∙ is)) in
     let room = room_stays c.make_room.new.links c.place_for.new.parts.links c.register-old.result leads c.in_ok-car.ensures.kept c.in_ok-make_room.ensures.old_room in
@@ -32,9 +32,9 @@ pub returns-clause-ok : goal.returns-clause-ok
 returns-clause-ok g c =
     let v = view c.args.parts.now in
     let same = same_view v _ _ _ _ refl c.in_ok-make_room.ensures.sets c.in_ok-make_room.ensures.queues refl in
-    let opened : IsOpened (with_open_train v) (object_room c.args.object) (view c.place_for.new.parts) c.in_ok-car.car =
-    subst (λ room. IsOpened (with_open_train v) room (view c.place_for.new.parts) c.in_ok-car.car) c.room_of-room.ensures.room
-    (subst (λ (v : SpaceView). IsOpened (with_open_train v) c.room_of-room.result (view c.place_for.new.parts) c.in_ok-car.car) same c.in_ok-car.ensures.place) in
+    let opened : IsOpenedFor (with_open_train v) (object_room c.args.object) (view c.place_for.new.parts) c.in_ok-car.car =
+    subst (λ room. IsOpenedFor (with_open_train v) room (view c.place_for.new.parts) c.in_ok-car.car) c.room_of-room.ensures.room
+    (subst (λ (v : SpaceView). IsOpenedFor (with_open_train v) c.room_of-room.result (view c.place_for.new.parts) c.in_ok-car.car) same c.in_ok-car.ensures.place) in
     let w = view c.place_for.new.parts in
     let seen =
     born_seen v w c.in_ok-car.car c.args.object opened (view c.bear-at.new.parts) c.args.client c.number.result c.args.reg c.bear-at.result

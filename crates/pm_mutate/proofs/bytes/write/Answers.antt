@@ -1,17 +1,18 @@
-use Rattle.std.proofs.Common.{◌≤◌, ◌+◌, refl, sym, ap, subst, ◌∙◌, IsOk, length}
+use Rattle.std.proofs.Common.{◌≤◌, ◌+◌, refl, sym, ap, subst, ◌∙◌, IsOk, IsSomeAnd, length}
 use Rattle.std.specs.FinMap.{get}
+use Rattle.pm_types.specs.declared.object.Object.{Object}
 use Rattle.pm_cars.specs.Cars.{with_bytes}
+use Rattle.pm_view.specs.Reading.{object_at}
 use Rattle.pm_space.specs.Shown.{cars_of}
-use Rattle.pm_space.proofs.HeldCars.{object_written}
-use Rattle.pm_mutate.proofs.Looks.{has_car, in_car}
+use Rattle.pm_space.proofs.HeldCars.{object_there, some_and, has_car, object_written}
 use Rattle.pm_mutate.proofs.bytes.write.Goals as goal
 
 pub change-requires : goal.change-requires
-change-requires c = has_car c.args.cars.now c.args.at (λ object. c.args.place + length c.args.bytes.now ≤ length object.bytes) c.requires (get c.args.cars.now.current c.args.at.car) refl
+change-requires c = has_car c.args.cars.now c.args.at (some_and (object_at (cars_of c.args.cars.now) c.args.at) (λ object. c.args.place + length c.args.bytes.now ≤ length object.bytes) c.requires) (get c.args.cars.now.current c.args.at.car) refl
 
 pub set_bytes-requires : goal.set_bytes-requires
 set_bytes-requires c = record {
-  inside = in_car c.args.cars.now c.args.at (λ object. c.args.place + length c.args.bytes.now ≤ length object.bytes) c.requires c.in_ok-held.held.now (sym c.in_ok-held.ensures.value);
+  inside = subst (λ o. IsSomeAnd o (λ (object : Object). c.args.place + length c.args.bytes.now ≤ length object.bytes)) (object_there c.args.cars.now c.args.at c.in_ok-held.held.now (sym c.in_ok-held.ensures.value)) c.requires;
 }
 
 pub returns-clause-ok : goal.returns-clause-ok

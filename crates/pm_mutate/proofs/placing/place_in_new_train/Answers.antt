@@ -2,8 +2,8 @@ use Rattle.std.proofs.Common.{sym, subst}
 use Rattle.pm_trains.specs.Trains.{youngest, rotated}
 use Rattle.pm_view.specs.View.{SpaceView}
 use Rattle.pm_space.specs.Shown.{view, in_new_train}
-use Rattle.pm_mutate.specs.Births.{FitsIn}
-use Rattle.pm_mutate.proofs.Places.{fits_opened}
+use Rattle.pm_space.specs.Places.{FitsIn}
+use Rattle.pm_space.proofs.Places.{fits_opened}
 use Rattle.pm_mutate.proofs.placing.place_in_new_train.Goals as goal
 
 pub returns-clause-fits : goal.returns-clause-fits

@@ -5,7 +5,7 @@ use Rattle.pm_view.specs.Rows.{put_car, next_of}
 use Rattle.pm_space.specs.Shown.{cars_of}
 use Rattle.pm_space.proofs.HeldCars.{get_car}
 use Rattle.pm_space.proofs.OpenedCars.{cars_added}
-use Rattle.pm_mutate.proofs.birth.bear_in.Goals as goal
+use Rattle.pm_space.proofs.placing.put_into.Goals as goal
 
 pub birth-requires-clause-fits : goal.birth-requires-clause-fits
 birth-requires-clause-fits c =

@@ -1,8 +1,7 @@
 use Rattle.std.proofs.Common.{sym, ap, ◌∙◌}
 use Rattle.pm_cars.specs.Cars.{object_of}
-use Rattle.pm_space.proofs.HeldCars.{no_slot, object_there}
-use Rattle.pm_evac.proofs.Swept.{none_moved, none_gone}
-use Rattle.pm_evac.proofs.sweeping.object_in.Goals as goal
+use Rattle.pm_space.proofs.HeldCars.{no_slot, object_there, none_moved, none_gone}
+use Rattle.pm_space.proofs.sources.object_at.Goals as goal
 
 pub returns-in_default-clause-object : goal.returns-in_default-clause-object
 returns-in_default-clause-object c = sym (ap object_of (no_slot c.args.cars.now c.args.at c.in_default.ensures))

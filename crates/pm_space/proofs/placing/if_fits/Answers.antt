@@ -2,8 +2,8 @@ use Rattle.std.proofs.Common.{◌∙◌, true, false, sym}
 use Rattle.std.proofs.lemmas.Bool.{true≢false, false_from_ne_true}
 use Rattle.pm_view.specs.Rows.{has_room}
 use Rattle.pm_law_rows.proofs.Born.{room_fits}
-use Rattle.pm_mutate.proofs.Places.{room_where_fits, asked, asked_none, fits_there}
-use Rattle.pm_mutate.proofs.placing.if_fits.Goals as goal
+use Rattle.pm_space.proofs.Places.{room_where_fits, asked, asked_none, fits_there}
+use Rattle.pm_space.proofs.placing.if_fits.Goals as goal
 
 pub returns-then-fits-clause-car : goal.returns-then-fits-clause-car
 returns-then-fits-clause-car g c =
