@@ -33,39 +33,19 @@ row() {
 }
 lacks() { ! command -v "$1" >/dev/null; }
 
-# Builds the program without proof, in a run of 'rt try' that reads a long script: the program lies there while it runs.
-try_build() {
-    local found
-    mkdir "$work/try"
-    python3 -c 'print("0 new 1 0 -\n" * 200000, end="")' >"$work/long.script"
-    (cd crates/pmos && TMPDIR=$work/try exec rt try -- run try.pmos serial <"$work/long.script") >/dev/null 2>&1 &
-    started+=($!)
-    for _ in $(seq 900); do
-        found=$(find "$work/try" -type f -name program -perm -u+x -size +0 2>/dev/null | head -n 1)
-        if [ -n "$found" ] && cp "$found" "$work/pmos" 2>/dev/null && "$work/pmos" init "$work/tried" 2>/dev/null; then
-            break
-        fi
-        sleep 0.1
-    done
-    rm -f "$work/tried"
-    kill "${started[0]}" 2>/dev/null
-    wait "${started[0]}" 2>/dev/null
-    started=()
-}
-
 if [ -n "${PMOS-}" ] && [ -x "$PMOS" ]; then
     echo "The program is $PMOS."
     cp "$PMOS" "$work/pmos"
 elif [ -x crates/pmos/out/pmos ]; then
     echo "The program is crates/pmos/out/pmos, which rt proved and built."
     cp crates/pmos/out/pmos "$work/pmos"
-elif lacks rt || lacks python3; then
-    echo "Skipped: there is no crates/pmos/out/pmos, and no rt with python3 to build one."
+elif lacks rt; then
+    echo "Skipped: there is no crates/pmos/out/pmos, and no rt to build one."
     exit 0
 else
     echo "The program is built without proof, since there is no crates/pmos/out/pmos."
     unproved=yes
-    try_build
+    scripts/build-unproved.sh "$work/pmos"
 fi
 pmos=$work/pmos
 if ! [ -f "$pmos" ]; then

@@ -1,8 +1,9 @@
 #!/usr/bin/env bash
 # Makes a store, runs the first script on it and then the second. Then it shows what a crash leaves: the third script ends
 # with a copy that is written and not settled, and the second one finds the copy of before; and a copy of the file that was
-# taken before the first settle holds the empty copy. The collector takes away what nothing reaches any more. Last come the
-# report of the store, and a trial of a script that is made from a seed. It takes the program that was proved and built, where there is one, and else builds one without proof.
+# taken before the first settle holds the empty copy. The collector takes away what nothing reaches any more. Then come a
+# list from which an element is taken out, with the reports of its store, two clients, and a trial of a script that is made
+# from a seed. It takes the program that was proved and built, where there is one, and else builds one without proof.
 set -euo pipefail
 cd "$(dirname "$0")/.."
 
@@ -28,6 +29,11 @@ show() {
     echo "The replies of 'pmos run $2 serial':"
     "$pmos" run "$work/$2" serial <"$1" | sed 's/^/    /'
 }
+report() {
+    echo
+    echo "The report of the store, 'pmos inspect $1':"
+    "$pmos" inspect "$work/$1" | sed 's/^/    /'
+}
 
 "$pmos" init "$work/store.pmos"
 echo
@@ -47,9 +53,18 @@ show examples/second.script before.pmos
 echo
 echo "The collector, on the store that holds the copy:"
 show examples/fourth.script store.pmos
+report store.pmos
 echo
-echo "The report of the store, 'pmos inspect store.pmos':"
-"$pmos" inspect "$work/store.pmos" | sed 's/^/    /'
+echo "A list, and an element that is taken out of it:"
+"$pmos" init "$work/list.pmos"
+show examples/list.script list.pmos
+report list.pmos
+show examples/taken-out.script list.pmos
+report list.pmos
+echo
+echo "Two clients:"
+"$pmos" init "$work/clients.pmos"
+show examples/clients.script clients.pmos
 echo
 echo "A script that is made from seed 1, of one turn, 'pmos make 1 1':"
 "$pmos" make 1 1 | sed 's/^/    /'

@@ -12,7 +12,7 @@ use Rattle.pm_types.specs.declared.address.Addr.{Addr}
 use Rattle.pm_types.specs.declared.object.Object.{Object}
 use Rattle.pm_types.specs.declared.object.Slot.{Slot}
 use Rattle.pm_types.specs.declared.object.Slot.TheVariants.{Live, Moved}
-use Rattle.pm_cars.specs.Cars.{Car, CarAndSpare, Slots, total, slot_room, one_live, object_room, IsSound, object_of, object_at, IsLive, IsLowestLive, placed, with_slot, without_slot, with_field, with_bytes}
+use Rattle.pm_cars.specs.Cars.{Car, CarAndSpare, Slots, total, slot_room, one_live, object_room, IsSoundCar, object_of, object_at, IsLive, IsLowestLive, placed, with_slot, without_slot, with_field, with_bytes}
 use Rattle.pm_cars.specs.Entries.{Entry, numbers, content_at, slots_of, with_content, without, holds_object, is_live, first_place, IsAscending, IsAt, IsKept, HasNone}
 use Rattle.pm_cars.proofs.Rooms.{counted, total_insert, total_remove, total_empty}
 use Rattle.pm_cars.proofs.Listed.{get_slots, content_absent, content_present, numbers_with, length_with, slots_with, slots_push, with_twice}
@@ -77,7 +77,7 @@ module _ (es : List Entry) (next all live first spare capacity : ℕ) (kept : Is
       omega arith
 
   -- every car is sound
-  pub sound : (number : ℕ) → IsSound (seen number es next)
+  pub sound : (number : ℕ) → IsSoundCar (seen number es next)
   sound number = record {
     room = omega (arith, kept.counted, kept.within);
     next = kept.last;

@@ -85,7 +85,7 @@ abbrev pub Fits : Car → ℕ → Type 0
 Fits car room = (used car + room ≤ CAR_BYTES) × (car.next ≤ LAST_SLOT)
 
 -- what is true of every car
-pub record IsSound (car : Car) : Type 0 where
+pub record IsSoundCar (car : Car) : Type 0 where
   pub room : used car ≤ CAR_BYTES
   pub next : car.next ≤ LAST_SLOT + 1
   pub below : (slot : ℕ) → car.next ≤ slot → get car.slots slot ≡ None

@@ -3,12 +3,12 @@ use Rattle.std.specs.Prelude.{◌≡◌, ℕ, ◌+◌, ◌≤◌, Some}
 use Rattle.pm_types.specs.declared.object.Object.{Object}
 use Rattle.pm_types.specs.declared.object.Slot.{Slot}
 use Rattle.pm_types.specs.declared.object.Slot.TheVariants.{Live}
-use Rattle.pm_cars.specs.Cars.{Car, IsSound, total, object_at, placed, with_slot, without_slot}
+use Rattle.pm_cars.specs.Cars.{Car, IsSoundCar, total, object_at, placed, with_slot, without_slot}
 
 -- an object that is placed adds what its slot counts for
 abbrev pub CountsPlaced : (Slot → ℕ) → Type 0
 CountsPlaced f =
-    (car : Car) (slot : ℕ) (object : Object) → IsSound car → car.next ≤ slot
+    (car : Car) (slot : ℕ) (object : Object) → IsSoundCar car → car.next ≤ slot
     → total f (placed car slot object).slots ≡ total f car.slots + f (Live object)
 
 -- a Live slot that is told something else counts for that, and no longer for its object

@@ -3,7 +3,7 @@ ghost use Rattle.std.specs.List.{slice_get};
 ghost use Rattle.std.specs.FinMap.{get, entries};
 ghost use Rattle.pm_types.specs.declared.object.Slot.TheVariants.{Moved};
 ghost use Rattle.pm_cars.specs.declared.look.Look.TheVariants as looks;
-ghost use Rattle.pm_cars.specs.Cars.{object_room, slot_room, used, live_count, moved_count, FitsAt, Fits, IsSound, look_of, object_at, IsLive, HasField, HasBytes, IsLowestLive, new_car, placed, with_birth, with_next, told, IsEdited, without_slot, with_field, with_bytes};
+ghost use Rattle.pm_cars.specs.Cars.{object_room, slot_room, used, live_count, moved_count, FitsAt, Fits, IsSoundCar, look_of, object_at, IsLive, HasField, HasBytes, IsLowestLive, new_car, placed, with_birth, with_next, told, IsEdited, without_slot, with_field, with_bytes};
 
 use crate::entry::{
     Entry, content_of, copy_all, exchange, first_live, make_space, put_back, take_object,
@@ -72,7 +72,7 @@ impl Car {
     /// What is true of every car: its room is at most 16,384 bytes, the next slot at most 65,536, and
     /// from the next slot on all are Gone. It does nothing, and takes no memory.
     pub fn sound(&self)
-        ensures { IsSound self.now.car }
+        ensures { IsSoundCar self.now.car }
     {
         let _next = self.next;
     }

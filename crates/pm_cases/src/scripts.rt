@@ -2,7 +2,7 @@
 
 use crate::fault::{Fault, refuse};
 use crate::printed::{push_text, push_value};
-use pm_grammar::{Script, ScriptFault, journal_text, read_script, reply_text};
+use pm_script::{Script, ScriptFault, journal_text, read_script, reply_text};
 use pm_types::{Entry, SOURCE_BYTES};
 use std::alloc::Global;
 use std::fmt::Write;

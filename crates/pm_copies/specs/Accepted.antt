@@ -1,7 +1,7 @@
 -- Cars and roots that no rule of opening refuses.
 use Rattle.std.specs.Prelude.{◌≡◌, ℕ, ◌<◌, ◌≤◌, ◌==◌, true, false, List, [], ◌∷◌, length, Option, Some, None}
 use Rattle.std.specs.List.{flat_map, AllByRecursion}
-use Rattle.pm_types.specs.declared.limits.TheConstants.{PAGE_BYTES, FIELDS, ROOTS}
+use Rattle.pm_types.specs.declared.limits.TheConstants.{PAGE_BYTES, FIELDS, ROOTS, END_ID}
 use Rattle.pm_types.specs.declared.address.Addr.{Addr}
 use Rattle.pm_types.specs.declared.object.Object.{Object}
 use Rattle.pm_types.specs.declared.object.Slot.{Slot}
@@ -51,7 +51,7 @@ roots_in entries = flat_map root_in entries
 -- What the rules ask of cars and roots, under this next identity.
 pub record IsAccepted (listed : List Listed) (catalog : List CatEntry) (next_id : ℕ) : Type 0 where
   -- the next identity is in its range
-  pub next : (1 ≤ next_id) × (next_id ≤ 4294967296)
+  pub next : (1 ≤ next_id) × (next_id ≤ END_ID)
   -- trains never fall, each car is as it must be, and no two have one number
   pub trains : NeverFall 0 listed
   pub cars : AllByRecursion IsAcceptedCar (images listed)

@@ -3,11 +3,10 @@ use Rattle.std.specs.Prelude.{◌≡◌, ◌⊎◌, ℕ, ◌+◌, ◌<◌, ◌�
 use Rattle.std.specs.List.{flat_map, AllByRecursion}
 use Rattle.std.specs.FinMap.{from_entries}
 use Rattle.pm_base.specs.Mapped.{mapped}
-use Rattle.pm_types.specs.declared.limits.TheConstants.{FIELDS, OBJECT_BYTES, ROOTS}
+use Rattle.pm_types.specs.declared.limits.TheConstants.{FIELDS, OBJECT_BYTES, ROOTS, END_ID}
 use Rattle.pm_types.specs.declared.address.Addr.{Addr}
 use Rattle.pm_types.specs.declared.object.Object.{Object}
-use Rattle.pm_cars.specs.Cars.{Car, live_count, moved_count}
-use Rattle.pm_cars.specs.Cars as car_sound
+use Rattle.pm_cars.specs.Cars.{Car, live_count, moved_count, IsSoundCar}
 use Rattle.pm_trains.specs.Trains.{Trains}
 use Rattle.pm_image.specs.declared.car.CarImage.{CarImage}
 use Rattle.pm_image.specs.declared.catalog.CatEntry.{CatEntry}
@@ -45,7 +44,7 @@ pub record IsBuiltOf (placed : List Placed) (named : List (List ℕ × Addr)) (n
 -- a car: its number is not 0, it keeps its room, and it has an object and no slot whose object moved away
 pub record IsFull (car : Car) : Type 0 where
   pub from_one : 0 < car.number
-  pub sound : car_sound.IsSound car
+  pub sound : IsSoundCar car
   pub live : 0 < live_count car
   pub moved : moved_count car ≡ 0
 
@@ -73,7 +72,7 @@ pub record IsGiven (next_id : ℕ) (object : Object) : Type 0 where
 
 -- what is asked of the cars and roots that a space is built of
 pub record MayBuild (placed : List Placed) (named : List (List ℕ × Addr)) (next_id : ℕ) : Type 0 where
-  pub next : (1 ≤ next_id) × (next_id ≤ 4294967296)
+  pub next : (1 ≤ next_id) × (next_id ≤ END_ID)
   pub trains : Steps placed
   pub cars : AllByRecursion (λ (one : Placed). IsFull one.1) placed
   pub differ : CarsDiffer placed

@@ -81,21 +81,6 @@ pub written_inside : (at : ℕ) (bytes old : List ℕ) (i : ℕ) → at ≤ i �
 written_inside at [] old i le lt = absurd (omega arith)
 written_inside at (byte ∷ bytes) old i le lt = laid_inside at (byte ∷ bytes) old i le lt
 
--- the bytes before the range stay
-pub written_before : (at : ℕ) (bytes old : List ℕ) (i : ℕ) → i < length old → i < at → get_or (written at bytes old) i 0 ≡ get_or old i 0
-written_before at [] old i lt before = refl
-written_before at (byte ∷ bytes) old i lt before = laid_old at (byte ∷ bytes) old i lt before
-
--- and so do those behind it
-pub written_behind : (at : ℕ) (bytes old : List ℕ) (i : ℕ) → at + length bytes ≤ i → get_or (written at bytes old) i 0 ≡ get_or old i 0
-written_behind at [] old i le = refl
-written_behind at (byte ∷ bytes) old i le = laid_behind at (byte ∷ bytes) old i le
-
--- a gap before the range is 0
-pub written_gap : (at : ℕ) (bytes old : List ℕ) (i : ℕ) → length old ≤ i → i < at → get_or (written at bytes old) i 0 ≡ 0
-written_gap at [] old i past before = get_or_past old i 0 past
-written_gap at (byte ∷ bytes) old i past before = laid_gap at (byte ∷ bytes) old i past before
-
 abbrev zeros : ℕ → List ℕ
 zeros n = replicate n 0
 

@@ -1,5 +1,5 @@
 //! What one crash leaves of a disk in memory.
-ghost use Rattle.std.specs.Prelude.{◌≡◌, ◌+◌, ◌^◌, ◌<◌, ◌≤◌, ℕ, List, length, if◌then◌else◌, IfOk, OnOk, IsTrue, false};
+ghost use Rattle.std.specs.Prelude.{◌≡◌, ◌+◌, ◌^◌, ◌<◌, ◌≤◌, ℕ, length, if◌then◌else◌, IfOk, OnOk, IsTrue, false};
 ghost use Rattle.pm_disk.specs.Writes.{written};
 ghost use Rattle.pm_disk.specs.Replay.{Held, fresh, after, held_after, is_picked, picked};
 ghost use Rattle.pm_disk.specs.Sound.{ArePlaced, is_placed};
@@ -52,7 +52,8 @@ impl Crashed {
     fn write(&mut self, pick: u64, at: u64, bytes: &[u8]) -> Result<(), AllocError>
         requires placed { at + length bytes.now < 2 ^ 63 }
         requires few { self.old.writes < 2 ^ 63 }
-        ensures follows { IfOk result (λ _. (held : Held) → Follows pick held self.old → Follows pick (after false (DiskCall.Write at bytes.now) held) self.new) }
+        ensures follows { IfOk result (λ _. (held : Held) → Follows pick held self.old
+            → Follows pick (after false (DiskCall.Write at bytes.now) held) self.new) }
         ensures few { self.new.writes ≤ self.old.writes + 1 }
     {
         overwrite(&mut self.contents, at, bytes)?;
@@ -63,7 +64,8 @@ impl Crashed {
 
     /// A sync that was made.
     fn sync(&mut self, alloc: Global) -> Result<(), AllocError>
-        ensures follows { IfOk result (λ _. (pick : ℕ) (held : Held) → Follows pick held self.old → Follows pick (after false DiskCall.Sync held) self.new) }
+        ensures follows { IfOk result (λ _. (pick : ℕ) (held : Held) → Follows pick held self.old
+            → Follows pick (after false DiskCall.Sync held) self.new) }
         ensures few { self.new.writes ≤ self.old.writes + 1 }
     {
         self.image = self.contents.as_slice().to_vec(alloc)?;
@@ -81,7 +83,8 @@ impl Crashed {
     ) -> Result<(), AllocError>
         requires placed { IsTrue (is_placed call.now) }
         requires few { self.old.writes < 2 ^ 63 }
-        ensures follows { IfOk result (λ _. (held : Held) → Follows pick held self.old → Follows pick (after fails call.now held) self.new) }
+        ensures follows { IfOk result (λ _. (held : Held) → Follows pick held self.old
+            → Follows pick (after fails call.now held) self.new) }
         ensures few { self.new.writes ≤ self.old.writes + 1 }
     {
         if fails {
@@ -105,7 +108,8 @@ pub(crate) fn image_after(
     calls: &[DiskCall],
 ) -> Result<Vec<u8>, AllocError>
     requires { ArePlaced calls.now }
-    ensures { IfOk result (λ image. let held = held_after start.now fails.now calls.now in image.items ≡ picked pick 0 held.changes held.synced) }
+    ensures { IfOk result (λ image. let held = held_after start.now fails.now calls.now in image.items ≡ picked pick
+        0 held.changes held.synced) }
 {
     let mut crashed = Crashed::new(alloc, pick, start)?;
     for (place, call) in calls.iter().enumerate() {

@@ -57,7 +57,8 @@ pub trait Disk {
     /// `into` may hold any bytes.
     fn read_at(&mut self, at: u64, into: &mut [u8]) -> Result<(), DiskFailed>
         ensures within { OnOk result (IfTold (contents self.old) (λ bytes. at + length into.old ≤ length bytes)) }
-        ensures read { OnOk result (IfTold (contents self.old) (λ bytes. into.new ≡ take (length into.old) (drop at bytes))) }
+        ensures read { OnOk result (IfTold (contents self.old)
+            (λ bytes. into.new ≡ take (length into.old) (drop at bytes))) }
         ensures contents { contents self.new ≡ contents self.old }
         ensures images { SameImages (image self.old) (image self.new) }
         ensures time { Elapses (moment self.old) (moment self.new) (since self.old) (since self.new) (image self.new) }
@@ -81,7 +82,8 @@ pub trait Disk {
     /// After Ok a crash leaves what a read answers, until the next write.
     fn sync(&mut self) -> Result<(), DiskFailed>
         ensures contents { contents self.new ≡ contents self.old }
-        ensures only { OnOk result (IfTold (contents self.old) (λ bytes. (left : List ℕ) → image self.new left → left ≡ bytes)) }
+        ensures only { OnOk result (IfTold (contents self.old) (λ bytes. (left : List ℕ) → image self.new left
+            → left ≡ bytes)) }
         ensures no_more { (bytes : List ℕ) → image self.new bytes → image self.old bytes }
         ensures failed { OnErr result (SameImages (image self.old) (image self.new)) }
         ensures time { Elapses (moment self.old) (moment self.new) (since self.old) (since self.new) (image self.new) }

@@ -88,7 +88,8 @@ impl MemDisk {
     /// without those that failed, number i is kept where bit i of `pick` is 1, and none from number
     /// 64 on. It is no call.
     pub fn image(&self, alloc: Global, pick: u64) -> Result<Vec<u8>, NoMemory>
-        ensures value { IfOk result (λ image. let held = held_of self.now in image.items ≡ picked pick 0 held.changes held.synced) }
+        ensures value { IfOk result
+            (λ image. let held = held_of self.now in image.items ≡ picked pick 0 held.changes held.synced) }
         ensures left { IfOk result (λ image. MayLeave self.now image.items) }
     {
         Ok(image_after(alloc, pick, &self.start, &self.fails, &self.calls)?)
@@ -100,7 +101,8 @@ impl MemDisk {
         ensures exact { Answers (fails_next self.old || past) call self.old self.new result }
         ensures contents { contents_of self.new ≡ contents_of self.old }
         ensures looks { IsLook call → SameImages (MayLeave self.old) (MayLeave self.new) }
-        ensures time { Elapses (moment_of self.old) (moment_of self.new) (MayHaveLeft self.old) (MayHaveLeft self.new) (MayLeave self.new) }
+        ensures time { Elapses (moment_of self.old) (moment_of self.new) (MayHaveLeft self.old)
+            (MayHaveLeft self.new) (MayLeave self.new) }
         ensures cause { HasCause (count_of self.old) (count_of self.new) result }
         ensures made { made_of self.new ≡ with_kind kind (moment_of self.old) (made_of self.old) }
     {
@@ -117,7 +119,8 @@ impl MemDisk {
     fn put(&mut self, at: u64, from: &[u8]) -> Result<(), DiskFailed>
         requires { at + length from.now < 2 ^ 63 }
         ensures exact { Answers (fails_next self.old) (DiskCall.Write at from.now) self.old self.new result }
-        ensures time { Elapses (moment_of self.old) (moment_of self.new) (MayHaveLeft self.old) (MayHaveLeft self.new) (MayLeave self.new) }
+        ensures time { Elapses (moment_of self.old) (moment_of self.new) (MayHaveLeft self.old)
+            (MayHaveLeft self.new) (MayLeave self.new) }
         ensures cause { HasCause (count_of self.old) (count_of self.new) result }
         ensures made { made_of self.new ≡ with_write (made_of self.old) }
     {
@@ -139,10 +142,10 @@ impl MemDisk {
 }
 
 impl Disk for MemDisk {
-    ghost use Rattle.std.specs.Prelude.{◌≡◌, ◌||◌, ◌+◌, ◌-◌, ◌^◌, ◌≤◌, ℕ, List, Some, false, length, take, drop, option_map, IfOk, OnOk, OnErr};
+    ghost use Rattle.std.specs.Prelude.{◌≡◌, ◌||◌, ◌+◌, ◌-◌, ◌^◌, ◌≤◌, ℕ, List, Some, false, length, take, drop, IfOk, OnOk, OnErr};
     ghost use Rattle.pm_disk.specs.Writes.{written, TornIfTold};
     ghost use Rattle.pm_disk.specs.Made.{with_sync, with_write, with_read};
-    ghost use Rattle.pm_disk.specs.Disk.{IfTold, SameImages, OnlyTorn, AllTorn, Elapses, HasCause};
+    ghost use Rattle.pm_disk.specs.Disk.{SameImages, OnlyTorn, AllTorn, Elapses, HasCause};
     ghost use Rattle.pm_disk.specs.MemDisk.{start_of, fails_of, calls_of, contents_of, MayLeave, moment_of, MayHaveLeft, count_of, made_of, fails_next, Answers};
     ghost use Rattle.pm_disk.specs.Reads.{reads_past};
     ghost use Rattle.pm_disk.specs.MemDiskLaws.{counts_now_of, only_now_of, earlier_of, contents_stay_of, leaves_bytes_of};
@@ -177,7 +180,8 @@ impl Disk for MemDisk {
         ensures len { IfOk result (λ n. n ≡ length (contents_of self.old)) }
         ensures contents { contents_of self.new ≡ contents_of self.old }
         ensures images { SameImages (MayLeave self.old) (MayLeave self.new) }
-        ensures time { Elapses (moment_of self.old) (moment_of self.new) (MayHaveLeft self.old) (MayHaveLeft self.new) (MayLeave self.new) }
+        ensures time { Elapses (moment_of self.old) (moment_of self.new) (MayHaveLeft self.old)
+            (MayHaveLeft self.new) (MayLeave self.new) }
         ensures cause { HasCause (count_of self.old) (count_of self.new) result }
         ensures made { made_of self.new ≡ made_of self.old }
         ensures exact { Answers (fails_next self.old) DiskCall.Len self.old self.new result }
@@ -192,10 +196,13 @@ impl Disk for MemDisk {
         ensures unread { OnErr result (into.new ≡ into.old) }
         ensures contents { contents_of self.new ≡ contents_of self.old }
         ensures images { SameImages (MayLeave self.old) (MayLeave self.new) }
-        ensures time { Elapses (moment_of self.old) (moment_of self.new) (MayHaveLeft self.old) (MayHaveLeft self.new) (MayLeave self.new) }
+        ensures time { Elapses (moment_of self.old) (moment_of self.new) (MayHaveLeft self.old)
+            (MayHaveLeft self.new) (MayLeave self.new) }
         ensures cause { HasCause (count_of self.old) (count_of self.new) result }
-        ensures made { made_of self.new ≡ with_read (Some (contents_of self.old)) at (length into.old) (made_of self.old) }
-        ensures exact { Answers (fails_next self.old || reads_past at (length into.old) (contents_of self.old)) (DiskCall.Read at (length into.old)) self.old self.new result }
+        ensures made { made_of self.new ≡ with_read (Some (contents_of self.old)) at (length into.old)
+            (made_of self.old) }
+        ensures exact { Answers (fails_next self.old || reads_past at (length into.old) (contents_of self.old))
+            (DiskCall.Read at (length into.old)) self.old self.new result }
     {
         let past = is_past(self.contents(), at, into);
         self.pass(
@@ -212,13 +219,16 @@ impl Disk for MemDisk {
 
     fn write_at(&mut self, at: u64, from: &[u8]) -> Result<(), DiskFailed>
         requires { at + length from.now ≤ 2 ^ 63 - 1 }
-        ensures written { OnOk result (Some (contents_of self.new) ≡ Some (written at from.now (contents_of self.old))) }
-        ensures torn { OnErr result (TornIfTold at (length from.now) (Some (contents_of self.old)) (Some (contents_of self.new))) }
+        ensures written { OnOk result (Some (contents_of self.new) ≡ Some
+            (written at from.now (contents_of self.old))) }
+        ensures torn { OnErr result (TornIfTold at (length from.now) (Some (contents_of self.old))
+            (Some (contents_of self.new))) }
         ensures unwritten { OnErr result (contents_of self.new ≡ contents_of self.old) }
         ensures only_torn { OnlyTorn at (length from.now) (MayLeave self.old) (MayLeave self.new) }
         ensures all_torn { OnOk result (AllTorn at (length from.now) (MayLeave self.old) (MayLeave self.new)) }
         ensures none_lost { (bytes : List ℕ) → MayLeave self.old bytes → MayLeave self.new bytes }
-        ensures time { Elapses (moment_of self.old) (moment_of self.new) (MayHaveLeft self.old) (MayHaveLeft self.new) (MayLeave self.new) }
+        ensures time { Elapses (moment_of self.old) (moment_of self.new) (MayHaveLeft self.old)
+            (MayHaveLeft self.new) (MayLeave self.new) }
         ensures cause { HasCause (count_of self.old) (count_of self.new) result }
         ensures made { made_of self.new ≡ with_write (made_of self.old) }
         ensures exact { Answers (fails_next self.old) (DiskCall.Write at from.now) self.old self.new result }
@@ -231,7 +241,8 @@ impl Disk for MemDisk {
         ensures only { OnOk result ((left : List ℕ) → MayLeave self.new left → left ≡ contents_of self.old) }
         ensures no_more { (bytes : List ℕ) → MayLeave self.new bytes → MayLeave self.old bytes }
         ensures failed { OnErr result (SameImages (MayLeave self.old) (MayLeave self.new)) }
-        ensures time { Elapses (moment_of self.old) (moment_of self.new) (MayHaveLeft self.old) (MayHaveLeft self.new) (MayLeave self.new) }
+        ensures time { Elapses (moment_of self.old) (moment_of self.new) (MayHaveLeft self.old)
+            (MayHaveLeft self.new) (MayLeave self.new) }
         ensures cause { HasCause (count_of self.old) (count_of self.new) result }
         ensures made { made_of self.new ≡ with_sync (moment_of self.old) (made_of self.old) }
         ensures exact { Answers (fails_next self.old) DiskCall.Sync self.old self.new result }

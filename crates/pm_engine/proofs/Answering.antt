@@ -2,7 +2,7 @@
 use Rattle.std.proofs.Common.{◌≡◌, ◌⊎◌, ⊎_elim, inl, inr, ℕ, ◌<◌, ◌≤◌, ◌+◌, true, false, List, [], ◌∷◌, ◌++◌, length, Option, Some, None, option_map, IfSome, refl, sym, ap, subst, ◌∙◌, arith}
 use Rattle.std.proofs.lemmas.List.Elements.{Contains-append_left, Contains-append_right}
 use Rattle.pm_types.specs.declared.command.Cmd.{Cmd}
-use Rattle.pm_types.specs.declared.command.Cmd.TheVariants.{Save, Settle, Unsave, Watch, New, Load, Store, Clear, Show, Put, Copy, IdOf, Forget, Bind, Unbind, Find, Swap, Close}
+use Rattle.pm_types.specs.declared.command.Cmd.TheVariants.{Save, Settle, Unsave, Watch}
 use Rattle.pm_types.specs.declared.entry.Entry.{Entry}
 use Rattle.pm_types.specs.declared.limits.TheConstants.{LAST_COPY}
 use Rattle.pm_types.specs.declared.reply.Reply.{Reply}
@@ -18,7 +18,7 @@ use Rattle.pm_model.specs.Journal.{after, chain, settled_in, says_saved}
 use Rattle.pm_model.proofs.AnswerLaws.{leaves_saving}
 use Rattle.pm_model.proofs.ChainLaws.{chain_more, saved}
 use Rattle.pm_model.proofs.Members.{at_first}
-use Rattle.pm_image.specs.Stands.{Stands}
+use Rattle.pm_image.specs.Stands.{StandsForCopy}
 use Rattle.pm_view.specs.View.{Cars, SpaceView}
 use Rattle.pm_view.specs.Work.{work}
 use Rattle.pm_law_work.specs.Raises.{raises}
@@ -27,14 +27,14 @@ use Rattle.pm_view.specs.Commands.{is_act}
 use Rattle.pm_saving.specs.Progress.{Progress, cars_or_none, copy_of}
 use Rattle.pm_saving.specs.Paging.{NextPage, CarPage, PartPage, next_page, with_next, written_on}
 use Rattle.pm_saving.specs.Tied.{HasCopy}
-use Rattle.pm_saver.specs.Answers.{TellsOn}
-use Rattle.pm_saver.specs.Settling.{SparesEither}
+use Rattle.pm_save.specs.Answers.{TellsOn}
+use Rattle.pm_save.specs.Settling.{SparesEither}
 use Rattle.pm_serving.specs.Serving.{IsServed, numbered_copy, opening, world}
 use Rattle.pm_serving.specs.Events.{Appends, Serves}
 use Rattle.pm_serving.specs.Images.{IsSettled, IsStored, IsTold}
 use Rattle.pm_law_serving.proofs.Following as law
 use Rattle.pm_law_serving.proofs.Images.{acknowledged, failed}
-use Rattle.pm_engine.specs.declared.opening.Opening.{Opening}
+use Rattle.pm_engine.specs.declared.start.Start.{Start}
 use Rattle.pm_engine.specs.declared.works.Works.{Works}
 use Rattle.pm_engine.specs.Working.{Acts, Adds, Answers, IsTiedIn, LeavesEither, Rests, Saves, SetsWatch, SettlesCopy, SettlesIt, StaysStill, Unsaves, Watches, contents_in, disk_at, frozen_in, room_in, saving_in, state_in, view_in, watches_in}
 use Rattle.pm_engine.specs.Seen.{IsSound, disk_then, seen}
@@ -49,7 +49,7 @@ not_saved world client cmd (Saved number) is none =
     absurd (cc never)
 not_saved world client cmd reply is none = refl
 
-module _ {D : Type 0} {F : Type 0} {g : Ghosts D} (start : Opening D F g) (old new : Works D F g) where
+module _ {D : Type 0} {F : Type 0} {g : Ghosts D} (start : Start D F g) (old new : Works D F g) where
   pub act_served : (client : ℕ) (cmd : Cmd) (reply : Reply) → IsServed (seen start None old) → is_act cmd ≡ true → Acts client cmd old new reply
       → Serves client cmd (seen start None old) (seen start None new) reply × IsServed (seen start None new)
   act_served client cmd reply served act acts =
@@ -91,7 +91,7 @@ module _ {D : Type 0} {F : Type 0} {g : Ghosts D} (start : Opening D F g) (old n
 
 -- ---- watches
 
-module _ {D : Type 0} {F : Type 0} {g : Ghosts D} (start : Opening D F g) (stopped : Option ℕ) (old new : Works D F g) (client : ℕ) where
+module _ {D : Type 0} {F : Type 0} {g : Ghosts D} (start : Start D F g) (stopped : Option ℕ) (old new : Works D F g) (client : ℕ) where
   abbrev entry_of : ℕ → Entry
   entry_of number = record { client = client; cmd = Watch; reply = Watching number }
 
@@ -111,7 +111,7 @@ module _ {D : Type 0} {F : Type 0} {g : Ghosts D} (start : Opening D F g) (stopp
   watch_appends (Watching number) is = set_appends number number refl is
   watch_appends reply is = absurd is
 
-module _ {D : Type 0} {F : Type 0} {g : Ghosts D} (start : Opening D F g) (old new : Works D F g) where
+module _ {D : Type 0} {F : Type 0} {g : Ghosts D} (start : Start D F g) (old new : Works D F g) where
   pub watch_served : (client : ℕ) (reply : Reply) → IsServed (seen start None old) → Watches client old new reply → Serves client Watch (seen start None old) (seen start None new) reply × IsServed (seen start None new)
   watch_served client TooManyWatches served is =
       let full = is.full in
@@ -136,21 +136,21 @@ written_number cars (page ∷ pages) progress = written_number cars pages (with_
     number_next (Some (CarPage image)) = refl
     number_next (Some (PartPage entries)) = refl
 
-module _ {D : Type 0} {F : Type 0} {g : Ghosts D} (start : Opening D F g) (old new : Works D F g) where
+module _ {D : Type 0} {F : Type 0} {g : Ghosts D} (start : Start D F g) (old new : Works D F g) where
   -- at each moment the current copy stood, or the one in progress
   pub leaves_either : IsStored (seen start None old) (state_in old) (g.contents (disk_then start)) (contents_in old) → (IsTold (g.contents (disk_then start)) → IsTold (contents_in old))
       → (progress : Progress) → (saving_in old).progress ≡ Some progress
       → SparesEither g.contents g.moment g.since (saving_in old).progress (cars_or_none (frozen_in old)) (state_in old) (disk_at old) (disk_at new) → IsTold (g.contents (disk_then start))
-      → LeavesOnly g.moment g.since (disk_at old) (disk_at new) (λ image. IsSettled (world (seen start None old)) image ⊎ Stands image progress.number (copy_of (cars_or_none (frozen_in old)) progress))
+      → LeavesOnly g.moment g.since (disk_at old) (disk_at new) (λ image. IsSettled (world (seen start None old)) image ⊎ StandsForCopy image progress.number (copy_of (cars_or_none (frozen_in old)) progress))
   leaves_either stored tells progress is spares first =
       let was = tells first in
       let w = world (seen start None old) in
       let cars = cars_or_none (frozen_in old) in
       let all = subst (λ (o : Option Progress). SparesEither g.contents g.moment g.since o cars (state_in old) (disk_at old) (disk_at new)) is spares in
-      subst (λ (n : ℕ). LeavesOnly g.moment g.since (disk_at old) (disk_at new) (λ image. Stands image n w.settled_copy ⊎ Stands image progress.number (copy_of cars progress))) stored.numbered
+      subst (λ (n : ℕ). LeavesOnly g.moment g.since (disk_at old) (disk_at new) (λ image. StandsForCopy image n w.settled_copy ⊎ StandsForCopy image progress.number (copy_of cars progress))) stored.numbered
       (all w.settled_copy was.0 was.1 (stored.has first was.0 was.1))
 
-module _ {D : Type 0} {F : Type 0} {g : Ghosts D} (start : Opening D F g) (old new : Works D F g) (sound : IsSound start None old)
+module _ {D : Type 0} {F : Type 0} {g : Ghosts D} (start : Start D F g) (old new : Works D F g) (sound : IsSound start None old)
     (counts : (t : ℕ) (bytes : List ℕ) → t ≤ g.moment (disk_at new) → g.image (disk_at new) bytes → g.since (disk_at new) t bytes) (told : TellsOn (contents_in old) (contents_in new)) where
   tells : IsTold (contents_in old) → IsTold (contents_in new)
   tells is = told is.0 is.1
@@ -171,9 +171,9 @@ module _ {D : Type 0} {F : Type 0} {g : Ghosts D} (start : Opening D F g) (old n
       let entry : Entry = record { client = client; cmd = Settle; reply = Saved progress.number } in
       let longer = chain w old.journal.items ++ settled_in (world NS) ∷ [] in
       let now = subst (λ (o : Option Progress). IfSome o (λ (p : Progress). (was : List ℕ) → contents_in old ≡ Some was
-      → ((left : List ℕ) → g.image (disk_at new) left → Stands left number (copy_of cars p)) × IfTold (contents_in new) (λ after. HasCopy (state_in new) after (copy_of cars p)))) is.settles.is_progress is.now in
-      let stands : (left : List ℕ) → Stands left progress.number (copy_of cars progress) → IsSettled (world NS) left =
-      λ left it. subst (Stands left (world NS).settled) (sym copied) (subst (λ (n : ℕ). Stands left n (copy_of cars progress)) (sym all.2) it) in (
+      → ((left : List ℕ) → g.image (disk_at new) left → StandsForCopy left number (copy_of cars p)) × IfTold (contents_in new) (λ after. HasCopy (state_in new) after (copy_of cars p)))) is.settles.is_progress is.now in
+      let stands : (left : List ℕ) → StandsForCopy left progress.number (copy_of cars progress) → IsSettled (world NS) left =
+      λ left it. subst (StandsForCopy left (world NS).settled) (sym copied) (subst (λ (n : ℕ). StandsForCopy left n (copy_of cars progress)) (sym all.2) it) in (
         subst (λ (n : ℕ). Serves client Settle OS NS (Saved n)) (sym is.settles.number_is) all.0,
         record {
           served = all.1;
@@ -184,7 +184,7 @@ module _ {D : Type 0} {F : Type 0} {g : Ghosts D} (start : Opening D F g) (old n
                 let was = sound.images.told first in
                 subst (HasCopy (state_in new) bytes) (sym copied) ((now was.0 was.1).1 bytes told);
           };
-          images = acknowledged g.contents g.image g.moment g.since (disk_then start) OS (disk_at old) (disk_at new) (λ image. IsSettled (world OS) image ⊎ Stands image progress.number (copy_of cars progress)) refl sound.images
+          images = acknowledged g.contents g.image g.moment g.since (disk_then start) OS (disk_at old) (disk_at new) (λ image. IsSettled (world OS) image ⊎ StandsForCopy image progress.number (copy_of cars progress)) refl sound.images
               (leaves_either start old new (sound.stored refl) sound.images.told progress is.settles.is_progress spares) tells counts NS longer
               (ap (chain w) all.0.appends.journal ∙ chain_more w old.journal.items entry ∙ ap (λ (last : World). chain w old.journal.items ++ settled_in last ∷ []) (ap (after w) (sym all.0.appends.journal)))
               (λ kept there. Contains-append_left (chain w old.journal.items) (settled_in (world NS) ∷ []) kept there)
@@ -193,7 +193,7 @@ module _ {D : Type 0} {F : Type 0} {g : Ghosts D} (start : Opening D F g) (old n
               (λ left it. ⊎_elim (λ settled. inl settled) (λ begun. inr (stands left begun)) it)
               (λ first left here.
               let was = sound.images.told first in
-              stands left (subst (λ (n : ℕ). Stands left n (copy_of cars progress)) is.settles.number_is ((now was.0 was.1).0 left here)));
+              stands left (subst (λ (n : ℕ). StandsForCopy left n (copy_of cars progress)) is.settles.number_is ((now was.0 was.1).0 left here)));
         },
       )
 
@@ -210,7 +210,7 @@ module _ {D : Type 0} {F : Type 0} {g : Ghosts D} (start : Opening D F g) (old n
       record {
         served = serves_on start old new (Some count) sound.served rests.nothing.journal rests.nothing.watches rests.view rests.frozen rests.progress;
         stored = λ none. absurd (cc none);
-        images = failed g.contents g.image g.moment g.since (disk_then start) OS (disk_at old) (disk_at new) (λ image. IsSettled (world OS) image ⊎ Stands image progress.number (copy_of cars progress)) refl sound.images
+        images = failed g.contents g.image g.moment g.since (disk_then start) OS (disk_at old) (disk_at new) (λ image. IsSettled (world OS) image ⊎ StandsForCopy image progress.number (copy_of cars progress)) refl sound.images
             (leaves_either start old new (sound.stored refl) sound.images.told progress is spares) tells counts NS refl (ap (after w) rests.nothing.journal) (ap (chain w) rests.nothing.journal) (settled_there OS sound.served)
             (λ left it. ⊎_elim (λ settled. inl settled) (λ begun. inr ((progress.number, copy_of cars progress), saving, begun)) it);
       }
@@ -237,7 +237,7 @@ pub record Told {D F : Type 0} {g : Ghosts D} (cmd : Cmd) (old new : Works D F g
   pub counts : (t : ℕ) (bytes : List ℕ) → t ≤ g.moment (disk_at new) → g.image (disk_at new) bytes → g.since (disk_at new) t bytes
   pub only_now : (bytes : List ℕ) → g.since (disk_at old) (g.moment (disk_at old)) bytes → g.image (disk_at old) bytes
 
-module _ {D : Type 0} {F : Type 0} {g : Ghosts D} (start : Opening D F g) (old new : Works D F g) (sound : IsSound start None old) where
+module _ {D : Type 0} {F : Type 0} {g : Ghosts D} (start : Start D F g) (old new : Works D F g) (sound : IsSound start None old) where
   abbrev Result_of : ℕ → Cmd → Reply → Type 0
   Result_of client cmd reply = Serves client cmd (seen start None old) (seen start None new) reply × IsSound start None new
 
@@ -275,20 +275,7 @@ module _ {D : Type 0} {F : Type 0} {g : Ghosts D} (start : Opening D F g) (old n
   answered client Watch reply all is =
       stays client Watch reply all.tied (all.still refl) all.told all.counts all.only_now (watch_other client old new reply is)
       (watch_served start old new client reply sound.served is)
-  answered client (New reg count bytes) reply all is = act_answered client (New reg count bytes) reply refl all refl is
-  answered client (Load to reg index) reply all is = act_answered client (Load to reg index) reply refl all refl is
-  answered client (Store reg index value) reply all is = act_answered client (Store reg index value) reply refl all refl is
-  answered client (Clear reg index) reply all is = act_answered client (Clear reg index) reply refl all refl is
-  answered client (Show reg) reply all is = act_answered client (Show reg) reply refl all refl is
-  answered client (Put reg at bytes) reply all is = act_answered client (Put reg at bytes) reply refl all refl is
-  answered client (Copy to reg) reply all is = act_answered client (Copy to reg) reply refl all refl is
-  answered client (IdOf reg) reply all is = act_answered client (IdOf reg) reply refl all refl is
-  answered client (Forget reg) reply all is = act_answered client (Forget reg) reply refl all refl is
-  answered client (Bind name reg) reply all is = act_answered client (Bind name reg) reply refl all refl is
-  answered client (Unbind name) reply all is = act_answered client (Unbind name) reply refl all refl is
-  answered client (Find to name) reply all is = act_answered client (Find to name) reply refl all refl is
-  answered client (Swap reg index before value) reply all is = act_answered client (Swap reg index before value) reply refl all refl is
-  answered client Close reply all is = act_answered client Close reply refl all refl is
+  answered client cmd reply all is = act_answered client cmd reply refl all refl is
 
 -- ---- the entry of an answer
 
@@ -308,7 +295,7 @@ settle_adds client old new Idle is = is.adds
 settle_adds client old new (Saved number) is = is.adds
 settle_adds client old new reply is = absurd is
 
-module _ {D : Type 0} {F : Type 0} {g : Ghosts D} (start : Opening D F g) (stopped : Option ℕ) (old new : Works D F g) where
+module _ {D : Type 0} {F : Type 0} {g : Ghosts D} (start : Start D F g) (stopped : Option ℕ) (old new : Works D F g) where
   -- entry, watches and counts once a command was answered
   pub appends_of : (client : ℕ) (cmd : Cmd) (reply : Reply) → Answers client cmd old new reply → Appends client cmd (seen start stopped old) (seen start stopped new) reply
   appends_of client Save reply is = appends_so start old new stopped client Save reply refl (save_adds client old new reply is)

@@ -1,5 +1,5 @@
 -- What an engine's type keeps goes on through its calls, and what is told of it.
-use Rattle.std.proofs.Common.{◌≡◌, ◌⊎◌, ⊎_elim, inl, inr, ℕ, ◌≤◌, false, List, [], ◌∷◌, Option, Some, None, option_map, refl, sym, ap, subst, ◌∙◌}
+use Rattle.std.proofs.Common.{◌≡◌, ◌⊎◌, ⊎_elim, inl, inr, ℕ, ◌≤◌, List, [], ◌∷◌, Option, Some, None, option_map, refl, sym, ap, subst, ◌∙◌}
 use Rattle.std.specs.Coded.{Coded-set, coded×, coded_ℕ, coded_option}
 use Rattle.std.proofs.Math.Logic.{∥∥₁_elim, ∥∥₁_map}
 use mathlib.Core.HLevel.{⊥_prop}
@@ -13,11 +13,11 @@ use Rattle.pm_disk.proofs.RunLemmas.{weaker}
 use Rattle.pm_model.specs.World.{World, Copy, begin, copy_code}
 use Rattle.pm_model.specs.Closed.{IsClosed}
 use Rattle.pm_model.specs.Answer.{answer}
-use Rattle.pm_image.specs.Stands.{Stands}
+use Rattle.pm_image.specs.Stands.{StandsForCopy}
 use Rattle.pm_copies.specs.Listed.{copy_in}
 use Rattle.pm_saving.specs.Progress.{Progress, cars_or_none, copy_of}
-use Rattle.pm_saver.specs.Answers.{Spares, TellsOn}
-use Rattle.pm_saver.specs.Settling.{SparesEither}
+use Rattle.pm_save.specs.Answers.{Spares, TellsOn}
+use Rattle.pm_save.specs.Settling.{SparesEither}
 use Rattle.pm_serving.specs.Serving.{IsServed, Serving, numbered_copy, opening, world}
 use Rattle.pm_serving.specs.Events.{Serves}
 use Rattle.pm_serving.specs.Images.{IsInProgress, IsSettled, IsStored, IsTold, KeepsImages}
@@ -29,11 +29,11 @@ use Rattle.arrayvec.specs.ArrayVec.{ArrayVec}
 use Rattle.pm_shadow.specs.Pages.{current_kept, disk_of, state}
 use Rattle.pm_shadow.specs.declared.pages.Pages.{Pages}
 use Rattle.pm_space.specs.Shown.{view}
-use Rattle.pm_saver.specs.Shown.{frozen_of, saving}
+use Rattle.pm_save.specs.Shown.{frozen_of, saving}
 use Rattle.pm_law_saving.proofs.Publishing.{copy_held}
 use Rattle.pm_law_serving.proofs.Splitting.{splits_once}
 use Rattle.pm_law_serving.proofs.Stored.{splits_stored}
-use Rattle.pm_engine.specs.declared.opening.Opening.{Opening}
+use Rattle.pm_engine.specs.declared.start.Start.{Start}
 use Rattle.pm_engine.specs.declared.works.Works.{Works}
 use Rattle.pm_engine.specs.Working.{Answers, FlushesOn, IsTiedIn, LastsIn, Rests, contents_in, disk_at, frozen_in, saving_in, state_in}
 use Rattle.pm_engine.specs.Seen.{IsSound, disk_then, seen}
@@ -45,7 +45,7 @@ splits_told : (contents : Option (List ℕ)) → ∥ IsTold contents ∥₁ → 
 splits_told (Some bytes) known = (bytes, refl)
 splits_told None known = absurd (∥∥₁_elim known ⊥_prop (λ is. let never : None ≡ Some is.0 = is.1 in cc never))
 
-module _ {D : Type 0} {F : Type 0} {g : Ghosts D} (start : Opening D F g) (stopped : Option ℕ) (old : Works D F g) (none : stopped ≡ None) (known : ∥ IsSound start stopped old ∥₁) where
+module _ {D : Type 0} {F : Type 0} {g : Ghosts D} (start : Start D F g) (stopped : Option ℕ) (old : Works D F g) (none : stopped ≡ None) (known : ∥ IsSound start stopped old ∥₁) where
   pub at_none : ∥ IsSound start None old ∥₁
   at_none = subst (λ (o : Option ℕ). ∥ IsSound start o old ∥₁) none known
 
@@ -94,7 +94,7 @@ module _ {D : Type 0} {F : Type 0} {g : Ghosts D} (start : Opening D F g) (stopp
         → LeavesOnly g.moment g.since (disk_at old) (disk_at new) (λ image. IsSettled (world (seen start None old)) image ⊎ IsInProgress (world (seen start None old)) image)
     leaves_begun progress is either first =
         let cars = cars_or_none (frozen_in old) in
-        weaker g.moment g.since (disk_at old) (disk_at new) (λ image. IsSettled (world (seen start None old)) image ⊎ Stands image progress.number (copy_of cars progress))
+        weaker g.moment g.since (disk_at old) (disk_at new) (λ image. IsSettled (world (seen start None old)) image ⊎ StandsForCopy image progress.number (copy_of cars progress))
         (λ image. IsSettled (world (seen start None old)) image ⊎ IsInProgress (world (seen start None old)) image)
         (leaves_either start old new stored tells progress is either first)
         (λ image it. ⊎_elim (λ settled. inl settled) (λ begun. inr ((progress.number, copy_of cars progress), saving_is progress is, begun)) it)
@@ -113,7 +113,7 @@ module _ {D : Type 0} {F : Type 0} {g : Ghosts D} (start : Opening D F g) (stopp
   pub settled_now : IsTold (g.contents (disk_then start)) → (left : List ℕ) → g.image (disk_at old) left → IsSettled (world (seen start None old)) left
   settled_now first left here =
       let was = tells first in
-      subst (λ (n : ℕ). Stands left n (world (seen start None old)).settled_copy) stored.numbered
+      subst (λ (n : ℕ). StandsForCopy left n (world (seen start None old)).settled_copy) stored.numbered
       (copy_held (state_in old) was.0 left (world (seen start None old)).settled_copy (stored.has first was.0 was.1) ((current_kept old.pages stored.tied.sound was.0 was.1).each left here))
 
 -- whatever is named in the world that was opened is an object
@@ -130,7 +130,7 @@ splits_legal start (entry ∷ rest) known =
     (splits_once (Coded-set reply_type.the_row.coded _ _) (∥∥₁_map known (λ legal. legal.0)), splits_legal (answer start entry.client entry.cmd).1 rest (∥∥₁_map known (λ legal. legal.1)))
 
 -- the journal has more room
-pub kept_journal : {D F : Type 0} {g : Ghosts D} (start : Opening D F g) (stopped : Option ℕ) (old new : Works D F g) → new.journal.items ≡ old.journal.items → new.watches ≡ old.watches → new.events ≡ old.events → new.steps ≡ old.steps → new.space ≡ old.space → new.saver ≡ old.saver → new.pages ≡ old.pages
+pub kept_journal : {D F : Type 0} {g : Ghosts D} (start : Start D F g) (stopped : Option ℕ) (old new : Works D F g) → new.journal.items ≡ old.journal.items → new.watches ≡ old.watches → new.events ≡ old.events → new.steps ≡ old.steps → new.space ≡ old.space → new.saver ≡ old.saver → new.pages ≡ old.pages
     → ∥ IsSound start stopped old ∥₁ → ∥ IsSound start stopped new ∥₁
 kept_journal {D} {F} {g} start stopped old new journal watches events steps space saver pages known =
     let it : Serving = seen start stopped old in

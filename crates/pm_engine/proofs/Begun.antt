@@ -6,7 +6,7 @@ use Rattle.pm_disk.specs.Disk.{IfTold}
 use Rattle.pm_disk.specs.Images.{IsBytes}
 use Rattle.pm_image.specs.declared.settled.KeptPage.{KeptPage}
 use Rattle.pm_image.specs.Graphs.{Graph}
-use Rattle.pm_image.specs.Stands.{Stands}
+use Rattle.pm_image.specs.Stands.{StandsForCopy}
 use Rattle.pm_shadow.specs.declared.page_use.PageUse.TheVariants.{Current}
 use Rattle.pm_shadow.specs.State.{State, keeps_by}
 use Rattle.pm_shadow.specs.Copies.{KeepsGraph}
@@ -17,15 +17,15 @@ use Rattle.pm_copies.specs.Listed.{copy_in}
 use Rattle.pm_saving.specs.Progress.{Saving}
 use Rattle.pm_saving.specs.Tied.{HasCopy, IsOnPage, IsTied}
 use Rattle.pm_law_saving.proofs.Giving.{store_begins}
-use Rattle.pm_opening.specs.Opening.{KnowsPages, MakesSpace, OpensStore}
-use Rattle.pm_opening.proofs.StoodLaws.{copy_kept, bytes_stand, graph_kept}
+use Rattle.pm_reopen.specs.Opening.{KnowsPages, MakesSpace, OpensStore}
+use Rattle.pm_reopen.proofs.StoodLaws.{copy_kept, bytes_stand, graph_kept}
 use Rattle.pm_serving.specs.Serving.{IsServed, Serving, just_opened, world}
 use Rattle.pm_serving.specs.Images.{IsSettled, IsStored, KeepsImages}
 use Rattle.pm_space.specs.Shown.{view}
 use Rattle.pm_shadow.specs.Pages.{disk_of}
 use Rattle.pm_law_serving.proofs.Opening.{begins_served}
 use Rattle.pm_law_serving.proofs.Images.{begins}
-use Rattle.pm_engine.specs.declared.opening.Opening.{Opening}
+use Rattle.pm_engine.specs.declared.start.Start.{Start}
 use Rattle.pm_engine.specs.declared.works.Works.{Works}
 use Rattle.pm_engine.specs.Working.{contents_in, disk_at, frozen_in, saving_in, state_in, view_in}
 use Rattle.pm_engine.specs.Seen.{IsSound, disk_then, seen}
@@ -36,7 +36,7 @@ on_pages : (s : State) (cars : List KeptPage) → s.known ≡ true → AllByRecu
 on_pages s [] known all = tt
 on_pages s (kept ∷ cars) known all = (record { from_2 = all.0.0; keeps = ap (keeps_by s.known) all.0.1 }, on_pages s cars known all.1)
 
-module _ {D : Type 0} {F : Type 0} {g : Ghosts D} (start : Opening D F g) (works : Works D F g) (s0 : State) (place : F) (cars : List KeptPage)
+module _ {D : Type 0} {F : Type 0} {g : Ghosts D} (start : Start D F g) (works : Works D F g) (s0 : State) (place : F) (cars : List KeptPage)
     (unknown : s0.known ≡ false) (knows : KnowsPages s0 (state_in works)) (makes : MakesSpace s0 (state_in works) works.space.parts place cars) (fine : (state_in works).failed ≡ false)
     (within : (state_in works).settled ≤ (state_in works).count) (opens : IfTold (contents_in works) (λ bytes. OpensStore s0 (state_in works) bytes (view_in works) cars))
     (stays : (bytes : List ℕ) → contents_in works ≡ Some bytes → g.image (disk_at works) bytes) (are_bytes : (bytes : List ℕ) → contents_in works ≡ Some bytes → IsBytes bytes) where
@@ -61,7 +61,7 @@ module _ {D : Type 0} {F : Type 0} {g : Ghosts D} (start : Opening D F g) (works
     is_copy = copy_kept s0 (state_in works) bytes (view_in works) cars unknown (opens bytes told) (holds_it bytes told) (are_bytes bytes told);
   }
 
-  pub stands : (bytes : List ℕ) → contents_in works ≡ Some bytes → Stands bytes (state_in works).header.epoch (copy_in (view_in works))
+  pub stands : (bytes : List ℕ) → contents_in works ≡ Some bytes → StandsForCopy bytes (state_in works).header.epoch (copy_in (view_in works))
   stands bytes told = bytes_stand s0 (state_in works) bytes (view_in works) cars unknown (opens bytes told) (holds_it bytes told) (are_bytes bytes told)
 
   tied : (frozen_in works ≡ None) → saving_in works ≡ record { settled = cars; progress = None } → IsTied (saving_in works) (frozen_in works) (state_in works) (contents_in works)
@@ -91,5 +91,5 @@ module _ {D : Type 0} {F : Type 0} {g : Ghosts D} (start : Opening D F g) (works
         images = subst (λ (d : D). KeepsImages g.contents g.image g.moment g.since d (seen start None works) (disk_at works)) (sym (ap disk_of pages))
             (begins g.contents g.image g.moment g.since (disk_at works) (seen start None works) (settled_there (seen start None works) served) only_now
             (λ first left here. subst (λ (one : Serving). IsSettled (world one) left) same
-            (subst (λ (n : ℕ). Stands left n (copy_in (view_in works))) (sym number) (subst (λ (b : List ℕ). Stands b (state_in works).header.epoch (copy_in (view_in works))) (sym (only first.0 left first.1 here)) (stands first.0 first.1)))));
+            (subst (λ (n : ℕ). StandsForCopy left n (copy_in (view_in works))) (sym number) (subst (λ (b : List ℕ). StandsForCopy b (state_in works).header.epoch (copy_in (view_in works))) (sym (only first.0 left first.1 here)) (stands first.0 first.1)))));
       }

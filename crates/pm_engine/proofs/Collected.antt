@@ -7,20 +7,20 @@ use Rattle.pm_model.specs.Journal.{after, chain, settled_in}
 use Rattle.pm_shadow.specs.Pages.{disk_of}
 use Rattle.pm_evac.specs.Steps.{KeepsWorlds}
 use Rattle.pm_saving.specs.Progress.{Saving}
-use Rattle.pm_saver.specs.Shown.{saving}
-use Rattle.pm_saver.specs.Answers.{TellsOn}
+use Rattle.pm_save.specs.Shown.{saving}
+use Rattle.pm_save.specs.Answers.{TellsOn}
 use Rattle.pm_serving.specs.Serving.{opening}
 use Rattle.pm_serving.specs.Events.{Collects}
 use Rattle.pm_law_serving.proofs.Following as law
-use Rattle.pm_engine.specs.declared.opening.Opening.{Opening}
+use Rattle.pm_engine.specs.declared.start.Start.{Start}
 use Rattle.pm_engine.specs.declared.works.Works.{Works}
-use Rattle.pm_engine.specs.Working.{CollectsOn, IsLeft, IsTiedIn, Rests, contents_in, disk_at, saving_in, state_in, view_in}
+use Rattle.pm_engine.specs.Working.{CollectsOn, IsLeft, IsTiedIn, Rests, contents_in, disk_at, saving_in, view_in}
 use Rattle.pm_engine.specs.Seen.{IsSound, seen}
 use Rattle.pm_engine.proofs.Asking.{at_none, rest_sound, stored}
 use Rattle.pm_engine.proofs.Going.{lasts, stays_same}
 use Rattle.pm_engine.proofs.Kept.{pages_last, spares_still}
 
-module _ {D : Type 0} {F : Type 0} {g : Ghosts D} (start : Opening D F g) (stopped : Option ℕ) (old new : Works D F g) (is : CollectsOn old new) where
+module _ {D : Type 0} {F : Type 0} {g : Ghosts D} (start : Start D F g) (stopped : Option ℕ) (old new : Works D F g) (is : CollectsOn old new) where
   -- all but the space stays
   pub collects : Collects (seen start stopped old) (seen start stopped new)
   collects = record {
@@ -52,7 +52,7 @@ left_rests old new left = record {
   progress = stays_same (saving_in old).progress (saving_in new).progress (ap (λ (it : Saving). it.progress) left.keeps.saving);
 }
 
-module _ {D : Type 0} {F : Type 0} {g : Ghosts D} (start : Opening D F g) (stopped : Option ℕ) (old new : Works D F g) (is : CollectsOn old new) (none : stopped ≡ None) (known : ∥ IsSound start stopped old ∥₁) where
+module _ {D : Type 0} {F : Type 0} {g : Ghosts D} (start : Start D F g) (stopped : Option ℕ) (old new : Works D F g) (is : CollectsOn old new) (none : stopped ≡ None) (known : ∥ IsSound start stopped old ∥₁) where
   pub collect_sound : KeepsWorlds (view_in old) (view_in new) → IsTiedIn new → ((t : ℕ) (bytes : List ℕ) → t ≤ g.moment (disk_at new) → g.image (disk_at new) bytes → g.since (disk_at new) t bytes)
       → ((bytes : List ℕ) → g.since (disk_at old) (g.moment (disk_at old)) bytes → g.image (disk_at old) bytes) → ∥ IsSound start stopped new ∥₁
   collect_sound worlds tied counts only_now =
@@ -65,7 +65,7 @@ module _ {D : Type 0} {F : Type 0} {g : Ghosts D} (start : Opening D F g) (stopp
       (spares_still old new only_now (same_disk old new is.pages) (sound.stored refl).tied.sound)))
 
 -- nothing was made
-module _ {D : Type 0} {F : Type 0} {g : Ghosts D} (start : Opening D F g) (stopped : Option ℕ) (old new : Works D F g) (left : IsLeft old new) (none : stopped ≡ None) (known : ∥ IsSound start stopped old ∥₁) where
+module _ {D : Type 0} {F : Type 0} {g : Ghosts D} (start : Start D F g) (stopped : Option ℕ) (old new : Works D F g) (left : IsLeft old new) (none : stopped ≡ None) (known : ∥ IsSound start stopped old ∥₁) where
   pub left_sound : new.pages ≡ old.pages → IsTiedIn new → ((t : ℕ) (bytes : List ℕ) → t ≤ g.moment (disk_at new) → g.image (disk_at new) bytes → g.since (disk_at new) t bytes)
       → ((bytes : List ℕ) → g.since (disk_at old) (g.moment (disk_at old)) bytes → g.image (disk_at old) bytes) → ∥ IsSound start stopped new ∥₁
   left_sound pages tied counts only_now =
@@ -73,7 +73,7 @@ module _ {D : Type 0} {F : Type 0} {g : Ghosts D} (start : Opening D F g) (stopp
       (spares_still old new only_now (same_disk old new pages) (stored start stopped old none known).tied.sound) counts
 
 -- either way
-module _ {D : Type 0} {F : Type 0} {g : Ghosts D} {T E : Type 0} (start : Opening D F g) (stopped : Option ℕ) (old new : Works D F g) (none : stopped ≡ None) (known : ∥ IsSound start stopped old ∥₁) where
+module _ {D : Type 0} {F : Type 0} {g : Ghosts D} {T E : Type 0} (start : Start D F g) (stopped : Option ℕ) (old new : Works D F g) (none : stopped ≡ None) (known : ∥ IsSound start stopped old ∥₁) where
   pub tried_sound : (result : Result T E) → OnOk result (CollectsOn old new) → OnErr result (IsLeft old new) → KeepsWorlds (view_in old) (view_in new) → new.pages ≡ old.pages → IsTiedIn new
       → ((t : ℕ) (bytes : List ℕ) → t ≤ g.moment (disk_at new) → g.image (disk_at new) bytes → g.since (disk_at new) t bytes)
       → ((bytes : List ℕ) → g.since (disk_at old) (g.moment (disk_at old)) bytes → g.image (disk_at old) bytes) → ∥ IsSound start stopped new ∥₁

@@ -2,7 +2,7 @@
 use Rattle.std.proofs.Common.{◌≡◌, ◌⊎◌, ⊎_elim, inl, inr, ℕ, Bool, true, false, List, Option, Some, None, IfSome, Result, Ok, Err, refl, sym, ap, subst, ◌∙◌}
 use Rattle.std.specs.Option.{IsSome}
 use Rattle.pm_types.specs.declared.command.Cmd.{Cmd}
-use Rattle.pm_types.specs.declared.command.Cmd.TheVariants.{Save, Settle, Unsave, Watch, New, Load, Store, Clear, Show, Put, Copy, IdOf, Forget, Bind, Unbind, Find, Swap, Close}
+use Rattle.pm_types.specs.declared.command.Cmd.TheVariants.{Save, Settle, Unsave, Watch}
 use Rattle.pm_types.specs.declared.fault.EngineFault.{EngineFault}
 use Rattle.pm_types.specs.declared.fault.EngineFault.TheVariants.{Disk}
 use Rattle.pm_types.specs.declared.reply.Reply.{Reply}
@@ -15,16 +15,16 @@ use Rattle.pm_model.specs.Answer.{answer}
 use Rattle.pm_model.specs.Frames.{is_settle}
 use Rattle.pm_model.specs.Journal.{after, settled_in, says_saved}
 use Rattle.pm_model.proofs.ChainLaws.{after_more, saved}
-use Rattle.pm_image.specs.Stands.{Stands}
+use Rattle.pm_image.specs.Stands.{StandsForCopy}
 use Rattle.pm_view.specs.Commands.{is_act}
 use Rattle.pm_saving.specs.Progress.{Progress, cars_or_none, copy_of}
 use Rattle.pm_saving.specs.Tied.{HasCopy}
-use Rattle.pm_saver.specs.Answers.{Spares}
+use Rattle.pm_save.specs.Answers.{Spares}
 use Rattle.pm_serving.specs.Serving.{opening, world}
 use Rattle.pm_serving.specs.Events.{Serves}
 use Rattle.pm_serving.specs.Images.{IsInProgress, IsSettled, IsTold}
 use Rattle.pm_law_serving.proofs.Following as law
-use Rattle.pm_engine.specs.declared.opening.Opening.{Opening}
+use Rattle.pm_engine.specs.declared.start.Start.{Start}
 use Rattle.pm_engine.specs.declared.works.Works.{Works}
 use Rattle.pm_engine.specs.Working.{Answers, LeavesEither, SettlesCopy, StaysStill, contents_in, disk_at, frozen_in, saving_in, state_in}
 use Rattle.pm_engine.specs.Seen.{IsSound, disk_then, seen}
@@ -37,7 +37,7 @@ use Rattle.pm_engine.proofs.Kept.{spares_still}
 never_acts : (world : World) (client : ℕ) (cmd : Cmd) (number : ℕ) → is_act cmd ≡ true → Saved number ≡ (answer world client cmd).0 → ⊥
 never_acts world client cmd number act is = let other : says_saved (Saved number) ≡ false = not_saved world client cmd (Saved number) is (law.acts cmd act) in cc other
 
-module _ {D : Type 0} {F : Type 0} {g : Ghosts D} (start : Opening D F g) (stopped : Option ℕ) (old : Works D F g) (none : stopped ≡ None) (known : ∥ IsSound start stopped old ∥₁) (new : Works D F g) where
+module _ {D : Type 0} {F : Type 0} {g : Ghosts D} (start : Start D F g) (stopped : Option ℕ) (old : Works D F g) (none : stopped ≡ None) (known : ∥ IsSound start stopped old ∥₁) (new : Works D F g) where
   -- the last acknowledged copy alone
   pub settled_alone : (cmd : Cmd) (result : Result Reply EngineFault) → Spares g.contents g.moment g.since (state_in old) (disk_at old) (disk_at new) → IsTold (g.contents (disk_then start))
       → LeavesOnly g.moment g.since (disk_at old) (disk_at new) (MayStand cmd (seen start stopped old) result)
@@ -79,20 +79,7 @@ module _ {D : Type 0} {F : Type 0} {g : Ghosts D} (start : Opening D F g) (stopp
     settles_copy Save serves is = absurd is
     settles_copy Unsave serves is = absurd is
     settles_copy Watch serves is = absurd is
-    settles_copy (New reg count bytes) serves is = absurd (acted_never (New reg count bytes) refl serves)
-    settles_copy (Load to reg index) serves is = absurd (acted_never (Load to reg index) refl serves)
-    settles_copy (Store reg index value) serves is = absurd (acted_never (Store reg index value) refl serves)
-    settles_copy (Clear reg index) serves is = absurd (acted_never (Clear reg index) refl serves)
-    settles_copy (Show reg) serves is = absurd (acted_never (Show reg) refl serves)
-    settles_copy (Put reg at bytes) serves is = absurd (acted_never (Put reg at bytes) refl serves)
-    settles_copy (Copy to reg) serves is = absurd (acted_never (Copy to reg) refl serves)
-    settles_copy (IdOf reg) serves is = absurd (acted_never (IdOf reg) refl serves)
-    settles_copy (Forget reg) serves is = absurd (acted_never (Forget reg) refl serves)
-    settles_copy (Bind name reg) serves is = absurd (acted_never (Bind name reg) refl serves)
-    settles_copy (Unbind name) serves is = absurd (acted_never (Unbind name) refl serves)
-    settles_copy (Find to name) serves is = absurd (acted_never (Find to name) refl serves)
-    settles_copy (Swap reg index before value) serves is = absurd (acted_never (Swap reg index before value) refl serves)
-    settles_copy Close serves is = absurd (acted_never Close refl serves)
+    settles_copy cmd serves is = absurd (acted_never cmd refl serves)
 
     module _ (cmd : Cmd) (serves : Serves client cmd (seen start None old) (seen start None new) (Saved number)) (is : SettlesCopy client old new number) where
       world_is : world (seen start None new) ≡ (answer (world (seen start None old)) client cmd).1
@@ -117,8 +104,8 @@ module _ {D : Type 0} {F : Type 0} {g : Ghosts D} (start : Opening D F g) (stopp
           let told = tells start stopped old none known first in
           let cars = cars_or_none (frozen_in old) in
           let now = subst (λ (o : Option Progress). IfSome o (λ (p : Progress). (bytes : List ℕ) → contents_in old ≡ Some bytes
-          → ((left : List ℕ) → g.image (disk_at new) left → Stands left number (copy_of cars p)) × IfTold (contents_in new) (λ after. HasCopy (state_in new) after (copy_of cars p)))) is.settles.is_progress is.now in
-          subst (Stands left (world (seen start None new)).settled) (sym settled_copy) (subst (λ (n : ℕ). Stands left n (copy_of cars is.settles.progress)) (sym settled_number) ((now told.0 told.1).0 left here))
+          → ((left : List ℕ) → g.image (disk_at new) left → StandsForCopy left number (copy_of cars p)) × IfTold (contents_in new) (λ after. HasCopy (state_in new) after (copy_of cars p)))) is.settles.is_progress is.now in
+          subst (StandsForCopy left (world (seen start None new)).settled) (sym settled_copy) (subst (λ (n : ℕ). StandsForCopy left n (copy_of cars is.settles.progress)) (sym settled_number) ((now told.0 told.1).0 left here))
 
 -- a copy that is there
 pub progress_of : (progress : Option Progress) → IsSome progress → (one : Progress) × (progress ≡ Some one)

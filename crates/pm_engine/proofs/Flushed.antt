@@ -13,11 +13,11 @@ use Rattle.pm_saving.specs.Progress.{Progress, Saving, cars_or_none}
 use Rattle.pm_saving.specs.Paging.{newly_kept}
 use Rattle.pm_saving.specs.Tied.{IsTied, with_all_kept}
 use Rattle.pm_law_saving.proofs.Next.{next_goes}
-use Rattle.pm_saver.specs.Answers.{IsFlushed, Spares, TellsOn}
-use Rattle.pm_saver.specs.Shown.{frozen_of}
+use Rattle.pm_save.specs.Answers.{IsFlushed, Spares, TellsOn}
+use Rattle.pm_save.specs.Shown.{frozen_of}
 use Rattle.pm_serving.specs.Serving.{opening}
 use Rattle.pm_serving.specs.Events.{Flushes, StaysBegun}
-use Rattle.pm_engine.specs.declared.opening.Opening.{Opening}
+use Rattle.pm_engine.specs.declared.start.Start.{Start}
 use Rattle.pm_engine.specs.declared.works.Works.{Works}
 use Rattle.pm_engine.specs.Working.{FlushesOn, IsTiedIn, LastsIn, contents_in, disk_at, frozen_in, saving_in, state_in, view_in}
 use Rattle.pm_engine.specs.Seen.{IsSound, seen}
@@ -44,7 +44,7 @@ flushed_stays old new frozen s t was now (Wrote page) tied is =
       subst (λ (o : Option Progress). StaysBegun o new.progress) (sym is.is_progress) (subst (StaysBegun (Some is.progress)) (sym (ap (λ (it : Saving). it.progress) is.saving)) goes),
     )
 
-module _ {D : Type 0} {F : Type 0} {g : Ghosts D} (start : Opening D F g) (stopped : Option ℕ) (old new : Works D F g) (flushed : Flushed) (tied : IsTiedIn old) (is : FlushesOn old new flushed) where
+module _ {D : Type 0} {F : Type 0} {g : Ghosts D} (start : Start D F g) (stopped : Option ℕ) (old new : Works D F g) (flushed : Flushed) (tied : IsTiedIn old) (is : FlushesOn old new flushed) where
   same_view : view_in new ≡ view_in old
   same_view = ap (λ (space : Space F). view space.parts) is.space
 
@@ -68,7 +68,7 @@ module _ {D : Type 0} {F : Type 0} {g : Ghosts D} (start : Opening D F g) (stopp
     stopped = refl;
   }
 
-module _ {D : Type 0} {F : Type 0} {g : Ghosts D} (start : Opening D F g) (old new : Works D F g) (sound : IsSound start None old)
+module _ {D : Type 0} {F : Type 0} {g : Ghosts D} (start : Start D F g) (old new : Works D F g) (sound : IsSound start None old)
     (counts : (t : ℕ) (bytes : List ℕ) → t ≤ g.moment (disk_at new) → g.image (disk_at new) bytes → g.since (disk_at new) t bytes) (flushed : Flushed) (is : FlushesOn old new flushed) where
   pub flush_sound : IsTiedIn new → LastsIn old new → TellsOn (contents_in old) (contents_in new) → Spares g.contents g.moment g.since (state_in old) (disk_at old) (disk_at new) → IsSound start None new
   flush_sound =

@@ -10,17 +10,17 @@ use Rattle.pm_model.specs.Answer.{answer}
 use Rattle.pm_model.specs.Journal.{IsLegal, after, chain, settled_along, settled_in, says_saved}
 use Rattle.pm_model.proofs.ChainLaws.{after_more, chain_same, same_settled}
 use Rattle.pm_model.proofs.Members.{at_first, in_rest}
-use Rattle.pm_image.specs.Stands.{Stands}
+use Rattle.pm_image.specs.Stands.{StandsForCopy}
 use Rattle.pm_view.specs.View.{Cars, SpaceView}
 use Rattle.pm_view.specs.Represents.{Represents}
 use Rattle.pm_saving.specs.Progress.{Progress, cars_or_none}
 use Rattle.pm_saving.specs.Tied.{GoesOn, HasCopy}
-use Rattle.pm_saver.specs.Answers.{Spares, TellsOn}
+use Rattle.pm_save.specs.Answers.{Spares, TellsOn}
 use Rattle.pm_serving.specs.Serving.{IsServed, Serving, numbered_copy, opening, world}
 use Rattle.pm_serving.specs.Events.{Appends, Serves, StaysBegun, watched}
 use Rattle.pm_serving.specs.Images.{IsSettled, IsStored, IsTold}
 use Rattle.pm_law_serving.proofs.Images.{spared}
-use Rattle.pm_engine.specs.declared.opening.Opening.{Opening}
+use Rattle.pm_engine.specs.declared.start.Start.{Start}
 use Rattle.pm_engine.specs.declared.works.Works.{Works}
 use Rattle.pm_engine.specs.Working.{Adds, IsTiedIn, LastsIn, Rests, contents_in, disk_at, frozen_in, saving_in, state_in, view_in, watches_in}
 use Rattle.pm_engine.specs.Seen.{IsSound, disk_then, seen}
@@ -61,7 +61,7 @@ stays_same old new is = subst (StaysBegun old) (sym is) (same old)
     same None = tt
     same (Some progress) = goes_same progress
 
-module _ {D : Type 0} {F : Type 0} {g : Ghosts D} (start : Opening D F g) (old new : Works D F g) where
+module _ {D : Type 0} {F : Type 0} {g : Ghosts D} (start : Start D F g) (old new : Works D F g) where
   abbrev before : Serving
   before = seen start None old
 
@@ -105,7 +105,7 @@ module _ {D : Type 0} {F : Type 0} {g : Ghosts D} (start : Opening D F g) (old n
   leaves stored tells spares first =
       let was = tells first in
       let w = world (seen start None old) in
-      subst (λ (n : ℕ). LeavesOnly g.moment g.since (disk_at old) (disk_at new) (λ image. Stands image n w.settled_copy)) stored.numbered
+      subst (λ (n : ℕ). LeavesOnly g.moment g.since (disk_at old) (disk_at new) (λ image. StandsForCopy image n w.settled_copy)) stored.numbered
       (spares w.settled_copy was.0 was.1 (stored.has first was.0 was.1))
 
   module _ (sound : IsSound start None old) (counts : (t : ℕ) (bytes : List ℕ) → t ≤ g.moment (disk_at new) → g.image (disk_at new) bytes → g.since (disk_at new) t bytes) where

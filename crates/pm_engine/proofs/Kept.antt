@@ -4,7 +4,7 @@ use Rattle.pm_disk.specs.declared.disk.Disk.{Ghosts}
 use Rattle.pm_image.specs.declared.settled.KeptPage.{KeptPage}
 use Rattle.pm_shadow.specs.declared.pages.Pages.{Pages}
 use Rattle.pm_disk.specs.Disk.{LeavesOnly}
-use Rattle.pm_image.specs.Stands.{Stands}
+use Rattle.pm_image.specs.Stands.{StandsForCopy}
 use Rattle.pm_shadow.specs.State.{State}
 use Rattle.pm_shadow.specs.Pages.{state, disk_of, current_kept}
 use Rattle.pm_law_saving.proofs.Publishing.{copy_held}
@@ -12,12 +12,12 @@ use Rattle.pm_space.specs.declared.space.Space.{Space}
 use Rattle.pm_view.specs.View.{Cars}
 use Rattle.pm_saving.specs.Progress.{Progress, Saving, cars_or_none}
 use Rattle.pm_saving.specs.Tied.{HasCopy, IsBegun, IsTied}
-use Rattle.pm_saver.specs.Answers.{KeepsCopy, Spares}
-use Rattle.pm_saver.specs.Settling.{SparesEither, StaysOn}
+use Rattle.pm_save.specs.Answers.{KeepsCopy, Spares}
+use Rattle.pm_save.specs.Settling.{SparesEither, StaysOn}
 use Rattle.pm_saving.specs.Beginning.{IsInProgress}
 use Rattle.pm_serving.specs.Events.{StaysBegun}
-use Rattle.pm_saver.specs.declared.saver.Saver.{Saver}
-use Rattle.pm_saver.specs.Shown.{frozen_of, saving}
+use Rattle.pm_save.specs.declared.saver.Saver.{Saver}
+use Rattle.pm_save.specs.Shown.{frozen_of, saving}
 use Rattle.pm_engine.specs.declared.works.Works.{Works}
 use Rattle.pm_engine.specs.Working.{IsTiedIn, KeepsStore, LastsIn, LastsSo, Rests, disk_at, frozen_in, room_in, saving_in, state_in, view_in, watches_in}
 
@@ -49,17 +49,11 @@ module _ {D : Type 0} {F : Type 0} {g : Ghosts D} where
     has = subst (λ (p : Pages D g). KeepsCopy (state old.pages) (state p) (g.contents (disk_of old.pages)) (g.contents (disk_of p))) (sym same) (same_has (state old.pages) (g.contents (disk_of old.pages)));
   }
 
-  pub tied_same : (old new : Works D F g) → frozen_in new ≡ frozen_in old → saving_in new ≡ saving_in old → new.pages ≡ old.pages → IsTiedIn old → IsTiedIn new
-  tied_same old new frozen saved pages tied =
-      let P : Saving × Option Cars × Pages D g → Type 0 = λ it. IsTied it.0 it.1 (state it.2) (g.contents (disk_of it.2)) in
-      let same : (saving_in old, frozen_in old, old.pages) ≡ (saving_in new, frozen_in new, new.pages) = (λ i. (sym saved i, sym frozen i, sym pages i)) in
-      subst P same tied
-
   -- where no call of the disk was made, each image stands for the current copy
   pub spares_still : (old new : Works D F g) → ((bytes : List ℕ) → g.since (disk_at old) (g.moment (disk_at old)) bytes → g.image (disk_at old) bytes) → disk_at new ≡ disk_at old → (state_in old).failed ≡ false
       → Spares g.contents g.moment g.since (state_in old) (disk_at old) (disk_at new)
   spares_still old new only_now still fine copy bytes told has =
-      let P : List ℕ → Type 0 = λ image. Stands image (state_in old).header.epoch copy in
+      let P : List ℕ → Type 0 = λ image. StandsForCopy image (state_in old).header.epoch copy in
       subst (λ (d : D). LeavesOnly g.moment g.since (disk_at old) d P) (sym still) (record {
         later = omega arith;
         each = λ image during. copy_held (state_in old) bytes image copy has ((current_kept old.pages fine bytes told).each image (only_now image during));

@@ -13,7 +13,7 @@ use Rattle.pm_disk.specs.declared.disk.Disk.{Ghosts}
 use Rattle.pm_model.specs.Frames.{is_settle, saves}
 use Rattle.pm_space.specs.Shown.{view}
 use Rattle.pm_serving.specs.Events.{ServesNothing}
-use Rattle.pm_engine.specs.declared.opening.Opening.{Opening}
+use Rattle.pm_engine.specs.declared.start.Start.{Start}
 use Rattle.pm_engine.specs.declared.works.Works.{Works}
 use Rattle.pm_engine.specs.Working.{Answers, IsLeft, LeavesEither, Rests, Saves, SettlesIt, StaysStill, Unsaves, Watches, disk_at, saving_in}
 use Rattle.pm_engine.specs.Seen.{seen}
@@ -50,7 +50,7 @@ short_of client Unsave old new reply is = unsave_short client old new reply is
 short_of client Watch old new reply is = watch_short client old new reply is
 short_of client cmd old new reply is = is.short
 
-module _ {D : Type 0} {F : Type 0} {g : Ghosts D} (start : Opening D F g) (stopped : Option ℕ) (old new : Works D F g) where
+module _ {D : Type 0} {F : Type 0} {g : Ghosts D} (start : Start D F g) (stopped : Option ℕ) (old new : Works D F g) where
   watch_copies : (client : ℕ) (reply : Reply) → Watches client old new reply → KeepsCopies (seen start stopped old) (seen start stopped new)
   watch_copies client TooManyWatches is = record { saving = is.keeps.saving; frozen = is.keeps.frozen }
   watch_copies client (Watching number) is = record { saving = is.keeps.saving; frozen = is.keeps.frozen }

@@ -5,13 +5,13 @@ use Rattle.pm_shadow.specs.Pages.{disk_of}
 use Rattle.pm_space.specs.Shown.{view}
 use Rattle.pm_serving.specs.Serving.{IsServed, Serving}
 use Rattle.pm_serving.specs.Images.{IsStored, KeepsImages}
-use Rattle.pm_engine.specs.declared.opening.Opening.{Opening}
+use Rattle.pm_engine.specs.declared.start.Start.{Start}
 use Rattle.pm_engine.specs.declared.works.Works.{Works}
 use Rattle.pm_engine.specs.Working.{contents_in, disk_at, frozen_in, saving_in, state_in, view_in, watches_in}
 
 module _ {D : Type 0} {F : Type 0} {g : Ghosts D} where
   -- an engine of these parts
-  abbrev pub seen : Opening D F g → Option ℕ → Works D F g → Serving
+  abbrev pub seen : Start D F g → Option ℕ → Works D F g → Serving
   seen opening stopped works = record {
     number = opening.number;
     opened = view opening.space.value.parts;
@@ -26,12 +26,12 @@ module _ {D : Type 0} {F : Type 0} {g : Ghosts D} where
   }
 
   -- the disk as it was opened
-  abbrev pub disk_then : Opening D F g → D
+  abbrev pub disk_then : Start D F g → D
   disk_then opening = disk_of opening.pages.value
 
   -- What holds of an engine at every moment: it serves the world of its journal; while no call has answered that the disk
   -- failed, space, saver and pages fit one another; and each image since the opening is one that may be.
-  pub record IsSound (opening : Opening D F g) (stopped : Option ℕ) (works : Works D F g) : Type 0 where
+  pub record IsSound (opening : Start D F g) (stopped : Option ℕ) (works : Works D F g) : Type 0 where
     pub served : IsServed (seen opening stopped works)
     pub stored : stopped ≡ None → IsStored (seen opening stopped works) (state_in works) (g.contents (disk_then opening)) (contents_in works)
     pub images : KeepsImages g.contents g.image g.moment g.since (disk_then opening) (seen opening stopped works) (disk_at works)

@@ -20,11 +20,11 @@ use Rattle.pm_copies.specs.Listed.{copy_in}
 use Rattle.pm_saving.specs.Progress.{Progress, Saving, cars_or_none, copy_of}
 use Rattle.pm_saving.specs.Paging.{left_of}
 use Rattle.pm_saving.specs.Tied.{IsTied, Settles}
-use Rattle.pm_saver.specs.Shown.{frozen_of, saving}
-use Rattle.pm_saver.specs.Answers.{IsFlushed, KeepsCopy, Spares}
-use Rattle.pm_saver.specs.declared.fault.SaveFault.{SaveFault}
-use Rattle.pm_saver.specs.declared.fault.SaveFault.TheVariants.{Disk, Memory}
-use Rattle.pm_saver.specs.Settling.{SparesEither, StandsThen}
+use Rattle.pm_save.specs.Shown.{frozen_of, saving}
+use Rattle.pm_save.specs.Answers.{IsFlushed, KeepsCopy, Spares}
+use Rattle.pm_save.specs.declared.fault.SaveFault.{SaveFault}
+use Rattle.pm_save.specs.declared.fault.SaveFault.TheVariants.{Disk, Memory}
+use Rattle.pm_save.specs.Settling.{SparesEither, StandsThen}
 use Rattle.pm_serving.specs.Events.{StaysBegun}
 use Rattle.pm_mutate.specs.Acts as mutate
 use Rattle.pm_law_work.specs.Raises.{raises}

@@ -3,12 +3,12 @@
 ghost use Rattle.pm_engine.specs.Seen.{IsSound};
 
 use crate::Tally;
-use crate::opening::Opening;
+use crate::start::Start;
 use crate::works::Works;
 use arrayvec::ArrayVec;
 use pm_disk::Disk;
+use pm_reclaim::{WATCH_ROOM, tell_watches};
 use pm_types::{Entry, NoMemory, Watch, WatchLine};
-use pm_watch::{WATCH_ROOM, tell_watches};
 use std::snapshot::Snapshot;
 
 /// A space, the pages of its store on a disk, the saver between them, and the journal: one value, which is changed by one
@@ -17,7 +17,7 @@ use std::snapshot::Snapshot;
 #[derive(Drop)]
 pub struct Engine<D: Disk, F> {
     pub(crate) works: Works<D, F>,
-    pub(crate) opening: Opening<D, F>,
+    pub(crate) opening: Start<D, F>,
     /// Where a call has answered that the disk failed: the count of failed calls then.
     pub(crate) stopped: Option<u64>,
     ghost sound: { ∥ IsSound opening stopped works ∥₁ },

@@ -2,20 +2,14 @@
 //! what was answered.
 #![tactic(auto)]
 
-mod again;
-mod collecting;
-mod commands;
+mod client;
+mod collect;
 mod engine;
-mod flushing;
-mod opening;
-mod saving;
-mod settling;
-mod starting;
-mod stepping;
+mod flush;
+mod open;
+mod start;
 mod tally;
-mod watching;
 mod works;
-mod writing;
 
 pub use engine::Engine;
 pub use tally::Tally;

@@ -3,8 +3,8 @@
 ghost use Rattle.std.specs.Prelude.{◌≡◌};
 
 use arrayvec::ArrayVec;
+use pm_reclaim::WATCH_ROOM;
 use pm_types::{Entry, WatchLine};
-use pm_watch::WATCH_ROOM;
 use std::snapshot::Snapshot;
 
 /// What an engine came to. It is made where an engine is taken apart, and nothing changes it.

@@ -4,7 +4,7 @@ use crate::fault::Fault;
 use crate::spelling::{push_bytes, script, written_out};
 use crate::stopping::{opening, push_calls, push_failing, push_stops, push_whole};
 use pm_disk::MemDisk;
-use pm_grammar::Script;
+use pm_script::Script;
 use pm_shadow::init;
 use std::alloc::Global;
 use std::fmt::Write;

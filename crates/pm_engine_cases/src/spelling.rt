@@ -1,7 +1,7 @@
 //! How the lines of a case are spelled.
 
 use crate::fault::Fault;
-use pm_grammar::{Script, read_script};
+use pm_script::{Script, read_script};
 use pm_types::{PAGE_BYTES, SOURCE_BYTES};
 use std::alloc::Global;
 use std::fmt::Write;

@@ -3,7 +3,7 @@
 use crate::fault::Fault;
 use crate::running::{AfterFault, push_run};
 use pm_disk::{DiskCall, MemDisk};
-use pm_grammar::Line;
+use pm_script::Line;
 use pm_types::PAGE_BYTES;
 use std::alloc::Global;
 use std::collections::BTreeMap;

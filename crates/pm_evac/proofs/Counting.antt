@@ -12,10 +12,10 @@ use Rattle.pm_view.specs.Law.{HeapLaw}
 use Rattle.pm_view.specs.Counts.{IsStanding, IsPlaced}
 use Rattle.pm_view.specs.Represents.{Represents}
 use Rattle.pm_view.specs.Work.{work, work_in}
-use Rattle.pm_view.specs.Events.{Row, nothing, select, apply, doom, start, fix, move_anchor, move_out, move_on, finish, sweep, free, free_doomed, next_row, ended_by}
+use Rattle.pm_view.specs.Events.{Row, nothing, select, apply, doom, start, fix, move_anchor, move_out, move_on, finish, sweep, free, free_doomed, ended_by}
 use Rattle.pm_space.specs.declared.parts.Parts.{Parts}
 use Rattle.pm_space.specs.Shown.{view, KeepsRest}
-use Rattle.pm_evac.specs.Steps.{counted, IsEvent, IsChosenEvent, IsChosen, KeepsWorlds, MovesOneAtMost, LowersWork, MakesEvent}
+use Rattle.pm_evac.specs.Steps.{counted, IsEvent, IsChosenEvent, KeepsWorlds, MovesOneAtMost, LowersWork, MakesEvent}
 
 -- the law says nothing of the count of completed collections
 pub counted_law : (v : SpaceView) → HeapLaw v → HeapLaw (counted v)
@@ -85,10 +85,7 @@ counted_work v = by_phase v.phase
 
 -- ---- what a call makes
 
--- an event that was made keeps the law, the worlds, places and work
-abbrev pub KeepsLaw : Type 0
-KeepsLaw = (old new : SpaceView) (step : Step) → HeapLaw old → IsEvent old new step → HeapLaw new
-
+-- an event that was made keeps the worlds, places and work
 abbrev pub KeepAllWorlds : Type 0
 KeepAllWorlds = (old new : SpaceView) (step : Step) → HeapLaw old → IsEvent old new step → KeepsWorlds old new
 
@@ -98,37 +95,31 @@ KeepPlaces = (old new : SpaceView) (step : Step) → HeapLaw old → (event : Is
 abbrev pub LowerWork : Type 0
 LowerWork = (old new : SpaceView) (step : Step) → HeapLaw old → IsEvent old new step → LowersWork old new
 
-module _ {F : Type 0} (calls : Shared F (Bor (List ℕ) × Unit {0}) ℕ) (old new : Parts F) (law : HeapLaw (view old)) where
-  -- the law is kept, also after want of memory
-  pub lawful : (r : Result Step NoMemory) → KeepsLaw → IfOk r (λ step. IsEvent (view old) (view new) step) → OnErr r (view new ≡ view old) → HeapLaw (view new)
-  lawful (Ok step) keep event same = keep (view old) (view new) step law event
-  lawful (Err fault) keep event same = subst HeapLaw (sym same) law
+module _ {F : Type 0} (calls : Shared F (Bor (List ℕ) × Unit {0}) ℕ) where
+  -- what holds before an event and once it was made holds, also after want of memory
+  pub holds_after : (choose : F) (old new : SpaceView) (P : SpaceView → Type 0) (r : Result Step NoMemory) → P old → ((after : SpaceView) (step : Step) → IsEvent old after step → P after)
+      → IfOk r (λ step. IsChosenEvent calls choose old new step) → OnErr r (new ≡ old) → P new
+  holds_after choose old new P (Ok step) was keeps made same = keeps new step made.event
+  holds_after choose old new P (Err fault) was keeps made same = subst P (sym same) was
 
-  -- what a call says that makes an event with the chooser's pick
-  pub makes_chosen : (r : Result Step NoMemory) → KeepAllWorlds → KeepPlaces → LowerWork → IfOk r (λ step. IsChosenEvent calls old.place (view old) (view new) step) → OnErr r (view new ≡ view old) → KeepsRest old new
-      → MakesEvent calls old new r
-  makes_chosen (Ok step) worlds places works made same rest = record {
-    ok = record { event = made.event; chosen = made.chosen; places = places (view old) (view new) step law made.event; work = works (view old) (view new) step law made.event };
-    worlds = worlds (view old) (view new) step law made.event;
-    err = tt;
-    rest = rest;
-  }
-  makes_chosen (Err fault) worlds places works made same rest = record {
-    ok = tt;
-    worlds = λ world was. subst (λ t. Represents t world) (sym same) was;
-    err = same;
-    rest = rest;
-  }
+  module _ (old new : Parts F) (law : HeapLaw (view old)) where
+    -- what a call says that makes an event
+    makes : (r : Result Step NoMemory) → KeepAllWorlds → KeepPlaces → LowerWork → IfOk r (λ step. IsChosenEvent calls old.place (view old) (view new) step) → OnErr r (view new ≡ view old) → KeepsRest old new
+        → MakesEvent calls old new r
+    makes (Ok step) worlds places works made same rest = record {
+      ok = record { event = made.event; chosen = made.chosen; places = places (view old) (view new) step law made.event; work = works (view old) (view new) step law made.event };
+      worlds = worlds (view old) (view new) step law made.event;
+      err = tt;
+      rest = rest;
+    }
+    makes (Err fault) worlds places works made same rest = record {
+      ok = tt;
+      worlds = λ world was. subst (λ t. Represents t world) (sym same) was;
+      err = same;
+      rest = rest;
+    }
 
-  pub events_of : (r : Result Step NoMemory) → IfOk r (λ step. IsChosenEvent calls old.place (view old) (view new) step) → IfOk r (λ step. IsEvent (view old) (view new) step)
-  events_of (Ok step) made = made.event
-  events_of (Err fault) made = tt
-
-  chosen_of : (r : Result Step NoMemory) → IfOk r (λ step. IsEvent (view old) (view new) step) → ((picked : ℕ) → IsChosen calls old.place (view old) picked (next_row (view old))) → IfOk r (λ step. IsChosenEvent calls old.place (view old) (view new) step)
-  chosen_of (Ok step) event none = record { event = event; chosen = none event.picked }
-  chosen_of (Err fault) event none = tt
-
-  -- and one that picks no train
-  pub makes : (r : Result Step NoMemory) → KeepAllWorlds → KeepPlaces → LowerWork → IfOk r (λ step. IsEvent (view old) (view new) step) → ((picked : ℕ) → IsChosen calls old.place (view old) picked (next_row (view old))) → OnErr r (view new ≡ view old)
-      → KeepsRest old new → MakesEvent calls old new r
-  makes r worlds places works event none same rest = makes_chosen r worlds places works (chosen_of r event none) same rest
+  -- and one that first finds the event, by which the parts stay
+  pub makes_found : (was old new : Parts F) → old ≡ was → HeapLaw (view old) → (r : Result Step NoMemory) → KeepAllWorlds → KeepPlaces → LowerWork → IfOk r (λ step. IsChosenEvent calls old.place (view old) (view new) step)
+      → OnErr r (view new ≡ view old) → KeepsRest old new → MakesEvent calls was new r
+  makes_found was old new same law r worlds places works made err rest = subst (λ (p : Parts F). MakesEvent calls p new r) same (makes old new law r worlds places works made err rest)

@@ -8,7 +8,7 @@ use Rattle.pm_types.specs.declared.address.Addr.{Addr}
 use Rattle.pm_types.specs.declared.source.RefSource.{RefSource}
 use Rattle.pm_types.specs.declared.source.Change.{Change}
 use Rattle.pm_view.specs.View.{Queues}
-use Rattle.pm_view.specs.Barrier.{left, entered, barrier, pushed, told}
+use Rattle.pm_view.specs.Barrier.{left, barrier, pushed, told}
 use Rattle.pm_view.specs.Collecting.{field_news}
 use Rattle.pm_space.specs.declared.links.Links.{Links}
 use Rattle.pm_space.specs.Linked.{Linked, HasRoom, HasRoomOf, HasRoomFor, told_by, times}
@@ -88,10 +88,6 @@ pub room_for : (links : Linked) (o : Option Addr) (most : ℕ → ℕ) → ((car
 room_for links None most le room = tt
 room_for links (Some a) most le room = let one = names_car a in let within = le a.car in less_room links a.car (most a.car) 1 (omega (arith, one, within)) (room a.car)
 
--- a source that stored nothing: the car of the new address hears, and no other
-pub barrier_from_null : (aside : ℕ → Bool) (source : RefSource) (new : Option Addr) → barrier aside source None new ≡ entered aside source new
-barrier_from_null aside source new = refl
-
 -- the room that is left has room for the fields that are left, of two lists
 pub room_left_of_both : (fs gs : Fields) (i car count : ℕ) → i < length fs → i < length gs → named_by (take (i + 1) fs) car + named_by (take (i + 1) gs) car + count ≤ named_by fs car + named_by gs car
     → named_by (take i fs) car + named_by (take i gs) car + (count + (told_by car (get_or fs i None) + told_by car (get_or gs i None))) ≤ named_by fs car + named_by gs car
@@ -99,15 +95,6 @@ room_left_of_both fs gs i car count inside inside_too within =
     let next = sum_by_more (told_by car) fs i None inside in
     let next_too = sum_by_more (told_by car) gs i None inside_too in
     omega (arith, next, next_too, within)
-
--- and for the next one of each
-pub room_next_of_both : (links : Linked) (fs gs : Fields) (i car : ℕ) → i < length fs → i < length gs
-    → ((car count : ℕ) → named_by (take i fs) car + named_by (take i gs) car + count ≤ named_by fs car + named_by gs car → HasRoom links car count)
-    → HasRoom links car (told_by car (get_or fs i None) + told_by car (get_or gs i None))
-room_next_of_both links fs gs i car inside inside_too room =
-    let most = sum_by_more_le (told_by car) fs i None inside in
-    let most_too = sum_by_more_le (told_by car) gs i None inside_too in
-    room car (told_by car (get_or fs i None) + told_by car (get_or gs i None)) (omega (arith, most, most_too))
 
 -- ---- the cars that are named
 
@@ -119,9 +106,3 @@ counted_some base cars fs i a car inside is so_far =
     let next = sum_by_more (told_by car) fs i None inside in
     let same : told_by car (Some a) ≡ told_by car (get_or fs i None) = ap (told_by car) is in
     omega (arith, pushed, next, same, so_far)
-
-pub counted_null : (base : ℕ) (fs : Fields) (i : ℕ) (car n : ℕ) → i < length fs → None ≡ get_or fs i None → n ≡ base + named_by (take i fs) car → n ≡ base + named_by (take (i + 1) fs) car
-counted_null base fs i car n inside is so_far =
-    let next = sum_by_more (told_by car) fs i None inside in
-    let same : 0 ≡ told_by car (get_or fs i None) = ap (told_by car) is in
-    omega (arith, next, same, so_far)

@@ -1,10 +1,9 @@
 -- What the heap law gives for the next event.
-use Rattle.std.proofs.Common.{◌≡◌, ℕ, ◌<◌, arith, true, false, refl, ap, sym, subst, ◌∙◌, List, [], ◌∷◌, length, Option, Some, None, IsSome, IsSomeAnd, IsTrue, is_some}
+use Rattle.std.proofs.Common.{◌≡◌, ℕ, ◌<◌, true, false, refl, ap, sym, subst, ◌∙◌, List, [], ◌∷◌, length, Option, Some, None, IsSome, IsSomeAnd, is_some}
 use Rattle.std.specs.Option.{option_map, option_and_then, option_flatten, unwrap_or}
 use Rattle.std.specs.List.{slice_get}
 use Rattle.std.specs.List as list
 use Rattle.std.specs.FinMap.{get, entries, empty, get-empty}
-use Rattle.std.proofs.lemmas.Bool.{true≢false}
 use Rattle.pm_types.specs.Orders.{source_cmp}
 use Rattle.pm_types.specs.declared.address.Addr.{Addr}
 use Rattle.pm_types.specs.declared.object.Object.{Object}
@@ -14,8 +13,7 @@ use Rattle.pm_types.specs.declared.source.RefSource.TheVariants.{Root, Handle, F
 use Rattle.pm_types.specs.declared.source.Change.{Change}
 use Rattle.pm_cars.specs.Cars.{Car, object_of}
 use Rattle.pm_cars.specs.Entries.{holds_object}
-use Rattle.pm_trains.specs.Trains.{Train, cars_at, first_car, oldest, train_of, HasCar, is_among}
-use Rattle.pm_trains.specs.Changes.{StandsIn}
+use Rattle.pm_trains.specs.Trains.{cars_at, first_car, oldest, train_of}
 use Rattle.pm_remset.specs.Remembered.{FindsFirstThat}
 use Rattle.pm_remset.proofs.First.{first_found}
 use Rattle.pm_law_rows.proofs.OpenTrain.{first_home}
@@ -24,25 +22,20 @@ use Rattle.pm_view.specs.View.{Sources, SpaceView}
 use Rattle.pm_view.specs.Reading.{slot_at, object_at, stored, is_aside, aside_in}
 use Rattle.pm_view.specs.Effective.{effective_in}
 use Rattle.pm_view.specs.Sources.{slot_in}
-use Rattle.pm_view.specs.Law.{HeapLaw, IsAt, IsFront, IsOldest}
+use Rattle.pm_view.specs.Law.{HeapLaw, IsPhaseOf, IsFront, IsOldest}
 use Rattle.pm_view.specs.Candidates.{set_of, queue_of}
 use Rattle.pm_view.specs.Events.{went, has_gone, named_in, least_stale, to_fix, lowest_live}
 use Rattle.pm_law_phases.proofs.PhaseRows.{oldest_has}
-use Rattle.pm_space.specs.Linked.{AreHoused}
 use Rattle.pm_space.specs.Shown.{IsThere}
 use Rattle.pm_space.proofs.HeldCars.{some_and}
 use Rattle.pm_evac.proofs.Searches.{found_there}
 use Rattle.pm_evac.proofs.Lowest.{holds_some}
 
--- each car that has a remembered set is in a train
-pub law_houses : (v : SpaceView) → HeapLaw v → AreHoused v.sets v.trains.trains
-law_houses v law car there = law.built.linked car ∙ sym (law.built.sets car) ∙ there
-
 module _ (v : SpaceView) (law : HeapLaw v) where
   -- a train that is drained stands
   pub drained_stands : (train : ℕ) → v.phase ≡ Draining train → IsSome (cars_at v.trains.trains train)
   drained_stands train at =
-      let oldest : IsAt (Draining train) v.trains.trains v.anchor = subst (λ p. IsAt p v.trains.trains v.anchor) at law.phase in
+      let oldest : IsPhaseOf (Draining train) v.trains.trains v.anchor = subst (λ p. IsPhaseOf p v.trains.trains v.anchor) at law.phase in
       some_and (cars_at v.trains.trains train) (λ cars. 0 < length cars) (oldest_has 0 train v.trains.trains law.built.trains.rising oldest.0)
 
   -- a car that is in a train stands
@@ -58,19 +51,7 @@ module _ (v : SpaceView) (law : HeapLaw v) where
 
   -- the car that is swept is in a train
   pub swept_home : (car : ℕ) → v.phase ≡ Sweeping car → IsSome (train_of v.trains.trains car)
-  swept_home car at = front_home car (subst (λ p. IsAt p v.trains.trains v.anchor) at law.phase)
-
--- a train in which a car stands has one
-pub train_has : (ts : List Train) (car n : ℕ) → StandsIn ts car n → HasCar ts n
-train_has ts car n there = by_case (cars_at ts n) there
-  where
-    some_cars : (cars : List ℕ) → IsTrue (is_among car cars) → 0 < length cars
-    some_cars [] among = absurd (true≢false (sym among))
-    some_cars (c ∷ cs) among = omega arith
-
-    by_case : (o : Option (List ℕ)) → IsSomeAnd o (λ cars. IsTrue (is_among car cars)) → IsSomeAnd o (λ cars. 0 < length cars)
-    by_case None there = there
-    by_case (Some cars) there = some_cars cars there
+  swept_home car at = front_home car (subst (λ p. IsPhaseOf p v.trains.trains v.anchor) at law.phase)
 
 -- the lowest Live slot of a car has an object
 pub lowest_lives : (v : SpaceView) (car slot : ℕ) → lowest_live v car ≡ Some slot → IsSome (object_at v.cars (record { car = car; slot = slot }))

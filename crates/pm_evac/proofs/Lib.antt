@@ -6,7 +6,6 @@ pub mod Quiet
 pub mod Sole
 pub mod Lowest
 pub mod Fixes
-pub mod Rows
 pub mod Lawful
 pub mod Counting
 pub mod Beyond

@@ -1,5 +1,5 @@
 -- The front of a train in which no change waits.
-use Rattle.std.proofs.Common.{◌≡◌, ℕ, zero, suc, ◌+◌, ◌<◌, ◌≤◌, Bool, true, false, cond, List, [], ◌∷◌, length, take, get_or, Option, Some, None, Result, Ok, Err, IfOk, OnErr, refl, sym, ap, subst, ◌∙◌, arith}
+use Rattle.std.proofs.Common.{◌≡◌, ℕ, zero, suc, ◌+◌, ◌<◌, ◌≤◌, Bool, true, false, cond, List, [], ◌∷◌, length, take, get_or, Option, Some, None, refl, sym, ap, subst, ◌∙◌, arith}
 use Rattle.std.specs.List.{find}
 use Rattle.std.specs.Cmp.{nat_cmp_total}
 use Rattle.std.specs.Option.{unwrap_or}
@@ -12,15 +12,14 @@ use Rattle.pm_model.proofs.Unused.{tied_nat}
 use Rattle.pm_types.specs.declared.address.Addr.{Addr}
 use Rattle.pm_trains.specs.Trains.{first_car}
 use Rattle.pm_types.specs.declared.source.Change.{Change}
-use Rattle.pm_types.specs.declared.no_memory.NoMemory.{NoMemory}
 use Rattle.pm_types.specs.declared.event.Step.{Step}
 use Rattle.pm_view.specs.declared.phase.Phase.TheVariants.{Draining}
 use Rattle.pm_view.specs.View.{SpaceView}
 use Rattle.pm_view.specs.Reading.{cars_of}
 use Rattle.pm_view.specs.Candidates.{queue_of}
 use Rattle.pm_view.specs.Collecting.{applied_front, applied_in}
-use Rattle.pm_view.specs.Events.{Row, apply, after, has_change, changed_car, to_note, draining_row, row_in, next_row}
-use Rattle.pm_space.specs.Quiet.{IsQuiet, first_waiting}
+use Rattle.pm_view.specs.Events.{Row, nothing, apply, after, has_change, changed_car, to_note, draining_row, row_in, next_row}
+use Rattle.pm_space.specs.Quiet.{IsQuiet}
 use Rattle.pm_evac.specs.Steps.{counted, IsEvent}
 
 -- ---- lists
@@ -72,16 +71,6 @@ none_too test other (x ∷ xs) fails none =
 
 -- ---- the front of a train
 
--- no car is looked at
-pub quiet_none : (view : SpaceView) → IsQuiet view 0
-quiet_none view train is = refl
-
--- those that were looked at
-pub quiet_front : (view : SpaceView) (train count : ℕ) (cars : List ℕ) → view.phase ≡ Draining train → cars_of view.trains.trains train ≡ cars → first_waiting view (take count cars) ≡ None → IsQuiet view count
-quiet_front view train count cars at are none other is =
-    let same : train ≡ other = cc (sym at ∙ is) in
-    subst (λ (t : ℕ). first_waiting view (take count (cars_of view.trains.trains t)) ≡ None) same (ap (λ (xs : List ℕ). first_waiting view (take count xs)) are ∙ none)
-
 -- what is found passes
 passes : (test : ℕ → Bool) (xs : List ℕ) (car : ℕ) → find test xs ≡ Some car → test car ≡ true
 passes test [] car is = absurd (none-some car is)
@@ -124,8 +113,11 @@ applied_quiet view car count row quiet train at =
     same_phase [] is = is
     same_phase (change ∷ changes) is = is
 
--- after the event, or after want of memory
-pub still_quiet : (old new : SpaceView) (car count : ℕ) (r : Result Step NoMemory) → next_row old ≡ apply car → IsQuiet old count → IfOk r (λ step. IsEvent old new step) → OnErr r (new ≡ old) → IsQuiet new count
-still_quiet old new car count (Ok step) row quiet event same =
+pub quiet_after_change : (old new : SpaceView) (step : Step) (car count : ℕ) → next_row old ≡ apply car → IsQuiet old count → IsEvent old new step → IsQuiet new count
+quiet_after_change old new step car count row quiet event =
     subst (λ (v : SpaceView). IsQuiet v count) (sym (event.after ∙ ap (λ (r : Row). counted (after old event.picked event.number r)) row)) (applied_quiet old car count row quiet)
-still_quiet old new car count (Err e) row quiet event same = subst (λ (v : SpaceView). IsQuiet v count) (sym same) quiet
+
+-- and where no event comes
+pub quiet_after_none : (old new : SpaceView) (step : Step) (count : ℕ) → next_row old ≡ nothing → IsQuiet old count → IsEvent old new step → IsQuiet new count
+quiet_after_none old new step count row quiet event =
+    subst (λ (v : SpaceView). IsQuiet v count) (sym (event.after ∙ ap (λ (r : Row). counted (after old event.picked event.number r)) row)) quiet

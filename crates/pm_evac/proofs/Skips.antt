@@ -101,11 +101,6 @@ module _ (ts : List Train) (train : ℕ) where
   abbrev pub ArePassed : Remembered → RefSource → Type 0
   ArePassed set from = (source : RefSource) (slot : ℕ) → get set source ≡ Some slot → source_cmp source from ≡ Less → is_beyond ts train source ≡ false
 
-  pub none_passed : (set : Remembered) → ArePassed set (Root 0)
-  none_passed set (Root n) slot is below = absurd (not_under_zero n below)
-  none_passed set (Handle c r) slot is below = absurd cc
-  none_passed set (Field a i) slot is below = absurd cc
-
   module _ (set : Remembered) (from : RefSource) (passed : ArePassed set from) where
     -- all are passed
     pub all_passed : FindsAtOrAfter set from None → None ≡ first_that (λ source _. is_beyond ts train source) set

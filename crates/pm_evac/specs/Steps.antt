@@ -8,8 +8,7 @@ use Rattle.pm_types.specs.declared.no_memory.NoMemory.{NoMemory}
 use Rattle.pm_types.specs.declared.event.Step.{Step}
 use Rattle.pm_types.specs.declared.event.Step.TheVariants.{Nothing, Selected, Applied, Doomed, Started, Fixed, Moved, Finished, Swept, Freed}
 use Rattle.pm_place.specs.Choosers.{IsPicked}
-use Rattle.pm_trains.specs.Trains.{Train, first_car, train_of}
-use Rattle.pm_view.specs.declared.phase.Phase.{Phase}
+use Rattle.pm_trains.specs.Trains.{train_of}
 use Rattle.pm_view.specs.declared.phase.Phase.TheVariants as phases
 use Rattle.pm_model.specs.World.{World}
 use Rattle.pm_model.specs.Reachability.{IsReachable}
@@ -17,12 +16,14 @@ use Rattle.pm_view.specs.View.{SpaceView}
 use Rattle.pm_view.specs.Represents.{IsHeld, Represents}
 use Rattle.pm_view.specs.Reading.{id_at, cars_of}
 use Rattle.pm_view.specs.Collecting.{without_car, completing}
-use Rattle.pm_view.specs.Events.{Row, nothing, select, apply, doom, start, fix, move_anchor, move_out, move_on, finish, sweep, free, free_doomed, next_row, after, ways_out, MayPick, MayPlace, moving_id, goal_of, ended_by, MovesTo}
+use Rattle.pm_view.specs.Events.{Row, nothing, select, apply, doom, start, fix, move_anchor, move_out, move_on, finish, sweep, free, free_doomed, next_row, after, ways_out, MayPick, MayPlace, moving_id, goal_of, ended_by}
 use Rattle.pm_view.specs.Counts.{IsStanding, IsStandingAt, IsPlaced}
+use Rattle.pm_view.specs.Stale.{IsSole}
 use Rattle.pm_view.specs.Work.{work, lowers}
 use Rattle.pm_law_course.specs.Course.{completes}
 use Rattle.pm_space.specs.declared.parts.Parts.{Parts}
 use Rattle.pm_base.specs.Counts.{capped}
+use Rattle.pm_space.specs.Quiet.{IsQuiet}
 use Rattle.pm_space.specs.Shown.{view, KeepsRest}
 
 -- a space whose count of completed collections stands still at the greatest number of 64 bits
@@ -95,16 +96,11 @@ IsFree (free car) = Unit {0}
 IsFree (free_doomed train car) = Unit {0}
 IsFree row = ⊥
 
--- in this phase the car whose objects are swept: the one that was emptied, or the first one of a doomed train
-abbrev pub swept_in : List Train → Phase → Option ℕ
-swept_in trains phases.Idle = None
-swept_in trains (phases.Draining train) = None
-swept_in trains (phases.Moving car) = None
-swept_in trains (phases.Sweeping car) = Some car
-swept_in trains (phases.Doomed train) = first_car trains train
-
-abbrev pub swept_car : SpaceView → Option ℕ
-swept_car view = swept_in view.trains.trains view.phase
+-- the event may pick a train: a car begins to be emptied, or an object moves out
+abbrev pub IsPicking : Row → Type 0
+IsPicking (start car a) = Unit {0}
+IsPicking (move_out a) = Unit {0}
+IsPicking row = ⊥
 
 -- ---- what an event that was made keeps
 
@@ -125,6 +121,11 @@ pub record MovesOneAtMost (old new : SpaceView) (picked : ℕ) : Type 0 where
 abbrev pub LowersWork : SpaceView → SpaceView → Type 0
 LowersWork old new = old.phase ≢ phases.Idle → completes old (next_row old) ≡ false → work new + lowers (next_row old) ≤ work old
 
+-- what a space keeps of quiet cars and of the slot that moved holds also once the next event was made
+pub record HoldOnceMade (old : SpaceView) (quiet : ℕ) (moved : Option ℕ) : Type 0 where
+  pub still : (new : SpaceView) (step : Step) → IsEvent old new step → IsQuiet new quiet
+  pub sole : (new : SpaceView) (step : Step) → IsEvent old new step → IsSole new moved
+
 -- ---- who picks a train
 
 module _ {F : Type 0} (calls : Shared F (Bor (List ℕ) × Unit {0}) ℕ) (choose : F) where
@@ -143,12 +144,6 @@ module _ {F : Type 0} (calls : Shared F (Bor (List ℕ) × Unit {0}) ℕ) (choos
   pub record IsChosenEvent (old new : SpaceView) (step : Step) : Type 0 where
     pub event : IsEvent old new step
     pub chosen : IsChosen old event.picked (next_row old)
-
-  -- an object moves next, from this address to this train, which is the chooser's pick where one is picked
-  pub record IsNextMove (view : SpaceView) (a : Addr) (train : ℕ) : Type 0 where
-    pub picked : ℕ
-    pub moves : MovesTo picked (next_row view) a train
-    pub chosen : IsChosen view picked (next_row view)
 
   -- the next event was made, with the chooser's pick, and what follows from that of places and of work
   pub record IsMade (old new : SpaceView) (step : Step) : Type 0 where

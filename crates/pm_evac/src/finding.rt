@@ -1,10 +1,13 @@
-ghost use Rattle.std.specs.Prelude.{◌≡◌, None, take};
+ghost use Rattle.std.specs.Prelude.{◌≡◌, None, take, IsSome};
+ghost use Rattle.pm_trains.specs.Trains.{cars_at};
 ghost use Rattle.pm_view.specs.declared.phase.Phase.TheVariants.{Draining};
-ghost use Rattle.pm_view.specs.Events.{has_change, changed_car, anchor_in, lowest_live};
+ghost use Rattle.pm_view.specs.Events.{has_change, changed_car, to_note, anchor_in, lowest_live};
 ghost use Rattle.pm_space.specs.Linked.{queues_of, waiting};
-ghost use Rattle.pm_space.specs.Shown.{view};
+ghost use Rattle.pm_space.specs.Shown.{view, IsLinked};
+ghost use Rattle.pm_evac.specs.Noted.{first_noted};
 ghost use Rattle.pm_evac.specs.Sought.{first_changed};
 
+use crate::skipping::outside;
 use pm_space::{LinkTable, Parts, Space};
 use pm_types::Addr;
 
@@ -49,6 +52,29 @@ pub fn changed_car<F: Drop>(space: &mut Space<F>, train: u64) -> Option<u64>
     let (quiet, found) = changed_from(&space.parts.links, cars, space.quiet);
     space.quiet = quiet;
     found
+}
+
+// The object that the least source outside a train names in the first of these cars that remembers such a source.
+fn first_noted<F>(parts: &Parts<F>, train: u64, cars: &[u64]) -> Option<Addr>
+    requires { IsLinked (view parts.now) }
+    ensures { result ≡ first_noted (view parts.now) train cars.now }
+{
+    for car in cars {
+        if let Some((_, slot)) = outside(parts, train, *car) {
+            return Some(Addr { car: *car, slot });
+        }
+    }
+    None
+}
+
+/// The object that is noted where no anchor stands, none where no car of the train remembers a source outside it. It
+/// looks at one for each car of the sources inside the train.
+pub(crate) fn to_note<F>(parts: &Parts<F>, train: u64) -> Option<Addr>
+    requires linked { IsLinked (view parts.now) }
+    requires stands { IsSome (cars_at parts.now.trains.trains train) }
+    ensures { result ≡ to_note (view parts.now) train }
+{
+    first_noted(parts, train, parts.trains.cars(train))
 }
 
 /// The anchor with its train, where it lies in the car.

@@ -1,14 +1,17 @@
-//! The events that empty a car, on the parts of a space: each changes what is seen of them by its row.
+//! The collector's events, as calls on the space: which event comes next is found once, as a row, and the row is made.
 #![tactic(auto)]
 
 mod applying;
-mod calls;
-pub mod events;
+mod beginning;
 mod finding;
 mod fixing;
 mod freeing;
 mod moving;
+mod next;
+mod on_parts;
+mod on_space;
 mod placing;
+mod row;
 mod skipping;
 mod sources;
 mod sweeping;
@@ -16,13 +19,17 @@ mod telling;
 mod ways;
 
 pub use applying::apply;
-pub use calls::{
-    an_event_that_was_made_keeps_all, apply_one, finish_car, fix_one, free_car, move_one, sweep_one,
-};
 pub use finding::{anchor_in, changed_car, has_change, lowest_live};
 pub use fixing::fix;
 pub use freeing::{finish, free};
 pub use moving::relocate;
+pub use next::next_row;
+pub use on_parts::make;
+pub use on_space::{
+    an_event_that_was_made_keeps_all, apply_one, finish_car, fix_one, free_car, make_next,
+    move_one, sweep_one,
+};
+pub use row::Row;
 pub use skipping::outside;
 pub use sources::{Entry, least, moved_once_applied, stale, stale_at, stale_now};
 pub use sweeping::sweep;

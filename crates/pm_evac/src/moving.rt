@@ -88,6 +88,7 @@ fn plan_of<F>(parts: &Parts<F>, alloc: Global, from: Addr, train: u64) -> Result
 {
     let number = parts.cars.vacant();
     let Some(object) = object_at(&parts.cars, from) else {
+        // The caller shows that an object lies here.
         unreachable!()
     };
     let tail = tail_for(parts, train, room_of(object));

@@ -56,6 +56,7 @@ pub(crate) fn prepare_place<F>(
     ensures err { OnErr result (view parts.new ≡ view parts.old) }
     ensures rest { KeepsRest parts.old parts.new }
 {
+    // For the proof alone: the number that a new car would get is one that no car has.
     let _number = parts.cars.vacant();
     match tail {
         Some(car) => {
@@ -80,6 +81,7 @@ pub(crate) fn take_away(cars: &mut Table<Held>, from: Addr, to: Addr) -> Object
     ensures frozen { cars.new.frozen ≡ cars.old.frozen }
 {
     let Ok(held) = cars.change(from.car) else {
+        // A car that is ready is changed without memory.
         unreachable!()
     };
     held.car.mark_moved(from.slot, to)

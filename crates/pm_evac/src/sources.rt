@@ -1,18 +1,17 @@
 ghost use Rattle.std.specs.Prelude.{◌≡◌, ◌&&◌, ◌==◌, if◌then◌else◌, None};
 ghost use Rattle.pm_remset.specs.Remembered.{first_that};
 ghost use Rattle.pm_view.specs.declared.phase.Phase.TheVariants.{Moving};
-ghost use Rattle.pm_view.specs.Candidates.{queue_of, least_outside};
+ghost use Rattle.pm_view.specs.Candidates.{queue_of};
 ghost use Rattle.pm_view.specs.Collecting.{applied_in};
 ghost use Rattle.pm_view.specs.Reading.{slot_at};
 ghost use Rattle.pm_view.specs.Events.{least, to_fix, went, has_gone};
-ghost use Rattle.pm_view.specs.Law.{HeapLaw};
 ghost use Rattle.pm_space.specs.Shown.{view};
-ghost use Rattle.pm_space.specs.Stale.{NamesOnly, IsSole};
-ghost use Rattle.pm_law_stale.specs.Names.{front_names_gone};
+ghost use Rattle.pm_view.specs.Stale.{NamesOnly, IsSole};
+ghost use Rattle.pm_law_work.specs.Names.{front_names_gone};
 ghost use Rattle.pm_evac.specs.Sought.{lesser, has_moved, is_moved};
 
 use pm_cars::Look;
-use pm_law_stale::only_the_slot_that_moved_last_is_named;
+use pm_law_work::only_the_slot_that_moved_last_is_named;
 use pm_remset::Remset;
 use pm_space::{Parts, Space};
 use pm_types::{Addr, RefSource, Slot};
@@ -159,7 +158,8 @@ fn front_names_gone<F>(parts: &Parts<F>, car: u64) -> bool
 /// The one slot that stale sources can name, also once the front change of the car's queue is applied: the one that the
 /// space keeps, and `None` where the change names a slot whose object moved away.
 pub fn moved_once_applied<F: Drop>(space: &Space<F>, car: u64) -> Option<u32>
-    ensures slot { result ≡ (if front_names_gone (view space.now.parts) car (queue_of (view space.now.parts) car) then None else space.now.moved) }
+    ensures slot { result ≡ (if front_names_gone (view space.now.parts) car
+        (queue_of (view space.now.parts) car) then None else space.now.moved) }
     ensures kept { IsSole (view space.now.parts) result }
     ensures applied { IsSole (applied_in (view space.now.parts) car) result }
 {

@@ -74,6 +74,7 @@ pub fn sweep<F>(parts: &mut Parts<F>, alloc: Global, at: Addr) -> Result<Id, NoM
     ensures rest { KeepsRest parts.old parts.new }
 {
     let Some(object) = object_at(&parts.cars, at) else {
+        // The caller shows that an object lies here.
         unreachable!()
     };
     make_room_to_withdraw(&mut parts.links, alloc, object.fields.as_slice())?;

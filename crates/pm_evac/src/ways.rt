@@ -1,4 +1,4 @@
-ghost use Rattle.std.specs.Prelude.{◌≡◌, ◌<◌, ℕ, if◌then◌else◌, [], ◌∷◌, ◌++◌, length, IfOk, OnOk};
+ghost use Rattle.std.specs.Prelude.{◌≡◌, ◌<◌, if◌then◌else◌, [], length, IfOk};
 ghost use Rattle.std.specs.List.{list_any};
 ghost use Rattle.std.specs.Ordering.{nat_cmp};
 ghost use Rattle.std.specs.BTreeSet.{IsOrdered};
@@ -71,6 +71,7 @@ fn in_order(alloc: Global, trains: BTreeSet<u64>) -> Result<Vec<u64>, NoMemory>
     ensures items { IfOk result (λ numbers. numbers.items ≡ trains.keys) }
     ensures ordered { IsOrdered nat_cmp trains }
 {
+    // For the proof alone: the numbers in the set are in order.
     let _len = trains.len();
     let numbers = trains.into_iter().collect(alloc)?;
     Ok(numbers)

@@ -16,7 +16,7 @@ use Rattle.pm_model.specs.Copying.{copied, reached}
 use Rattle.pm_image.specs.CatalogPages.{Met, catalog_at, catalog_spelling}
 use Rattle.pm_image.specs.Opening.{current, page_of, page_count, header_body_of, is_open, open_slot, greater_slot, epoch_in, header_in, sound_header}
 use Rattle.pm_image.specs.Graphs.{Pages, Graph, undamaged, on_page, catalog_from, catalog_of, cars_from, linked, graph_of, copy_of}
-use Rattle.pm_image.specs.Stands.{pages_of, opened, Stands}
+use Rattle.pm_image.specs.Stands.{pages_of, StandsForCopy}
 use Rattle.pm_image.specs.Blank.{blank_catalog, blank_catalog_page, blank_header, blank_store}
 use Rattle.pm_base.proofs.Results.{bound}
 use Rattle.pm_image.proofs.FrameLaws.{opened_as}
@@ -63,7 +63,7 @@ unfolding blank_graph no_heap no_roots
 copy_is_empty = sym copied_empty
 
 -- bytes with the header of the store that has just been made, and its catalog, stand for copy 0, of nothing
-pub blank_behind : (bytes : List ℕ) (slot : ℕ) → current bytes ≡ Ok (record { slot = slot; header = blank_header }) → page_of bytes 2 ≡ blank_catalog_page → Stands bytes 0 empty_copy
+pub blank_behind : (bytes : List ℕ) (slot : ℕ) → current bytes ≡ Ok (record { slot = slot; header = blank_header }) → page_of bytes 2 ≡ blank_catalog_page → StandsForCopy bytes 0 empty_copy
 unfolding blank_graph
 blank_behind bytes slot is_current is_page =
     record {
@@ -153,16 +153,9 @@ current_is =
     ∙ ap (λ (n : ℕ). sound_header (n / PAGE_BYTES) 0 (Ok blank_header)) length-store
 
 -- the store that has just been made stands for copy 0, of nothing
-pub blank_stands : Stands blank_store 0 empty_copy
-blank_stands = subst (λ (bytes : List ℕ). Stands bytes 0 empty_copy) (sym store_is) (blank_behind store 0 current_is page_2)
+pub blank_stands : StandsForCopy blank_store 0 empty_copy
+blank_stands = subst (λ (bytes : List ℕ). StandsForCopy bytes 0 empty_copy) (sym store_is) (blank_behind store 0 current_is page_2)
 
 -- and its current header is that of copy 0, in slot 0
 pub blank_current : current blank_store ≡ Ok (record { slot = 0; header = blank_header })
 blank_current = ap current store_is ∙ current_is
-
--- what is found in it: the header of copy 0, and no car
-pub blank_found : opened blank_store ≡ Ok (record { current = record { slot = 0; header = blank_header }; graph = record { catalog = (2, blank_catalog) ∷ []; cars = [] } })
-unfolding blank_graph
-blank_found =
-    opened_as blank_store (record { slot = 0; header = blank_header }) blank_graph blank_current
-    (graph_is_blank (pages_of blank_store) (subst (λ (bytes : List ℕ). page_of bytes 2 ≡ blank_catalog_page) (sym store_is) page_2))

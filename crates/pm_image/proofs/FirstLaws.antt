@@ -24,7 +24,7 @@ use Rattle.pm_image.specs.CarPages.{CarScope, car_at}
 use Rattle.pm_image.specs.CatalogPages.{Met, nothing_met, catalog_at}
 use Rattle.pm_image.specs.Opening.{current, page_of, page_count}
 use Rattle.pm_image.specs.Graphs.{Pages, Graph, on_page, catalog_from, catalog_of, cars_from, linked, graph_of, copy_of}
-use Rattle.pm_image.specs.Stands.{pages_of, Stands}
+use Rattle.pm_image.specs.Stands.{pages_of, StandsForCopy}
 use Rattle.pm_image.specs.First.{first_bytes, first_car, first_car_page, first_catalog, first_catalog_page, first_header, first_copy}
 use Rattle.pm_base.proofs.Results.{bound}
 use Rattle.pm_image.proofs.FrameLaws.{opened_as}
@@ -143,7 +143,7 @@ copy_is_first = ap (λ (heap : Heap). record { heap = heap; roots = first_roots;
 
 -- bytes with the header, the car and the catalog of a first checkpoint stand for its copy
 pub first_stands : (bytes : List ℕ) (slot : ℕ) → current bytes ≡ Ok (record { slot = slot; header = first_header }) → 4 < page_count bytes
-    → page_of bytes 3 ≡ first_car_page → page_of bytes 4 ≡ first_catalog_page → Stands bytes 1 first_copy
+    → page_of bytes 3 ≡ first_car_page → page_of bytes 4 ≡ first_catalog_page → StandsForCopy bytes 1 first_copy
 unfolding first_graph
 first_stands bytes slot is_current many is_car is_catalog =
     record {

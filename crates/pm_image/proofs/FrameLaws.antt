@@ -18,7 +18,7 @@ use Rattle.pm_image.specs.CatalogPages.{Met, is_free_page, is_next_page, has_nex
 use Rattle.pm_image.specs.Graphs.{images_of, Pages, Catalog, Graph, undamaged, on_page, catalog_from, catalog_of, entries_of, cars_from, with_identities, linked, sites_of, graph_of, used_pages, most_pages}
 use Rattle.pm_image.specs.Opening.{Current, current}
 use Rattle.pm_layout.specs.Headers.{most_fields}
-use Rattle.pm_image.specs.Stands.{SamePages, Opened, opened, pages_of, copy_in, Stands}
+use Rattle.pm_image.specs.Stands.{SamePages, Opened, opened, pages_of, copy_in, StandsForCopy}
 use Rattle.pm_image.proofs.Results.{tested_ok, passed, both_true, not_false, true_not}
 use Rattle.pm_base.proofs.Results.{ok_same, bind_ok, bound, if_ok, if_not}
 
@@ -288,7 +288,7 @@ opened_as bytes now graph is_current is_graph = bound _ _ now _ is_current (boun
 
 -- bytes with the same current header, and the same pages behind it, stand for the same copy
 pub bytes_too : (a b : List ℕ) (found : Opened) (slot : ℕ) → opened a ≡ Ok found → current b ≡ Ok (record { slot = slot; header = found.current.header })
-    → SamePages (used_pages found.graph) (pages_of a) (pages_of b) → Stands b found.current.header.epoch (copy_in found)
+    → SamePages (used_pages found.graph) (pages_of a) (pages_of b) → StandsForCopy b found.current.header.epoch (copy_in found)
 bytes_too a b found slot is is_current same =
     let behind = (found_of a found is).1 in
     record {

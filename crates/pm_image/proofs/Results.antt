@@ -1,5 +1,5 @@
 -- Steps of reading that end well.
-use Rattle.std.proofs.Common.{◌≡◌, Bool, true, false, not, ◌&&◌, Result, Ok, Err, refl, ap, ◌∙◌, if◌then◌else◌}
+use Rattle.std.proofs.Common.{◌≡◌, Bool, true, false, not, ◌&&◌, Ok, refl, ap}
 use Rattle.pm_image.specs.Steps.{tested}
 
 -- the test holds

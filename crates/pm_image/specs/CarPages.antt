@@ -5,7 +5,7 @@ use Rattle.std.specs.List.{flat_map, AllByRecursion}
 use Rattle.std.specs.Ordering.{nat_cmp}
 use Rattle.std.specs.FinSet as set
 use Rattle.byteorder.specs.Endian.{big_bytes}
-use Rattle.pm_types.specs.declared.limits.TheConstants.{PAGE_BYTES, LAST_SLOT, CAR_HEAD_BYTES}
+use Rattle.pm_types.specs.declared.limits.TheConstants.{PAGE_BYTES, LAST_SLOT, CAR_HEAD_BYTES, END_ID}
 use Rattle.pm_types.specs.declared.object.Slot.{Slot}
 use Rattle.pm_types.specs.declared.object.Slot.TheVariants.{Live, Moved}
 use Rattle.pm_layout.specs.declared.fault.LayoutFault.{LayoutFault}
@@ -50,7 +50,7 @@ pub record CarScope : Type 0 where
 
 -- a page by itself: any car, and each identity that there is
 abbrev pub one_car : ℕ → CarScope
-one_car most = record { most = most; next = 4294967296; number = None }
+one_car most = record { most = most; next = END_ID; number = None }
 
 -- the slot does not end inside the page
 abbrev pub is_short : {X : Type 0} → Result X LayoutFault → Bool

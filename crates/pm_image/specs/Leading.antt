@@ -1,5 +1,5 @@
 -- Where the addresses in cars, and those of roots, lead.
-use Rattle.std.specs.Prelude.{ℕ, List, Option, Some, None, IfSome, IsSome}
+use Rattle.std.specs.Prelude.{ℕ, List, Option, IfSome, IsSome}
 use Rattle.std.specs.List.{AllByRecursion}
 use Rattle.pm_types.specs.declared.address.Addr.{Addr}
 use Rattle.pm_types.specs.declared.object.Slot.{Slot}

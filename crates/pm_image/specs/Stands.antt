@@ -29,7 +29,7 @@ copy_in found = copy_of found.current.header.next found.graph
 
 -- The bytes stand for this copy, under this number: all rules hold, the number is the epoch of the current
 -- header, and the copy is that of the graph behind it.
-pub record Stands (bytes : List ℕ) (number : ℕ) (copy : Copy) : Type 0 where
+pub record StandsForCopy (bytes : List ℕ) (number : ℕ) (copy : Copy) : Type 0 where
   pub found : Opened
   pub is_found : opened bytes ≡ Ok found
   pub is_number : number ≡ found.current.header.epoch

@@ -176,7 +176,8 @@ pub fn read_car(alloc: Global, page: &[u8], most: u32) -> Result<CarImage, PageF
     ensures found { IfOk result (λ car. page.now ≡ padded (car_spelling car)) }
     ensures fits { IfOk result (λ car. HasCarPage (one_car most) set.empty car) }
     // What is spelled so is read, unless memory runs out.
-    ensures only { (car : CarImage) → HasCarPage (one_car most) set.empty car → IsCarInRange car → page.now ≡ padded (car_spelling car) → Gives result (Ok car) }
+    ensures only { (car : CarImage) → HasCarPage (one_car most) set.empty car → IsCarInRange car
+        → page.now ≡ padded (car_spelling car) → Gives result (Ok car) }
     // Which fault it is.
     ensures exact { Gives result (car_at (one_car most) set.empty page.now) }
 {
@@ -209,7 +210,8 @@ pub fn read_car_in(
     ensures fits { IfOk result (λ car. HasCarPage (a_car most next (Some number)) met.old car) }
     ensures named { IfOk result (λ car. car.number ≡ number) }
     // What is spelled so is read, unless memory runs out.
-    ensures only { (car : CarImage) → HasCarPage (a_car most next (Some number)) met.old car → IsCarInRange car → car.number ≡ number → page.now ≡ padded (car_spelling car) → Gives result (Ok car) }
+    ensures only { (car : CarImage) → HasCarPage (a_car most next (Some number)) met.old car → IsCarInRange car
+        → car.number ≡ number → page.now ≡ padded (car_spelling car) → Gives result (Ok car) }
     // Which fault it is.
     ensures exact { Gives result (car_at (a_car most next (Some number)) met.old page.now) }
     // The identities that were met since.

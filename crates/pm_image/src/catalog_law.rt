@@ -16,9 +16,14 @@ pub fn limits_of_catalogs()
 /// before.
 pub fn catalog_pages_are_read_again()
     // What is written is read again.
-    ensures again { (count : Option ℕ) (met : Met) (page : CatalogPage) → HasCatalogPage count met page → IsCatalogInRange page → catalog_at count met (padded (catalog_spelling page)) ≡ Ok page }
+    ensures again { (count : Option ℕ) (met : Met) (page : CatalogPage) → HasCatalogPage count met page
+        → IsCatalogInRange page → catalog_at count met (padded (catalog_spelling page)) ≡ Ok page }
     // What is read is spelled so, with zeros to the page's end, and may come after what was met.
-    ensures found { (count : Option ℕ) (met : Met) (bytes : List ℕ) (page : CatalogPage) → length bytes ≡ PAGE_BYTES → ((i : ℕ) → slice_index bytes i < 2 ^ 8) → catalog_at count met bytes ≡ Ok page → HasCatalogPage count met page × (bytes ≡ padded (catalog_spelling page)) }
+    ensures found { (count : Option ℕ) (met : Met) (bytes : List ℕ) (page : CatalogPage) → length bytes ≡ PAGE_BYTES
+        → ((i : ℕ) → slice_index bytes i < 2 ^ 8) → catalog_at count met bytes ≡ Ok page
+        → HasCatalogPage count met page × (bytes ≡ padded (catalog_spelling page)) }
     // Two pages that are spelled alike are one.
-    ensures apart { (count : Option ℕ) (met : Met) (a b : CatalogPage) → HasCatalogPage count met a → IsCatalogInRange a → HasCatalogPage count met b → IsCatalogInRange b → padded (catalog_spelling a) ≡ padded (catalog_spelling b) → a ≡ b }
+    ensures apart { (count : Option ℕ) (met : Met) (a b : CatalogPage) → HasCatalogPage count met a
+        → IsCatalogInRange a → HasCatalogPage count met b → IsCatalogInRange b
+        → padded (catalog_spelling a) ≡ padded (catalog_spelling b) → a ≡ b }
 {}

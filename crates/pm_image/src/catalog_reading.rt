@@ -1,4 +1,4 @@
-ghost use Rattle.std.specs.Prelude.{◌≡◌, ◌==◌, ◌+◌, ◌≤◌, length, slice_index, slice_range, Option, Some, None, Result, Ok, Err, OnOk, IfOk};
+ghost use Rattle.std.specs.Prelude.{◌≡◌, ◌==◌, ◌+◌, ◌≤◌, length, slice_index, Option, Some, None, Result, Ok, Err, IfOk};
 ghost use Rattle.std.specs.List.{list_all};
 ghost use Rattle.pm_types.specs.declared.limits.TheConstants.{PAGE_BYTES};
 ghost use Rattle.pm_image.specs.declared.catalog.CatalogPage.{CatalogPage};
@@ -254,9 +254,11 @@ fn catalog_at(
 pub fn read_catalog(alloc: Global, page: &[u8]) -> Result<CatalogPage, PageFault>
     requires { length page.now ≡ PAGE_BYTES }
     // What is read is spelled so, with zeros to the page's end.
-    ensures found { IfOk result (λ read. HasCatalogPage None nothing_met read × (page.now ≡ padded (catalog_spelling read))) }
+    ensures found { IfOk result (λ read. HasCatalogPage None nothing_met read
+        × (page.now ≡ padded (catalog_spelling read))) }
     // What is spelled so is read, unless memory runs out.
-    ensures only { (read : CatalogPage) → HasCatalogPage None nothing_met read → IsCatalogInRange read → page.now ≡ padded (catalog_spelling read) → Gives result (Ok read) }
+    ensures only { (read : CatalogPage) → HasCatalogPage None nothing_met read → IsCatalogInRange read
+        → page.now ≡ padded (catalog_spelling read) → Gives result (Ok read) }
     // Which fault it is.
     ensures exact { Gives result (catalog_at None nothing_met page.now) }
 {
@@ -274,9 +276,11 @@ pub fn read_catalog_in(
 ) -> Result<CatalogPage, PageFault>
     requires { length page.now ≡ PAGE_BYTES }
     // What is read is spelled so, with zeros to the page's end.
-    ensures found { IfOk result (λ read. HasCatalogPage (Some count) met.old read × (page.now ≡ padded (catalog_spelling read))) }
+    ensures found { IfOk result (λ read. HasCatalogPage (Some count) met.old read
+        × (page.now ≡ padded (catalog_spelling read))) }
     // What is spelled so is read, unless memory runs out.
-    ensures only { (read : CatalogPage) → HasCatalogPage (Some count) met.old read → IsCatalogInRange read → page.now ≡ padded (catalog_spelling read) → Gives result (Ok read) }
+    ensures only { (read : CatalogPage) → HasCatalogPage (Some count) met.old read → IsCatalogInRange read
+        → page.now ≡ padded (catalog_spelling read) → Gives result (Ok read) }
     // Which fault it is.
     ensures exact { Gives result (catalog_at (Some count) met.old page.now) }
     // What is met then.

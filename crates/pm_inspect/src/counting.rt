@@ -1,5 +1,4 @@
 ghost use Rattle.std.specs.Prelude.{◌≡◌, length, IsSome, IsSomeAnd};
-ghost use Rattle.std.specs.List.{sum_by};
 ghost use Rattle.std.specs.FinMap.{get, len};
 ghost use Rattle.pm_trains.specs.Trains.{cars_at};
 ghost use Rattle.pm_view.specs.Candidates.{set_of, queue_of};

@@ -22,10 +22,10 @@ use Rattle.pm_cars.specs.declared.look.Look.TheVariants as looks
 use Rattle.pm_roots.specs.Bindings.{address_at}
 use Rattle.pm_view.specs.Sources.{same_source, same_address, outside, slot_in}
 use Rattle.pm_view.specs.View.{Sources, Sets, Queues, SpaceView}
-use Rattle.pm_view.specs.Reading.{slot_at, object_at, field_of, stored, followed, id_at, is_aside, Stands}
+use Rattle.pm_view.specs.Reading.{slot_at, object_at, field_of, stored, followed, id_at, is_aside, SourceStands}
 use Rattle.pm_view.specs.Effective.{effective, effective_in}
 use Rattle.pm_view.specs.Barrier.{barrier, entered, news, told}
-use Rattle.pm_view.specs.Seen.{seen, kept, IsLive}
+use Rattle.pm_view.specs.Seen.{seen, kept}
 use Rattle.pm_view.specs.Seen as seen_words
 use Rattle.pm_view.specs.Counts.{live_in}
 use Rattle.pm_view.specs.Law.{HeapLaw}
@@ -57,7 +57,7 @@ flat_some None a is = cc
 flat_some (Some o) a is = refl
 
 -- a source that is kept and stores an address stands
-pub stores_stands : (view : SpaceView) (x : RefSource) (a : Addr) → HeapLaw view → kept (seen view) x ≡ true → stored view x ≡ Some a → Stands view x
+pub stores_stands : (view : SpaceView) (x : RefSource) (a : Addr) → HeapLaw view → kept (seen view) x ≡ true → stored view x ≡ Some a → SourceStands view x
 stores_stands view (Root n) a law up is = ap is_some is
 stores_stands view (Handle c r) a law up is = law.named.registers c r a is
 stores_stands view (Field b i) a law up is = (from_not (is_aside view b.car) up, flat_some (option_and_then (λ (o : Object). slice_get o.fields i) (object_at view.cars b)) a is)
@@ -127,7 +127,7 @@ module _ (view : SpaceView) (car : ℕ) (x : RefSource) (to : Addr) (law : HeapL
   kept_up (Handle c r) = refl
   kept_up (Field a i) = ap not (free a.car)
 
-  at : Stands view x
+  at : SourceStands view x
   at = stores_stands view x old law (kept_up x) leads.0
 
   has_value : (y : RefSource) → HasValue y (Some to)

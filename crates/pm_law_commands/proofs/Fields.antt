@@ -10,12 +10,12 @@ use Rattle.pm_types.specs.declared.address.Addr.{Addr}
 use Rattle.pm_types.specs.declared.object.Object as kept_objects
 use Rattle.pm_types.specs.declared.source.RefSource.TheVariants.{Field}
 use Rattle.pm_types.specs.declared.reply.Reply.TheVariants.{Done, Null, NoHandle, NoField, OutOfRange, Held}
-use Rattle.pm_model.specs.Heap.{Object, Heap, with_field}
+use Rattle.pm_model.specs.Heap.{Object, with_field}
 use Rattle.pm_model.specs.Heap as model_heap
 use Rattle.pm_model.specs.World.{World, held, changing}
 use Rattle.pm_model.specs.Answer.{answer_store, answer_clear, writing, answer_put, putting, answer_swap, swapping}
 use Rattle.pm_view.specs.View.{SpaceView}
-use Rattle.pm_view.specs.Reading.{resolve, Stands}
+use Rattle.pm_view.specs.Reading.{resolve, SourceStands}
 use Rattle.pm_view.specs.Seen.{seen, MayStore}
 use Rattle.pm_view.specs.Law.{HeapLaw}
 use Rattle.pm_view.specs.Represents.{names, meaning, Represents}
@@ -63,7 +63,7 @@ module _ (view : SpaceView) (world : World) (law : HeapLaw view) (stands : Repre
             world = field_stands view world (resolve view a) index object known value law stands there.here at may has wanted;
           })
         where
-          at : Stands view (Field (resolve view a) index)
+          at : SourceStands view (Field (resolve view a) index)
           at = (there.free, ap (λ o. is_some (option_and_then (λ (o : kept_objects.Object). slice_get o.fields index) o)) there.here ∙ same_test object known index means ∙ sym same)
       by_test b false test same = subst (λ d. IsServed (refused view NoField) (if d then (Done, changing world object.id (with_field known index (names view value))) else (NoField, world))) same (refused_both view world NoField law stands)
 

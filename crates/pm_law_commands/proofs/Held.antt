@@ -14,7 +14,7 @@ use Rattle.pm_model.specs.Heap.{Object}
 use Rattle.pm_model.specs.World.{World}
 use Rattle.pm_view.specs.View.{SpaceView}
 use Rattle.pm_view.specs.Reading.{slot_at, object_at, stored, is_aside, followed, resolve, id_at, named_by}
-use Rattle.pm_view.specs.Seen.{Seen, seen, kept, IsLive, IsTied}
+use Rattle.pm_view.specs.Seen.{seen, kept, IsLive}
 use Rattle.pm_view.specs.Seen as seen_words
 use Rattle.pm_view.specs.Law.{HeapLaw}
 use Rattle.pm_view.specs.Represents.{meaning, IsForgotten, Represents}

@@ -7,5 +7,6 @@ pub mod Births
 pub mod Keeps
 pub mod Refusals
 pub mod Rows
+pub mod EveryRow
 pub mod Objects
 pub mod Added

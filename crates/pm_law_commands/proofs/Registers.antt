@@ -10,7 +10,7 @@ use Rattle.pm_types.specs.declared.object.Object as kept_objects
 use Rattle.pm_types.specs.declared.source.RefSource.TheVariants.{Root, Handle, Field}
 use Rattle.pm_types.specs.declared.reply.Reply.{Reply}
 use Rattle.pm_types.specs.declared.reply.Reply.TheVariants.{Done, Ident, Null, Shown, NoHandle, NoField, NoRoot}
-use Rattle.pm_model.specs.Heap.{Object, Heap}
+use Rattle.pm_model.specs.Heap.{Object}
 use Rattle.pm_model.specs.Heap as model_heap
 use Rattle.pm_model.specs.World.{World, held, holding, emptying}
 use Rattle.pm_model.specs.Answer.{answer_copy, answer_id, answer_data, answer_drop, answer_load, loading, answer_find, bytes_of}

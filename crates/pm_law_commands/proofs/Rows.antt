@@ -10,7 +10,8 @@ use Rattle.pm_model.specs.Answer.{answer}
 use Rattle.pm_view.specs.View.{SpaceView}
 use Rattle.pm_view.specs.Law.{HeapLaw}
 use Rattle.pm_view.specs.Represents.{Represents}
-use Rattle.pm_view.specs.Commands.{row, is_act, HasRegisters, Picks, ArePicked}
+use Rattle.pm_types.specs.Registers.{HasRegisters}
+use Rattle.pm_view.specs.Commands.{row, is_act, Picks, ArePicked}
 use Rattle.pm_law_commands.specs.Served.{IsServed}
 use Rattle.pm_law_commands.proofs.Registers.{copy_serves, id_serves, data_serves, drop_serves, load_serves, find_serves}
 use Rattle.pm_law_commands.proofs.Fields.{store_serves, clear_serves, put_serves, swap_serves}

@@ -153,7 +153,7 @@ module _ (placed : List Placed) (named : List (List ℕ × Addr)) (next_id : ℕ
           omega (arith, one, none)
 
   AreSound : Trains → Type 0
-  AreSound trains = line.IsSound trains
+  AreSound trains = line.AreSoundTrains trains
 
   made : IsMade next_id view
   unfolding AreSound

@@ -11,7 +11,7 @@ use Rattle.pm_layout.proofs.HeaderLaws.{header_found}
 use Rattle.pm_base.proofs.Results.{bind_ok, ok_same, if_ok, wanted_ok}
 use Rattle.pm_image.specs.Opening.{page_count, header_body_of, is_open, epoch_in, greater_slot, open_slot, Current, is_placed, sound_header, header_in, current}
 use Rattle.pm_image.specs.Graphs.{graph_of, entries_of, copy_of}
-use Rattle.pm_image.specs.Stands.{Opened, opened, pages_of, copy_in, Stands}
+use Rattle.pm_image.specs.Stands.{Opened, opened, pages_of, copy_in, StandsForCopy}
 use Rattle.pm_image.proofs.RuleLaws.{current_placed}
 use Rattle.pm_copies.specs.Accepted.{IsAccepted}
 use Rattle.pm_model.specs.World.{Copy, begin}
@@ -108,7 +108,7 @@ pub store_copy : (bytes : List ℕ) (found : Opened) → opened bytes ≡ Ok fou
 store_copy bytes found is = graph_copy (pages_of bytes) found.current.header found.graph found.current.header.next (store_found bytes found is).graph
 
 -- and stands for the world of its copy
-pub store_stands : (bytes : List ℕ) (number : ℕ) (copy : Copy) (view : SpaceView) → IsBytes bytes → Stands bytes number copy → IsOpenedStore bytes view → Represents view (begin number copy)
+pub store_stands : (bytes : List ℕ) (number : ℕ) (copy : Copy) (view : SpaceView) → IsBytes bytes → StandsForCopy bytes number copy → IsOpenedStore bytes view → Represents view (begin number copy)
 store_stands bytes number copy view fits stood is =
     let same : is.found ≡ stood.found = ok_same is.found stood.found (sym is.is_found ∙ stood.is_found) in
     let world = stands (listed_graph is.found.graph) (entries_of is.found.graph.catalog) is.found.current.header.next view (store_accepted bytes is.found fits is.is_found) is.is_opened number in

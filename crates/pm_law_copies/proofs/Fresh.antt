@@ -19,7 +19,7 @@ use Rattle.pm_view.specs.View.{Sources, SpaceView}
 use Rattle.pm_view.specs.Reading.{slot_at, object_at, stored, aside_in, is_aside}
 use Rattle.pm_view.specs.Effective.{effective, effective_in}
 use Rattle.pm_view.specs.Seen.{seen, Leads, IsTied}
-use Rattle.pm_view.specs.Law.{IsCar, IsObject, IsBuilt, IsAt, HeapLaw}
+use Rattle.pm_view.specs.Law.{IsCar, IsObject, IsBuilt, IsPhaseOf, HeapLaw}
 use Rattle.pm_copies.specs.Opened.{IsFresh}
 
 -- the queue of a car that has not heard of anything
@@ -28,7 +28,7 @@ no_change_yet car = []
 
 -- what is left to be shown of a space in which nothing has happened yet
 pub record IsMade (next_id : ℕ) (view : SpaceView) : Type 0 where
-  pub trains : line.IsSound view.trains
+  pub trains : line.AreSoundTrains view.trains
   pub births : view.trains.births ≡ 0
   pub linked : (car : ℕ) → is_some (train_of view.trains.trains car) ≡ is_some (get view.cars car)
   pub cars : (number : ℕ) (car : Car) → get view.cars number ≡ Some car → IsCar view number car
@@ -127,6 +127,6 @@ module _ (next_id : ℕ) (view : SpaceView) (fresh : IsFresh next_id view) (made
       registers = λ client register a is. absurd (none-some a (sym (ap (λ registers. get registers (client, register)) fresh.registers ∙ get-empty place_cmp (client, register)) ∙ is));
     };
     tied = tied;
-    phase = subst (λ phase. IsAt phase view.trains.trains view.anchor) (sym fresh.phase) tt;
+    phase = subst (λ phase. IsPhaseOf phase view.trains.trains view.anchor) (sym fresh.phase) tt;
     anchor = λ a to is. absurd (none-some (a, to) (sym fresh.anchor ∙ is));
   }

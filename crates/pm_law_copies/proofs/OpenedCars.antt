@@ -17,7 +17,7 @@ use Rattle.pm_types.specs.declared.address.Addr.{Addr}
 use Rattle.pm_types.specs.declared.object.Object.{Object}
 use Rattle.pm_types.specs.declared.object.Slot.{Slot}
 use Rattle.pm_types.specs.declared.object.Slot.TheVariants.{Live, Moved}
-use Rattle.pm_cars.specs.Cars.{Car, Slots, slot_room, one_live, one_moved, object_room, object_of, used, live_count, moved_count}
+use Rattle.pm_cars.specs.Cars.{Car, slot_room, one_live, one_moved, object_room, live_count, moved_count}
 use Rattle.pm_cars.specs.Cars as cars_of
 use Rattle.pm_image.specs.declared.car.CarImage.{CarImage}
 use Rattle.pm_image.specs.CarPages.{Ascend, car_used}
@@ -171,7 +171,7 @@ module _ (all : List CarImage) where
     values_opened : values (opened_car all car).slots ≡ map (λ (e : ℕ × Slot). e.1) (opened_slots all car.slots)
     values_opened = ap (map (λ (e : ℕ × Slot). e.1)) (entries_opened 0 car.slots ascend)
 
-    pub car_sound : car_used car.slots ≤ CAR_BYTES → cars_of.IsSound (opened_car all car)
+    pub car_sound : car_used car.slots ≤ CAR_BYTES → cars_of.IsSoundCar (opened_car all car)
     car_sound fits = record {
       room =
           let kept = room_kept car.slots in

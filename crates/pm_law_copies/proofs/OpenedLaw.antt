@@ -27,7 +27,7 @@ use Rattle.pm_image.specs.Graphs.{slot_named, identity_in, identity_through, res
 use Rattle.pm_image.specs.Leading.{FieldLeads, SlotLeads}
 use Rattle.pm_view.specs.View.{SpaceView}
 use Rattle.pm_view.specs.Reading.{slot_at, object_at, field_of, stored, followed, aside_in, is_aside}
-use Rattle.pm_view.specs.Law.{IsObject, IsBuilt, IsAt, IsAnchor, HeapLaw}
+use Rattle.pm_view.specs.Law.{IsObject, HeapLaw}
 use Rattle.pm_view.specs.Law as law_of
 use Rattle.pm_law_rows.proofs.Numbers.{owner}
 use Rattle.pm_copies.specs.Listed.{Listed, images}
@@ -187,7 +187,7 @@ module _ (listed : List Listed) (catalog : List CatEntry) (next_id : ℕ) (view 
       })
 
   AreSound : Trains → Type 0
-  AreSound trains = line.IsSound trains
+  AreSound trains = line.AreSoundTrains trains
 
   made : IsMade next_id view
   unfolding AreSound

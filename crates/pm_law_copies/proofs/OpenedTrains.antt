@@ -129,7 +129,7 @@ stand n [] = omega arith
 stand n (t ∷ ts) = omega arith
 
 -- trains of these cars are as trains are, where no car is there twice
-pub line_sound : (kept : List (ℕ × ℕ)) → ((n : ℕ) → count_by (λ c. c == n) (cars_in kept) ≤ 1) → line.IsSound (record { trains = numbered 1 (grouped kept); births = 0 })
+pub line_sound : (kept : List (ℕ × ℕ)) → ((n : ℕ) → count_by (λ c. c == n) (cars_in kept) ≤ 1) → line.AreSoundTrains (record { trains = numbered 1 (grouped kept); births = 0 })
 line_sound kept once = record {
   standing = stand 1 (grouped kept);
   rising = rise 0 1 (grouped kept) (omega arith);
@@ -141,7 +141,7 @@ line_sound kept once = record {
   bounded = omega arith;
 }
 
-pub trains_sound : (listed : List Listed) → Differ (images listed) → line.IsSound (opened_trains listed)
+pub trains_sound : (listed : List Listed) → Differ (images listed) → line.AreSoundTrains (opened_trains listed)
 trains_sound listed differ = line_sound (flat_map kept_car listed) (λ n.
     let few = kept_once n listed in
     let once = once_of (images listed) differ n in

@@ -22,7 +22,7 @@ use Rattle.pm_view.specs.View.{SpaceView}
 use Rattle.pm_view.specs.Reading.{slot_at, object_at}
 use Rattle.pm_view.specs.Law.{HeapLaw}
 use Rattle.pm_copies.specs.Listed.{Listed, images}
-use Rattle.pm_copies.specs.Accepted.{Differ, NamesAscend, roots_in, IsAccepted}
+use Rattle.pm_copies.specs.Accepted.{Differ, roots_in, IsAccepted}
 use Rattle.pm_copies.specs.Accepted as accepted
 use Rattle.pm_copies.specs.Opened.{has_object, opened_car, opened_root, resolved_at, IsOpened}
 use Rattle.pm_copies.specs.Built.{Placed, built_cars, StepFrom, Steps, CarsDiffer, IsFull, MayBuild, IsBuiltOf, opened_placed, renumbered_on, renumbered, opening_cars, opening_roots}

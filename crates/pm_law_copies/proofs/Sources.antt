@@ -5,7 +5,7 @@ use Rattle.std.specs.List.{flat_map, AllByRecursion, slice_get}
 use Rattle.std.specs.declared.cmp.Ordering.{Ordering}
 use Rattle.std.specs.Ordering.{nat_cmp, eq_by_cmp}
 use Rattle.std.specs.Cmp.{IsTotalOrder, eq_by_cmp_equiv}
-use Rattle.std.specs.FinMap.{IsAntisymmetric, get, entries, entries_sorted, get-entries, from_entries, get-from_entries, nat_cmp-IsAntisymmetric}
+use Rattle.std.specs.FinMap.{IsAntisymmetric, get, entries, entries_sorted, get-entries, get-from_entries, nat_cmp-IsAntisymmetric}
 use Rattle.std.specs.FinMap.Entries.{find}
 use Rattle.std.proofs.lemmas.Cmp.{nat_cmp_total}
 use Rattle.std.proofs.lemmas.Map.Views.{tells_apart}
@@ -19,9 +19,9 @@ use Rattle.pm_types.specs.declared.object.Slot.TheVariants.{Live, Moved}
 use Rattle.pm_types.specs.declared.source.RefSource.{RefSource}
 use Rattle.pm_types.specs.declared.source.RefSource.TheVariants.{Root, Handle, Field}
 use Rattle.pm_cars.specs.Cars.{Car, object_of}
-use Rattle.pm_roots.specs.Bindings.{Bindings, address_at, AllNumbersDiffer}
+use Rattle.pm_roots.specs.Bindings.{Bindings, AllNumbersDiffer}
 use Rattle.pm_view.specs.Sources.{outside, slot_in}
-use Rattle.pm_view.specs.View.{Cars, Sources}
+use Rattle.pm_view.specs.View.{Cars}
 use Rattle.pm_view.specs.Reading.{slot_at, object_at, field_of}
 use Rattle.pm_law_rows.proofs.Numbers.{owner, found_by_number}
 use Rattle.pm_law_copies.specs.Storing.{Stored, field_sources, slot_sources, car_sources, root_source, stored_of, pick, remembering, stores}

@@ -18,7 +18,7 @@ ghost use Rattle.pm_image.specs.declared.catalog.CatEntry.{CatEntry};
 ghost use Rattle.pm_image.specs.CarAnswers.{AreBytes};
 ghost use Rattle.pm_image.specs.CarPages.{one_car, HasCarPage};
 ghost use Rattle.pm_image.specs.Graphs.{slot_named, identity_in, entries_of, copy_of};
-ghost use Rattle.pm_image.specs.Stands.{Opened, Stands, opened};
+ghost use Rattle.pm_image.specs.Stands.{Opened, StandsForCopy, opened};
 ghost use Rattle.pm_view.specs.View.{SpaceView};
 ghost use Rattle.pm_view.specs.Reading.{slot_at, id_at, is_aside};
 ghost use Rattle.pm_view.specs.Law.{HeapLaw};
@@ -101,5 +101,5 @@ pub fn a_store_is_opened_as_its_copy()
         ≡ copy_of found.current.header.next found.graph }
     ensures law { (bytes : List ℕ) (view : SpaceView) → AreBytes bytes → IsOpenedStore bytes view → HeapLaw view }
     ensures world { (bytes : List ℕ) (number : ℕ) (copy : Copy) (view : SpaceView) → AreBytes bytes
-        → Stands bytes number copy → IsOpenedStore bytes view → Represents view (begin number copy) }
+        → StandsForCopy bytes number copy → IsOpenedStore bytes view → Represents view (begin number copy) }
 {}

@@ -7,7 +7,7 @@ use Rattle.pm_types.specs.declared.limits.TheConstants.{CLIENTS, FIELDS, OBJECT_
 use Rattle.pm_types.specs.declared.address.Addr.{Addr}
 use Rattle.pm_types.specs.declared.object.Object.{Object}
 use Rattle.pm_types.specs.declared.command.Cmd.{Cmd}
-use Rattle.pm_types.specs.declared.command.Cmd.TheVariants.{New, Load, Store, Clear, Show, Put, Copy, IdOf, Forget, Bind, Unbind, Find, Swap, Close, Save, Settle, Unsave, Watch}
+use Rattle.pm_types.specs.declared.command.Cmd.TheVariants.{New}
 use Rattle.pm_types.specs.declared.reply.Reply.{Reply}
 use Rattle.pm_types.specs.declared.reply.Reply.TheVariants.{Ident, TooLarge, IdsSpent}
 use Rattle.pm_cars.specs.Cars.{Car, object_of}
@@ -19,24 +19,25 @@ use Rattle.pm_view.specs.Sources.{same_address}
 use Rattle.pm_view.specs.View.{SpaceView}
 use Rattle.pm_view.specs.Reading.{id_at}
 use Rattle.pm_view.specs.Counts.{IsPlaced}
-use Rattle.pm_view.specs.Law.{IsOldest, IsFront, IsAt, HeapLaw}
+use Rattle.pm_view.specs.Law.{IsOldest, IsFront, IsPhaseOf, HeapLaw}
 use Rattle.pm_view.specs.Objects.{KeepsObjects, AddsObject}
 use Rattle.pm_view.specs.Rows.{spent, birthplace}
-use Rattle.pm_view.specs.Commands.{fresh, row_new, row, is_new, HasRegisters, Picks, ArePicked}
+use Rattle.pm_types.specs.Registers.{HasRegisters}
+use Rattle.pm_view.specs.Commands.{fresh, row_new, row, is_new, Picks, ArePicked}
 use Rattle.pm_law_rows.proofs.Places.{slot_of}
 use Rattle.pm_law_rows.proofs.SameSource.{same_address-true}
 use Rattle.pm_law_rows.proofs.OpenTrain.{first_home}
+use Rattle.pm_law_commands.proofs.EveryRow.{object_made}
 use Rattle.pm_law_commands.proofs.Keeps.{row_keeps}
 use Rattle.pm_law_commands.proofs.Objects.{row_keeps_objects}
 use Rattle.pm_law_commands.proofs.Added.{new_adds}
 use Rattle.pm_law_phases.proofs.Small.{some_same, none_some}
 use Rattle.pm_law_course.specs.Course.{train_in, collected}
-use Rattle.pm_law_course.proofs.Rows.{object_made}
 use Rattle.pm_law_course.proofs.Kept.{command_keeps}
 use Rattle.pm_law_phases.proofs.Fronts.{front_of}
 
 -- the train that is collected is the oldest, and not the open one
-collected_oldest : (p : Phase) (ts : List Train) (anchor : Option (Addr × ℕ)) (n : ℕ) → ((q : ℕ) → line.places q ts ≤ 1) → IsAt p ts anchor → train_in p ts ≡ Some n → IsOldest ts n
+collected_oldest : (p : Phase) (ts : List Train) (anchor : Option (Addr × ℕ)) (n : ℕ) → ((q : ℕ) → line.places q ts ≤ 1) → IsPhaseOf p ts anchor → train_in p ts ≡ Some n → IsOldest ts n
 collected_oldest Idle ts anchor n single at is = absurd (none_some n is)
 collected_oldest (Draining m) ts anchor n single at is = subst (IsOldest ts) (some_same m n is) at
 collected_oldest (Moving car) ts anchor n single at is = let front = front_of ts car at in subst (IsOldest ts) (some_same front.train n (sym (first_home ts front.train car single front.first) ∙ is)) front.old
@@ -56,7 +57,7 @@ front_stands view car law at = let front = front_of view.trains.trains car at in
 same_collected : (view t : SpaceView) → HeapLaw view → t.phase ≡ view.phase → ((car : ℕ) → IsSome (get view.cars car) → train_of t.trains.trains car ≡ train_of view.trains.trains car) → collected t ≡ collected view
 same_collected view t law phase homes = ap (λ p. train_in p t.trains.trains) phase ∙ by_phase view.phase law.phase
   where
-    by_phase : (p : Phase) → IsAt p view.trains.trains view.anchor → train_in p t.trains.trains ≡ train_in p view.trains.trains
+    by_phase : (p : Phase) → IsPhaseOf p view.trains.trains view.anchor → train_in p t.trains.trains ≡ train_in p view.trains.trains
     by_phase Idle at = refl
     by_phase (Draining n) at = refl
     by_phase (Moving car) at = homes car (front_stands view car law at)
@@ -137,20 +138,4 @@ module _ (view : SpaceView) (law : HeapLaw view) (client : ℕ) (c : client < CL
           (new_adds view law client reg count picks.car bytes picked.car made))
           (λ (same : (row_new view client reg count bytes picks.car).1 ≡ view). subst (AddsNone view) (sym same) (record { same = refl; none = λ id n is placed. placed }))
           answer
-  command_adds_none (Load to reg index) picks regs picked = kept_row (Load to reg index) picks refl
-  command_adds_none (Store reg index value) picks regs picked = kept_row (Store reg index value) picks refl
-  command_adds_none (Clear reg index) picks regs picked = kept_row (Clear reg index) picks refl
-  command_adds_none (Show reg) picks regs picked = kept_row (Show reg) picks refl
-  command_adds_none (Put reg at bytes) picks regs picked = kept_row (Put reg at bytes) picks refl
-  command_adds_none (Copy to reg) picks regs picked = kept_row (Copy to reg) picks refl
-  command_adds_none (IdOf reg) picks regs picked = kept_row (IdOf reg) picks refl
-  command_adds_none (Forget reg) picks regs picked = kept_row (Forget reg) picks refl
-  command_adds_none (Bind name reg) picks regs picked = kept_row (Bind name reg) picks refl
-  command_adds_none (Unbind name) picks regs picked = kept_row (Unbind name) picks refl
-  command_adds_none (Find to name) picks regs picked = kept_row (Find to name) picks refl
-  command_adds_none (Swap reg index old value) picks regs picked = kept_row (Swap reg index old value) picks refl
-  command_adds_none Close picks regs picked = kept_row Close picks refl
-  command_adds_none Save picks regs picked = kept_row Save picks refl
-  command_adds_none Settle picks regs picked = kept_row Settle picks refl
-  command_adds_none Unsave picks regs picked = kept_row Unsave picks refl
-  command_adds_none Watch picks regs picked = kept_row Watch picks refl
+  command_adds_none cmd picks regs picked = kept_row cmd picks refl

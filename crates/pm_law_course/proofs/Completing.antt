@@ -10,7 +10,7 @@ use Rattle.pm_view.specs.declared.phase.Phase.{Phase}
 use Rattle.pm_view.specs.declared.phase.Phase.TheVariants.{Idle, Draining, Moving, Sweeping, Doomed}
 use Rattle.pm_view.specs.View.{SpaceView}
 use Rattle.pm_view.specs.Reading.{cars_of}
-use Rattle.pm_view.specs.Law.{IsAt, IsOldest, HeapLaw}
+use Rattle.pm_view.specs.Law.{IsPhaseOf, IsOldest, HeapLaw}
 use Rattle.pm_view.specs.Candidates.{queue_of}
 use Rattle.pm_view.specs.Collecting.{without_car, completing}
 use Rattle.pm_view.specs.Events.{Row, nothing, select, apply, doom, start, fix, move_anchor, move_out, move_on, finish, sweep, free, free_doomed, has_change, changed_car, next_row, after}
@@ -118,7 +118,7 @@ module _ (view : SpaceView) where
       is = (comes_where view (free_doomed train car) next).doomed
 
       old : IsOldest view.trains.trains train
-      old = (subst (λ p. IsAt p view.trains.trains view.anchor) is.doomed law.phase).0
+      old = (subst (λ p. IsPhaseOf p view.trains.trains view.anchor) is.doomed law.phase).0
 
       alone : (rest : List ℕ) → cars_at view.trains.trains train ≡ Some (car ∷ rest) → rest ≡ []
       alone [] cars = refl

@@ -7,7 +7,6 @@ use Rattle.pm_types.specs.declared.source.RefSource.{RefSource}
 use Rattle.pm_types.specs.declared.source.RefSource.TheVariants.{Root, Handle, Field}
 use Rattle.pm_types.specs.declared.source.Change.{Change}
 use Rattle.pm_types.specs.declared.command.Cmd.{Cmd}
-use Rattle.pm_types.specs.declared.command.Cmd.TheVariants.{New, Load, Store, Clear, Show, Put, Copy, IdOf, Forget, Bind, Unbind, Find, Swap, Close, Save, Settle, Unsave, Watch}
 use Rattle.pm_cars.specs.Cars.{object_room}
 use Rattle.pm_trains.specs.Trains.{youngest, rotated}
 use Rattle.pm_view.specs.View.{SpaceView}
@@ -16,7 +15,7 @@ use Rattle.pm_view.specs.Rows.{with_stored, spread, spent, tail_for, put_in, wit
 use Rattle.pm_view.specs.Candidates.{queue_of}
 use Rattle.pm_view.specs.Collecting.{applied_front, applied_in, fixed, put_away, settled, moved_some, moved, swept_some, swept}
 use Rattle.pm_view.specs.Commands.{emptied, fresh, row, Picks}
-use Rattle.pm_law_course.proofs.Rows.{OfRows, row_holds, new_holds}
+use Rattle.pm_law_commands.proofs.EveryRow.{OfRows, row_holds, new_holds}
 
 pub record KeepsCourse (view t : SpaceView) : Type 0 where
   pub phase : t.phase ≡ view.phase
@@ -92,35 +91,20 @@ emptied_keeps : (view : SpaceView) (client n : ℕ) → KeepsCourse view (emptie
 emptied_keeps view client zero = itself view
 emptied_keeps view client (suc n) = both view (emptied view client n) (emptied view client (suc n)) (emptied_keeps view client n) (spread_keeps (emptied view client n) (Handle client n) None)
 
-kept_of_rows : (view : SpaceView) → OfRows view (KeepsCourse view)
-kept_of_rows view = record {
+kept_of_rows : (view : SpaceView) (client : ℕ) (picks : Picks) → OfRows view (KeepsCourse view) (Unit {0}) (Unit {0}) client picks
+kept_of_rows view client picks = record {
   still = itself view;
   spread = spread_keeps view;
   bytes = λ a at bytes within. record { phase = refl; completed = refl; anchor = refl };
   bound = λ name number a. record { phase = refl; completed = refl; anchor = refl };
   unbound = λ name number a. record { phase = refl; completed = refl; anchor = refl };
+  made = λ may reg count bytes. new_holds view (KeepsCourse view) (itself view) client reg count picks.car bytes (λ small more.
+      let object = fresh view count bytes in
+      let was = born_keeps (spent view) picks.car object in
+      let now = spread_keeps (born (spent view) picks.car object) (Handle client reg) (Some (birthplace (spent view) picks.car object)) in
+      record { phase = now.phase ∙ was.phase; completed = now.completed ∙ was.completed; anchor = now.anchor ∙ was.anchor });
+  emptied = λ may. emptied_keeps view client REGISTERS;
 }
 
 pub command_keeps : (view : SpaceView) (client : ℕ) (cmd : Cmd) (picks : Picks) → KeepsCourse view (row view client cmd picks).1
-command_keeps view client (New reg count bytes) picks = new_holds view (KeepsCourse view) (itself view) client reg count picks.car bytes (λ small more.
-    let object = fresh view count bytes in
-    let was = born_keeps (spent view) picks.car object in
-    let now = spread_keeps (born (spent view) picks.car object) (Handle client reg) (Some (birthplace (spent view) picks.car object)) in
-    record { phase = now.phase ∙ was.phase; completed = now.completed ∙ was.completed; anchor = now.anchor ∙ was.anchor })
-command_keeps view client Close picks = emptied_keeps view client REGISTERS
-command_keeps view client (Load to reg index) picks = row_holds view (KeepsCourse view) (kept_of_rows view) client (Load to reg index) picks refl refl
-command_keeps view client (Store reg index value) picks = row_holds view (KeepsCourse view) (kept_of_rows view) client (Store reg index value) picks refl refl
-command_keeps view client (Clear reg index) picks = row_holds view (KeepsCourse view) (kept_of_rows view) client (Clear reg index) picks refl refl
-command_keeps view client (Show reg) picks = row_holds view (KeepsCourse view) (kept_of_rows view) client (Show reg) picks refl refl
-command_keeps view client (Put reg at bytes) picks = row_holds view (KeepsCourse view) (kept_of_rows view) client (Put reg at bytes) picks refl refl
-command_keeps view client (Copy to reg) picks = row_holds view (KeepsCourse view) (kept_of_rows view) client (Copy to reg) picks refl refl
-command_keeps view client (IdOf reg) picks = row_holds view (KeepsCourse view) (kept_of_rows view) client (IdOf reg) picks refl refl
-command_keeps view client (Forget reg) picks = row_holds view (KeepsCourse view) (kept_of_rows view) client (Forget reg) picks refl refl
-command_keeps view client (Bind name reg) picks = row_holds view (KeepsCourse view) (kept_of_rows view) client (Bind name reg) picks refl refl
-command_keeps view client (Unbind name) picks = row_holds view (KeepsCourse view) (kept_of_rows view) client (Unbind name) picks refl refl
-command_keeps view client (Find to name) picks = row_holds view (KeepsCourse view) (kept_of_rows view) client (Find to name) picks refl refl
-command_keeps view client (Swap reg index old value) picks = row_holds view (KeepsCourse view) (kept_of_rows view) client (Swap reg index old value) picks refl refl
-command_keeps view client Save picks = itself view
-command_keeps view client Settle picks = itself view
-command_keeps view client Unsave picks = itself view
-command_keeps view client Watch picks = itself view
+command_keeps view client cmd picks = row_holds view (KeepsCourse view) (Unit {0}) (Unit {0}) client picks (kept_of_rows view client picks) cmd (λ new. tt) (λ close. tt)

@@ -1,4 +1,3 @@
-pub mod Rows
 pub mod Kept
 pub mod Completing
 pub mod Anchoring

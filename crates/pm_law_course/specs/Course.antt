@@ -1,7 +1,5 @@
 -- What the laws of a collection's course speak of.
 use Rattle.std.specs.Prelude.{◌≡◌, ℕ, ◌+◌, Bool, true, false, ◌==◌, List, length, Option, Some, None}
-use Rattle.pm_types.specs.declared.command.Cmd.{Cmd}
-use Rattle.pm_types.specs.declared.command.Cmd.TheVariants.{Close}
 use Rattle.pm_trains.specs.Trains.{Train, train_of, youngest}
 use Rattle.pm_view.specs.declared.phase.Phase.{Phase}
 use Rattle.pm_view.specs.declared.phase.Phase.TheVariants.{Idle, Draining, Moving, Sweeping, Doomed}
@@ -46,8 +44,3 @@ collected view = train_in view.phase view.trains.trains
 -- the object of this identity stands in the open train
 abbrev pub IsPlacedInOpen : SpaceView → ℕ → Type 0
 IsPlacedInOpen view id = IsPlaced view id (youngest view.trains.trains)
-
--- the command empties all registers of its client
-abbrev pub is_close : Cmd → Bool
-is_close Close = true
-is_close cmd = false

@@ -11,7 +11,8 @@ ghost use Rattle.pm_view.specs.View.{SpaceView};
 ghost use Rattle.pm_view.specs.Law.{HeapLaw};
 ghost use Rattle.pm_view.specs.Counts.{IsPlaced};
 ghost use Rattle.pm_view.specs.Events.{Row, after};
-ghost use Rattle.pm_view.specs.Commands.{row, HasRegisters, Picks, ArePicked};
+ghost use Rattle.pm_types.specs.Registers.{HasRegisters};
+ghost use Rattle.pm_view.specs.Commands.{row, Picks, ArePicked};
 ghost use Rattle.pm_law_course.specs.Course.{opens, IsOpened, collected, IsPlacedInOpen};
 
 /// A law of births: no command lets an object begin to stand in the train that is collected, and none changes which

@@ -8,7 +8,7 @@ use Rattle.pm_model.specs.World.{World}
 use Rattle.pm_model.specs.Copying.{copy}
 use Rattle.pm_image.specs.declared.catalog.CatEntry.{CatEntry}
 use Rattle.pm_image.specs.Opening.{Current, current, page_count}
-use Rattle.pm_image.specs.Stands.{Stands, pages_of}
+use Rattle.pm_image.specs.Stands.{StandsForCopy, pages_of}
 use Rattle.pm_view.specs.View.{SpaceView}
 use Rattle.pm_view.specs.Law.{HeapLaw}
 use Rattle.pm_view.specs.Represents.{Represents}
@@ -36,7 +36,7 @@ space_of_store view plan law is range =
     record { accepted = of_plan; fields = few_fields (cars_in plan) of_plan.cars; in_range = range }
 
 pub space_stands : (view : SpaceView) (world : World) (plan : CarPlan) (bytes : List ℕ) (now : Current) → HeapLaw view → Represents view world → IsSpacePlan view plan → page_count bytes ≤ 2 ^ 64
-    → current bytes ≡ Ok now → now.header.next ≡ view.next → IsLaidBehind (pages_of bytes) now.header plan → Stands bytes now.header.epoch (copy world)
+    → current bytes ≡ Ok now → now.header.next ≡ view.next → IsLaidBehind (pages_of bytes) now.header plan → StandsForCopy bytes now.header.epoch (copy world)
 space_stands view world plan bytes now law represents is few current next laid = record {
   found = record { current = now; graph = graph_of_plan plan };
   is_found = laid_opened bytes now plan few current laid;

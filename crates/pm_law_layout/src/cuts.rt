@@ -44,7 +44,8 @@ pub fn pages_are_cut_by_sizes()
     ensures count { (first second : List CatEntry) → map entry_size first ≡ map entry_size second
         → length (cut first) ≡ length (cut second) }
     ensures planned { (plan : CarPlan) → map entry_size (planned_entries plan)
-        ≡ replicate (length (cars_in plan)) CAR_ENTRY_BYTES ++ map (λ (root : List ℕ × Addr). ROOT_ENTRY_BYTES + length root.0) plan.roots }
+        ≡ replicate (length (cars_in plan)) CAR_ENTRY_BYTES ++ map
+        (λ (root : List ℕ × Addr). ROOT_ENTRY_BYTES + length root.0) plan.roots }
     ensures plans { (first second : CarPlan) → IsListed first → IsListed second
         → length (cars_in first) ≡ length (cars_in second)
         → map (λ (root : List ℕ × Addr). length root.0) first.roots

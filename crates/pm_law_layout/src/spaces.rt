@@ -5,7 +5,7 @@ ghost use Rattle.pm_types.specs.declared.limits.TheConstants.{FIELDS};
 ghost use Rattle.pm_model.specs.World.{World};
 ghost use Rattle.pm_model.specs.Copying.{copy};
 ghost use Rattle.pm_image.specs.Opening.{Current, current, page_count};
-ghost use Rattle.pm_image.specs.Stands.{Stands, pages_of};
+ghost use Rattle.pm_image.specs.Stands.{StandsForCopy, pages_of};
 ghost use Rattle.pm_view.specs.View.{SpaceView};
 ghost use Rattle.pm_view.specs.Law.{HeapLaw};
 ghost use Rattle.pm_view.specs.Represents.{Represents};
@@ -21,5 +21,5 @@ pub fn a_space_is_laid_as_its_copy()
     ensures stands { (view : SpaceView) (world : World) (plan : CarPlan) (bytes : List ℕ) (now : Current)
         → HeapLaw view → Represents view world → IsSpacePlan view plan → page_count bytes ≤ 2 ^ 64
         → current bytes ≡ Ok now → now.header.next ≡ view.next → IsLaidBehind (pages_of bytes) now.header plan
-        → Stands bytes now.header.epoch (copy world) }
+        → StandsForCopy bytes now.header.epoch (copy world) }
 {}

@@ -24,9 +24,9 @@ use Rattle.pm_view.specs.Reading.{slot_at, object_at, field_of, stored, followed
 use Rattle.pm_view.specs.Effective.{effective, effective_in}
 use Rattle.pm_view.specs.Barrier.{left, entered, news}
 use Rattle.pm_view.specs.Counts.{IsPlaced, live_in}
-use Rattle.pm_view.specs.Seen.{seen, kept, IsLive}
+use Rattle.pm_view.specs.Seen.{seen, kept}
 use Rattle.pm_view.specs.Seen as seen_words
-use Rattle.pm_view.specs.Law.{IsAt, IsAnchor, IsNamed, HeapLaw}
+use Rattle.pm_view.specs.Law.{IsPhaseOf, IsAnchor, IsNamed, HeapLaw}
 use Rattle.pm_view.specs.Represents.{names}
 use Rattle.pm_view.specs.Candidates.{set_of, queue_of}
 use Rattle.pm_view.specs.Collecting.{field_news, move_news, settled}
@@ -313,7 +313,7 @@ module _ (view put : SpaceView) (from : Addr) (c : ℕ) (old car : Car) (object 
     built = built_still put t same (put_built view put from c old car object law is);
     named = named_then;
     tied = law_after_move (seen view) (seen t) from to go law.tied may_move moving;
-    phase = subst (λ p. IsAt p put.trains.trains put.anchor) (sym (is.phase ∙ is.moving)) is.at;
+    phase = subst (λ p. IsPhaseOf p put.trains.trains put.anchor) (sym (is.phase ∙ is.moving)) is.at;
     anchor = anchor_then;
   }
 

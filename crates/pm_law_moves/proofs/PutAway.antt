@@ -9,7 +9,7 @@ use Rattle.pm_types.specs.declared.object.Object.{Object}
 use Rattle.pm_types.specs.declared.object.Slot.{Slot}
 use Rattle.pm_types.specs.declared.object.Slot.TheVariants.{Live, Moved}
 use Rattle.pm_types.specs.declared.source.RefSource.{RefSource}
-use Rattle.pm_cars.specs.Cars.{Car, IsSound, Fits, Slots, object_room, slot_room, one_moved, total, moved_count, object_of, with_birth, with_slot}
+use Rattle.pm_cars.specs.Cars.{Car, IsSoundCar, Fits, Slots, object_room, slot_room, one_moved, total, moved_count, object_of, with_birth, with_slot}
 use Rattle.pm_cars.proofs.Rooms.{total_insert, counted}
 use Rattle.pm_trains.specs.Trains.{train_of, cars_at, oldest, youngest}
 use Rattle.pm_trains.specs.Sound as line
@@ -41,7 +41,7 @@ pub record IsPut (view put : SpaceView) (from : Addr) (c : ℕ) (old car : Car) 
   pub held : (slot : ℕ) → slot_of (get view.cars c) slot ≡ get car.slots slot
   pub numbered : car.number ≡ c
   pub from_one : 0 < c
-  pub sound : IsSound car
+  pub sound : IsSoundCar car
   pub unmoved : moved_count car ≡ 0
   pub fits : Fits car (object_room object)
   pub apart : (from.car == c) ≡ false
@@ -49,7 +49,7 @@ pub record IsPut (view put : SpaceView) (from : Addr) (c : ℕ) (old car : Car) 
   pub sets : (e : ℕ) → is_some (get put.sets e) ≡ is_some (get put.cars e)
   pub queues : (e : ℕ) → is_some (get put.queues e) ≡ is_some (get put.cars e)
   pub effective : (e : ℕ) (x : RefSource) → effective_in (get put.sets e) (get put.queues e) x ≡ effective view e x
-  pub trains : line.IsSound put.trains
+  pub trains : line.AreSoundTrains put.trains
   pub births : put.trains.births ≤ sum_by (standing_in put) (cars_of put.trains.trains (youngest put.trains.trains))
   pub phase : put.phase ≡ view.phase
   pub at : IsFront put.trains.trains from.car
@@ -154,7 +154,7 @@ module _ (view put : SpaceView) (from : Addr) (c : ℕ) (old car : Car) (object 
   room_over : (o : Object) → 17 ≤ object_room o
   room_over o = omega arith
 
-  sound_old : IsSound old → IsSound (with_slot old from.slot (Moved place))
+  sound_old : IsSoundCar old → IsSoundCar (with_slot old from.slot (Moved place))
   sound_old was = record {
     room = let sums = total_set slot_room old.slots from.slot (Live object) (Moved place) is.live in let over = room_over object in let room = was.room in omega arith;
     next = was.next;
@@ -168,7 +168,7 @@ module _ (view put : SpaceView) (from : Addr) (c : ℕ) (old car : Car) (object 
   fresh : get car.slots car.next ≡ None
   fresh = is.sound.below car.next (omega arith)
 
-  sound_new : IsSound (with_birth car object)
+  sound_new : IsSoundCar (with_birth car object)
   sound_new = record {
     room = let sums = total_new slot_room car.slots car.next (Live object) fresh in let fits = is.fits.0 in omega arith;
     next = let low = is.fits.1 in omega arith;

@@ -23,7 +23,7 @@ use Rattle.pm_view.specs.View.{Cars, SpaceView}
 use Rattle.pm_view.specs.Reading.{cars_of, aside_in, from_in, is_aside}
 use Rattle.pm_view.specs.Effective.{effective_in}
 use Rattle.pm_view.specs.Counts.{standing_in, live_in}
-use Rattle.pm_view.specs.Law.{IsOldest, IsFront, IsAt, IsAnchor, HeapLaw}
+use Rattle.pm_view.specs.Law.{IsOldest, IsFront, IsPhaseOf, IsAnchor, HeapLaw}
 use Rattle.pm_view.specs.Rows.{put_car, with_slot_at, put_in, next_of, place_in}
 use Rattle.pm_view.specs.Collecting.{put_away}
 use Rattle.pm_law_rows.proofs.News.{at_insert}
@@ -104,7 +104,7 @@ module _ (view : SpaceView) (from : Addr) (old : Car) (object : Object) (law : H
   ts = view.trains.trains
 
   front_in : IsFront ts from.car
-  front_in = subst (λ p. IsAt p ts view.anchor) moving law.phase
+  front_in = subst (λ p. IsPhaseOf p ts view.anchor) moving law.phase
 
   front : IsFrontOf ts from.car
   front = front_of ts from.car front_in

@@ -25,7 +25,7 @@ use Rattle.pm_view.specs.Reading.{slot_at, object_at, stored, cars_of, aside_in,
 use Rattle.pm_view.specs.Effective.{effective, effective_in}
 use Rattle.pm_view.specs.Seen.{seen, kept}
 use Rattle.pm_view.specs.Seen as seen_words
-use Rattle.pm_view.specs.Law.{IsOldest, IsFront, IsAt, IsAnchor, HeapLaw}
+use Rattle.pm_view.specs.Law.{IsOldest, IsFront, IsPhaseOf, IsAnchor, HeapLaw}
 use Rattle.pm_view.specs.Candidates.{set_of, queue_of, is_beyond, is_named_by, is_bare, is_named_from, naming_trains, candidates, least_outside, referenced_car}
 use Rattle.pm_view.specs.Collecting.{selected, doomed, anchored, started, finished}
 use Rattle.pm_view.specs.Events.{has_change, named_in, anchor_in, first_of, home, MayNote}
@@ -141,7 +141,7 @@ module _ (view : SpaceView) (train : ℕ) (noted : Option Addr) (law : HeapLaw v
   drained_from e = ap (λ p. from_in p e) is.draining
 
   pub drained_oldest : IsOldest ts train
-  drained_oldest = subst (λ p. IsAt p ts view.anchor) is.draining law.phase
+  drained_oldest = subst (λ p. IsPhaseOf p ts view.anchor) is.draining law.phase
 
   -- a car of the train: what it holds is in its remembered set
   pub drained_set : (e : ℕ) (x : RefSource) → is_among e (cars_of ts train) ≡ true → effective view e x ≡ get (set_of view e) x
@@ -363,7 +363,7 @@ module _ (view : SpaceView) (car : ℕ) (stale : Option (RefSource × Addr)) (la
   emptied_from e = ap (λ p. from_in p e) is.moving
 
   pub emptied_front : IsFront view.trains.trains car
-  emptied_front = subst (λ p. IsAt p view.trains.trains view.anchor) is.moving law.phase
+  emptied_front = subst (λ p. IsPhaseOf p view.trains.trains view.anchor) is.moving law.phase
 
   pub emptied_set : (x : RefSource) → effective view car x ≡ get (set_of view car) x
   emptied_set x = effective_alone view car x is.applied

@@ -13,7 +13,7 @@ use Rattle.pm_view.specs.View.{SpaceView}
 use Rattle.pm_view.specs.Reading.{stored, cars_of, aside_in, from_in, is_aside, is_from}
 use Rattle.pm_view.specs.Counts.{standing_in, live_in}
 use Rattle.pm_view.specs.Seen.{seen}
-use Rattle.pm_view.specs.Law.{IsAt, IsAnchor, HeapLaw}
+use Rattle.pm_view.specs.Law.{IsPhaseOf, IsAnchor, HeapLaw}
 use Rattle.pm_law_rows.proofs.OpenTrain.{among_home, open_free}
 use Rattle.pm_law_phases.proofs.MeansSame.{MeansSame}
 use Rattle.pm_law_phases.proofs.SetAside.{NoOutside, FromPasses, law_after_set_aside}
@@ -33,7 +33,7 @@ pub record IsPhased (view : SpaceView) (anchor : Option (Addr × ℕ)) (phase : 
   pub from : (e : ℕ) → is_from view e ≡ true → from_in phase e ≡ true
   pub none : NoOutside (seen view) p
   pub passes : FromPasses (seen view) p
-  pub at : IsAt phase view.trains.trains anchor
+  pub at : IsPhaseOf phase view.trains.trains anchor
   pub anchors : (a : Addr) (to : ℕ) → anchor ≡ Some (a, to) → IsAnchor (record view { anchor = anchor; phase = phase }) a to
 
 module _ (view : SpaceView) (anchor : Option (Addr × ℕ)) (phase : Phase) (p : ℕ → Bool) (law : HeapLaw view) (is : IsPhased view anchor phase p) where

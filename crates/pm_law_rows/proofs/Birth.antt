@@ -13,7 +13,7 @@ use Rattle.pm_types.specs.declared.source.RefSource.{RefSource}
 use Rattle.pm_types.specs.declared.source.RefSource.TheVariants.{Root, Handle, Field}
 use Rattle.pm_cars.specs.declared.look.Look.{Look}
 use Rattle.pm_cars.specs.declared.look.Look.TheVariants as looks
-use Rattle.pm_cars.specs.Cars.{Car, IsSound, Fits, Slots, used, object_room, slot_room, one_live, one_moved, total, live_count, moved_count, object_of, look_of, with_birth}
+use Rattle.pm_cars.specs.Cars.{Car, IsSoundCar, Fits, Slots, used, object_room, slot_room, one_live, one_moved, total, live_count, moved_count, object_of, look_of, with_birth}
 use Rattle.pm_cars.proofs.Rooms.{total_insert, counted}
 use Rattle.pm_trains.specs.Trains.{train_of, youngest}
 use Rattle.pm_trains.specs.Sound as line
@@ -27,7 +27,7 @@ use Rattle.pm_view.specs.Effective.{effective}
 use Rattle.pm_view.specs.Seen.{Seen, seen, kept, IsLive, IsTied}
 use Rattle.pm_view.specs.Seen as seen_words
 use Rattle.pm_view.specs.Counts.{standing_in}
-use Rattle.pm_view.specs.Law.{IsCar, IsObject, IsAt, IsAnchor, HeapLaw}
+use Rattle.pm_view.specs.Law.{IsCar, IsObject, IsPhaseOf, IsAnchor, HeapLaw}
 use Rattle.pm_view.specs.Rows.{MayBeBorn}
 use Rattle.pm_view.specs.Represents.{names, meaning, Represents}
 use Rattle.pm_law_rows.proofs.SameSource.{same_address-true}
@@ -101,7 +101,7 @@ pub record IsBirth (view t : SpaceView) (c : ℕ) (car : Car) (object : stored_o
   pub held : (slot : ℕ) → slot_of (get view.cars c) slot ≡ get car.slots slot
   pub numbered : car.number ≡ c
   pub from_one : 0 < c
-  pub sound : IsSound car
+  pub sound : IsSoundCar car
   pub unmoved : moved_count car ≡ 0
   pub fits : Fits car (object_room object)
   pub free : is_aside view c ≡ false
@@ -110,12 +110,12 @@ pub record IsBirth (view t : SpaceView) (c : ℕ) (car : Car) (object : stored_o
   pub sets : (e : ℕ) → is_some (get t.sets e) ≡ is_some (get t.cars e)
   pub queues : (e : ℕ) → is_some (get t.queues e) ≡ is_some (get t.cars e)
   pub effective : (e : ℕ) (x : RefSource) → effective t e x ≡ effective view e x
-  pub trains : line.IsSound t.trains
+  pub trains : line.AreSoundTrains t.trains
   pub births : t.trains.births ≤ sum_by (standing_in t) (cars_of t.trains.trains (youngest t.trains.trains))
   pub roots : t.roots ≡ view.roots
   pub registers : t.registers ≡ view.registers
   pub from : (e : ℕ) → is_from t e ≡ is_from view e
-  pub phase : IsAt t.phase t.trains.trains t.anchor
+  pub phase : IsPhaseOf t.phase t.trains.trains t.anchor
   pub anchor : (a : Addr) (to : ℕ) → t.anchor ≡ Some (a, to) → IsAnchor view a to
   pub anchored : (a : Addr) (to : ℕ) → IsAnchor view a to → (is_some (object_at t.cars a) ≡ true) → IsAnchor t a to
   pub next : t.next ≡ view.next
@@ -136,7 +136,7 @@ total_born f slots k w none =
     omega arith
 
 -- a car has one more object after a birth
-pub live_after : (car : Car) (object : stored_objects.Object) → IsSound car → live_count (with_birth car object) ≡ live_count car + 1
+pub live_after : (car : Car) (object : stored_objects.Object) → IsSoundCar car → live_count (with_birth car object) ≡ live_count car + 1
 live_after car object sound = total_born one_live car.slots car.next (Live object) (sound.below car.next (omega arith))
 
 object_cond : (b : Bool) (object : stored_objects.Object) (o : Option Slot) → object_of (cond b (Some (Live object)) o) ≡ cond b (Some object) (object_of o)
@@ -204,7 +204,7 @@ module _ (view t : SpaceView) (c : ℕ) (car : Car) (object : stored_objects.Obj
   moved_then : moved_count (with_birth car object) ≡ 0
   moved_then = total_born one_moved car.slots car.next (Live object) (birth.sound.below car.next (omega arith)) ∙ ap (λ n. n + 0) birth.unmoved
 
-  sound_then : IsSound (with_birth car object)
+  sound_then : IsSoundCar (with_birth car object)
   sound_then =
       let room = total_born slot_room car.slots car.next (Live object) (birth.sound.below car.next (omega arith)) in
       let fits = birth.fits in

@@ -13,7 +13,7 @@ use Rattle.pm_types.specs.declared.object.Object as stored_objects
 use Rattle.pm_types.specs.declared.object.Slot.TheVariants.{Live}
 use Rattle.pm_types.specs.declared.source.RefSource.{RefSource}
 use Rattle.pm_types.specs.declared.source.Change.{Change}
-use Rattle.pm_cars.specs.Cars.{Car, IsSound, Fits, used, object_room, slot_room, one_live, one_moved, new_car, live_count, moved_count, object_of, with_birth}
+use Rattle.pm_cars.specs.Cars.{Car, IsSoundCar, Fits, used, object_room, slot_room, one_live, one_moved, new_car, live_count, moved_count, object_of, with_birth}
 use Rattle.pm_cars.proofs.Rooms.{total_empty}
 use Rattle.pm_trains.specs.Trains.{Train, HasCar, cars_at, train_of, is_among, first_car, tail, oldest, youngest, last_number, rotated}
 use Rattle.pm_trains.specs.Sound as line
@@ -26,7 +26,7 @@ use Rattle.pm_view.specs.View.{Cars, Sources, SpaceView}
 use Rattle.pm_view.specs.Reading.{slot_at, object_at, id_at, cars_of, aside_in, is_aside, is_from}
 use Rattle.pm_view.specs.Effective.{effective_in}
 use Rattle.pm_view.specs.Counts.{live_in, standing_in}
-use Rattle.pm_view.specs.Law.{IsOldest, IsFront, IsAt, IsAnchor, HeapLaw}
+use Rattle.pm_view.specs.Law.{IsOldest, IsFront, IsPhaseOf, IsAnchor, HeapLaw}
 use Rattle.pm_view.specs.Rows.{put_car, has_room, if_fits, tail_for, put_in, with_count, born_in, born, next_of, place_in, birthplace, IsVacant, MayBeBorn}
 use Rattle.pm_law_rows.proofs.News.{at_insert}
 use Rattle.pm_law_rows.proofs.Places.{slot_of}
@@ -155,7 +155,7 @@ module _ (view : SpaceView) (c number : ℕ) (car : Car) (object : stored_object
 pub new_counts : (c : ℕ) → (live_count (new_car c) ≡ 0) × (moved_count (new_car c) ≡ 0) × (used (new_car c) ≡ CAR_HEAD_BYTES)
 new_counts c = (total_empty one_live, total_empty one_moved, ap (λ n. CAR_HEAD_BYTES + n) (total_empty slot_room))
 
-pub new_sound : (c : ℕ) → IsSound (new_car c)
+pub new_sound : (c : ℕ) → IsSoundCar (new_car c)
 new_sound c = record { room = subst (λ n. n ≤ CAR_BYTES) (sym (new_counts c).2) (omega arith); next = omega arith; below = λ slot after. get-empty nat_cmp slot }
 
 pub some_empty : (b : Bool) {A : Type 0} (x : A) (o : Option A) → is_some (cond b (Some x) o) ≡ (b || is_some o)
@@ -210,7 +210,7 @@ module _ (view : SpaceView) (c : ℕ) (object : stored_objects.Object) (law : He
           by_oldest None at same = at
           by_oldest (Some n) at same = let clash : Some n ≡ None = sym (first_home trains_now n f law.built.trains.single at.1) ∙ ap (train_of trains_now) same ∙ homeless in cc
 
-      by_case : (p : Phase) → IsAt p trains_now view.anchor → aside_in p trains_now c ≡ false
+      by_case : (p : Phase) → IsPhaseOf p trains_now view.anchor → aside_in p trains_now c ≡ false
       by_case Idle at = refl
       by_case (Draining n) at = refl
       by_case (Moving f) at = refl
@@ -299,7 +299,7 @@ module _ (view : SpaceView) (c : ℕ) (object : stored_objects.Object) (law : He
     next = refl;
   }
     where
-      trains_then : line.IsSound in_new_car.trains
+      trains_then : line.AreSoundTrains in_new_car.trains
       trains_then =
           let was = sound_appended view.trains (youngest trains_now) c law.built.trains homeless in
           record { standing = was.standing; rising = was.rising; filled = was.filled; single = was.single; bounded = omega (arith, births) }

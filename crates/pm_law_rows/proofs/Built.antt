@@ -5,13 +5,13 @@ use Rattle.std.specs.FinMap.{get}
 use Rattle.pm_types.specs.declared.limits.TheConstants.{FIELDS, OBJECT_BYTES, CAR_BYTES, LAST_SLOT}
 use Rattle.pm_types.specs.declared.address.Addr.{Addr}
 use Rattle.pm_types.specs.declared.object.Object.{Object}
-use Rattle.pm_cars.specs.Cars.{Car, IsSound, look_of}
+use Rattle.pm_cars.specs.Cars.{Car, IsSoundCar, look_of}
 use Rattle.pm_trains.specs.Sound as line
 use Rattle.pm_trains.specs.Trains.{Trains, cars_at, train_of, oldest, youngest}
 use Rattle.pm_view.specs.View.{SpaceView}
 use Rattle.pm_view.specs.Reading.{slot_at, object_at, cars_of, aside_in, from_in, is_aside, is_from}
 use Rattle.pm_view.specs.Counts.{live_in, standing_in}
-use Rattle.pm_view.specs.Law.{IsCar, IsObject, IsBuilt, IsAt, IsAnchor}
+use Rattle.pm_view.specs.Law.{IsCar, IsObject, IsBuilt, IsPhaseOf, IsAnchor}
 use Rattle.pm_law_rows.proofs.Shapes.{IsShaped, IsShapedCar, IsShapedAt, AreShaped}
 
 -- t is a space with the cars, trains and sets of another; only what is in fields and bytes, in queues, and under names
@@ -44,7 +44,7 @@ shaped_from : (o : Option Car) (d : Car) → IsShapedAt o (Some d) → (c : Car)
 shaped_from None d shaped = absurd shaped
 shaped_from (Some c) d shaped = (c, refl, shaped)
 
-sound_still : (c d : Car) → IsShapedCar c d → IsSound c → IsSound d
+sound_still : (c d : Car) → IsShapedCar c d → IsSoundCar c → IsSoundCar d
 sound_still c d shaped sound = record {
   room = subst (λ n. n ≤ CAR_BYTES) (sym shaped.room) sound.room;
   next = subst (λ n. n ≤ LAST_SLOT + 1) (sym shaped.next) sound.next;
@@ -102,7 +102,7 @@ module _ (view t : SpaceView) (same : IsReshaped view t) where
     -- it stays built as the law says
     pub built_still : IsBuilt t
     built_still = record {
-      trains = subst line.IsSound (sym same.trains) built.trains;
+      trains = subst line.AreSoundTrains (sym same.trains) built.trains;
       linked = λ e. ap (λ (s : Trains). is_some (train_of s.trains e)) same.trains ∙ built.linked e ∙ sym (stand_same e);
       sets = λ e. ap (λ s. is_some (get s e)) same.sets ∙ built.sets e ∙ sym (stand_same e);
       queues = λ e. same.queues e ∙ built.queues e ∙ sym (stand_same e);
@@ -123,8 +123,8 @@ module _ (view t : SpaceView) (same : IsReshaped view t) where
   }
 
   -- the phase and the anchor stay as the law says
-  pub phase_still : IsAt view.phase view.trains.trains view.anchor → IsAt t.phase t.trains.trains t.anchor
-  phase_still at = subst (λ p. IsAt p t.trains.trains t.anchor) (sym same.phase) (subst (λ (s : Trains). IsAt view.phase s.trains t.anchor) (sym same.trains) (subst (IsAt view.phase view.trains.trains) (sym same.anchor) at))
+  pub phase_still : IsPhaseOf view.phase view.trains.trains view.anchor → IsPhaseOf t.phase t.trains.trains t.anchor
+  phase_still at = subst (λ p. IsPhaseOf p t.trains.trains t.anchor) (sym same.phase) (subst (λ (s : Trains). IsPhaseOf view.phase s.trains t.anchor) (sym same.trains) (subst (IsPhaseOf view.phase view.trains.trains) (sym same.anchor) at))
 
   pub anchor_still : ((a : Addr) (to : ℕ) → view.anchor ≡ Some (a, to) → IsAnchor view a to) → (a : Addr) (to : ℕ) → t.anchor ≡ Some (a, to) → IsAnchor t a to
   anchor_still anchor a to is = anchored_still a to (anchor a to (sym same.anchor ∙ is))

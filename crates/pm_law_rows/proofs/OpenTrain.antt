@@ -11,7 +11,7 @@ use Rattle.pm_trains.proofs.Found.{home_back, cars_changed, last_changed, last_l
 use Rattle.pm_view.specs.declared.phase.Phase.{Phase}
 use Rattle.pm_view.specs.declared.phase.Phase.TheVariants.{Idle, Draining, Moving, Sweeping, Doomed}
 use Rattle.pm_view.specs.Reading.{cars_of, aside_in, from_in}
-use Rattle.pm_view.specs.Law.{IsOldest, IsFront, IsAt}
+use Rattle.pm_view.specs.Law.{IsOldest, IsFront, IsPhaseOf}
 
 some_is_some : (x y : ℕ) → Some x ≡ Some y → x ≡ y
 some_is_some x y is = cc
@@ -43,7 +43,7 @@ front_not_open ts f c single front home = by_case (oldest ts) front
         false_from_ne_true (f == c) (λ same. not_oldest ts n c front.0 home (subst (λ q. train_of ts q ≡ Some n) (eqb-true f c same) (first_home ts n f single front.1)))
 
 -- a car of the open train is not set aside
-pub open_free : (p : Phase) (ts : List Train) (anchor : Option (Addr × ℕ)) (c : ℕ) → ((q : ℕ) → line.places q ts ≤ 1) → IsAt p ts anchor → train_of ts c ≡ Some (youngest ts) → aside_in p ts c ≡ false
+pub open_free : (p : Phase) (ts : List Train) (anchor : Option (Addr × ℕ)) (c : ℕ) → ((q : ℕ) → line.places q ts ≤ 1) → IsPhaseOf p ts anchor → train_of ts c ≡ Some (youngest ts) → aside_in p ts c ≡ false
 open_free Idle ts anchor c single at home = refl
 open_free (Draining n) ts anchor c single at home = refl
 open_free (Moving f) ts anchor c single at home = refl
@@ -51,7 +51,7 @@ open_free (Sweeping f) ts anchor c single at home = front_not_open ts f c single
 open_free (Doomed n) ts anchor c single at home = false_from_ne_true (is_among c (cars_of ts n)) (λ among. not_oldest ts n c at.0 home (among_home ts n c single among))
 
 -- and is not the from-car
-pub open_not_from : (p : Phase) (ts : List Train) (anchor : Option (Addr × ℕ)) (c : ℕ) → ((q : ℕ) → line.places q ts ≤ 1) → IsAt p ts anchor → train_of ts c ≡ Some (youngest ts) → from_in p c ≡ false
+pub open_not_from : (p : Phase) (ts : List Train) (anchor : Option (Addr × ℕ)) (c : ℕ) → ((q : ℕ) → line.places q ts ≤ 1) → IsPhaseOf p ts anchor → train_of ts c ≡ Some (youngest ts) → from_in p c ≡ false
 open_not_from Idle ts anchor c single at home = refl
 open_not_from (Draining n) ts anchor c single at home = refl
 open_not_from (Moving f) ts anchor c single at home = front_not_open ts f c single at home
@@ -124,14 +124,14 @@ module _ (ts : List Train) (c : ℕ) (rising : line.Rise 0 ts) where
           subst (λ o. IsSomeAnd o (λ n. IsOldest after n × (first_car after n ≡ Some f))) (sym (oldest_appended n is))
           (is_oldest_appended n at.0, ap (option_and_then (λ (cars : List ℕ). slice_get cars 0)) (cars_appended ts (youngest ts) c n at.0.1) ∙ at.1)
 
-  pub phase_appended : (p : Phase) (anchor : Option (Addr × ℕ)) → IsAt p ts anchor → IsAt p after anchor
+  pub phase_appended : (p : Phase) (anchor : Option (Addr × ℕ)) → IsPhaseOf p ts anchor → IsPhaseOf p after anchor
   phase_appended Idle anchor at = tt
   phase_appended (Draining n) anchor at = is_oldest_appended n at
   phase_appended (Moving f) anchor at = front_appended f at
   phase_appended (Sweeping f) anchor at = front_appended f at
   phase_appended (Doomed n) anchor at = (is_oldest_appended n at.0, at.1)
 
-  pub aside_appended : (p : Phase) (anchor : Option (Addr × ℕ)) → IsAt p ts anchor → (e : ℕ) → aside_in p after e ≡ aside_in p ts e
+  pub aside_appended : (p : Phase) (anchor : Option (Addr × ℕ)) → IsPhaseOf p ts anchor → (e : ℕ) → aside_in p after e ≡ aside_in p ts e
   aside_appended Idle anchor at e = refl
   aside_appended (Draining n) anchor at e = refl
   aside_appended (Moving f) anchor at e = refl

@@ -19,7 +19,7 @@ use Rattle.pm_model.specs.Reachability.{Leads, IsReachable}
 use Rattle.pm_view.specs.View.{SpaceView}
 use Rattle.pm_view.specs.Reading.{slot_at, object_at, field_of, stored, is_aside, followed, id_at, named_by}
 use Rattle.pm_view.specs.Counts.{IsStanding}
-use Rattle.pm_view.specs.Seen.{Seen, seen, kept, IsLive, IsTied}
+use Rattle.pm_view.specs.Seen.{seen, kept, IsTied}
 use Rattle.pm_view.specs.Seen as seen_words
 use Rattle.pm_view.specs.Represents.{names, meaning, IsHeld}
 

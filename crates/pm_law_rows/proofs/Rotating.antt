@@ -20,7 +20,7 @@ use Rattle.pm_roots.specs.Bindings.{address_at}
 use Rattle.pm_view.specs.Effective.{effective_in}
 use Rattle.pm_view.specs.Reading.{slot_at, object_at, field_of, stored, cars_of, aside_in, from_in, is_aside}
 use Rattle.pm_view.specs.Seen.{seen, IsTied}
-use Rattle.pm_view.specs.Law.{IsCar, IsOldest, IsFront, IsAt, IsAnchor, HeapLaw}
+use Rattle.pm_view.specs.Law.{IsCar, IsOldest, IsFront, IsPhaseOf, IsAnchor, HeapLaw}
 use Rattle.pm_view.specs.Represents.{Represents}
 use Rattle.pm_model.specs.World.{World}
 use Rattle.pm_law_rows.proofs.SpreadMeans.{stands_for}
@@ -100,7 +100,7 @@ front_still ts car rising at = by_case (oldest ts) refl at
         subst (λ o. IsSomeAnd o (λ n. IsOldest (rotated ts) n × (first_car (rotated ts) n ≡ Some car))) (sym (oldest_rotated ts ∙ is))
         (oldest_still ts n rising at.0, first_still n (cars_at ts n) refl at.1)
 
-phase_rotated : (p : Phase) (ts : List Train) (anchor : Option (Addr × ℕ)) → line.Rise 0 ts → IsAt p ts anchor → IsAt p (rotated ts) anchor
+phase_rotated : (p : Phase) (ts : List Train) (anchor : Option (Addr × ℕ)) → line.Rise 0 ts → IsPhaseOf p ts anchor → IsPhaseOf p (rotated ts) anchor
 phase_rotated Idle ts anchor rising at = tt
 phase_rotated (Draining n) ts anchor rising at = oldest_still ts n rising at
 phase_rotated (Moving car) ts anchor rising at = front_still ts car rising at

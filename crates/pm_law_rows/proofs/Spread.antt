@@ -14,7 +14,7 @@ use Rattle.pm_cars.specs.declared.look.Look.TheVariants as looks
 use Rattle.pm_cars.specs.Cars.{Car, look_of, with_field}
 use Rattle.pm_view.specs.Sources.{same_source, same_address, slot_in}
 use Rattle.pm_view.specs.View.{Cars, SpaceView}
-use Rattle.pm_view.specs.Reading.{slot_at, object_at, stored, is_aside, from_in, Stands}
+use Rattle.pm_view.specs.Reading.{slot_at, object_at, stored, is_aside, from_in, SourceStands}
 use Rattle.pm_view.specs.Effective.{effective_in}
 use Rattle.pm_view.specs.Seen.{Seen, seen, kept, IsLive, Leads, IsTied, MayStore}
 use Rattle.pm_view.specs.Law.{IsBuilt}
@@ -95,7 +95,7 @@ may_store_car view None may a is = cc
 may_store_car view (Some b) may a is = subst (λ a. IsSome (get view.cars a.car)) (same_some b a is) (live_to_car view b may)
 
 -- what stands goes with no car that is set aside
-pub stands_kept : (view : SpaceView) (x : RefSource) → Stands view x → kept (seen view) x ≡ true
+pub stands_kept : (view : SpaceView) (x : RefSource) → SourceStands view x → kept (seen view) x ≡ true
 stands_kept view (Root n) at = refl
 stands_kept view (Handle c r) at = refl
 stands_kept view (Field a i) at = ap not at.0
@@ -150,7 +150,7 @@ stored_news view x old new (Handle c r) = refl
 stored_news view x old new (Field a i) = refl
 
 -- what is seen once a source was set
-pub is_spread : (view : SpaceView) (x : RefSource) (to : Option Addr) → IsBuilt view → IsTied (seen view) → Stands view x → HasValue x to → MayStore (seen view) to → IsSpread (seen view) (seen (spread view x to)) x to
+pub is_spread : (view : SpaceView) (x : RefSource) (to : Option Addr) → IsBuilt view → IsTied (seen view) → SourceStands view x → HasValue x to → MayStore (seen view) to → IsSpread (seen view) (seen (spread view x to)) x to
 is_spread view x to built tied at some may = record {
   stored = λ y. stored_news (with_stored view x to) x (stored view x) to y ∙ stored_after view x to at some y;
   aside = aside_stored view x to;
@@ -160,5 +160,5 @@ is_spread view x to built tied at some may = record {
 }
 
 -- sources and effective sets stay tied
-pub spread_keeps_ties : (view : SpaceView) (x : RefSource) (to : Option Addr) → IsBuilt view → IsTied (seen view) → Stands view x → HasValue x to → MayStore (seen view) to → IsTied (seen (spread view x to))
+pub spread_keeps_ties : (view : SpaceView) (x : RefSource) (to : Option Addr) → IsBuilt view → IsTied (seen view) → SourceStands view x → HasValue x to → MayStore (seen view) to → IsTied (seen (spread view x to))
 spread_keeps_ties view x to built tied at some may = law_after_spread (seen view) (seen (spread view x to)) x to tied (is_spread view x to built tied at some may) (stands_kept view x at) may

@@ -17,7 +17,7 @@ use Rattle.pm_cars.specs.Cars.{look_of, with_field}
 use Rattle.pm_roots.specs.Bindings.{Bindings, AllNumbersDiffer}
 use Rattle.pm_view.specs.Sources.{same_address, same_source, outside, slot_in}
 use Rattle.pm_view.specs.View.{SpaceView}
-use Rattle.pm_view.specs.Reading.{slot_at, object_at, stored, is_aside, Stands}
+use Rattle.pm_view.specs.Reading.{slot_at, object_at, stored, is_aside, SourceStands}
 use Rattle.pm_view.specs.Seen.{seen, kept, MayStore}
 use Rattle.pm_view.specs.Effective.{effective}
 use Rattle.pm_view.specs.Barrier.{barrier, news}
@@ -140,7 +140,7 @@ in_range c r d s true to o a same at was is =
     (subst (λ c. c < CLIENTS) (eqb-true c d both.0) at.0, subst (λ r. r < REGISTERS) (eqb-true r s both.1) at.1)
 in_range c r d s false to o a same at was is = was a is
 
-named_stored : (view : SpaceView) (x : RefSource) (to : Option Addr) → IsNamed view → Stands view x → IsNamed (with_stored view x to)
+named_stored : (view : SpaceView) (x : RefSource) (to : Option Addr) → IsNamed view → SourceStands view x → IsNamed (with_stored view x to)
 named_stored view (Root n) None named at = named
 named_stored view (Root n) (Some a) named at = record {
   numbers = numbers_differ view.roots n a named.numbers;
@@ -162,7 +162,7 @@ named_news t x old new named = record { numbers = named.numbers; few = named.few
 -- ---- the law
 
 -- a source that is set by the write barrier keeps the heap law
-pub spread_keeps_law : (view : SpaceView) (x : RefSource) (to : Option Addr) → HeapLaw view → Stands view x → HasValue x to → MayStore (seen view) to → HeapLaw (spread view x to)
+pub spread_keeps_law : (view : SpaceView) (x : RefSource) (to : Option Addr) → HeapLaw view → SourceStands view x → HasValue x to → MayStore (seen view) to → HeapLaw (spread view x to)
 spread_keeps_law view x to law at some may =
     let same = reshaped_spread view x to in
     record {
@@ -176,19 +176,19 @@ spread_keeps_law view x to law at some may =
 -- ---- effective sets
 
 -- the set of a car that is not set aside gives for the source what it stores
-pub effective_here : (view : SpaceView) (x : RefSource) (to : Option Addr) (e : ℕ) → HeapLaw view → Stands view x → HasValue x to → MayStore (seen view) to
+pub effective_here : (view : SpaceView) (x : RefSource) (to : Option Addr) (e : ℕ) → HeapLaw view → SourceStands view x → HasValue x to → MayStore (seen view) to
     → is_aside view e ≡ false → outside e x ≡ true → effective (spread view x to) e x ≡ slot_in e to
 effective_here view x to e law at some may free out =
     let ties = spread_keeps_ties view x to law.built law.tied at some may in
     let sp = is_spread view x to law.built law.tied at some may in
     ties.reads e x (sp.aside e ∙ free) (kept_still x at) out ∙ ap (slot_in e) (sp.stored x ∙ cond-true _ _ _ (same_itself x))
   where
-    kept_still : (y : RefSource) → Stands view y → kept (seen (spread view x to)) y ≡ true
+    kept_still : (y : RefSource) → SourceStands view y → kept (seen (spread view x to)) y ≡ true
     kept_still (Root n) up = refl
     kept_still (Handle c r) up = refl
     kept_still (Field a i) up = ap not ((is_spread view x to law.built law.tied at some may).aside a.car ∙ up.0)
 
 -- and for every other source what it gave
-pub effective_elsewhere : (view : SpaceView) (x : RefSource) (to : Option Addr) (e : ℕ) (y : RefSource) → HeapLaw view → Stands view x → HasValue x to → MayStore (seen view) to
+pub effective_elsewhere : (view : SpaceView) (x : RefSource) (to : Option Addr) (e : ℕ) (y : RefSource) → HeapLaw view → SourceStands view x → HasValue x to → MayStore (seen view) to
     → same_source x y ≡ false → effective (spread view x to) e y ≡ effective view e y
 effective_elsewhere view x to e y law at some may apart = (is_spread view x to law.built law.tied at some may).effective e y ∙ cond-false _ _ _ apart

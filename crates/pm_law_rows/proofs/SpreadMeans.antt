@@ -20,7 +20,7 @@ use Rattle.pm_model.specs.Heap.{Object, Heap, Holds, with_field}
 use Rattle.pm_model.specs.World.{World, naming, changing}
 use Rattle.pm_view.specs.Sources.{same_address}
 use Rattle.pm_view.specs.View.{SpaceView}
-use Rattle.pm_view.specs.Reading.{object_at, is_aside, named_by, Stands}
+use Rattle.pm_view.specs.Reading.{object_at, is_aside, named_by, SourceStands}
 use Rattle.pm_view.specs.Seen.{seen, MayStore}
 use Rattle.pm_view.specs.Law.{HeapLaw}
 use Rattle.pm_view.specs.Represents.{names, meaning, IsForgotten, Represents, registered}
@@ -87,7 +87,7 @@ pub cond_either : {A : Type 0} (b : Bool) (x y z : A) → cond b x y ≡ z → (
 cond_either true x y z is = inl is
 cond_either false x y z is = inr is
 
-module _ (view : SpaceView) (world : World) (c r : ℕ) (to : Option Addr) (law : HeapLaw view) (stands : Represents view world) (at : Stands view (Handle c r)) (may : MayStore (seen view) to)
+module _ (view : SpaceView) (world : World) (c r : ℕ) (to : Option Addr) (law : HeapLaw view) (stands : Represents view world) (at : SourceStands view (Handle c r)) (may : MayStore (seen view) to)
     (known : (id : ℕ) → names view to ≡ Some id → IsSome (get world.heap id)) where
   abbrev t : SpaceView
   t = spread view (Handle c r) to
@@ -146,7 +146,7 @@ module _ (view : SpaceView) (world : World) (name : List ℕ) (n id : ℕ) (old 
   abbrev w_root : World
   w_root = naming world name id
 
-  root_at : Stands view (Root n)
+  root_at : SourceStands view (Root n)
   root_at = ap is_some (found_by_number view.roots law.named.numbers name (n, old) bound)
 
   -- the name itself
@@ -319,7 +319,7 @@ module _ (view t : SpaceView) (world : World) (a : Addr) (o o_then : stored_obje
 -- ---- fields
 
 module _ (view : SpaceView) (world : World) (a : Addr) (i : ℕ) (o : stored_objects.Object) (it : Object) (to : Option Addr) (law : HeapLaw view) (stands : Represents view world) (here : object_at view.cars a ≡ Some o)
-    (at : Stands view (Field a i)) (may : MayStore (seen view) to) (is_it : get world.heap o.id ≡ Some it) (known : (id : ℕ) → names view to ≡ Some id → IsSome (get world.heap id)) where
+    (at : SourceStands view (Field a i)) (may : MayStore (seen view) to) (is_it : get world.heap o.id ≡ Some it) (known : (id : ℕ) → names view to ≡ Some id → IsSome (get world.heap id)) where
   abbrev t_field : SpaceView
   t_field = spread view (Field a i) to
 

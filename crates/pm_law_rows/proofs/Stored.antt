@@ -18,7 +18,7 @@ use Rattle.pm_roots.specs.Bindings.{Bindings, address_in, address_at}
 use Rattle.pm_handles.specs.Handles.{with_register}
 use Rattle.pm_view.specs.Sources.{same_source, same_address}
 use Rattle.pm_view.specs.View.{Registers, SpaceView}
-use Rattle.pm_view.specs.Reading.{object_at, field_of, stored, Stands}
+use Rattle.pm_view.specs.Reading.{object_at, field_of, stored, SourceStands}
 use Rattle.pm_view.specs.Rows.{readdressed, with_stored, HasValue}
 use Rattle.pm_law_rows.proofs.SameSource.{place_ties, same_address-true}
 use Rattle.pm_law_rows.proofs.Places.{object_after, field_set}
@@ -72,7 +72,7 @@ of_either true o p j = refl
 of_either false o p j = refl
 
 -- what each source stores, once one was set
-pub stored_after : (view : SpaceView) (x : RefSource) (to : Option Addr) → Stands view x → HasValue x to → (y : RefSource) → stored (with_stored view x to) y ≡ cond (same_source x y) to (stored view y)
+pub stored_after : (view : SpaceView) (x : RefSource) (to : Option Addr) → SourceStands view x → HasValue x to → (y : RefSource) → stored (with_stored view x to) y ≡ cond (same_source x y) to (stored view y)
 stored_after view (Root n) None at some y = absurd (true≢false (sym some))
 stored_after view (Root n) (Some a) at some (Root k) = address_after view.roots n a at k
 stored_after view (Root n) (Some a) at some (Handle d s) = refl

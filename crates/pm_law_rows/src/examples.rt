@@ -1,18 +1,14 @@
 //! Examples of the definitions, worked out by hand. Each function's contract is the example, and the function
 //! does nothing.
 
-ghost use Rattle.std.specs.Prelude.{◌≡◌, ℕ, Bool, true, false, List, [], ◌∷◌, Option, Some, None};
-ghost use Rattle.pm_types.specs.declared.address.Addr.{Addr};
-ghost use Rattle.pm_types.specs.declared.source.RefSource.{RefSource};
+ghost use Rattle.std.specs.Prelude.{◌≡◌, true, false, [], ◌∷◌, Some, None};
 ghost use Rattle.pm_types.specs.declared.source.RefSource.TheVariants.{Root, Handle, Field};
-ghost use Rattle.pm_types.specs.declared.source.Change.{Change};
 ghost use Rattle.pm_types.specs.declared.object.Object.{Object};
 ghost use Rattle.pm_types.specs.declared.object.Slot.TheVariants.{Live, Moved};
-ghost use Rattle.pm_trains.specs.Trains.{Train};
 ghost use Rattle.pm_view.specs.declared.phase.Phase.TheVariants.{Idle, Moving, Sweeping, Doomed};
 ghost use Rattle.pm_view.specs.Reading.{aside_in, from_in, followed};
 ghost use Rattle.pm_view.specs.Barrier.{barrier};
-ghost use Rattle.pm_view.specs.Rows.{with_open_train, new_space};
+ghost use Rattle.pm_view.specs.Rows.{with_open_train};
 ghost use Rattle.pm_law_rows.specs.Examples.{at, no_car, first_two, put, take_out, reused, with_births};
 
 /// Which cars hear of a source that is set, and what.
@@ -22,9 +18,11 @@ pub fn examples_of_the_barrier()
     // A register that goes from the one to the other is heard of once, with the new slot.
     ensures same_car { barrier no_car (Handle 0 1) (Some (at 1 0)) (Some (at 1 1)) ≡ put 1 (Handle 0 1) 1 ∷ [] }
     // A name that goes from one car to another is heard of by both.
-    ensures two_cars { barrier no_car (Root 3) (Some (at 1 0)) (Some (at 2 5)) ≡ take_out 1 (Root 3) ∷ put 2 (Root 3) 5 ∷ [] }
+    ensures two_cars { barrier no_car (Root 3) (Some (at 1 0)) (Some (at 2 5)) ≡ take_out 1 (Root 3) ∷ put 2
+        (Root 3) 5 ∷ [] }
     // A field that leaves its own car is heard of by the other car alone.
-    ensures out_of_its_car { barrier no_car (Field (at 1 0) 0) (Some (at 1 1)) (Some (at 2 5)) ≡ put 2 (Field (at 1 0) 0) 5 ∷ [] }
+    ensures out_of_its_car { barrier no_car (Field (at 1 0) 0) (Some (at 1 1)) (Some (at 2 5)) ≡ put 2
+        (Field (at 1 0) 0) 5 ∷ [] }
     // A null address has no car.
     ensures from_null { barrier no_car (Handle 7 1023) None (Some (at 4 0)) ≡ put 4 (Handle 7 1023) 0 ∷ [] }
     ensures to_null { barrier no_car (Handle 7 1023) (Some (at 4 0)) None ≡ take_out 4 (Handle 7 1023) ∷ [] }

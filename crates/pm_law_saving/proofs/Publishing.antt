@@ -4,7 +4,7 @@ use Rattle.std.specs.Prelude.{nat_lt}
 use Rattle.pm_disk.specs.Disk.{IfTold}
 use Rattle.pm_layout.specs.declared.header.Header.{Header}
 use Rattle.pm_model.specs.World.{Copy}
-use Rattle.pm_image.specs.Stands.{Stands}
+use Rattle.pm_image.specs.Stands.{StandsForCopy}
 use Rattle.pm_shadow.specs.declared.page_use.PageUse.{PageUse}
 use Rattle.pm_shadow.specs.declared.page_use.PageUse.TheVariants.{Free, Current, Claimed, Kept}
 use Rattle.pm_shadow.specs.Uses.{is_next, renewed}
@@ -20,14 +20,14 @@ use Rattle.pm_law_saving.proofs.Members.{by_members}
 use Rattle.pm_law_saving.proofs.Staying.{idle_pages}
 use Rattle.pm_law_saving.proofs.Standing.{IsItsPage, car_page_next}
 
-pub copy_held : (s : State) (bytes image : List ℕ) (copy : Copy) → HasCopy s bytes copy → Holds s bytes image → Stands image s.header.epoch copy
+pub copy_held : (s : State) (bytes image : List ℕ) (copy : Copy) → HasCopy s bytes copy → Holds s bytes image → StandsForCopy image s.header.epoch copy
 copy_held s bytes image copy has held =
     record { found = current_graph s has.graph; is_found = held_opened s bytes image has.graph has.keeps held; is_number = refl; is_copy = has.is_copy }
 
 pub copy_still : (s : State) (bytes image : List ℕ) (copy : Copy) → HasCopy s bytes copy → Holds s bytes image → HasCopy s image copy
 copy_still s bytes image copy has held = record { graph = has.graph; keeps = held_keeps s bytes image has.graph has.keeps held; is_copy = has.is_copy }
 
-pub copy_renewed : (s : State) (bytes image : List ℕ) (cars : Cars) (progress : Progress) → IsWhole s bytes cars progress → Renews s (header_of progress) bytes image → Stands image progress.number (copy_of cars progress)
+pub copy_renewed : (s : State) (bytes image : List ℕ) (cars : Cars) (progress : Progress) → IsWhole s bytes cars progress → Renews s (header_of progress) bytes image → StandsForCopy image progress.number (copy_of cars progress)
 copy_renewed s bytes image cars progress whole new =
     record { found = next_graph s (header_of progress) whole.graph; is_found = renewed_opened s (header_of progress) bytes image whole.graph whole.next new; is_number = refl; is_copy = whole.is_copy }
 

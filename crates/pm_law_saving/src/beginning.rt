@@ -9,7 +9,6 @@ ghost use Rattle.pm_image.specs.Opening.{page_count};
 ghost use Rattle.pm_image.specs.declared.car.CarImage.{CarImage};
 ghost use Rattle.pm_image.specs.declared.settled.KeptPage.{KeptPage};
 ghost use Rattle.pm_shadow.specs.State.{State, IsIdle};
-ghost use Rattle.pm_shadow.specs.Copies.{KeepsGraph};
 ghost use Rattle.pm_disk.specs.Disk.{IfTold};
 ghost use Rattle.pm_view.specs.View.{SpaceView};
 ghost use Rattle.pm_view.specs.Law.{HeapLaw};

@@ -6,7 +6,7 @@ ghost use Rattle.pm_model.specs.World.{Copy};
 ghost use Rattle.pm_layout.specs.Headers.{HasHeaderSpelling};
 ghost use Rattle.pm_image.specs.CarAnswers.{AreBytes};
 ghost use Rattle.pm_image.specs.Opening.{page_count, page_of};
-ghost use Rattle.pm_image.specs.Stands.{Stands};
+ghost use Rattle.pm_image.specs.Stands.{StandsForCopy};
 ghost use Rattle.pm_shadow.specs.State.{State, abandoned_in, published, with_closed};
 ghost use Rattle.pm_shadow.specs.Images.{Holds, Renews};
 ghost use Rattle.pm_view.specs.View.{Cars};
@@ -41,13 +41,13 @@ pub fn a_gate_is_closed_beside_the_copy()
 pub fn a_published_copy_is_the_settled_one()
     // An image that has the current header and its pages stands for the current copy.
     ensures held { (s : State) (bytes image : List ℕ) (copy : Copy) → HasCopy s bytes copy → Holds s bytes image
-        → Stands image s.header.epoch copy }
+        → StandsForCopy image s.header.epoch copy }
     ensures still { (s : State) (bytes image : List ℕ) (copy : Copy) → HasCopy s bytes copy → Holds s bytes image
         → HasCopy s image copy }
     // An image that has the new header stands for the copy that was in progress.
     ensures renewed { (s : State) (bytes image : List ℕ) (cars : Cars) (progress : Progress)
         → IsWhole s bytes cars progress → Renews s (header_of progress) bytes image
-        → Stands image progress.number (copy_of cars progress) }
+        → StandsForCopy image progress.number (copy_of cars progress) }
     ensures next { (s : State) (bytes image : List ℕ) (cars : Cars) (progress : Progress)
         → IsWhole s bytes cars progress → Renews s (header_of progress) bytes image
         → HasCopy (published s (header_of progress)) image (copy_of cars progress) }
@@ -56,7 +56,8 @@ pub fn a_published_copy_is_the_settled_one()
         → IsTied saving (Some cars) s was → saving.progress ≡ Some progress → left progress ≡ 0
         → IfTold now (λ after. (before : List ℕ) × (was ≡ Some before) × IsWhole s before cars progress
         × Renews s (header_of progress) before after)
-        → IsTied (record { settled = car_pages progress; progress = None }) None (published s (header_of progress)) now }
+        → IsTied (record { settled = car_pages progress; progress = None }) None
+        (published s (header_of progress)) now }
 {}
 
 /// A law of saving: where a copy is given up, what holds between calls holds again, with no copy in progress.

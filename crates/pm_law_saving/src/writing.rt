@@ -1,6 +1,6 @@
 //! How the pages of a copy are written. Each function's contract is a law, and the function does nothing.
 
-ghost use Rattle.std.specs.Prelude.{◌≡◌, ◌<◌, ◌≤◌, ◌+◌, ◌↔◌, ℕ, List, length, Option, Some, None};
+ghost use Rattle.std.specs.Prelude.{◌≡◌, ◌≤◌, ◌+◌, ◌↔◌, ℕ, List, length, Option, Some, None};
 ghost use Rattle.pm_disk.specs.Disk.{IfTold};
 ghost use Rattle.pm_image.specs.Opening.{page_count};
 ghost use Rattle.pm_shadow.specs.State.{State};
@@ -30,7 +30,8 @@ pub fn pages_of_a_copy_are_written_in_order()
         → GoesOn progress (with_page page progress next) × IsInProgress settled cars (with_page page progress next) }
     // Once as many were written as were left, nothing is.
     ensures all { (settled : List KeptPage) (cars : Cars) (progress : Progress) (pages : List ℕ)
-        → IsInProgress settled cars progress → length pages ≡ left progress → left (written_on cars pages progress) ≡ 0 }
+        → IsInProgress settled cars progress → length pages ≡ left progress
+        → left (written_on cars pages progress) ≡ 0 }
 {}
 
 /// A law of saving: once the next page was written, what holds between calls holds again.

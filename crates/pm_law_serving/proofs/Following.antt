@@ -1,11 +1,10 @@
 -- After each command the engine serves the next world.
-use Rattle.std.proofs.Common.{◌≡◌, ◌<◌, ◌≤◌, ℕ, ◌+◌, Bool, true, false, if◌then◌else◌, List, [], ◌∷◌, ◌++◌, length, Option, Some, None, option_map, refl, sym, ap, subst, ◌∙◌, arith, nat_lt}
+use Rattle.std.proofs.Common.{◌≡◌, ◌<◌, ◌≤◌, ℕ, ◌+◌, Bool, true, false, if◌then◌else◌, length, Option, Some, None, option_map, refl, sym, ap, subst, ◌∙◌, arith, nat_lt}
 use Rattle.std.proofs.lemmas.Bool.Decides.{nat_tests}
 use Rattle.std.specs.FinMap.{get}
 use Rattle.std.proofs.lemmas.List.{length_push}
 use Rattle.pm_types.specs.declared.command.Cmd.{Cmd}
-use Rattle.pm_types.specs.declared.command.Cmd.TheVariants.{Save, Settle, Unsave, Watch, New, Load, Store, Clear, Show, Put, Copy, IdOf, Forget, Bind, Unbind, Find, Close, Swap}
-use Rattle.pm_types.specs.declared.entry.Entry.{Entry}
+use Rattle.pm_types.specs.declared.command.Cmd.TheVariants.{Save, Settle, Unsave, Watch}
 use Rattle.pm_types.specs.declared.event.Watch as kept
 use Rattle.pm_types.specs.declared.limits.TheConstants.{LAST_COPY, WATCHES}
 use Rattle.pm_types.specs.declared.reply.Reply.{Reply}
@@ -27,7 +26,7 @@ use Rattle.pm_view.specs.Represents.{Represents}
 use Rattle.pm_view.specs.Watches.{watch_in}
 use Rattle.pm_copies.specs.Listed.{copy_in}
 use Rattle.pm_law_copies.proofs.CopyOf.{worlds_copy}
-use Rattle.pm_saving.specs.Progress.{Progress, Saving, cars_or_none, copy_of}
+use Rattle.pm_saving.specs.Progress.{Progress, cars_or_none, copy_of}
 use Rattle.pm_serving.specs.Serving.{IsServed, Serving, in_progress, numbered_copy, opening, world}
 use Rattle.pm_serving.specs.Events.{Appends, Collects, Serves, watched}
 
@@ -70,65 +69,19 @@ module _ (client : ℕ) (cmd : Cmd) (old new : Serving) (reply : Reply) (served 
 -- a command that sets no watch leaves the watches
 pub sets_none : (it : Serving) (cmd : Cmd) (reply : Reply) → sets_watch cmd ≡ false → watched it cmd reply ≡ it.watches
 sets_none it Watch reply is = cc
-sets_none it Save reply is = refl
-sets_none it Settle reply is = refl
-sets_none it Unsave reply is = refl
-sets_none it (New reg count bytes) reply is = refl
-sets_none it (Load to reg index) reply is = refl
-sets_none it (Store reg index value) reply is = refl
-sets_none it (Clear reg index) reply is = refl
-sets_none it (Show reg) reply is = refl
-sets_none it (Put reg at bytes) reply is = refl
-sets_none it (Copy to reg) reply is = refl
-sets_none it (IdOf reg) reply is = refl
-sets_none it (Forget reg) reply is = refl
-sets_none it (Bind name reg) reply is = refl
-sets_none it (Unbind name) reply is = refl
-sets_none it (Find to name) reply is = refl
-sets_none it Close reply is = refl
-sets_none it (Swap reg index old value) reply is = refl
+sets_none it cmd reply is = refl
 
 -- a command on the space saves nothing
 pub acts : (cmd : Cmd) → is_act cmd ≡ true → saves cmd ≡ false
 acts Save is = cc is
 acts Settle is = cc is
 acts Unsave is = cc is
-acts Watch is = refl
-acts (New reg count bytes) is = refl
-acts (Load to reg index) is = refl
-acts (Store reg index value) is = refl
-acts (Clear reg index) is = refl
-acts (Show reg) is = refl
-acts (Put reg at bytes) is = refl
-acts (Copy to reg) is = refl
-acts (IdOf reg) is = refl
-acts (Forget reg) is = refl
-acts (Bind name reg) is = refl
-acts (Unbind name) is = refl
-acts (Find to name) is = refl
-acts Close is = refl
-acts (Swap reg index old value) is = refl
+acts cmd is = refl
 
 -- and sets no watch
 pub unwatching : (cmd : Cmd) → is_act cmd ≡ true → sets_watch cmd ≡ false
-unwatching Save is = cc is
-unwatching Settle is = cc is
-unwatching Unsave is = cc is
 unwatching Watch is = cc is
-unwatching (New reg count bytes) is = refl
-unwatching (Load to reg index) is = refl
-unwatching (Store reg index value) is = refl
-unwatching (Clear reg index) is = refl
-unwatching (Show reg) is = refl
-unwatching (Put reg at bytes) is = refl
-unwatching (Copy to reg) is = refl
-unwatching (IdOf reg) is = refl
-unwatching (Forget reg) is = refl
-unwatching (Bind name reg) is = refl
-unwatching (Unbind name) is = refl
-unwatching (Find to name) is = refl
-unwatching Close is = refl
-unwatching (Swap reg index old value) is = refl
+unwatching cmd is = refl
 
 same_progress : (old new : Serving) → new.frozen ≡ old.frozen → new.saving ≡ old.saving → in_progress old ≡ in_progress new
 same_progress old new frozen saving = (λ i. option_map (numbered_copy (sym frozen i)) ((sym saving i).progress))

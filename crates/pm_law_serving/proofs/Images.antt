@@ -1,12 +1,11 @@
 -- What a crash may leave of an engine's disk, call by call.
-use Rattle.std.proofs.Common.{◌≡◌, ◌⊎◌, inl, inr, ⊎_elim, ◌≤◌, ℕ, Bool, true, false, if◌then◌else◌, List, [], ◌∷◌, ◌++◌, Option, Some, None, refl, sym, ap, subst, ◌∙◌, arith}
+use Rattle.std.proofs.Common.{◌≡◌, ◌⊎◌, inl, inr, ⊎_elim, ◌≤◌, ℕ, true, false, List, Option, None, sym, ap, subst, ◌∙◌, arith}
 use Rattle.std.specs.List.{Contains}
 use Rattle.std.specs.Option.{IsSome, is_some}
-use Rattle.pm_types.specs.declared.entry.Entry.{Entry}
 use Rattle.pm_disk.specs.Disk.{LeavesOnly}
 use Rattle.pm_model.specs.World.{World, Copy}
-use Rattle.pm_model.specs.Journal.{after, chain, settled_in, says_saved}
-use Rattle.pm_image.specs.Stands.{Stands}
+use Rattle.pm_model.specs.Journal.{after, chain, settled_in}
+use Rattle.pm_image.specs.Stands.{StandsForCopy}
 use Rattle.pm_serving.specs.Serving.{Serving, opening, world}
 use Rattle.pm_serving.specs.Images.{IsInProgress, IsLast, IsOfChain, IsOfRun, IsSettled, IsTold, KeepsImages}
 
@@ -28,7 +27,7 @@ chain_of it image sound (inr begun) = absurd (not_stopped it sound begun.0)
 
 -- the copy that has settled is another's
 as_settled : (w v : World) (image : List ℕ) → settled_in v ≡ settled_in w → IsSettled w image → IsSettled v image
-as_settled w v image same stands = subst (λ (kept : ℕ × Copy). Stands image kept.0 kept.1) (sym same) stands
+as_settled w v image same stands = subst (λ (kept : ℕ × Copy). StandsForCopy image kept.0 kept.1) (sym same) stands
 
 -- a chain that is another's
 as_chain : (old new : Serving) (image : List ℕ) → chain (opening new) new.journal ≡ chain (opening old) old.journal → IsOfChain (opening old) old.journal image → IsOfChain (opening new) new.journal image

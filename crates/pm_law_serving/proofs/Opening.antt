@@ -1,5 +1,5 @@
 -- The world of a copy that was just opened, in which whatever is named is an object.
-use Rattle.std.proofs.Common.{◌≡◌, ◌<◌, ◌≤◌, ℕ, zero, suc, Bool, true, false, List, [], ◌∷◌, map, slice_get, Option, Some, None, option_map, refl, sym, ap, subst, ◌∙◌, arith}
+use Rattle.std.proofs.Common.{◌≡◌, ◌<◌, ◌≤◌, ℕ, zero, suc, List, [], ◌∷◌, map, slice_get, Option, Some, None, option_map, refl, sym, ap, subst, ◌∙◌}
 use Rattle.std.specs.List.{AllByRecursion}
 use Rattle.std.specs.Option.{IsSome, is_some, option_and_then}
 use Rattle.std.specs.FinMap.{get, find}
@@ -10,7 +10,7 @@ use Rattle.pm_types.specs.declared.object.Slot.{Slot}
 use Rattle.pm_types.specs.declared.object.Slot.TheVariants.{Live, Moved}
 use Rattle.pm_types.specs.Orders.{name_cmp}
 use Rattle.pm_layout.specs.Spelling.{HasSpelling}
-use Rattle.pm_model.specs.Heap.{Object, field_of}
+use Rattle.pm_model.specs.Heap.{Object}
 use Rattle.pm_model.specs.World.{begin}
 use Rattle.pm_model.specs.Closed.{IsClosed, IsClosedGraph}
 use Rattle.pm_model.proofs.ClosedLaws.{begin_closed, copied_closed, field_cases}

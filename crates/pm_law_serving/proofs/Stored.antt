@@ -1,12 +1,9 @@
 -- What is stored holds as soon as it is known that it holds in some way.
-use Rattle.std.proofs.Common.{◌≡◌, ℕ, ◌<◌, ◌+◌, List, [], ◌∷◌, Option, Some, None, Result, Ok, Err, Contains, refl, sym, ap, subst, ◌∙◌}
-use Rattle.std.specs.List.{AllByRecursion}
+use Rattle.std.proofs.Common.{◌≡◌, ℕ, ◌+◌, List, [], ◌∷◌, Option, Some, None, Result, Ok, Err, refl, subst}
 use Rattle.std.specs.Coded.{Coded-set}
 use Rattle.std.proofs.Math.Logic.{∥∥₁_elim, ∥∥₁_map}
 use mathlib.Core.HLevel.{⊥_prop}
 use Rattle.std.proofs.Props.{props}
-use Rattle.pm_types.specs.Names.{IsName}
-use Rattle.pm_types.specs.declared.address.Addr.{Addr}
 use Rattle.pm_types.specs.declared.fault.OpenFault.{OpenFault}
 use Rattle.pm_types.specs.declared.object.Slot.{Slot}
 use Rattle.pm_types.specs.declared.object.Slot.TheVariants.{Live, Moved}

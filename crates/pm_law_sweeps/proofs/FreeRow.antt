@@ -25,7 +25,7 @@ use Rattle.pm_view.specs.Reading.{slot_at, object_at, id_at, field_of, stored, c
 use Rattle.pm_view.specs.Effective.{effective_in}
 use Rattle.pm_view.specs.Counts.{standing_in, live_in}
 use Rattle.pm_view.specs.Seen.{seen}
-use Rattle.pm_view.specs.Law.{IsAt, IsOldest, IsAnchor, HeapLaw}
+use Rattle.pm_view.specs.Law.{IsPhaseOf, IsOldest, IsAnchor, HeapLaw}
 use Rattle.pm_view.specs.Collecting.{without_car, completing, freed_of_train}
 use Rattle.pm_view.specs.Events.{lowest_live, home}
 use Rattle.pm_law_rows.proofs.Places.{slot_of}
@@ -71,7 +71,7 @@ pub record IsGoing (view : SpaceView) (T c : ℕ) (rest : List ℕ) (p : Phase) 
   pub empty : lowest_live view c ≡ None
   pub aside : (e : ℕ) → aside_in p (without_first T view.trains.trains) e ≡ (is_aside view e && not (e == c))
   pub from : (e : ℕ) → from_in p e ≡ (is_from view e && not (e == c))
-  pub at : IsAt p (without_first T view.trains.trains) view.anchor
+  pub at : IsPhaseOf p (without_first T view.trains.trains) view.anchor
 
 module _ (view : SpaceView) (T c : ℕ) (rest : List ℕ) (p : Phase) (completed : ℕ) (law : HeapLaw view) (is : IsGoing view T c rest p) where
   abbrev pub t : SpaceView
@@ -254,7 +254,7 @@ module _ (view : SpaceView) (T c : ℕ) (rest : List ℕ) (p : Phase) (completed
 
 module _ (view : SpaceView) (car : ℕ) (law : HeapLaw view) (is : IsFreeing view car) where
   front : IsFrontOf view.trains.trains car
-  front = front_of view.trains.trains car (subst (λ p. IsAt p view.trains.trains view.anchor) is.sweeping law.phase)
+  front = front_of view.trains.trains car (subst (λ p. IsPhaseOf p view.trains.trains view.anchor) is.sweeping law.phase)
 
   at_home : home view car ≡ front.train
   at_home = ap (λ o. unwrap_or o 0) (first_home view.trains.trains front.train car law.built.trains.single front.first)
@@ -288,7 +288,7 @@ module _ (view : SpaceView) (car : ℕ) (law : HeapLaw view) (is : IsFreeing vie
 
 module _ (view : SpaceView) (T car : ℕ) (law : HeapLaw view) (is : IsFreeingDoomed view T car) where
   doomed_at : IsOldest view.trains.trains T × (view.anchor ≡ None)
-  doomed_at = subst (λ p. IsAt p view.trains.trains view.anchor) is.doomed.doomed law.phase
+  doomed_at = subst (λ p. IsPhaseOf p view.trains.trains view.anchor) is.doomed.doomed law.phase
 
   aside_is : (e : ℕ) → is_aside view e ≡ is_among e (cars_of view.trains.trains T)
   aside_is e = ap (λ p. aside_in p view.trains.trains e) is.doomed.doomed
@@ -326,7 +326,7 @@ module _ (view : SpaceView) (T car : ℕ) (law : HeapLaw view) (is : IsFreeingDo
             ∙ among_less view.trains.trains T car rest law.built.trains.rising law.built.trains.filled law.built.trains.single doomed_at.0 cars e
             ∙ ap (λ b. b && not (e == car)) (sym (aside_is e));
         from = λ e. from_is e ∙ none_from e;
-        at = subst (λ p. IsAt p (without_first T view.trains.trains) view.anchor) (sym is.doomed.doomed)
+        at = subst (λ p. IsPhaseOf p (without_first T view.trains.trains) view.anchor) (sym is.doomed.doomed)
             ((old_then, ap (λ n. T == n) (youngest_less view.trains.trains T car rest law.built.trains.rising law.built.trains.filled law.built.trains.single doomed_at.0 cars) ∙ doomed_at.0.1), doomed_at.1);
       }
 

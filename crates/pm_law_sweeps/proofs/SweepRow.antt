@@ -9,7 +9,7 @@ use Rattle.pm_types.specs.declared.object.Slot.{Slot}
 use Rattle.pm_types.specs.declared.source.RefSource.{RefSource}
 use Rattle.pm_types.specs.declared.source.RefSource.TheVariants.{Root, Handle, Field}
 use Rattle.pm_types.specs.declared.source.Change.{Change}
-use Rattle.pm_cars.specs.Cars.{Car, IsSound, Slots, slot_room, one_moved, total, object_of, look_of, without_slot}
+use Rattle.pm_cars.specs.Cars.{Car, IsSoundCar, Slots, slot_room, one_moved, total, object_of, look_of, without_slot}
 use Rattle.pm_cars.proofs.Rooms.{total_remove}
 use Rattle.pm_trains.specs.Trains.{youngest}
 use Rattle.pm_view.specs.Sources.{same_address, is_field_at}
@@ -78,7 +78,7 @@ module _ (view : SpaceView) (at : Addr) (object : Object) (car : Car) (law : Hea
   fewer : (f : Slot → ℕ) (slots : Slots) (k : ℕ) → total f (remove slots k) ≤ total f slots
   fewer f slots k = let sums = total_remove f slots k in omega arith
 
-  sound_then : IsSound car → IsSound (without_slot car at.slot)
+  sound_then : IsSoundCar car → IsSoundCar (without_slot car at.slot)
   sound_then was = record {
     room = let less = fewer slot_room car.slots at.slot in let room = was.room in omega arith;
     next = was.next;

@@ -1,13 +1,13 @@
 //! Examples of collections, worked out by hand. Each function's contract is the example, and the function does nothing.
 
-ghost use Rattle.std.specs.Prelude.{◌≡◌, ℕ, false, List, [], ◌∷◌, length, Option, Some, None};
+ghost use Rattle.std.specs.Prelude.{◌≡◌, ℕ, false, List, [], ◌∷◌, length, Some, None};
 ghost use Rattle.pm_types.specs.declared.object.Slot.TheVariants.{Moved};
-ghost use Rattle.pm_types.specs.declared.source.RefSource.TheVariants.{Root, Handle, Field};
+ghost use Rattle.pm_types.specs.declared.source.RefSource.TheVariants.{Handle, Field};
 ghost use Rattle.pm_trains.specs.Trains.{cars_at};
 ghost use Rattle.pm_view.specs.Reading.{slot_at, is_aside};
 ghost use Rattle.pm_view.specs.Effective.{effective};
 ghost use Rattle.pm_view.specs.Candidates.{queue_of};
-ghost use Rattle.pm_view.specs.Events.{select, apply, doom, start, fix, move_anchor, move_on, sweep, free_doomed, nothing, next_row, after, ways_out};
+ghost use Rattle.pm_view.specs.Events.{select, apply, doom, start, move_anchor, move_on, sweep, free_doomed, nothing, next_row, after, ways_out};
 ghost use Rattle.pm_law_rows.specs.Examples.{at};
 ghost use Rattle.pm_law_traces.specs.Traces.{Run, cycle, collected, changed, used_again, drained, begun, moved_on, second_pass};
 

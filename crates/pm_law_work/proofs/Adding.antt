@@ -3,7 +3,7 @@ use Rattle.std.proofs.Common.{◌≡◌, ℕ, zero, suc, ◌+◌, ◌*◌, ◌<�
 use Rattle.std.specs.Option.{IsSomeAnd, unwrap_or, option_and_then}
 use Rattle.std.specs.List.{slice_get, sum_by}
 use Rattle.std.specs.FinMap.{get, insert, remove, len, empty}
-use Rattle.std.proofs.lemmas.Bool.{eqb-true, eq-eqb, cond-false, both_ways, false_from_ne_true, leb-true, ltb-false, or_parts}
+use Rattle.std.proofs.lemmas.Bool.{true≢false, eqb-true, eq-eqb, cond-false, both_ways, false_from_ne_true, leb-true, ltb-false, or_parts}
 use Rattle.std.proofs.lemmas.List.{length-append}
 use Rattle.pm_types.specs.declared.limits.TheConstants.{CLIENTS, REGISTERS, FIELDS, OBJECT_BYTES, LAST_ID}
 use Rattle.pm_types.specs.declared.address.Addr.{Addr}
@@ -12,7 +12,7 @@ use Rattle.pm_types.specs.declared.source.RefSource.{RefSource}
 use Rattle.pm_types.specs.declared.source.RefSource.TheVariants.{Root, Handle, Field}
 use Rattle.pm_types.specs.declared.source.Change.{Change}
 use Rattle.pm_types.specs.declared.command.Cmd.{Cmd}
-use Rattle.pm_types.specs.declared.command.Cmd.TheVariants.{New, Load, Store, Clear, Show, Put, Copy, IdOf, Forget, Bind, Unbind, Find, Swap, Close, Save, Settle, Unsave, Watch}
+use Rattle.pm_types.specs.declared.command.Cmd.TheVariants.{Close}
 use Rattle.pm_cars.specs.Cars as cars
 use Rattle.pm_cars.specs.Cars.{Car, object_room, new_car, with_birth}
 use Rattle.pm_trains.specs.Trains.{Train, Trains, HasCar, cars_at, train_of, tail, youngest, rotated}
@@ -23,9 +23,9 @@ use Rattle.pm_view.specs.View.{SpaceView}
 use Rattle.pm_view.specs.Reading.{cars_of, stored, is_aside}
 use Rattle.pm_view.specs.Counts.{live_in, standing_in}
 use Rattle.pm_view.specs.Barrier.{heard, left, entered, in_one_car, barrier, told}
-use Rattle.pm_view.specs.Law.{IsAt, IsOldest, HeapLaw}
+use Rattle.pm_view.specs.Law.{IsPhaseOf, IsOldest, HeapLaw}
 use Rattle.pm_view.specs.Rows.{put_car, with_bytes_at, HasBytesAt, with_stored, spread, with_name, without_name, spent, has_room, if_fits, tail_for, put_in, with_count, born_in, born, birthplace, IsVacant}
-use Rattle.pm_view.specs.Commands.{emptied, fresh, row, Picks, ArePicked, is_new}
+use Rattle.pm_view.specs.Commands.{emptied, fresh, row, Picks, ArePicked, is_close}
 use Rattle.pm_view.specs.Work.{queued, remembered, objects_in, emptying, dooming, front_car, work_in, work}
 use Rattle.pm_law_rows.proofs.News.{at_insert}
 use Rattle.pm_law_rows.proofs.Sums.{some_item}
@@ -35,13 +35,12 @@ use Rattle.pm_law_rows.proofs.SpreadKept.{reshaped_object, reshaped_itself, resh
 use Rattle.pm_law_rows.proofs.OpenTrain.{among_home, first_home, tail_home, cars_appended}
 use Rattle.pm_law_rows.proofs.Rotating.{opened, cars_at_rotated, opening_keeps_law}
 use Rattle.pm_law_rows.proofs.Born.{born_gives}
+use Rattle.pm_law_commands.proofs.EveryRow.{OfRows, row_holds, object_made, new_holds}
 use Rattle.pm_law_commands.proofs.Births.{spent_law, may_be_born}
 use Rattle.pm_law_phases.proofs.Small.{some_same, none_some, none_is, shaped_live}
 use Rattle.pm_law_phases.proofs.PhaseRows.{oldest_has}
-use Rattle.pm_law_course.specs.Course.{is_close}
 use Rattle.pm_law_work.specs.Raises.{raises}
 use Rattle.pm_law_work.proofs.Sums.{sum_both, heard_by, few_news, told_once, own_places, queue_told}
-use Rattle.pm_law_course.proofs.Rows.{OfRows, row_holds, object_made, new_holds}
 use Rattle.pm_law_phases.proofs.Fronts.{front_of}
 use Rattle.pm_law_moves.proofs.PutRow.{no_less_items}
 
@@ -91,7 +90,7 @@ module _ (view t : SpaceView) (k : ℕ) (law : HeapLaw view) (is : AddsQueued vi
       let less = fewer_objects n old in
       omega (arith, now, before, q, e, u, less)
 
-  by_phase : (p : Phase) → IsAt p ts view.anchor → work_in t p ≤ work_in view p + 3 * k
+  by_phase : (p : Phase) → IsPhaseOf p ts view.anchor → work_in t p ≤ work_in view p + 3 * k
   by_phase Idle at = omega arith
   by_phase (Draining n) at = draining_adds n at
   by_phase (Moving car) at =
@@ -195,9 +194,6 @@ module _ (view : SpaceView) (law : HeapLaw view) where
       let more = reshaped_adds view (without_name view name number a) cs law same refl in
       let two = barrier_two (is_aside now) (Root number) (Some a) None in
       omega (arith, more, two)
-
-  six_of_rows : OfRows view (λ t. work t ≤ work view + 6)
-  six_of_rows = record { still = omega arith; spread = spread_adds_six; bytes = bytes_add; bound = name_adds; unbound = unname_adds }
 
 -- the registers of a client are emptied, one after the other
 emptied_adds : (view : SpaceView) (client n : ℕ) → HeapLaw view → client < CLIENTS → n ≤ REGISTERS → HeapLaw (emptied view client n) × (work (emptied view client n) ≤ work view + 3 * n)
@@ -346,25 +342,21 @@ new_adds_six view client reg count number bytes law vacant fits more =
     omega (arith, same, birth, six)
 
 module _ (view : SpaceView) (law : HeapLaw view) (client : ℕ) (few : client < CLIENTS) where
-  six : (cmd : Cmd) (picks : Picks) → is_new cmd ≡ false → is_close cmd ≡ false → work (row view client cmd picks).1 ≤ work view + 6
-  six cmd picks other open_still = row_holds view (λ t. work t ≤ work view + 6) (six_of_rows view law) client cmd picks other open_still
+  -- six for each, but for the one that empties all registers
+  rows_add : (picks : Picks) → IsVacant view.cars picks.car → OfRows view (λ t. work t ≤ work view + 6) (Unit {0}) ⊥ client picks
+  rows_add picks vacant = record {
+    still = omega arith;
+    spread = spread_adds_six view law;
+    bytes = bytes_add view law;
+    bound = name_adds view law;
+    unbound = unname_adds view law;
+    made = λ may reg count bytes. new_holds view (λ t. work t ≤ work view + 6) (omega arith) client reg count picks.car bytes (new_adds_six view client reg count picks.car bytes law vacant);
+    emptied = λ none. absurd none;
+  }
+
+  six : (cmd : Cmd) (picks : Picks) → ArePicked view picks → is_close cmd ≡ false → work (row view client cmd picks).1 ≤ work view + 6
+  six cmd picks picked other = row_holds view (λ t. work t ≤ work view + 6) (Unit {0}) ⊥ client picks (rows_add picks picked.car) cmd (λ new. tt) (λ close. true≢false (sym close ∙ other))
 
   pub command_adds : (cmd : Cmd) (picks : Picks) → ArePicked view picks → work (row view client cmd picks).1 ≤ work view + raises cmd
-  command_adds (New reg count bytes) picks picked = new_holds view (λ t. work t ≤ work view + 6) (omega arith) client reg count picks.car bytes (new_adds_six view client reg count picks.car bytes law picked.car)
   command_adds Close picks picked = let all = (emptied_adds view client REGISTERS law few (omega arith)).1 in omega (arith, all)
-  command_adds (Load to reg index) picks picked = six (Load to reg index) picks refl refl
-  command_adds (Store reg index value) picks picked = six (Store reg index value) picks refl refl
-  command_adds (Clear reg index) picks picked = six (Clear reg index) picks refl refl
-  command_adds (Show reg) picks picked = six (Show reg) picks refl refl
-  command_adds (Put reg at bytes) picks picked = six (Put reg at bytes) picks refl refl
-  command_adds (Copy to reg) picks picked = six (Copy to reg) picks refl refl
-  command_adds (IdOf reg) picks picked = six (IdOf reg) picks refl refl
-  command_adds (Forget reg) picks picked = six (Forget reg) picks refl refl
-  command_adds (Bind name reg) picks picked = six (Bind name reg) picks refl refl
-  command_adds (Unbind name) picks picked = six (Unbind name) picks refl refl
-  command_adds (Find to name) picks picked = six (Find to name) picks refl refl
-  command_adds (Swap reg index old value) picks picked = six (Swap reg index old value) picks refl refl
-  command_adds Save picks picked = omega arith
-  command_adds Settle picks picked = omega arith
-  command_adds Unsave picks picked = omega arith
-  command_adds Watch picks picked = omega arith
+  command_adds cmd picks picked = six cmd picks picked refl

@@ -4,3 +4,7 @@ pub mod Lowering
 pub mod Nothing
 pub mod Sums
 pub mod Adding
+pub mod StaleLooks
+pub mod StaleCommands
+pub mod StaleFixes
+pub mod StaleMoves

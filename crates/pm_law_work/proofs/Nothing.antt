@@ -10,7 +10,7 @@ use Rattle.pm_trains.proofs.Found.{oldest_none}
 use Rattle.pm_trains.proofs.Cars.{lost}
 use Rattle.pm_view.specs.declared.phase.Phase.TheVariants.{Idle, Draining, Doomed}
 use Rattle.pm_view.specs.View.{SpaceView}
-use Rattle.pm_view.specs.Law.{IsAt, HeapLaw}
+use Rattle.pm_view.specs.Law.{IsPhaseOf, HeapLaw}
 use Rattle.pm_view.specs.Events.{nothing, idle_row, row_in, next_row}
 use Rattle.pm_law_rows.proofs.OpenTrain.{first_home}
 use Rattle.pm_law_rows.proofs.Born.{none_from_some}
@@ -45,8 +45,8 @@ module _ (view : SpaceView) (law : HeapLaw view) where
       (λ (other : (train : ℕ) × ((view.phase ≡ Draining train) ⊎ (view.phase ≡ Doomed train)) × (first_car view.trains.trains train ≡ None)).
       absurd (no_train other.0
       (⊎_elim
-      (λ (at : view.phase ≡ Draining other.0). (subst (λ p. IsAt p view.trains.trains view.anchor) at law.phase).0)
-      (λ (at : view.phase ≡ Doomed other.0). (subst (λ p. IsAt p view.trains.trains view.anchor) at law.phase).0.0)
+      (λ (at : view.phase ≡ Draining other.0). (subst (λ p. IsPhaseOf p view.trains.trains view.anchor) at law.phase).0)
+      (λ (at : view.phase ≡ Doomed other.0). (subst (λ p. IsPhaseOf p view.trains.trains view.anchor) at law.phase).0.0)
       other.1) other.2))
       (comes_where view nothing next)
 

@@ -15,7 +15,7 @@ use Rattle.pm_view.specs.declared.phase.Phase.TheVariants.{Sweeping, Doomed}
 use Rattle.pm_view.specs.View.{SpaceView}
 use Rattle.pm_view.specs.Reading.{object_at, cars_of}
 use Rattle.pm_view.specs.Counts.{live_in}
-use Rattle.pm_view.specs.Law.{IsAt, IsOldest, HeapLaw}
+use Rattle.pm_view.specs.Law.{IsPhaseOf, IsOldest, HeapLaw}
 use Rattle.pm_view.specs.Rows.{put_car}
 use Rattle.pm_view.specs.Collecting.{swept_some, swept, without_car, completing, freed_of_train}
 use Rattle.pm_view.specs.Work.{objects_in, dooming, work_in, work}
@@ -83,7 +83,7 @@ module _ (view : SpaceView) (T car : ℕ) (law : HeapLaw view) (is : IsFreeingDo
   less = without_car view T car
 
   old : IsOldest view.trains.trains T
-  old = (subst (λ p. IsAt p view.trains.trains view.anchor) is.doomed.doomed law.phase).0
+  old = (subst (λ p. IsPhaseOf p view.trains.trains view.anchor) is.doomed.doomed law.phase).0
 
   fewer : (e : ℕ) → objects_in less e ≤ objects_in view e
   fewer e = subst (λ o. live_in o ≤ objects_in view e) (sym (at_remove view.cars car e)) (by_case (car == e))

@@ -1,9 +1,8 @@
 -- How much a command may add.
-use Rattle.std.specs.Prelude.{ℕ}
+use Rattle.std.specs.Prelude.{ℕ, if◌then◌else◌}
 use Rattle.pm_types.specs.declared.command.Cmd.{Cmd}
-use Rattle.pm_types.specs.declared.command.Cmd.TheVariants.{Close}
+use Rattle.pm_view.specs.Commands.{is_close}
 
 -- by how much a command raises the work that is left, at most
 abbrev pub raises : Cmd → ℕ
-raises Close = 3072
-raises cmd = 6
+raises cmd = if is_close cmd then 3072 else 6

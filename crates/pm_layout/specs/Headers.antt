@@ -4,7 +4,7 @@ use Rattle.std.specs.Str.{bytes_eq}
 use Rattle.pm_base.specs.Results.{◌>>=◌}
 use Rattle.byteorder.specs.Endian.{big_bytes}
 use Rattle.sha2.specs.Sha256.{sha256}
-use Rattle.pm_types.specs.declared.limits.TheConstants.{FIELDS, OLD_FIELDS, VERSION, OLD_VERSION}
+use Rattle.pm_types.specs.declared.limits.TheConstants.{FIELDS, OLD_FIELDS, VERSION, OLD_VERSION, END_ID}
 use Rattle.pm_layout.specs.declared.header.Header.{Header}
 use Rattle.pm_layout.specs.declared.header.HeaderFault.{HeaderFault}
 use Rattle.pm_layout.specs.declared.header.HeaderFault.TheVariants.{Magic, Version, Digest, Next}
@@ -38,7 +38,7 @@ most_fields version = if version == OLD_VERSION then OLD_FIELDS else FIELDS
 pub record HasHeaderSpelling (h : Header) : Type 0 where
   pub version : is_version h.version ≡ true
   pub some : 0 < h.next
-  pub last : h.next ≤ 4294967296
+  pub last : h.next ≤ END_ID
 
 -- the numbers and the digest are such as the types can hold
 pub record IsHeaderInRange (h : Header) : Type 0 where
@@ -67,7 +67,7 @@ digest_kept bytes =
 unfoldable pub next_at : List ℕ → Result ℕ HeaderFault
 next_at bytes =
     let next = number_from 8 bytes 16 in
-    if (next == 0) || nat_lt 4294967296 next then Err Next else Ok next
+    if (next == 0) || nat_lt END_ID next then Err Next else Ok next
 
 -- the header that the bytes spell, or the first fault
 unfoldable pub header_at : List ℕ → Result Header HeaderFault

@@ -1,4 +1,4 @@
-ghost use Rattle.std.specs.Prelude.{◌≡◌, ◌≢◌, ◌+◌, ◌≤◌, ◌<◌, ◌++◌, length, drop, take, slice_range, IfOk, Ok};
+ghost use Rattle.std.specs.Prelude.{◌≡◌, ◌+◌, ◌<◌, ◌++◌, length, IfOk, Ok};
 ghost use Rattle.pm_layout.specs.declared.header.Header.{Header};
 ghost use Rattle.byteorder.specs.Endian.{big_bytes};
 ghost use Rattle.pm_layout.specs.Headers.{HasHeaderSpelling, IsHeaderInRange, magic, header_numbers, header_body, header_spelling, magic_at, most_fields, version_at, digest_kept, next_at, header_at};
@@ -189,7 +189,8 @@ pub fn read_header(bytes: &[u8; 96]) -> Result<Header, HeaderFault>
     // What is read is spelled so.
     ensures found { IfOk result (λ header. HasHeaderSpelling header × (bytes.now ≡ header_spelling header)) }
     // What is spelled so is read.
-    ensures only { (header : Header) → HasHeaderSpelling header → IsHeaderInRange header → bytes.now ≡ header_spelling header → result ≡ Ok header }
+    ensures only { (header : Header) → HasHeaderSpelling header → IsHeaderInRange header
+        → bytes.now ≡ header_spelling header → result ≡ Ok header }
     // Which fault it is.
     ensures exact { result ≡ header_at bytes.now }
 {

@@ -194,7 +194,8 @@ pub fn read_slot(
     // What is read is spelled there.
     ensures found { IfOk result (λ x. IsSpelled most bytes.now at x.0 x.1) }
     // What is spelled there is read, unless memory runs out.
-    ensures only { (slot : Slot) (next : ℕ) → IsInRange slot → IsSpelled most bytes.now at slot next → Gives result (Ok (slot, next)) }
+    ensures only { (slot : Slot) (next : ℕ) → IsInRange slot → IsSpelled most bytes.now at slot next
+        → Gives result (Ok (slot, next)) }
     // Which fault it is.
     ensures exact { Gives result (slot_at most bytes.now at) }
     // A Moved slot is read without memory.

@@ -1,5 +1,4 @@
-ghost use Rattle.std.specs.Prelude.{◌≡◌, ◌+◌, ◌*◌, ◌≤◌, ◌++◌, length, OnOk, OnErr, IsOk};
-ghost use Rattle.std.specs.Vec.{vec_len, vec_capacity};
+ghost use Rattle.std.specs.Prelude.{◌≡◌, ◌+◌, ◌*◌, ◌++◌, length, OnOk, OnErr, IsOk};
 ghost use Rattle.std.specs.List.{flat_map};
 ghost use Rattle.pm_layout.specs.Spelling.{HasSpelling, IsWithinLimits, address, field, spelling, slot_size};
 ghost use Rattle.pm_layout.specs.Room.{HasRoom, Appends};

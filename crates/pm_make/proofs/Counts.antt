@@ -2,9 +2,9 @@
 use Rattle.std.proofs.Common.{◌≡◌, ℕ, zero, suc, ◌+◌, ◌*◌, ◌/◌, ◌%◌, ◌≤◌, ◌==◌, Bool, true, false, List, [], ◌∷◌, ◌++◌, length, Option, Some, None, refl, arith, length-append, if◌then◌else◌}
 use Rattle.std.specs.List.{AllByRecursion}
 use Rattle.std.proofs.lemmas.Bool.{eqb-true}
-use Rattle.pm_grammar.specs.declared.line.Line.{Line}
-use Rattle.pm_grammar.specs.Lines.{ended}
-use Rattle.pm_grammar.specs.Script.{IsLine, spelling, text_of, HasSpelling}
+use Rattle.pm_script.specs.declared.line.Line.{Line}
+use Rattle.pm_script.specs.Lines.{ended}
+use Rattle.pm_script.specs.Script.{IsLine, spelling, text_of, HasSpelling}
 use Rattle.pm_make.specs.Drawing.{state_after, turn_of}
 use Rattle.pm_make.specs.Made.{root_lines, turn_lines, checkpoint_lines, thousandth_lines, first_lines, last_lines, made_lines}
 use Rattle.pm_make.proofs.Short.{IsShort, made_short}

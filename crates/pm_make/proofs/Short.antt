@@ -9,10 +9,10 @@ use Rattle.hex.proofs.HexLemmas.{length-encode_with}
 use Rattle.pm_types.specs.Names.{is_name_byte, IsName}
 use Rattle.pm_types.specs.declared.command.Cmd.TheVariants as cmd
 use Rattle.pm_model.specs.Text.{pairs}
-use Rattle.pm_grammar.specs.declared.line.Line.{Line}
-use Rattle.pm_grammar.specs.declared.line.Line.TheVariants as line
-use Rattle.pm_grammar.specs.Lines.{ended}
-use Rattle.pm_grammar.specs.Script.{IsLine, spelling}
+use Rattle.pm_script.specs.declared.line.Line.{Line}
+use Rattle.pm_script.specs.declared.line.Line.TheVariants as line
+use Rattle.pm_script.specs.Lines.{ended}
+use Rattle.pm_script.specs.Script.{IsLine, spelling}
 use Rattle.pm_make.specs.declared.drawing.Turn.{Turn}
 use Rattle.pm_make.specs.Drawing.{state_after, turn_of}
 use Rattle.pm_make.specs.Made.{asks, two_bytes, name_of, new_line, store_line, root_lines, turn_lines, checkpoint_lines, thousandth_lines, first_lines, last_lines, made_lines}

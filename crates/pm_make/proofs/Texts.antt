@@ -4,9 +4,9 @@ use Rattle.std.proofs.lemmas.Fmt.{decimal_digit, decimal_step}
 use Rattle.std.specs.List.{flat_map}
 use Rattle.std.proofs.lemmas.Grind.{flat_map-append}
 use Rattle.pm_model.specs.Text.{pairs}
-use Rattle.pm_grammar.specs.Lines.{ended}
-use Rattle.pm_grammar.specs.Script.{spelling, text_of}
-use Rattle.pm_grammar.specs.declared.line.Line.TheVariants as line
+use Rattle.pm_script.specs.Lines.{ended}
+use Rattle.pm_script.specs.Script.{spelling, text_of}
+use Rattle.pm_script.specs.declared.line.Line.TheVariants as line
 use Rattle.pm_types.specs.declared.command.Cmd.TheVariants as cmd
 use Rattle.pm_make.specs.declared.drawing.Turn.{Turn}
 use Rattle.pm_make.specs.Made.{asks, two_bytes, name_of, new_line, store_line, root_lines, turn_lines, checkpoint_lines, last_lines}

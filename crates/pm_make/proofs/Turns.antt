@@ -1,9 +1,9 @@
 -- One more turn: the text of its lines stands behind that of the turns before it.
 use Rattle.std.proofs.Common.{◌≡◌, ℕ, suc, ◌+◌, List, ◌++◌, ap, sym, ◌∙◌, add-one}
 use Rattle.std.proofs.lemmas.Grind.{flat_map-append}
-use Rattle.pm_grammar.specs.declared.line.Line.{Line}
-use Rattle.pm_grammar.specs.Lines.{ended}
-use Rattle.pm_grammar.specs.Script.{spelling, text_of}
+use Rattle.pm_script.specs.declared.line.Line.{Line}
+use Rattle.pm_script.specs.Lines.{ended}
+use Rattle.pm_script.specs.Script.{spelling, text_of}
 use Rattle.pm_make.specs.declared.drawing.Turn.{Turn}
 use Rattle.pm_make.specs.Drawing.{turn_of, turned, state_after}
 use Rattle.pm_make.specs.Made.{turn_lines, thousandth_lines, first_lines}

@@ -1,12 +1,12 @@
 //! Laws and examples of the generator. Each function's contract is the law, and the function does nothing.
-ghost use Rattle.std.specs.Prelude.{◌≡◌, ◌≤◌, ◌<◌, ◌^◌, ℕ, length};
-ghost use Rattle.pm_grammar.specs.Script.{IsScript};
+ghost use Rattle.std.specs.Prelude.{◌≡◌, ◌≤◌, ℕ, length};
+ghost use Rattle.pm_script.specs.Script.{IsScript};
 ghost use Rattle.pm_types.specs.declared.limits.TheConstants.{MOST_TURNS};
 ghost use Rattle.pm_make.specs.Drawing.{after};
 ghost use Rattle.pm_make.specs.Made.{made_lines, made_text};
 ghost use Rattle.pm_make.specs.Example.{one_turn};
 
-use pm_grammar::spelled_lines_are_read_again;
+use pm_script::spelled_lines_are_read_again;
 
 /// A law of the generator: the text of a seed and at most 16,000 turns is a script of just the lines that it was made
 /// of, and these are 64,037 at most.

@@ -1,6 +1,6 @@
 ghost use Rattle.std.specs.Prelude.{◌≡◌, ◌++◌, ◌∷◌, [], ◌<◌, OnOk, decimal};
 ghost use Rattle.pm_model.specs.Text.{pairs};
-ghost use Rattle.pm_grammar.specs.Script.{text_of};
+ghost use Rattle.pm_script.specs.Script.{text_of};
 ghost use Rattle.pm_make.specs.Made.{two_bytes, new_line, store_line, root_lines, turn_lines, checkpoint_lines, thousandth_lines, last_lines};
 
 use crate::drawing::Turn;

@@ -56,12 +56,3 @@ sound_changed heap next id old new sound there =
           get-insert nat_cmp_total heap id new q
           ∙ cond_other _ (Some new) (get heap q) (tied_nat q id ∙ other q id (λ same. let none = sound.unused q above in let some = ap (get heap) same ∙ there in cc)) ∙ sound.unused q above;
     }
-
--- the heap of one object, which has the last identity
-pub sound_spent : (object : Object) → IsSound (insert empty 4294967295 object) 4294967296
-sound_spent object =
-    record {
-      first = lit≤ tt;
-      last = lit≤ tt;
-      unused = λ id above. get-insert nat_cmp_total empty 4294967295 object id ∙ cond_other _ (Some object) (get empty id) (not_tied id 4294967295 above) ∙ get-empty nat_cmp id;
-    }

@@ -1,14 +1,14 @@
 -- Worlds and copies in which whatever is named is an object.
 use Rattle.std.specs.Prelude.{◌≡◌, ℕ, ◌<◌, ◌≤◌, List, length, Some, IsSome, IfSome}
 use Rattle.std.specs.FinMap.{get, len}
-use Rattle.pm_types.specs.declared.limits.TheConstants.{FIELDS, OBJECT_BYTES, ROOTS, WATCHES}
+use Rattle.pm_types.specs.declared.limits.TheConstants.{FIELDS, OBJECT_BYTES, ROOTS, WATCHES, END_ID}
 use Rattle.pm_model.specs.Heap.{Object, Heap, field_of}
 use Rattle.pm_model.specs.World.{World, Roots, Copy, held}
 
 -- every object has an identity from 1 on and below the next one, and each field and each root that is not null names an object
 pub record IsClosedGraph (heap : Heap) (roots : Roots) (next : ℕ) : Type 0 where
   pub first : 1 ≤ next
-  pub last : next ≤ 4294967296
+  pub last : next ≤ END_ID
   pub given : (id : ℕ) (object : Object) → get heap id ≡ Some object → (1 ≤ id) × (id < next)
   pub fields : (from index to : ℕ) → field_of (get heap from) index ≡ Some (Some to) → IsSome (get heap to)
   pub named : (name : List ℕ) (id : ℕ) → get roots name ≡ Some id → IsSome (get heap id)

@@ -1,6 +1,7 @@
 -- What the plain slow program keeps, as a world.
 use Rattle.std.specs.Prelude.{◌≡◌, ℕ, ◌≤◌, None}
 use Rattle.std.specs.FinMap.{get}
+use Rattle.pm_types.specs.declared.limits.TheConstants.{END_ID}
 use Rattle.pm_model.specs.Heap.{Heap}
 use Rattle.pm_model.specs.World.{World, Roots, Registers, Copy, Saving}
 
@@ -12,5 +13,5 @@ world_of heap roots registers next settled settled_copy saving watches =
 -- the next identity is in range, and no object has it or a later one
 pub record IsSound (heap : Heap) (next : ℕ) : Type 0 where
   pub first : 1 ≤ next
-  pub last : next ≤ 4294967296
+  pub last : next ≤ END_ID
   pub unused : (id : ℕ) → next ≤ id → get heap id ≡ None

@@ -129,7 +129,8 @@ fn keep(
     kept: &mut Objects,
     pending: &mut Vec<Id>,
 ) -> Result<(), NoMemory>
-    ensures { OnOk result ((kept.new, pending.new.items) ≡ looked_at (get kept.old id) (get objects.now id) id kept.old pending.old.items) }
+    ensures { OnOk result ((kept.new, pending.new.items) ≡ looked_at (get kept.old id)
+        (get objects.now id) id kept.old pending.old.items) }
 {
     if kept.get(id).is_some() {
         return Ok(());

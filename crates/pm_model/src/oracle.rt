@@ -1,5 +1,6 @@
 ghost use Rattle.std.specs.Prelude.{◌≡◌, ◌<◌, OnOk, OnErr, IfOk};
 ghost use Rattle.std.specs.FinMap.{get};
+ghost use Rattle.pm_types.specs.declared.limits.TheConstants.{CLIENTS};
 ghost use Rattle.pm_types.specs.declared.reply.Reply.TheVariants.{Done};
 ghost use Rattle.pm_model.specs.Heap.{field_of};
 ghost use Rattle.pm_model.specs.World.{empty_world, held, closing};
@@ -66,7 +67,7 @@ impl Oracle {
     /// Answers a client's command. After want of memory the world is as it was.
     #[tactic(auto, unfolding(crate::specs::Answer::answer))]
     pub fn answer(&mut self, alloc: Global, client: u32, cmd: &Cmd) -> Result<Reply, NoMemory>
-        requires { client < 8 }
+        requires { client < CLIENTS }
         ensures reply { IfOk result (λ reply. reply ≡ (answer self.old client cmd.now).0) }
         ensures world { OnOk result (self.new ≡ (answer self.old client cmd.now).1) }
         ensures err { OnErr result (self.new ≡ self.old) }
@@ -138,7 +139,8 @@ impl Oracle {
     }
 
     fn load(&mut self, client: u32, to: Reg, reg: Reg, index: u32) -> Result<Reply, NoMemory>
-        ensures reply { IfOk result (λ reply. reply ≡ (answer_load self.old client to index (held self.old client reg)).0) }
+        ensures reply { IfOk result (λ reply. reply ≡ (answer_load self.old client to index
+            (held self.old client reg)).0) }
         ensures world { OnOk result (self.new ≡ (answer_load self.old client to index (held self.old client reg)).1) }
         ensures err { OnErr result (self.new ≡ self.old) }
     {
@@ -189,8 +191,10 @@ impl Oracle {
         index: u32,
         value: Reg,
     ) -> Result<Reply, NoMemory>
-        ensures reply { IfOk result (λ reply. reply ≡ (answer_store self.old index (held self.old client reg) (held self.old client value)).0) }
-        ensures world { OnOk result (self.new ≡ (answer_store self.old index (held self.old client reg) (held self.old client value)).1) }
+        ensures reply { IfOk result (λ reply. reply ≡ (answer_store self.old index (held self.old client reg)
+            (held self.old client value)).0) }
+        ensures world { OnOk result (self.new ≡ (answer_store self.old index (held self.old client reg)
+            (held self.old client value)).1) }
         ensures err { OnErr result (self.new ≡ self.old) }
     {
         let Some(id) = self.registers.get(client, reg.number()) else {
@@ -328,7 +332,8 @@ impl Oracle {
     }
 
     fn find(&mut self, client: u32, to: Reg, name: &Name) -> Result<Reply, NoMemory>
-        ensures reply { IfOk result (λ reply. reply ≡ (answer_find self.old client to (get self.old.roots name.now)).0) }
+        ensures reply { IfOk result (λ reply. reply ≡ (answer_find self.old client to
+            (get self.old.roots name.now)).0) }
         ensures world { OnOk result (self.new ≡ (answer_find self.old client to (get self.old.roots name.now)).1) }
         ensures err { OnErr result (self.new ≡ self.old) }
     {
@@ -406,8 +411,10 @@ impl Oracle {
         old: Reg,
         value: Reg,
     ) -> Result<Reply, NoMemory>
-        ensures reply { IfOk result (λ reply. reply ≡ (answer_swap self.old index (held self.old client reg) (held self.old client old) (held self.old client value)).0) }
-        ensures world { OnOk result (self.new ≡ (answer_swap self.old index (held self.old client reg) (held self.old client old) (held self.old client value)).1) }
+        ensures reply { IfOk result (λ reply. reply ≡ (answer_swap self.old index (held self.old client reg)
+            (held self.old client old) (held self.old client value)).0) }
+        ensures world { OnOk result (self.new ≡ (answer_swap self.old index (held self.old client reg)
+            (held self.old client old) (held self.old client value)).1) }
         ensures err { OnErr result (self.new ≡ self.old) }
     {
         let Some(id) = self.registers.get(client, reg.number()) else {

@@ -20,14 +20,16 @@ pub fn replies_tell_what_was_done()
         × (get (answer world client (New reg count bytes)).1.heap id ≡ Some (fresh count bytes)) }
     ensures copied { (world : World) (client to reg id : ℕ) → (answer world client (Copy to reg)).0 ≡ Ident id
         → (held world client reg ≡ Some id) × (held (answer world client (Copy to reg)).1 client to ≡ Some id) }
-    ensures found { (world : World) (client to id : ℕ) (name : List ℕ) → (answer world client (Find to name)).0 ≡ Ident id
+    ensures found { (world : World) (client to id : ℕ) (name : List ℕ)
+        → (answer world client (Find to name)).0 ≡ Ident id
         → (get world.roots name ≡ Some id) × (held (answer world client (Find to name)).1 client to ≡ Some id) }
     ensures told { (world : World) (client reg id : ℕ) → (answer world client (IdOf reg)).0 ≡ Ident id
         → held world client reg ≡ Some id }
     ensures dropped { (world : World) (client reg : ℕ) → (answer world client (Forget reg)).0 ≡ Done
         → held (answer world client (Forget reg)).1 client reg ≡ None }
     ensures closed { (world : World) (client register : ℕ) → held (answer world client Close).1 client register ≡ None }
-    ensures put { (world : World) (client reg at : ℕ) (bytes : List ℕ) → (answer world client (Put reg at bytes)).0 ≡ Done
+    ensures put { (world : World) (client reg at : ℕ) (bytes : List ℕ)
+        → (answer world client (Put reg at bytes)).0 ≡ Done
         → IsSomeAnd (held world client reg) (λ id. ((j : ℕ) → j < length bytes
         → byte_at (answer world client (Put reg at bytes)).1 id (at + j) ≡ slice_get bytes j)
         × ((k : ℕ) → (k < at) ⊎ (at + length bytes ≤ k)

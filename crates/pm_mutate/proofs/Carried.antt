@@ -3,7 +3,7 @@ use Rattle.std.proofs.Common.{◌≡◌, ℕ, ◌+◌, ◌<◌, ◌≤◌, arith
 use Rattle.pm_types.specs.declared.limits.TheConstants.{REGISTERS}
 use Rattle.pm_types.specs.declared.no_memory.NoMemory.{NoMemory}
 use Rattle.pm_types.specs.declared.command.Cmd.{Cmd}
-use Rattle.pm_types.specs.declared.command.Cmd.TheVariants.{New, Load, Store, Clear, Show, Put, Copy, IdOf, Forget, Bind, Unbind, Find, Swap, Close, Save, Settle, Unsave, Watch}
+use Rattle.pm_types.specs.declared.command.Cmd.TheVariants.{New}
 use Rattle.pm_types.specs.declared.reply.Reply.{Reply}
 use Rattle.pm_types.specs.declared.reply.Reply.TheVariants.{Ident}
 use Rattle.pm_model.specs.Answer.{is_refusal}
@@ -12,7 +12,8 @@ use Rattle.pm_view.specs.Objects.{AddsObject}
 use Rattle.pm_view.specs.Work.{work}
 use Rattle.pm_law_work.specs.Raises.{raises}
 use Rattle.pm_view.specs.Rows.{spent, birthplace, IsVacant}
-use Rattle.pm_view.specs.Commands.{row, fresh, HasRegisters, Picks, ArePicked}
+use Rattle.pm_types.specs.Registers.{HasRegisters}
+use Rattle.pm_view.specs.Commands.{row, fresh, Picks, ArePicked}
 use Rattle.pm_mutate.specs.Picked.{IsForSomeRoot, IsForSomeCar, IsRow}
 use Rattle.pm_mutate.specs.Acts.{IsBirth, AddsLittleWork}
 use Rattle.pm_mutate.proofs.FreeNumbers.{spare_root, is_spare}
@@ -75,23 +76,7 @@ birth_of v w client (New reg count bytes) reply registers is adds = λ born. (
   birthplace (spent v) is.0.car (fresh v count bytes),
   subst (λ (p : Reply × SpaceView). AddsObject v p.1 v.next (birthplace (spent v) is.0.car (fresh v count bytes))) (sym is.2) (adds reg count bytes is.0 registers is.1 (ap (λ (p : Reply × SpaceView). p.0) (sym is.2) ∙ born)),
 )
-birth_of v w client (Load to reg index) reply registers is adds = tt
-birth_of v w client (Store reg index value) reply registers is adds = tt
-birth_of v w client (Clear reg index) reply registers is adds = tt
-birth_of v w client (Show reg) reply registers is adds = tt
-birth_of v w client (Put reg at bytes) reply registers is adds = tt
-birth_of v w client (Copy to reg) reply registers is adds = tt
-birth_of v w client (IdOf reg) reply registers is adds = tt
-birth_of v w client (Forget reg) reply registers is adds = tt
-birth_of v w client (Bind name reg) reply registers is adds = tt
-birth_of v w client (Unbind name) reply registers is adds = tt
-birth_of v w client (Find to name) reply registers is adds = tt
-birth_of v w client (Swap reg index old value) reply registers is adds = tt
-birth_of v w client Close reply registers is adds = tt
-birth_of v w client Save reply registers is adds = tt
-birth_of v w client Settle reply registers is adds = tt
-birth_of v w client Unsave reply registers is adds = tt
-birth_of v w client Watch reply registers is adds = tt
+birth_of v w client cmd reply registers is adds = tt
 
 pub born_so : (r : Result Reply NoMemory) (v w : SpaceView) (client : ℕ) (cmd : Cmd) → HasRegisters cmd → IfOk r (λ reply. IsRow v client cmd (reply, w)) → Adds v client
     → IfOk r (λ reply. IsBirth v cmd reply w)

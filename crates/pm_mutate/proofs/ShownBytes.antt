@@ -1,9 +1,9 @@
 -- A reply that shows bytes shows those of an object, and leaves the space as it is.
-use Rattle.std.proofs.Common.{◌≡◌, ℕ, ◌+◌, ◌≤◌, ◌||◌, Bool, true, false, if◌then◌else◌, List, length, nat_lt, nat_le, nat_eq, is_some, Option, Some, None, Result, Ok, Err, IfOk, refl, sym, ap, subst}
+use Rattle.std.proofs.Common.{◌≡◌, ℕ, ◌+◌, ◌||◌, Bool, true, false, if◌then◌else◌, List, length, nat_lt, nat_le, nat_eq, is_some, Option, Some, None, Result, Ok, Err, IfOk, refl, sym, subst}
 use Rattle.std.specs.FinMap.{get, len}
 use Rattle.pm_types.specs.declared.limits.TheConstants.{FIELDS, OBJECT_BYTES, LAST_ID, ROOTS}
 use Rattle.pm_types.specs.declared.no_memory.NoMemory.{NoMemory}
-use Rattle.pm_types.specs.Replies.{IsShortReply}
+use Rattle.pm_types.specs.Replies.{IsShortReply, is_shown}
 use Rattle.pm_types.specs.declared.address.Addr.{Addr}
 use Rattle.pm_types.specs.declared.object.Object.{Object}
 use Rattle.pm_types.specs.declared.command.Cmd.{Cmd}
@@ -13,9 +13,9 @@ use Rattle.pm_types.specs.declared.reply.Reply.TheVariants.{Shown}
 use Rattle.pm_view.specs.View.{SpaceView}
 use Rattle.pm_view.specs.Law.{HeapLaw}
 use Rattle.pm_view.specs.Reading.{object_at, resolve}
-use Rattle.pm_view.specs.Commands.{Picks, bind, field_at, hold, load_field, named_in, object_held, put_bytes, refused, register, row, row_clear, row_close, row_copy, row_data, row_drop, row_find, row_id, row_load, row_new, row_put, row_root, row_store, row_swap, row_unroot, set_field, swap_field}
+use Rattle.pm_view.specs.Commands.{Picks, bind, field_at, hold, load_field, named_in, object_held, put_bytes, register, row, row_clear, row_copy, row_data, row_drop, row_find, row_id, row_load, row_new, row_put, row_root, row_store, row_swap, row_unroot, set_field, swap_field}
 use Rattle.pm_mutate.specs.Picked.{IsRow}
-use Rattle.pm_mutate.specs.Acts.{LeavesWhereShown, is_shown}
+use Rattle.pm_mutate.specs.Acts.{LeavesWhereShown}
 
 -- the reply shows no bytes, or at most an object's, and then the space after it is the one before
 abbrev IsQuiet : SpaceView → Reply × SpaceView → Type 0

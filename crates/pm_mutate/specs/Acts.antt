@@ -1,11 +1,12 @@
 -- What a command does, beyond its row.
-use Rattle.std.specs.Prelude.{◌≡◌, ℕ, ◌+◌, ◌≤◌, Bool, true, false, None}
+use Rattle.std.specs.Prelude.{◌≡◌, ℕ, ◌+◌, ◌≤◌, true, None}
 use Rattle.std.specs.FinMap.{get}
 use Rattle.pm_types.specs.declared.address.Addr.{Addr}
 use Rattle.pm_types.specs.declared.command.Cmd.{Cmd}
 use Rattle.pm_types.specs.declared.command.Cmd.TheVariants.{New}
 use Rattle.pm_types.specs.declared.reply.Reply.{Reply}
-use Rattle.pm_types.specs.declared.reply.Reply.TheVariants.{Ident, Shown}
+use Rattle.pm_types.specs.declared.reply.Reply.TheVariants.{Ident}
+use Rattle.pm_types.specs.Replies.{is_shown}
 use Rattle.pm_model.specs.World.{World}
 use Rattle.pm_model.specs.Answer.{answer, is_refusal}
 use Rattle.pm_view.specs.View.{SpaceView}
@@ -23,11 +24,6 @@ Serves view client cmd reply after = (world : World) → Represents view world �
 -- a command that is refused leaves the space as it is
 abbrev pub IsStill : SpaceView → Cmd → Reply → SpaceView → Type 0
 IsStill view cmd reply after = is_refusal cmd reply ≡ true → after ≡ view
-
--- the reply shows bytes
-abbrev pub is_shown : Reply → Bool
-is_shown (Shown bytes) = true
-is_shown reply = false
 
 -- a command whose reply shows bytes leaves the space as it is
 abbrev pub LeavesWhereShown : SpaceView → Reply → SpaceView → Type 0

@@ -1,9 +1,6 @@
 -- How many changes cars are told where the registers of a client are emptied.
 use Rattle.std.specs.Prelude.{ℕ, ◌+◌, zero, suc}
-use Rattle.std.specs.Ordering.{nat_cmp}
-use Rattle.std.specs.BTreeMap as tree
 use Rattle.std.specs.FinMap.{get}
-use Rattle.std.specs.Option.{unwrap_or}
 use Rattle.pm_view.specs.View.{Registers}
 use Rattle.pm_space.specs.Linked.{told_by}
 
@@ -11,7 +8,3 @@ use Rattle.pm_space.specs.Linked.{told_by}
 abbrev pub stored_in : Registers → ℕ → ℕ → ℕ → ℕ
 stored_in registers client zero car = 0
 stored_in registers client (suc register) car = stored_in registers client register car + told_by car (get registers (client, register))
-
--- what is counted for a car
-abbrev pub counted : tree.BTreeMap ℕ ℕ → ℕ → ℕ
-counted counts car = unwrap_or (tree.get nat_cmp counts car) 0

@@ -1,6 +1,6 @@
 ghost use Rattle.std.specs.Prelude.{◌≡◌, ◌<◌, true, false, IfOk, OnErr};
-ghost use Rattle.pm_types.specs.declared.limits.TheConstants.{CLIENTS, REGISTERS};
-ghost use Rattle.pm_view.specs.Commands.{is_act, is_new, HasRegisters};
+ghost use Rattle.pm_types.specs.declared.limits.TheConstants.{CLIENTS};
+ghost use Rattle.pm_view.specs.Commands.{is_act, is_new};
 ghost use Rattle.pm_view.specs.Law.{HeapLaw};
 ghost use Rattle.pm_view.specs.Objects.{KeepsObjects};
 ghost use Rattle.pm_space.specs.Shown.{view, KeepsRest};
@@ -20,62 +20,10 @@ use pm_law_commands::{
     a_refused_command_leaves_the_space, every_command_but_new_leaves_objects_where_they_stand,
     new_adds_one_object_in_the_open_train,
 };
-use pm_law_stale::a_command_leaves_the_slot_that_moved;
-use pm_law_work::a_command_adds_little_work;
+use pm_law_work::{a_command_adds_little_work, a_command_leaves_the_slot_that_moved};
 use pm_space::{Parts, Space};
-use pm_types::{Cmd, NoMemory, Reg, Reply};
+use pm_types::{Cmd, NoMemory, Reply};
 use std::alloc::Global;
-
-// A register is one that a client has. It does nothing.
-fn sound(reg: Reg)
-    ensures { reg < REGISTERS }
-{
-    let _number = reg.number();
-}
-
-// Each register of a command is one that a client has. It does nothing.
-fn sound_registers(cmd: &Cmd)
-    ensures { HasRegisters cmd.now }
-{
-    match cmd {
-        Cmd::New { reg, .. } => sound(*reg),
-        Cmd::Load { to, reg, .. } => {
-            sound(*to);
-            sound(*reg);
-        }
-        Cmd::Store { reg, value, .. } => {
-            sound(*reg);
-            sound(*value);
-        }
-        Cmd::Clear { reg, .. } => sound(*reg),
-        Cmd::Show { reg } => sound(*reg),
-        Cmd::Put { reg, .. } => sound(*reg),
-        Cmd::Copy { to, reg } => {
-            sound(*to);
-            sound(*reg);
-        }
-        Cmd::IdOf { reg } => sound(*reg),
-        Cmd::Forget { reg } => sound(*reg),
-        Cmd::Bind { reg, .. } => sound(*reg),
-        Cmd::Find { to, .. } => sound(*to),
-        Cmd::Swap {
-            reg,
-            old,
-            value,
-            ..
-        } => {
-            sound(*reg);
-            sound(*old);
-            sound(*value);
-        }
-        Cmd::Unbind { .. } => {}
-        Cmd::Close => {}
-        Cmd::Save => {}
-        Cmd::Settle => {}
-        Cmd::Unsave => {}
-        Cmd::Watch => {}
-    }
-}
 
 // What a command answers, and the parts after it.
 fn run<F>(parts: &mut Parts<F>, alloc: Global, client: u32, cmd: &Cmd) -> Result<Reply, NoMemory>
@@ -142,7 +90,7 @@ pub fn act<F: Drop>(
     every_command_but_new_leaves_objects_where_they_stand();
     new_adds_one_object_in_the_open_train();
     a_command_leaves_the_slot_that_moved();
-    sound_registers(cmd);
+    cmd.sound();
     space.quiet = 0;
     run(&mut space.parts, alloc, client, cmd)
 }

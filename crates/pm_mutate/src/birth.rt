@@ -123,6 +123,7 @@ pub fn new<F>(
     ensures err { OnErr result (view parts.new ≡ view parts.old) }
     ensures rest { KeepsRest parts.old parts.new }
 {
+    // For the proof alone: the number that a new car would get is one that no car has.
     let _number = parts.cars.vacant();
     if is_too_large(count, bytes) {
         return Ok(Reply::TooLarge);

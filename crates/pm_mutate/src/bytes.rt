@@ -14,7 +14,8 @@ use pm_types::{Addr, NoMemory, Reg, Reply};
 // Writes bytes into an object that has so many from this place on.
 fn write(cars: &mut Table<Held>, at: Addr, place: u32, bytes: &[u8]) -> Result<(), NoMemory>
     requires { HasBytesAt (cars_of cars.old) at place (length bytes.now) }
-    ensures ok { OnOk result (cars_of cars.new ≡ with_object (cars_of cars.old) at (λ object. with_bytes object place bytes.now)) }
+    ensures ok { OnOk result (cars_of cars.new ≡ with_object (cars_of cars.old) at
+        (λ object. with_bytes object place bytes.now)) }
     ensures err { OnErr result (cars.new ≡ cars.old) }
     ensures frozen { cars.new.frozen ≡ cars.old.frozen }
 {
@@ -32,7 +33,8 @@ fn ends_within(place: u32, count: usize, length: usize) -> bool
 
 // Bytes of the object at an address are changed.
 fn put_at<F>(parts: &mut Parts<F>, at: Addr, place: u32, bytes: &[u8]) -> Result<Reply, NoMemory>
-    ensures ok { IfOk result (λ reply. (reply, view parts.new) ≡ put_bytes (view parts.old) at place bytes.now (object_at (view parts.old).cars at)) }
+    ensures ok { IfOk result (λ reply. (reply, view parts.new) ≡ put_bytes (view parts.old) at place bytes.now
+        (object_at (view parts.old).cars at)) }
     ensures err { OnErr result (view parts.new ≡ view parts.old) }
     ensures rest { KeepsRest parts.old parts.new }
 {
@@ -55,7 +57,8 @@ pub fn put<F>(
     bytes: &[u8],
 ) -> Result<Reply, NoMemory>
     requires client { client < CLIENTS }
-    ensures ok { IfOk result (λ reply. (reply, view parts.new) ≡ row_put (view parts.old) place bytes.now (register (view parts.old) client reg)) }
+    ensures ok { IfOk result (λ reply. (reply, view parts.new) ≡ row_put (view parts.old) place bytes.now
+        (register (view parts.old) client reg)) }
     ensures err { OnErr result (view parts.new ≡ view parts.old) }
     ensures rest { KeepsRest parts.old parts.new }
 {

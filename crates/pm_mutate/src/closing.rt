@@ -1,4 +1,4 @@
-ghost use Rattle.std.specs.Prelude.{◌≡◌, ◌<◌, ◌≤◌, ◌+◌, ◌==◌, ℕ, cond, IfOk, OnOk, OnErr, None};
+ghost use Rattle.std.specs.Prelude.{◌≡◌, ◌<◌, ◌≤◌, ℕ, IfOk, OnOk, OnErr, None};
 ghost use Rattle.std.specs.FinMap.{get};
 ghost use Rattle.pm_types.specs.declared.limits.TheConstants.{CLIENTS, REGISTERS};
 ghost use Rattle.pm_types.specs.declared.source.RefSource.TheVariants.{Handle};
@@ -6,27 +6,13 @@ ghost use Rattle.pm_view.specs.Rows.{spread};
 ghost use Rattle.pm_view.specs.Commands.{emptied, row_close};
 ghost use Rattle.pm_space.specs.Linked.{sets_of, queues_of, AreHoused, HasRoom, HasRoomFor, UsesRoom, told_by};
 ghost use Rattle.pm_space.specs.Shown.{view, KeepsRest};
-ghost use Rattle.pm_mutate.specs.Closing.{stored_in, counted};
+ghost use Rattle.pm_mutate.specs.Closing.{stored_in};
 
 use pm_handles::Handles;
-use pm_space::{LinkTable, Parts, tell_all};
+use pm_space::{LinkTable, Parts, count_car, tell_all};
 use pm_types::{NoMemory, REGISTERS, RefSource, Reply};
 use std::alloc::Global;
 use std::collections::BTreeMap;
-
-// Counts one more for a car, and answers its count.
-fn count_one(counts: &mut BTreeMap<u64, u64>, car: u64) -> Result<u64, NoMemory>
-    requires { counted counts.old car < REGISTERS }
-    ensures count { IfOk result (λ count. count ≡ counted counts.new car) }
-    ensures counts { OnOk result ((other : ℕ) → counted counts.new other ≡ counted counts.old other + cond (car == other) 1 0) }
-{
-    let count = match counts.get(&car) {
-        Some(count) => *count + 1,
-        None => 1,
-    };
-    counts.insert(car, count)?;
-    Ok(count)
-}
 
 // Makes room in queues for what is told where so many registers of a client are emptied.
 fn make_room_to_close(
@@ -45,7 +31,7 @@ fn make_room_to_close(
     let mut counts = BTreeMap::new(alloc);
     for register in 0..count {
         if let Some(at) = handles.get(client, register) {
-            let count = count_one(&mut counts, at.car)?;
+            let count = count_car(&mut counts, at.car)?;
             links.reserve(at.car, count)?;
         }
     }
@@ -59,7 +45,8 @@ fn empty_register<F>(parts: &mut Parts<F>, client: u32, register: u32)
     requires housed { AreHoused (sets_of parts.old.links) parts.old.trains.trains }
     requires room { HasRoomFor parts.old.links (get (view parts.old).registers (client, register)) }
     ensures view { view parts.new ≡ spread (view parts.old) (Handle client register) None }
-    ensures used { UsesRoom parts.old.links parts.new.links (λ car. told_by car (get (view parts.old).registers (client, register))) }
+    ensures used { UsesRoom parts.old.links parts.new.links (λ car. told_by car
+        (get (view parts.old).registers (client, register))) }
     ensures rest { KeepsRest parts.old parts.new }
 {
     let old = parts.handles.set(client, register, None);

@@ -1,4 +1,4 @@
-ghost use Rattle.std.specs.Prelude.{◌≡◌, ◌<◌, IfOk, OnOk, OnErr, Some};
+ghost use Rattle.std.specs.Prelude.{◌≡◌, ◌<◌, IfOk, OnErr, Some};
 ghost use Rattle.std.specs.Option.{option_map};
 ghost use Rattle.pm_types.specs.declared.limits.TheConstants.{CLIENTS};
 ghost use Rattle.pm_types.specs.declared.source.RefSource.TheVariants.{Field};
@@ -43,7 +43,8 @@ pub fn store<F>(
 ) -> Result<Reply, NoMemory>
     requires client { client < CLIENTS }
     requires housed { AreHoused (sets_of parts.old.links) parts.old.trains.trains }
-    ensures ok { IfOk result (λ reply. (reply, view parts.new) ≡ row_store (view parts.old) index (register (view parts.old) client reg) (register (view parts.old) client value)) }
+    ensures ok { IfOk result (λ reply. (reply, view parts.new) ≡ row_store (view parts.old) index
+        (register (view parts.old) client reg) (register (view parts.old) client value)) }
     ensures err { OnErr result (view parts.new ≡ view parts.old) }
     ensures rest { KeepsRest parts.old parts.new }
 {
@@ -62,7 +63,8 @@ pub fn store<F>(
 pub fn clear<F>(parts: &mut Parts<F>, client: u32, reg: Reg, index: u32) -> Result<Reply, NoMemory>
     requires client { client < CLIENTS }
     requires housed { AreHoused (sets_of parts.old.links) parts.old.trains.trains }
-    ensures ok { IfOk result (λ reply. (reply, view parts.new) ≡ row_clear (view parts.old) index (register (view parts.old) client reg)) }
+    ensures ok { IfOk result (λ reply. (reply, view parts.new) ≡ row_clear (view parts.old) index
+        (register (view parts.old) client reg)) }
     ensures err { OnErr result (view parts.new ≡ view parts.old) }
     ensures rest { KeepsRest parts.old parts.new }
 {
@@ -94,7 +96,9 @@ fn swap_held<F>(
 ) -> Result<Reply, NoMemory>
     requires housed { AreHoused (sets_of parts.old.links) parts.old.trains.trains }
     requires field { field_at (object_at (view parts.old).cars at) index ≡ Some (Some stored) }
-    ensures ok { IfOk result (λ reply. (reply, view parts.new) ≡ swap_field (view parts.old) at index (Some (Some stored)) (object_held (view parts.old) (Some stored)) (object_held (view parts.old) (Some old)) value) }
+    ensures ok { IfOk result (λ reply. (reply, view parts.new) ≡ swap_field (view parts.old) at index
+        (Some (Some stored)) (object_held (view parts.old) (Some stored))
+        (object_held (view parts.old) (Some old)) value) }
     ensures err { OnErr result (view parts.new ≡ view parts.old) }
     ensures rest { KeepsRest parts.old parts.new }
 {
@@ -120,7 +124,9 @@ fn swap_at<F>(
     value: Addr,
 ) -> Result<Reply, NoMemory>
     requires housed { AreHoused (sets_of parts.old.links) parts.old.trains.trains }
-    ensures ok { IfOk result (λ reply. let field = field_at (object_at (view parts.old).cars at) index in (reply, view parts.new) ≡ swap_field (view parts.old) at index field (named_in (view parts.old) field) (object_held (view parts.old) (Some old)) value) }
+    ensures ok { IfOk result (λ reply. let field = field_at (object_at (view parts.old).cars at) index in
+        (reply, view parts.new) ≡ swap_field (view parts.old) at index field (named_in (view parts.old) field)
+        (object_held (view parts.old) (Some old)) value) }
     ensures err { OnErr result (view parts.new ≡ view parts.old) }
     ensures rest { KeepsRest parts.old parts.new }
 {
@@ -143,7 +149,8 @@ pub fn swap<F>(
 ) -> Result<Reply, NoMemory>
     requires client { client < CLIENTS }
     requires housed { AreHoused (sets_of parts.old.links) parts.old.trains.trains }
-    ensures ok { IfOk result (λ reply. let v = view parts.old in (reply, view parts.new) ≡ row_swap v index (register v client reg) (register v client old) (register v client value)) }
+    ensures ok { IfOk result (λ reply. let v = view parts.old in (reply, view parts.new) ≡ row_swap v index
+        (register v client reg) (register v client old) (register v client value)) }
     ensures err { OnErr result (view parts.new ≡ view parts.old) }
     ensures rest { KeepsRest parts.old parts.new }
 {

@@ -33,7 +33,8 @@ fn set_register<F>(
 fn hold<F>(parts: &mut Parts<F>, client: u32, to: Reg, at: Addr) -> Result<Reply, NoMemory>
     requires client { client < CLIENTS }
     requires housed { AreHoused (sets_of parts.old.links) parts.old.trains.trains }
-    ensures ok { IfOk result (λ reply. (reply, view parts.new) ≡ hold (view parts.old) client to at (object_at (view parts.old).cars at)) }
+    ensures ok { IfOk result (λ reply. (reply, view parts.new) ≡ hold (view parts.old) client to at
+        (object_at (view parts.old).cars at)) }
     ensures err { OnErr result (view parts.new ≡ view parts.old) }
     ensures rest { KeepsRest parts.old parts.new }
 {
@@ -49,7 +50,8 @@ fn hold<F>(parts: &mut Parts<F>, client: u32, to: Reg, at: Addr) -> Result<Reply
 pub fn copy<F>(parts: &mut Parts<F>, client: u32, to: Reg, reg: Reg) -> Result<Reply, NoMemory>
     requires client { client < CLIENTS }
     requires housed { AreHoused (sets_of parts.old.links) parts.old.trains.trains }
-    ensures ok { IfOk result (λ reply. (reply, view parts.new) ≡ row_copy (view parts.old) client to (register (view parts.old) client reg)) }
+    ensures ok { IfOk result (λ reply. (reply, view parts.new) ≡ row_copy (view parts.old) client to
+        (register (view parts.old) client reg)) }
     ensures err { OnErr result (view parts.new ≡ view parts.old) }
     ensures rest { KeepsRest parts.old parts.new }
 {
@@ -66,7 +68,8 @@ pub fn copy<F>(parts: &mut Parts<F>, client: u32, to: Reg, reg: Reg) -> Result<R
 pub fn find<F>(parts: &mut Parts<F>, client: u32, to: Reg, name: &Name) -> Result<Reply, NoMemory>
     requires client { client < CLIENTS }
     requires housed { AreHoused (sets_of parts.old.links) parts.old.trains.trains }
-    ensures ok { IfOk result (λ reply. (reply, view parts.new) ≡ row_find (view parts.old) client to (get (view parts.old).roots name.now)) }
+    ensures ok { IfOk result (λ reply. (reply, view parts.new) ≡ row_find (view parts.old) client to
+        (get (view parts.old).roots name.now)) }
     ensures err { OnErr result (view parts.new ≡ view parts.old) }
     ensures rest { KeepsRest parts.old parts.new }
 {
@@ -115,7 +118,8 @@ pub fn load<F>(
 ) -> Result<Reply, NoMemory>
     requires client { client < CLIENTS }
     requires housed { AreHoused (sets_of parts.old.links) parts.old.trains.trains }
-    ensures ok { IfOk result (λ reply. (reply, view parts.new) ≡ row_load (view parts.old) client to index (register (view parts.old) client reg)) }
+    ensures ok { IfOk result (λ reply. (reply, view parts.new) ≡ row_load (view parts.old) client to index
+        (register (view parts.old) client reg)) }
     ensures err { OnErr result (view parts.new ≡ view parts.old) }
     ensures rest { KeepsRest parts.old parts.new }
 {
@@ -132,7 +136,8 @@ pub fn load<F>(
 pub fn forget<F>(parts: &mut Parts<F>, client: u32, reg: Reg) -> Result<Reply, NoMemory>
     requires client { client < CLIENTS }
     requires housed { AreHoused (sets_of parts.old.links) parts.old.trains.trains }
-    ensures ok { IfOk result (λ reply. (reply, view parts.new) ≡ row_drop (view parts.old) client reg (register (view parts.old) client reg)) }
+    ensures ok { IfOk result (λ reply. (reply, view parts.new) ≡ row_drop (view parts.old) client reg
+        (register (view parts.old) client reg)) }
     ensures err { OnErr result (view parts.new ≡ view parts.old) }
     ensures rest { KeepsRest parts.old parts.new }
 {

@@ -1,4 +1,4 @@
-ghost use Rattle.std.specs.Prelude.{◌≡◌, ◌<◌, IfOk, OnOk, OnErr, Some, None, IsSome};
+ghost use Rattle.std.specs.Prelude.{◌≡◌, ◌<◌, IfOk, OnErr, Some, None};
 ghost use Rattle.std.specs.FinMap.{get};
 ghost use Rattle.pm_types.specs.declared.limits.TheConstants.{CLIENTS};
 ghost use Rattle.pm_types.specs.declared.source.RefSource.TheVariants.{Root};
@@ -16,7 +16,8 @@ use std::alloc::Global;
 /// `unroot`: a name is not bound any more.
 pub fn unroot<F>(parts: &mut Parts<F>, name: &Name) -> Result<Reply, NoMemory>
     requires housed { AreHoused (sets_of parts.old.links) parts.old.trains.trains }
-    ensures ok { IfOk result (λ reply. (reply, view parts.new) ≡ row_unroot (view parts.old) name.now (get (view parts.old).roots name.now)) }
+    ensures ok { IfOk result (λ reply. (reply, view parts.new) ≡ row_unroot (view parts.old) name.now
+        (get (view parts.old).roots name.now)) }
     ensures err { OnErr result (view parts.new ≡ view parts.old) }
     ensures rest { KeepsRest parts.old parts.new }
 {
@@ -45,7 +46,8 @@ fn bind_new<F>(
 ) -> Result<Reply, NoMemory>
     requires housed { AreHoused (sets_of parts.old.links) parts.old.trains.trains }
     requires unbound { get (view parts.old).roots name.now ≡ None }
-    ensures ok { IfOk result (λ reply. IsForSomeRoot (view parts.old) (λ number. bind (view parts.old) name.now None number at) (reply, view parts.new)) }
+    ensures ok { IfOk result (λ reply. IsForSomeRoot (view parts.old)
+        (λ number. bind (view parts.old) name.now None number at) (reply, view parts.new)) }
     ensures err { OnErr result (view parts.new ≡ view parts.old) }
     ensures rest { KeepsRest parts.old parts.new }
 {
@@ -71,7 +73,9 @@ fn bind_new<F>(
 // Binds a name to an address; one that is bound keeps its number.
 fn bind<F>(parts: &mut Parts<F>, alloc: Global, name: &Name, at: Addr) -> Result<Reply, NoMemory>
     requires housed { AreHoused (sets_of parts.old.links) parts.old.trains.trains }
-    ensures ok { IfOk result (λ reply. IsForSomeRoot (view parts.old) (λ number. bind (view parts.old) name.now (get (view parts.old).roots name.now) number at) (reply, view parts.new)) }
+    ensures ok { IfOk result (λ reply. IsForSomeRoot (view parts.old)
+        (λ number. bind (view parts.old) name.now (get (view parts.old).roots name.now) number at)
+        (reply, view parts.new)) }
     ensures err { OnErr result (view parts.new ≡ view parts.old) }
     ensures rest { KeepsRest parts.old parts.new }
 {
@@ -95,7 +99,8 @@ pub fn root<F>(
 ) -> Result<Reply, NoMemory>
     requires client { client < CLIENTS }
     requires housed { AreHoused (sets_of parts.old.links) parts.old.trains.trains }
-    ensures ok { IfOk result (λ reply. let v = view parts.old in IsForSomeRoot v (λ number. row_root v name.now number (register v client reg)) (reply, view parts.new)) }
+    ensures ok { IfOk result (λ reply. let v = view parts.old in IsForSomeRoot v
+        (λ number. row_root v name.now number (register v client reg)) (reply, view parts.new)) }
     ensures err { OnErr result (view parts.new ≡ view parts.old) }
     ensures rest { KeepsRest parts.old parts.new }
 {

@@ -41,6 +41,7 @@ fn place_in_open_train<F>(parts: &mut Parts<F>, alloc: Global, room: u32) -> Res
     ensures kept { KeepsRoom parts.old.links parts.new.links }
     ensures rest { KeepsRest parts.old parts.new }
 {
+    // For the proof alone: the number that a new car would get is one that no car has.
     let _number = parts.cars.vacant();
     let train = parts.trains.youngest();
     match tail_for(parts, train, room) {

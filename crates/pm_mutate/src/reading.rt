@@ -41,7 +41,8 @@ pub(crate) fn object_held<F>(parts: &Parts<F>, held: Option<Addr>) -> Option<&Ob
 /// The identity of what a register holds.
 pub fn id<F>(parts: &Parts<F>, client: u32, reg: Reg) -> Reply
     requires { client < CLIENTS }
-    ensures { (result, view parts.now) ≡ row_id (view parts.now) (object_held (view parts.now) (register (view parts.now) client reg)) }
+    ensures { (result, view parts.now) ≡ row_id (view parts.now)
+        (object_held (view parts.now) (register (view parts.now) client reg)) }
 {
     match object_held(parts, register(parts, client, reg)) {
         Some(object) => Reply::Ident(object.id),
@@ -52,7 +53,8 @@ pub fn id<F>(parts: &Parts<F>, client: u32, reg: Reg) -> Reply
 /// The bytes of what a register holds.
 pub fn data<F>(parts: &Parts<F>, alloc: Global, client: u32, reg: Reg) -> Result<Reply, NoMemory>
     requires { client < CLIENTS }
-    ensures { IfOk result (λ reply. (reply, view parts.now) ≡ row_data (view parts.now) (object_held (view parts.now) (register (view parts.now) client reg))) }
+    ensures { IfOk result (λ reply. (reply, view parts.now) ≡ row_data (view parts.now)
+        (object_held (view parts.now) (register (view parts.now) client reg))) }
 {
     match object_held(parts, register(parts, client, reg)) {
         Some(object) => {

@@ -1,6 +1,10 @@
-//! Reply lines on their way to a sink, through a buffer whose room is taken once.
+//! Lines on their way to a sink, through a buffer whose room is taken once: those of replies, and those at the end of a
+//! run.
 #![tactic(auto)]
 
+pub mod line;
 mod output;
+mod tail;
 
 pub use output::{BUFFER_BYTES, Output};
+pub use tail::add_tail;

@@ -4,11 +4,11 @@ ghost use Rattle.std.specs.Prelude.{◌≡◌, ◌≤◌, ◌<◌, ◌+◌, ◌+
 ghost use Rattle.pm_types.specs.declared.limits.TheConstants.{CLIENTS};
 ghost use Rattle.pm_types.specs.Replies.{IsShortReply};
 ghost use Rattle.pm_model.specs.Text.{reply_line};
-ghost use Rattle.pm_grammar.specs.declared.reply.TheConstants.{REPLY_BYTES};
+ghost use Rattle.pm_script.specs.declared.reply.TheConstants.{REPLY_BYTES};
 ghost use Rattle.pm_output.specs.declared.output.TheConstants.{BUFFER_BYTES};
 
-use pm_grammar::{REPLY_BYTES, reply_into};
 use pm_io::{Failed, Sink};
+use pm_script::{REPLY_BYTES, reply_into};
 use pm_types::{Entry, NoMemory};
 use std::alloc::Global;
 
@@ -53,7 +53,7 @@ impl Output {
     ghost use Rattle.pm_types.specs.declared.limits.TheConstants.{CLIENTS};
     ghost use Rattle.pm_types.specs.Replies.{IsShortReply};
     ghost use Rattle.pm_model.specs.Text.{reply_line};
-    ghost use Rattle.pm_grammar.specs.declared.reply.TheConstants.{REPLY_BYTES};
+    ghost use Rattle.pm_script.specs.declared.reply.TheConstants.{REPLY_BYTES};
     ghost use Rattle.pm_output.specs.Gathered.{gathered};
     ghost use Rattle.pm_output.specs.Writing.{GoesOn, PutsPart, PutsAll};
 

@@ -1,1 +1,1 @@
-pub mod KindRows
+pub mod WatchLines

@@ -1,19 +1,5 @@
 -- Which events are made here.
-use Rattle.std.specs.Prelude.{◌≡◌, ℕ, Bool, not, is_some, List, Option, option_map, option_and_then}
-use Rattle.std.specs.List.{find}
-use Rattle.std.specs.Borrow.{Bor}
-use Rattle.std.specs.Fn.{Shared}
-use Rattle.pm_types.specs.declared.address.Addr.{Addr}
-use Rattle.pm_view.specs.View.{SpaceView}
-use Rattle.pm_view.specs.Candidates.{least_outside}
-use Rattle.pm_view.specs.Collecting.{anchored}
-use Rattle.pm_view.specs.Events.{Row, nothing, select, doom, start, named_in}
-use Rattle.pm_evac.specs.Steps.{IsNoted}
-
--- no event comes
-abbrev pub IsNothing : Row → Type 0
-IsNothing nothing = Unit {0}
-IsNothing row = ⊥
+use Rattle.pm_view.specs.Events.{Row, select, doom, start}
 
 -- the event selects a train
 abbrev pub IsSelect : Row → Type 0
@@ -25,14 +11,3 @@ abbrev pub IsDecide : Row → Type 0
 IsDecide (doom train) = Unit {0}
 IsDecide (start car a) = Unit {0}
 IsDecide row = ⊥
-
--- the object that the least source outside a train names in the first of these cars that remembers such a source
-abbrev pub first_noted : SpaceView → ℕ → List ℕ → Option Addr
-first_noted view train cars = option_and_then (λ car. option_map (named_in car) (least_outside view train car)) (find (λ car. is_some (least_outside view train car)) cars)
-
--- where no anchor stands the object at an address was noted, with the chooser's pick, and this tells whether it was
-pub record IsAnchored {F : Type 0} (calls : Shared F (Bor (List ℕ) × Unit {0}) ℕ) (choose : F) (old new : SpaceView) (a : Addr) (noted : Bool) : Type 0 where
-  pub picked : ℕ
-  pub chosen : IsNoted calls choose old old.anchor a picked
-  pub after : new ≡ record old { anchor = anchored old.anchor a picked }
-  pub answer : noted ≡ not (is_some old.anchor)

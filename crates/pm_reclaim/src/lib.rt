@@ -1,10 +1,8 @@
-//! The events with which a collection begins, and the one call that makes the next event in every phase, on the space.
+//! The calls that begin a collection, the one call that makes the next event in every phase, and watches, on the space.
 #![tactic(auto)]
 
 mod collecting;
-mod deciding;
-mod selecting;
+mod watch;
 
-pub use collecting::{Kind, collect_one, next_kind};
-pub use deciding::{decide, decide_next};
-pub use selecting::{select, select_next};
+pub use collecting::{collect_one, decide, select};
+pub use watch::{WATCH_ROOM, set_watch, tell_watch, tell_watches};

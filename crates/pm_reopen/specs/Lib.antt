@@ -1,3 +1,10 @@
-pub mod Reading
+pub mod Lists
 pub mod Linking
-pub mod Reopening
+pub mod Naming
+pub mod Trains
+pub mod Remembering
+pub mod Leading
+pub mod Making
+pub mod Listing
+pub mod Opening
+pub mod Refused

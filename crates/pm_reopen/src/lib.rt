@@ -1,14 +1,20 @@
-//! Reading the graph behind a header.
+//! Building a space of cars and roots, and opening a store as a space.
 #![tactic(auto)]
 
-mod chain;
-mod fault;
-mod held;
-mod links;
-mod numbered;
+mod building;
+mod leading;
+mod linking;
+mod listed;
+mod lists;
+mod naming;
+mod opened_car;
+mod opened_cars;
+mod opened_roots;
 mod opening;
-mod reading;
+mod remembering;
+mod trains;
 
-pub use chain::Chain;
-pub use numbered::Numbered;
-pub use opening::{flatten, read_graph, with_cars};
+pub use building::build;
+pub use listed::build_listed;
+pub use lists::{CarList, RootList};
+pub use opening::open_space;

@@ -1,118 +1,133 @@
-//! The graph behind the current header.
+//! Opening a store as a space.
 
-ghost use Rattle.std.specs.Prelude.{◌≡◌, ◌++◌, Contains, IfOk, IfErr, OnOk, map};
+ghost use Rattle.std.specs.Prelude.{◌≡◌, true, false, Contains, All, IfOk, IfErr, OnOk, OnErr, MatchResult};
 ghost use Rattle.pm_disk.specs.Disk.{IfTold};
-ghost use Rattle.pm_image.specs.declared.settled.KeptPage.{KeptPage};
-ghost use Rattle.pm_image.specs.Graphs.{entries_of, graph_of};
+ghost use Rattle.pm_image.specs.Graphs.{images_of, entries_of, used_pages};
+ghost use Rattle.pm_copies.specs.Listed.{images};
+ghost use Rattle.pm_copies.specs.Accepted.{IsAccepted};
+ghost use Rattle.pm_copies.specs.Opened.{IsOpened, listed_in};
+ghost use Rattle.pm_shadow.specs.State.{IsListable};
+ghost use Rattle.pm_shadow.specs.Uses.{IsListed};
+ghost use Rattle.pm_shadow.specs.Copies.{AreUsed};
+ghost use Rattle.pm_shadow.specs.Runs.{OnlyLooks};
 ghost use Rattle.pm_shadow.specs.Pages.{state, disk_of};
-ghost use Rattle.pm_reopen.specs.Reading.{Gives, as_graph, Counts, Looked, store_of, IsThere, page_numbers, IsWhole};
-ghost use Rattle.pm_reopen.specs.Reopening.{IsGraph, IsGraphFault, open_fault};
+ghost use Rattle.pm_space.specs.Shown.{view};
+ghost use Rattle.pm_graphs.specs.Reading.{IsThere};
+ghost use Rattle.pm_graphs.specs.Reopening.{IsGraphFault};
+ghost use Rattle.pm_reopen.specs.Opening.{OpensStore, MakesSpace, IsUnfrozen, KnowsPages, IsUnopened};
 
-use crate::chain::Chain;
-use crate::fault::ReadFault;
-use crate::held::hold_all;
-use crate::links::check_links;
-use crate::reading::{read_cars, read_chain};
+use crate::build_listed;
 use pm_disk::Disk;
-use pm_image::{CatalogPage, EntryList, KeptPage, Settled};
-use pm_layout::most_fields;
+use pm_graphs::{Chain, flatten, read_graph, with_cars};
+use pm_image::KeptPage;
+use pm_law_copies::accepted_cars_have_pages;
+use pm_place::Placement;
+use pm_settled::{PackedPages, pack_cars};
 use pm_shadow::Pages;
-use pm_types::{NoMemory, OpenFault, PAGE_BYTES};
+use pm_space::Space;
+use pm_types::{NoMemory, OpenFault};
 use std::alloc::Global;
 
-/// The numbers of the pages of a catalog, and what they list, each in order.
-pub fn flatten(alloc: Global, chain: Chain) -> Result<(Vec<u64>, EntryList), NoMemory>
-    ensures numbers { IfOk result (λ flat. flat.0.items ≡ page_numbers chain) }
-    ensures entries { IfOk result (λ flat. flat.1 ≡ entries_of chain) }
+// The space of a catalog and its cars, and the pages that these stand on.
+fn build_graph<F: Drop>(
+    alloc: Global,
+    place: Placement<F>,
+    chain: Chain,
+    cars: &[KeptPage],
+    next: u64,
+) -> Result<(Space<F>, Vec<u64>), NoMemory>
+    requires paired { images (listed_in (entries_of chain) (images_of cars.now)) ≡ images_of cars.now }
+    requires accepted { IsAccepted (listed_in (entries_of chain) (images_of cars.now)) (entries_of chain) next }
+    ensures view { IfOk result (λ made. IsOpened (listed_in (entries_of chain) (images_of cars.now))
+        (entries_of chain) next
+        (view made.0.parts)) }
+    ensures unfrozen { IfOk result (λ made. IsUnfrozen made.0.parts place) }
+    ensures pages { IfOk result (λ made. made.1.items ≡ used_pages (record { catalog = chain; cars = cars.now })) }
 {
-    let mut numbers = Vec::new(alloc);
-    let mut entries = Vec::new(alloc);
-    for (page, read) in chain.into_vec() {
-        let CatalogPage {
-            entries: listed,
-            ..
-        } = read;
-        numbers.push(page)?;
-        entries.append(&mut listed.into_vec())?;
+    let (numbers, entries) = flatten(alloc, chain)?;
+    let used = with_cars(numbers, cars)?;
+    let space = build_listed(alloc, place, entries.as_slice(), cars, next)?;
+    Ok((space, used))
+}
+
+// The page is one of a store of so many pages, behind the headers.
+fn is_there(page: u64, count: u64) -> bool
+    ensures there { result ≡ true → IsThere count page }
+    ensures only { IsThere count page → result ≡ true }
+{
+    2 <= page && page < count
+}
+
+// These are the pages that the current copy stands on. They are known from then on; where they were, nothing is done.
+fn know_pages<D: Disk>(alloc: Global, pages: &mut Pages<D>, used: &[u64]) -> Result<(), NoMemory>
+    requires there { (state pages.old).known ≡ false → All (IsListable (state pages.old)) used.now }
+    requires first { Contains used.now (state pages.old).header.first }
+    requires used { IfTold (D.contents (disk_of pages.old)) (λ bytes. AreUsed (state pages.old) bytes used.now) }
+    ensures state { OnOk result (KnowsPages (state pages.old) (state pages.new)) }
+    ensures listed { OnOk result ((state pages.old).known ≡ false → IsListed used.now (state pages.new).uses) }
+    ensures state_err { OnErr result (state pages.new ≡ state pages.old) }
+    ensures still { disk_of pages.new ≡ disk_of pages.old }
+{
+    if pages.is_known() {
+        return Ok(());
     }
-    Ok((numbers, EntryList::from_vec(entries)))
+    pages.commit_list(alloc, used)?;
+    Ok(())
 }
 
-/// The numbers of pages, and behind them those of the pages of cars.
-pub fn with_cars(numbers: Vec<u64>, cars: &[KeptPage]) -> Result<Vec<u64>, NoMemory>
-    ensures { IfOk result (λ used. used.items ≡ numbers.items ++ map (λ (kept : KeptPage). kept.page) cars.now) }
-{
-    let mut used = numbers;
-    for kept in cars {
-        used.push(kept.page)?;
-    }
-    Ok(used)
-}
-
-// The catalog and the cars behind the current header, each address of which leads where it may.
-fn read_whole<D: Disk>(alloc: Global, pages: &mut Pages<D>) -> Result<(Chain, Settled), ReadFault>
-    requires { IsThere (state pages.old).count (state pages.old).header.first }
-    ensures gives { IfTold (D.contents (disk_of pages.old)) (λ bytes. Gives (as_graph result) (graph_of (store_of (state pages.old).count bytes) (state pages.old).header)) }
-    ensures whole { IfOk result (λ read. IsWhole (state pages.old).count (state pages.old).header.next read.0 read.1) }
-    ensures begins { IfOk result (λ read. Contains (page_numbers read.0) (state pages.old).header.first) }
-    ensures looked { Looked pages.old pages.new }
-    ensures counts { Counts (D.count (disk_of pages.old)) (D.count (disk_of pages.new)) result }
-{
-    let header = *pages.header();
-    let most = most_fields(header.version);
-    let mut buffer = vec![in alloc; 0; PAGE_BYTES]?;
-    let chain = read_chain(alloc, pages, &mut buffer)?;
-    let listed = chain.as_slice();
-    let cars = read_cars(alloc, pages, listed, most, header.next, &mut buffer)?;
-    let kept = cars.as_slice();
-    let held = hold_all(alloc, kept)?;
-    check_links(&held, listed, kept)?;
-    Ok((chain, cars))
-}
-
-// What a fault is for the one who opens a store.
-fn open_fault(fault: ReadFault, before: u64, after: u64) -> OpenFault
-    ensures { result ≡ open_fault fault before after }
-{
-    match fault {
-        ReadFault::Damaged { page, kept, found } => OpenFault::Damaged { page, kept, found },
-        ReadFault::Malformed { page, at } => OpenFault::Malformed { page, at },
-        ReadFault::Failed => OpenFault::Disk { before, after },
-        ReadFault::Memory => OpenFault::Memory,
-    }
-}
-
-/// The catalog behind the current header and the cars that it lists, as their pages spell them. Only the pages that
-/// they stand on are read, each once, and nothing is written.
+/// Opens the copy behind the current header of a store as a space with this chooser. Its catalog and its cars are read,
+/// each page once, and with the space come the cars, each as its page spells it. The pages that they stand on are known
+/// from then on. Pages that are known already stay as they are, also those that are claimed or kept for a next copy.
+/// Nothing is written, and no page is claimed. No publish of these pages has failed.
 ///
 /// # Errors
 ///
-/// The first of these that applies, with its page: of the catalog's pages in the order of the chain, then of the cars'
-/// pages in the order of the catalog, `Damaged` where a page has another digest than the one that is kept of it, and
-/// `Malformed` where a field of it is at fault, with the place of that field; then of the addresses in the order of
-/// cars, records and fields, and of roots, `Malformed` with the place of the first that leads nowhere. `Disk` where the
-/// disk failed, with its counts of failed calls before and after; and `Memory`.
-pub fn read_graph<D: Disk>(
+/// `Damaged` and `Malformed` where the header or a page behind it is at fault: the first rule that fails; `Disk` where
+/// the disk failed, with its counts of failed calls before and after; and `Memory`. The pages are as they were then.
+pub fn open_space<D: Disk, F: Drop>(
     alloc: Global,
     pages: &mut Pages<D>,
-) -> Result<(Chain, Settled), OpenFault>
-    requires { IsThere (state pages.old).count (state pages.old).header.first }
-    // Where the disk tells its contents it is the graph behind the header, or the first fault.
-    ensures graph { IfTold (D.contents (disk_of pages.old)) (λ bytes. IsGraph result (graph_of (store_of (state pages.old).count bytes) (state pages.old).header)) }
-    // On any disk the pages are pages of the store, with the one that the header names, each entry follows those before
-    // it, the cars are those that are listed, and each address leads where it may.
-    ensures whole { IfOk result (λ read. IsWhole (state pages.old).count (state pages.old).header.next read.0 read.1) }
-    ensures begins { IfOk result (λ read. Contains (page_numbers read.0) (state pages.old).header.first) }
+    place: Placement<F>,
+) -> Result<(Space<F>, PackedPages), OpenFault>
+    requires { (state pages.old).failed ≡ false }
+    // The space is what opening makes of the bytes of the disk, the cars are as their pages spell them, and the pages of
+    // these and of the catalog are known.
+    ensures opened { IfOk result (λ made. IfTold (D.contents (disk_of pages.new)) (λ bytes.
+        OpensStore (state pages.old) (state pages.new) bytes (view made.0.parts) made.1)) }
+    // Of any disk, the space is what opening makes of cars that no rule refuses, which are these.
+    ensures made_of { IfOk result (λ made. MakesSpace (state pages.old) (state pages.new) made.0.parts place made.1) }
+    ensures state { MatchResult result (λ made. KnowsPages (state pages.old) (state pages.new))
+        (λ fault. state pages.new ≡ state pages.old) }
+    // Why none was opened.
+    ensures fault { IfErr result (λ fault. IfTold (D.contents (disk_of pages.old)) (λ bytes.
+        IsUnopened (state pages.old) bytes fault)) }
     ensures cause { IfErr result (IsGraphFault (D.count (disk_of pages.old)) (D.count (disk_of pages.new))) }
     ensures count { OnOk result (D.count (disk_of pages.new) ≡ D.count (disk_of pages.old)) }
-    ensures looked { Looked pages.old pages.new }
+    ensures looks { OnlyLooks D.contents D.image D.moment D.since (disk_of pages.old) (disk_of pages.new) }
+    // Not even a sync, and no read past the end of what the disk told.
+    ensures made { D.made (disk_of pages.new) ≡ D.made (disk_of pages.old) }
 {
-    let before = pages.faults();
-    match read_whole(alloc, pages) {
-        Ok(read) => Ok(read),
-        Err(fault) => {
-            let after = pages.faults();
-            Err(open_fault(fault, before, after))
-        }
+    pages.keep_their_header();
+    pages.keep_the_current_copy();
+    accepted_cars_have_pages();
+    let header = *pages.header();
+    if !is_there(header.first, pages.page_count()) {
+        return Err(OpenFault::Malformed {
+            page: pages.slot(),
+            at: 24,
+        });
     }
+    let (chain, cars) = read_graph(alloc, pages)?;
+    let built = build_graph(alloc, place, chain, cars.as_slice(), header.next);
+    let Ok((space, used)) = built else {
+        return Err(OpenFault::Memory);
+    };
+    let Ok(packed) = pack_cars(alloc, cars) else {
+        return Err(OpenFault::Memory);
+    };
+    let known = know_pages(alloc, pages, used.as_slice());
+    let Ok(()) = known else {
+        return Err(OpenFault::Memory);
+    };
+    Ok((space, packed))
 }

@@ -142,9 +142,6 @@ module _ (es : Numbered) (g : ℕ → Option Addr) (kept : IsKept es g) (m : Bin
   pub counted_now : length es ≡ len m
   counted_now = sym (len_shown es g kept.sorted) ∙ ap len seen
 
-  pub address_now : (n : ℕ) → address_at m n ≡ g n
-  address_now n = ap (λ m. address_at m n) (sym seen) ∙ at_shown es g kept n
-
 -- the row at a place
 pub row_at : (es : Numbered) (g : ℕ → Option Addr) (place : ℕ) (e : List ℕ × ℕ) (a : Addr) → place < length es → e ≡ get_or es place e → g e.1 ≡ Some a → slice_get (rows g es) place ≡ Some (e.0, (e.1, a))
 row_at [] g place e a lt is at = absurd (omega arith)

@@ -134,8 +134,10 @@ impl Roots {
         ensures number { IfOk result (λ done. IsNumberFor (map.get self.old name) self.old done.0) }
         ensures old_address { IfOk result (λ done. done.1 ≡ option_map (λ bound. bound.1) (map.get self.old name)) }
         ensures names { IfOk result (λ done. self.new ≡ map.insert self.old name (done.0, at)) }
-        ensures numbers { IfOk result (λ done. (number : ℕ) → address_at self.new number ≡ (if number == done.0 then Some at else address_at self.old number)) }
-        ensures too_many { (result ≡ Err BindFault.TooMany) ↔ ((map.get self.old name ≡ None) × (ROOTS ≤ map.len self.old)) }
+        ensures numbers { IfOk result (λ done. (number : ℕ)
+            → address_at self.new number ≡ (if number == done.0 then Some at else address_at self.old number)) }
+        ensures too_many { (result ≡ Err BindFault.TooMany) ↔ ((map.get self.old name ≡ None)
+            × (ROOTS ≤ map.len self.old)) }
         ensures bound_again { IsSome (map.get self.old name) → IsOk result }
         ensures err { OnErr result (self.new ≡ self.old) }
     {
@@ -163,7 +165,8 @@ impl Roots {
     pub fn unbind(&mut self, name: &Name) -> Option<(u64, Addr)>
         ensures value { result ≡ map.get self.old name.now }
         ensures names { self.new ≡ map.remove self.old name.now }
-        ensures numbers { IfSome result (λ bound. (number : ℕ) → address_at self.new number ≡ (if number == bound.0 then None else address_at self.old number)) }
+        ensures numbers { IfSome result (λ bound. (number : ℕ)
+            → address_at self.new number ≡ (if number == bound.0 then None else address_at self.old number)) }
         ensures absent { IfNone result (self.new ≡ self.old) }
     {
         match search(&self.names, name) {
@@ -179,7 +182,8 @@ impl Roots {
     pub fn set(&mut self, number: u64, at: Addr)
         requires { IsSome (address_at self.old number) }
         ensures names { (name : List ℕ) → map.get self.new name ≡ with_address number at (map.get self.old name) }
-        ensures numbers { (other : ℕ) → address_at self.new other ≡ (if other == number then Some at else address_at self.old other) }
+        ensures numbers { (other : ℕ)
+            → address_at self.new other ≡ (if other == number then Some at else address_at self.old other) }
     {
         self.addresses[number as usize] = at;
     }

@@ -122,10 +122,6 @@ puts_of progress =
     flat_map (λ (one : PlacedCar). car_put one.place) progress.cars
     ++ map (λ (page : ℕ × CatalogPage). (page.0, padded (catalog_spelling page.1))) (chain_of (catalog_of progress))
 
--- the pages that were written
-abbrev pub put_pages : Progress → List ℕ
-put_pages progress = map (λ (put : Put). put.0) (puts_of progress)
-
 -- the page of the settled copy that a clean car has
 abbrev pub clean_page : Place → List ℕ
 clean_page (Clean kept) = kept.page ∷ []

@@ -9,8 +9,8 @@ use Rattle.pm_types.specs.declared.command.Cmd.TheVariants.{Settle}
 use Rattle.pm_types.specs.declared.entry.Entry.{Entry}
 use Rattle.pm_model.specs.declared.request.Request.{Request}
 use Rattle.pm_model.specs.Journal.{requests_of}
-use Rattle.pm_grammar.specs.declared.line.Line.{Line}
-use Rattle.pm_grammar.specs.declared.line.Line.TheVariants.{Client}
+use Rattle.pm_script.specs.declared.line.Line.{Line}
+use Rattle.pm_script.specs.declared.line.Line.TheVariants.{Client}
 use Rattle.pm_saving.specs.Paging.{left_of}
 use Rattle.pm_serving.specs.Serving.{Serving}
 use Rattle.pm_serial.specs.declared.kind.Kind.{Kind}

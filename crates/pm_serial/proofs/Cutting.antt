@@ -5,8 +5,8 @@ use Rattle.pm_types.specs.declared.command.Cmd.{Cmd}
 use Rattle.pm_types.specs.declared.command.Cmd.TheVariants.{Settle}
 use Rattle.pm_model.specs.declared.request.Request.{Request}
 use Rattle.pm_model.specs.Frames.{is_settle}
-use Rattle.pm_grammar.specs.declared.line.Line.{Line}
-use Rattle.pm_grammar.specs.declared.line.Line.TheVariants.{Client}
+use Rattle.pm_script.specs.declared.line.Line.{Line}
+use Rattle.pm_script.specs.declared.line.Line.TheVariants.{Client}
 use Rattle.pm_serving.specs.Serving.{Serving}
 use Rattle.pm_serial.specs.declared.stop.Stop.{Stop}
 use Rattle.pm_serial.specs.declared.stop.Stop.TheVariants.{Memory, Writing, Device}

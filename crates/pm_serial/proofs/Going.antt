@@ -18,11 +18,11 @@ use Rattle.pm_model.specs.Answer.{answer}
 use Rattle.pm_model.specs.Frames.{is_settle}
 use Rattle.pm_model.specs.Journal.{IsLegal, after, chain, settled_in}
 use Rattle.pm_model.proofs.ChainLaws.{after_more, legal_more}
-use Rattle.pm_image.specs.Stands.{Stands}
+use Rattle.pm_image.specs.Stands.{StandsForCopy}
 use Rattle.pm_view.specs.View.{Cars}
 use Rattle.pm_shadow.specs.State.{State}
 use Rattle.pm_saving.specs.Progress.{Progress, Saving}
-use Rattle.pm_saver.specs.Answers.{IsFlushed}
+use Rattle.pm_save.specs.Answers.{IsFlushed}
 use Rattle.pm_serving.specs.Serving.{KeepsOpening, Serving, opening, world}
 use Rattle.pm_serving.specs.Images.{IsInProgress, IsLast, IsOfChain, IsOfRun, IsSettled, IsTold}
 use Rattle.pm_serving.specs.Events.{Collects, FailsAs, Flushes, Serves, ServesNothing, StaysBegun}
@@ -84,7 +84,7 @@ module _ (client : ℕ) (cmd : Cmd) (old new : Serving) (reply : Reply) (legal :
   begun_settled : is_settle cmd ≡ true → (left : List ℕ) → IsInProgress (world old) left → IsOfRun new left
   begun_settled settles left begun =
       let same : settled_in (world new) ≡ begun.0 = ap settled_in next_world ∙ settled_next (world old) client cmd begun.0 settles begun.1 in
-      inl (settled_in (world new), end_in_chain (opening new) new.journal legal_then, subst (λ (kept : ℕ × Copy). Stands left kept.0 kept.1) (sym same) begun.2)
+      inl (settled_in (world new), end_in_chain (opening new) new.journal legal_then, subst (λ (kept : ℕ × Copy). StandsForCopy left kept.0 kept.1) (sym same) begun.2)
 
   pub answered_of_run : (left : List ℕ) → MayStand cmd old (Ok reply) left → IsOfRun new left
   answered_of_run left may = ⊎_elim (settled_of_run old new legal more_chain left) (λ begun. begun_settled begun.0 left begun.2) may

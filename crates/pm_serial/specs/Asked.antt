@@ -2,8 +2,8 @@
 use Rattle.std.specs.Prelude.{ℕ, ◌+◌, List, [], ◌∷◌, length}
 use Rattle.std.specs.List.{flat_map, sum_by}
 use Rattle.pm_model.specs.declared.request.Request.{Request}
-use Rattle.pm_grammar.specs.declared.line.Line.{Line}
-use Rattle.pm_grammar.specs.declared.line.Line.TheVariants.{Client, Gc, Flush}
+use Rattle.pm_script.specs.declared.line.Line.{Line}
+use Rattle.pm_script.specs.declared.line.Line.TheVariants.{Client, Gc, Flush}
 
 -- what a line asks of the graph
 abbrev pub request_of : Line → List Request

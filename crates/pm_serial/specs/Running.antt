@@ -6,8 +6,8 @@ use Rattle.pm_disk.specs.Disk.{LeavesOnly}
 use Rattle.pm_types.specs.declared.command.Cmd.TheVariants.{Settle}
 use Rattle.pm_model.specs.declared.request.Request.{Request}
 use Rattle.pm_model.specs.Journal.{requests_of}
-use Rattle.pm_grammar.specs.declared.line.Line.{Line}
-use Rattle.pm_grammar.specs.declared.line.Line.TheVariants.{Client}
+use Rattle.pm_script.specs.declared.line.Line.{Line}
+use Rattle.pm_script.specs.declared.line.Line.TheVariants.{Client}
 use Rattle.pm_saving.specs.Paging.{left_of}
 use Rattle.pm_serving.specs.Serving.{Serving}
 use Rattle.pm_serving.specs.Images.{IsLast, IsOfRun, IsTold}

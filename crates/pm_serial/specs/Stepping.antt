@@ -13,8 +13,8 @@ use Rattle.pm_model.specs.Frames.{is_settle}
 use Rattle.pm_model.specs.Journal.{chain, requests_of}
 use Rattle.pm_model.specs.Text.{text}
 use Rattle.pm_model.specs.World.{Copy}
-use Rattle.pm_grammar.specs.declared.line.Line.{Line}
-use Rattle.pm_grammar.specs.declared.line.Line.TheVariants.{Client}
+use Rattle.pm_script.specs.declared.line.Line.{Line}
+use Rattle.pm_script.specs.declared.line.Line.TheVariants.{Client}
 use Rattle.pm_output.specs.Writing.{GoesOn, PutsAll, PutsPart}
 use Rattle.pm_saving.specs.Paging.{left_of}
 use Rattle.pm_serving.specs.Serving.{Serving, opening}

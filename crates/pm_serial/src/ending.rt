@@ -14,8 +14,7 @@ use crate::stop::Stop;
 use pm_disk::Disk;
 use pm_engine::Engine;
 use pm_io::{Failed, Sink};
-use pm_output::Output;
-use pm_tail::add_tail;
+use pm_output::{Output, add_tail};
 
 // Puts what is gathered, as far as the sink takes it: the run ends for another cause.
 fn put_what_goes<K: Sink>(output: &mut Output, sink: &mut K)

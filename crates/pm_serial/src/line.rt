@@ -3,8 +3,8 @@
 ghost use Rattle.std.specs.Prelude.{◌≡◌, ◌≤◌, [], ◌++◌, length, None};
 ghost use Rattle.std.specs.Option.{option_to_list};
 ghost use Rattle.pm_place.specs.Choosers.{IsChooser};
-ghost use Rattle.pm_grammar.specs.Script.{AreLines, first_of};
-ghost use Rattle.pm_grammar.specs.Words.{IsFirst};
+ghost use Rattle.pm_script.specs.Script.{AreLines, first_of};
+ghost use Rattle.pm_script.specs.Words.{IsFirst};
 ghost use Rattle.pm_output.specs.Gathered.{gathered};
 ghost use Rattle.pm_engine.specs.Shown.{chooser, room, serving};
 ghost use Rattle.pm_serial.specs.Asked.{events_asked, request_of, requests_asked};
@@ -18,9 +18,9 @@ use crate::kind::Kind;
 use crate::stop::Stop;
 use pm_disk::Disk;
 use pm_engine::Engine;
-use pm_grammar::Line;
 use pm_io::Sink;
 use pm_output::Output;
+use pm_script::Line;
 use std::alloc::Global;
 use std::collections::VecDeque;
 

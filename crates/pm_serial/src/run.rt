@@ -1,9 +1,9 @@
 //! The lines of a script, one after another.
 
-ghost use Rattle.std.specs.Prelude.{◌≡◌, ◌≤◌, [], length, OnOk, IfOk, nat_eq};
+ghost use Rattle.std.specs.Prelude.{◌≡◌, ◌≤◌, [], length, OnOk, IfOk};
 ghost use Rattle.pm_place.specs.Choosers.{IsChooser};
 ghost use Rattle.pm_model.specs.Text.{text};
-ghost use Rattle.pm_grammar.specs.Script.{AreLines};
+ghost use Rattle.pm_script.specs.Script.{AreLines};
 ghost use Rattle.pm_output.specs.Gathered.{gathered};
 ghost use Rattle.pm_engine.specs.Shown.{KeepsStart, chooser, disk_in, room, serving, tally_in};
 ghost use Rattle.pm_serial.specs.Asked.{requests_asked};
@@ -17,9 +17,9 @@ use crate::line::run_all;
 use crate::stop::Stop;
 use pm_disk::Disk;
 use pm_engine::Engine;
-use pm_grammar::Line;
 use pm_io::Sink;
 use pm_output::Output;
+use pm_script::Line;
 use pm_types::NoMemory;
 use std::alloc::Global;
 

@@ -4,22 +4,22 @@ use Rattle.pm_types.specs.declared.entry.Entry.{Entry}
 use Rattle.pm_disk.specs.Disk.{IfTold}
 use Rattle.pm_model.specs.World.{World, Copy}
 use Rattle.pm_model.specs.Journal.{chain}
-use Rattle.pm_image.specs.Stands.{Stands}
+use Rattle.pm_image.specs.Stands.{StandsForCopy}
 use Rattle.pm_shadow.specs.State.{State}
 use Rattle.pm_saving.specs.Tied.{HasCopy, IsTied}
 use Rattle.pm_serving.specs.Serving.{Serving, opening, world}
 
 -- the bytes stand for the copy that has settled in this world, whole
 abbrev pub IsSettled : World → List ℕ → Type 0
-IsSettled world image = Stands image world.settled world.settled_copy
+IsSettled world image = StandsForCopy image world.settled world.settled_copy
 
 -- the bytes stand for the copy that is in progress in this world, whole
 abbrev pub IsInProgress : World → List ℕ → Type 0
-IsInProgress world image = (begun : ℕ × Copy) × (world.saving ≡ Some begun) × Stands image begun.0 begun.1
+IsInProgress world image = (begun : ℕ × Copy) × (world.saving ≡ Some begun) × StandsForCopy image begun.0 begun.1
 
 -- the bytes stand for a member of the journal's chain of settled copies, whole
 abbrev pub IsOfChain : World → List Entry → List ℕ → Type 0
-IsOfChain start journal image = (kept : ℕ × Copy) × Contains (chain start journal) kept × Stands image kept.0 kept.1
+IsOfChain start journal image = (kept : ℕ × Copy) × Contains (chain start journal) kept × StandsForCopy image kept.0 kept.1
 
 -- the same of the last acknowledged copy; or, where a call answered that the disk failed, of the copy in progress
 abbrev pub IsLast : Serving → List ℕ → Type 0

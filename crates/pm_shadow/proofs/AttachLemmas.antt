@@ -12,7 +12,7 @@ use Rattle.pm_layout.specs.Headers.{header_at}
 use Rattle.pm_layout.specs.Reading.{number_from}
 use Rattle.pm_image.specs.Opening.{Current, current, header_refusal, header_in, sound_header, is_placed, open_slot, is_open, open_gate, greater_slot, epoch_in, header_body_of, page_count}
 use Rattle.pm_shadow.specs.State.{other, attached}
-use Rattle.pm_shadow.specs.Images.{Heads, Holds, IsSound}
+use Rattle.pm_shadow.specs.Images.{Heads, Holds, IsSoundState}
 use Rattle.pm_shadow.specs.Attaching.{IsOfHeader, IsFaultOf, IsAttachFault, IsFoundIn, IsSlotOf, AreSlotsOf, is_on, picked_in, slot_in, header_seen}
 use Rattle.pm_shadow.specs.declared.attaching.Found.{Found}
 use Rattle.pm_shadow.specs.declared.attaching.Seen.{Seen}
@@ -140,7 +140,7 @@ not_false true is = refl
 not_false false is = absurd (cc)
 
 -- what was found is known from then on
-pub sound_found : (found : Found) (bytes : List ℕ) (images : List ℕ → Type 0) → IsFoundIn bytes images found → IsSound (attached found.slot found.header found.count found.closed) bytes images
+pub sound_found : (found : Found) (bytes : List ℕ) (images : List ℕ → Type 0) → IsFoundIn bytes images found → IsSoundState (attached found.slot found.header found.count found.closed) bytes images
 sound_found found bytes images is =
     let head = current_parts bytes (record { slot = found.slot; header = found.header }) is.now in
     record {

@@ -1,10 +1,9 @@
 -- How runs of calls of a disk are joined.
-use Rattle.std.proofs.Common.{◌≡◌, inl, inr, ℕ, ◌+◌, ◌-◌, ◌≤◌, List, length, Option, Some, None, refl, ◌∙◌, ap, subst, arith}
+use Rattle.std.proofs.Common.{◌≡◌, inl, inr, ℕ, ◌-◌, List, length, Option, Some, None, refl, ◌∙◌, subst}
 use Rattle.std.specs.Prelude.{option_map}
 use Rattle.pm_disk.specs.Writes.{written, Torn, TornIfTold}
 use Rattle.pm_disk.specs.Disk.{LeavesOnly, SameImages, Elapses}
 use Rattle.pm_disk.specs.Ordered.{IsInOrder}
-use Rattle.pm_disk.proofs.WriteLemmas.{torn_written}
 use Rattle.pm_disk.proofs.RunLemmas.{started, goes_on, joined, weaker}
 use Rattle.pm_shadow.specs.Runs.{IsCut, OnlyLooks}
 
@@ -19,45 +18,6 @@ module _ {D : Type 0} (moment : D → ℕ) (since : D → ℕ → List ℕ → T
       joined moment since old mid new P
       (weaker moment since old mid (IsCut first_at (length first) images) P one (λ left cut. inr (inl cut)))
       (weaker moment since mid new (IsCut second_at n mid_images) P two (λ left cut. inr (inr (subst (λ (was : List ℕ). Torn second_at n was left) (only cut.0 cut.1) cut.2))))
-
--- a write that was cut short, in a wider range
-pub torn_wider : (at n from m : ℕ) (was now : List ℕ) → from ≤ at → at + n ≤ from + m → Torn at n was now → Torn from m was now
-torn_wider at n from m was now low high torn = record {
-  no_shorter = torn.no_shorter;
-  no_longer = (let longest = torn.no_longer in omega arith);
-  before = λ i lt below. torn.before i lt (omega arith);
-  behind = λ i lt past. torn.behind i lt (omega arith);
-}
-
--- and another behind it in the same range
-torn_then : (at n : ℕ) (was mid now : List ℕ) → Torn at n was mid → Torn at n mid now → Torn at n was now
-torn_then at n was mid now one two = record {
-  no_shorter = (let first = one.no_shorter in let second = two.no_shorter in omega arith);
-  no_longer = (let first = one.no_longer in let second = two.no_longer in omega arith);
-  before = λ i lt below. two.before i (let first = one.no_shorter in omega arith) below ∙ one.before i lt below;
-  behind = λ i lt past. two.behind i (let first = one.no_shorter in omega arith) past ∙ one.behind i lt past;
-}
-
-pub torn_told_wider : (at n from m : ℕ) (old new : Option (List ℕ)) → from ≤ at → at + n ≤ from + m → TornIfTold at n old new → TornIfTold from m old new
-torn_told_wider at n from m old new low high torn = record {
-  told = λ was told. let it = torn.told was told in (it.0, it.1, torn_wider at n from m was it.0 low high it.2);
-  untold = torn.untold;
-}
-
--- two writes, the second of which was cut short
-pub torn_second : (first_at : ℕ) (first : List ℕ) (second_at n : ℕ) (old mid new : Option (List ℕ)) → first_at + length first ≤ second_at → mid ≡ option_map (written first_at first) old → TornIfTold second_at n mid new
-    → TornIfTold first_at (second_at + n - first_at) old new
-torn_second first_at first second_at n old mid new order is torn = record {
-  told = λ was told.
-      let it = torn.told (written first_at first was) (is ∙ ap (option_map (written first_at first)) told) in (
-        it.0,
-        it.1,
-        torn_then first_at (second_at + n - first_at) was (written first_at first was) it.0
-            (torn_wider first_at (length first) first_at (second_at + n - first_at) was (written first_at first was) (omega arith) (omega arith) (torn_written first_at first was))
-            (torn_wider second_at n first_at (second_at + n - first_at) (written first_at first was) it.0 (omega arith) (omega arith) it.2),
-      );
-  untold = λ untold. torn.untold (is ∙ ap (option_map (written first_at first)) untold);
-}
 
 -- bytes that are told after a change were told before it
 pub told_before : (f : List ℕ → List ℕ) (old : Option (List ℕ)) (bytes : List ℕ) → option_map f old ≡ Some bytes → (was : List ℕ) × (old ≡ Some was) × (bytes ≡ f was)

@@ -13,7 +13,7 @@ use Rattle.pm_image.specs.Opening.{page_count, is_open, greater_slot, epoch_in}
 use Rattle.pm_layout.specs.declared.header.Header.{Header}
 use Rattle.pm_shadow.specs.declared.page_use.PageUse.{PageUse}
 use Rattle.pm_shadow.specs.State.{State, IsKeepable, keeps, keeps_by, known_by, with_uses, with_claimed, with_kept, abandoned_in, with_count, other, with_closed, published_with}
-use Rattle.pm_shadow.specs.Images.{Heads, Holds, Renews, IsSound, place_of}
+use Rattle.pm_shadow.specs.Images.{Heads, Holds, Renews, IsSoundState, place_of}
 use Rattle.pm_shadow.proofs.RunLemmas.{torn_before}
 use Rattle.pm_shadow.proofs.SlotLemmas.{count_le}
 use Rattle.pm_shadow.proofs.HoldLemmas.{rebased}
@@ -26,7 +26,7 @@ written_torn at n bytes old new len is = record {
 }
 
 module _ (s : State) (at n : ℕ) (old new : Option (List ℕ)) (images images' : List ℕ → Type 0)
-    (sound : (bytes : List ℕ) → old ≡ Some bytes → IsSound s bytes images)
+    (sound : (bytes : List ℕ) → old ≡ Some bytes → IsSoundState s bytes images)
     (cut : (bytes was image : List ℕ) → Holds s bytes was → Torn at n was image → Holds s bytes image)
     (only : OnlyTorn at n images images') where
   -- what may be left now has the current header and its pages as they were
@@ -34,7 +34,7 @@ module _ (s : State) (at n : ℕ) (old new : Option (List ℕ)) (images images' 
   cut_holds bytes told image now = let from = only image now in cut bytes from.0 image ((sound bytes told).each from.0 from.1) from.2
 
   -- and so it is seen from what the disk holds now
-  pub sound_after : TornIfTold at n old new → ((bytes : List ℕ) → new ≡ Some bytes → images' bytes) → (bytes : List ℕ) → new ≡ Some bytes → IsSound s bytes images'
+  pub sound_after : TornIfTold at n old new → ((bytes : List ℕ) → new ≡ Some bytes → images' bytes) → (bytes : List ℕ) → new ≡ Some bytes → IsSoundState s bytes images'
   sound_after torn stay bytes told =
       let before = torn_before at n old new bytes torn told in
       let counted = (sound before.0 before.1).counted in
@@ -47,14 +47,14 @@ pub page_written : (page : ℕ) (new old bytes : List ℕ) → length new ≡ PA
 page_written page new old bytes len is = let long = length-written (place_of page) new old (omega arith) in omega (arith, ap length is)
 
 -- and counts
-pub sound_counted : (s : State) (n page : ℕ) (bytes : List ℕ) (images : List ℕ → Type 0) → n ≡ max s.count (page + 1) → page < page_count bytes → IsSound s bytes images → IsSound (with_count s n) bytes images
+pub sound_counted : (s : State) (n page : ℕ) (bytes : List ℕ) (images : List ℕ → Type 0) → n ≡ max s.count (page + 1) → page < page_count bytes → IsSoundState s bytes images → IsSoundState (with_count s n) bytes images
 sound_counted s n page bytes images is inside sound = record {
   counted = let had = sound.counted in omega arith;
   each = λ image now. let h = sound.each image now in record { heads = h.heads; shut = h.shut; outdone = h.outdone; pages = h.pages };
 }
 
 -- the same images, and nothing else was changed
-pub sound_still : (s : State) (old new : Option (List ℕ)) (images images' : List ℕ → Type 0) → ((bytes : List ℕ) → old ≡ Some bytes → IsSound s bytes images) → new ≡ old → ((image : List ℕ) → images' image → images image) → (bytes : List ℕ) → new ≡ Some bytes → IsSound s bytes images'
+pub sound_still : (s : State) (old new : Option (List ℕ)) (images images' : List ℕ → Type 0) → ((bytes : List ℕ) → old ≡ Some bytes → IsSoundState s bytes images) → new ≡ old → ((image : List ℕ) → images' image → images image) → (bytes : List ℕ) → new ≡ Some bytes → IsSoundState s bytes images'
 sound_still s old new images images' sound same no_more bytes told =
     let had = sound bytes (sym same ∙ told) in
     record { counted = had.counted; each = λ image now. had.each image (no_more image now) }
@@ -67,7 +67,7 @@ module _ {D : Type 0} (moment : D → ℕ) (since : D → ℕ → List ℕ → T
       goes_on moment since old old new P images' (started moment since old P (λ image left. before image (now image left))) time after
 
 -- the other gate is closed, and a crash leaves what the disk holds
-pub sound_closed : (s : State) (bytes : List ℕ) (images : List ℕ → Type 0) → ((image : List ℕ) → images image → image ≡ bytes) → is_open bytes (other s.slot) ≡ false → images bytes → IsSound s bytes images → IsSound (with_closed s) bytes images
+pub sound_closed : (s : State) (bytes : List ℕ) (images : List ℕ → Type 0) → ((image : List ℕ) → images image → image ≡ bytes) → is_open bytes (other s.slot) ≡ false → images bytes → IsSoundState s bytes images → IsSoundState (with_closed s) bytes images
 sound_closed s bytes images only off here sound = record {
   counted = sound.counted;
   each = λ image now.
@@ -77,7 +77,7 @@ sound_closed s bytes images only off here sound = record {
 
 -- the new header is current, and a crash leaves what the disk holds
 pub sound_published : (s : State) (header : Header) (uses : ℕ → PageUse) (before bytes : List ℕ) (images : List ℕ → Type 0) → ((image : List ℕ) → images image → image ≡ bytes) → s.count ≤ page_count before → Renews s header before bytes
-    → greater_slot (epoch_in bytes 0) (epoch_in bytes 1) ≡ other s.slot → IsSound (published_with s header uses) bytes images
+    → greater_slot (epoch_in bytes 0) (epoch_in bytes 1) ≡ other s.slot → IsSoundState (published_with s header uses) bytes images
 sound_published s header uses before bytes images only counted new greater =
     let same : page_count bytes ≡ page_count before = ap (λ (n : ℕ). n / PAGE_BYTES) new.length in
     record {
@@ -96,7 +96,7 @@ either false = inr refl
 
 -- pages that are kept now were kept before
 keeps_fewer : (s t : State) (bytes : List ℕ) (images : List ℕ → Type 0) → t.slot ≡ s.slot → t.header ≡ s.header → t.settled ≡ s.settled → t.count ≡ s.count → t.closed ≡ s.closed → ((page : ℕ) → 2 ≤ page → keeps t page ≡ true → keeps s page ≡ true)
-    → IsSound s bytes images → IsSound t bytes images
+    → IsSoundState s bytes images → IsSoundState t bytes images
 keeps_fewer s t bytes images slot header settled count closed fewer sound = record {
   counted = let had = sound.counted in omega arith;
   each = λ image now.
@@ -110,7 +110,7 @@ keeps_fewer s t bytes images slot header settled count closed fewer sound = reco
 }
 
 -- a page was claimed
-pub sound_claimed : (s : State) (page : ℕ) (bytes : List ℕ) (images : List ℕ → Type 0) → IsSound s bytes images → IsSound (with_claimed s page) bytes images
+pub sound_claimed : (s : State) (page : ℕ) (bytes : List ℕ) (images : List ℕ → Type 0) → IsSoundState s bytes images → IsSoundState (with_claimed s page) bytes images
 sound_claimed s page bytes images = keeps_fewer s (with_claimed s page) bytes images refl refl refl refl refl fewer
   where
     fewer : (q : ℕ) → 2 ≤ q → keeps_by s.known (with_use page Claimed s.uses q) ≡ true → keeps_by s.known (s.uses q) ≡ true
@@ -126,11 +126,11 @@ kept_any known uses page unknown unused =
     (λ i. keeps_by (unknown i) (unused i page)) ∙ elim (nat_lt page 2) as (λ b. keeps_by false (if b then Current else slice_index_or [] (page - 2) Free) ≡ true) [ true ↦ refl | false ↦ refl ]
 
 -- the pages of the current copy are known
-pub sound_listed : (s : State) (new : ℕ → PageUse) (bytes : List ℕ) (images : List ℕ → Type 0) → s.known ≡ false → s.uses ≡ use_of [] → IsSound s bytes images → IsSound (known_by s new) bytes images
+pub sound_listed : (s : State) (new : ℕ → PageUse) (bytes : List ℕ) (images : List ℕ → Type 0) → s.known ≡ false → s.uses ≡ use_of [] → IsSoundState s bytes images → IsSoundState (known_by s new) bytes images
 sound_listed s new bytes images unknown unused = keeps_fewer s (known_by s new) bytes images refl refl refl refl refl (λ page low kept. kept_any s.known s.uses page unknown unused)
 
 -- a page of the current copy is kept for the next one
-pub sound_kept : (s : State) (page : ℕ) (bytes : List ℕ) (images : List ℕ → Type 0) → keeps s page ≡ true → IsSound s bytes images → IsSound (with_kept s page) bytes images
+pub sound_kept : (s : State) (page : ℕ) (bytes : List ℕ) (images : List ℕ → Type 0) → keeps s page ≡ true → IsSoundState s bytes images → IsSoundState (with_kept s page) bytes images
 sound_kept s page bytes images had = keeps_fewer s (with_kept s page) bytes images refl refl refl refl refl fewer
   where
     fewer : (q : ℕ) → 2 ≤ q → keeps_by s.known (with_use page Kept s.uses q) ≡ true → keeps_by s.known (s.uses q) ≡ true
@@ -157,7 +157,7 @@ still_kept Claimed = refl
 still_kept Kept = refl
 
 -- the next copy is given up
-pub sound_abandoned : (s : State) (bytes : List ℕ) (images : List ℕ → Type 0) → (s.known ≡ false → s.uses ≡ use_of []) → IsSound s bytes images → IsSound (abandoned_in s) bytes images
+pub sound_abandoned : (s : State) (bytes : List ℕ) (images : List ℕ → Type 0) → (s.known ≡ false → s.uses ≡ use_of []) → IsSoundState s bytes images → IsSoundState (abandoned_in s) bytes images
 sound_abandoned s bytes images unused = keeps_fewer s (abandoned_in s) bytes images refl refl refl refl refl fewer
   where
     fewer : (q : ℕ) → 2 ≤ q → keeps_by s.known (abandoned (s.uses q)) ≡ true → keeps_by s.known (s.uses q) ≡ true
@@ -168,6 +168,6 @@ sound_abandoned s bytes images unused = keeps_fewer s (abandoned_in s) bytes ima
         ]
 
 -- whether a page was claimed or not
-pub sound_either : {E : Type 0} (s : State) (r : Result ℕ E) (new : ℕ → PageUse) (bytes : List ℕ) (images : List ℕ → Type 0) → IfOk r (λ page. new ≡ with_use page Claimed s.uses) → OnErr r (new ≡ s.uses) → IsSound s bytes images → IsSound (with_uses s new) bytes images
-sound_either s (Ok page) new bytes images ok err sound = subst (λ (u : ℕ → PageUse). IsSound (with_uses s u) bytes images) (sym ok) (sound_claimed s page bytes images sound)
-sound_either s (Err e) new bytes images ok err sound = subst (λ (u : ℕ → PageUse). IsSound (with_uses s u) bytes images) (sym err) sound
+pub sound_either : {E : Type 0} (s : State) (r : Result ℕ E) (new : ℕ → PageUse) (bytes : List ℕ) (images : List ℕ → Type 0) → IfOk r (λ page. new ≡ with_use page Claimed s.uses) → OnErr r (new ≡ s.uses) → IsSoundState s bytes images → IsSoundState (with_uses s new) bytes images
+sound_either s (Ok page) new bytes images ok err sound = subst (λ (u : ℕ → PageUse). IsSoundState (with_uses s u) bytes images) (sym ok) (sound_claimed s page bytes images sound)
+sound_either s (Err e) new bytes images ok err sound = subst (λ (u : ℕ → PageUse). IsSoundState (with_uses s u) bytes images) (sym err) sound

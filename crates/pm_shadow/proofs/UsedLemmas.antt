@@ -1,10 +1,9 @@
 -- The pages that a graph stands on.
-use Rattle.std.proofs.Common.{◌≡◌, ◌⊎◌, inl, inr, ⊎_elim, ℕ, zero, suc, Bool, true, false, List, [], ◌∷◌, map, Option, Some, Ok, refl, sym, subst, ap, ◌∙◌}
+use Rattle.std.proofs.Common.{◌≡◌, ◌⊎◌, inl, inr, ⊎_elim, ℕ, zero, suc, Bool, true, false, List, [], ◌∷◌, map, Some, Ok, refl, subst}
 use Rattle.std.specs.Prelude.{Contains, ◌==◌, if◌then◌else◌}
 use Rattle.std.specs.FinSet as set
 use Rattle.std.proofs.lemmas.List.Elements.{Contains-append_left}
 use Rattle.std.proofs.lemmas.Bool.{eqb-true, eq-eqb}
-use Rattle.pm_disk.specs.Disk.{IfTold}
 use Rattle.pm_layout.specs.declared.header.Header.{Header}
 use Rattle.pm_layout.specs.Headers.{most_fields}
 use Rattle.pm_base.proofs.Results.{ok_same, bind_ok}
@@ -12,13 +11,6 @@ use Rattle.pm_model.proofs.Members.{at_first, in_rest, in_none, first_or_rest}
 use Rattle.pm_image.specs.declared.catalog.CatalogPage.{CatalogPage}
 use Rattle.pm_image.specs.declared.settled.KeptPage.{KeptPage}
 use Rattle.pm_image.specs.CatalogPages.{Met, catalog_at, meeting_page}
-use Rattle.pm_image.specs.Opening.{Current, current}
-use Rattle.pm_image.specs.Stands.{Opened, opened, pages_of}
-use Rattle.pm_image.specs.Blank.{blank_header, blank_catalog, blank_store}
-use Rattle.pm_image.proofs.BlankLaws.{blank_found, blank_current}
-use Rattle.pm_shadow.specs.State.{State}
-use Rattle.pm_shadow.specs.Attaching.{HasFound}
-use Rattle.pm_shadow.specs.Copies.{AreUsed}
 use Rattle.pm_image.specs.Graphs.{images_of, Pages, Graph, Catalog, undamaged, on_page, catalog_from, catalog_of, most_pages, entries_of, cars_from, linked, sites_of, graph_of, used_pages}
 
 -- a number is in a list or not
@@ -54,40 +46,3 @@ graph_first store header graph is =
     let made : Graph = record { catalog = one.0; cars = two.0 } in
     subst (λ (g : Graph). Contains (used_pages g) header.first) (ok_same made graph three.2)
     (Contains-append_left (chain_pages one.0) (map (λ (kept : KeptPage). kept.page) two.0) header.first (begins most_pages store _ header.first header.digest one.0 one.1))
-
--- ---- the store that has just been made
-
-opened_graph : (bytes : List ℕ) (found : Opened) → opened bytes ≡ Ok found → graph_of (pages_of bytes) found.current.header ≡ Ok found.graph
-unfolding opened
-opened_graph bytes found is =
-    let one = bind_ok (current bytes) _ found is in
-    let two = bind_ok (graph_of (pages_of bytes) one.0.header) _ found one.2 in
-    let same = ok_same {A = Opened} (record { current = one.0; graph = two.0 }) found two.2 in
-    subst (λ (f : Opened). graph_of (pages_of bytes) f.current.header ≡ Ok f.graph) same two.1
-
--- what is found in it
-found_blank : (bytes : List ℕ) (slot : ℕ) (header : Header) → bytes ≡ blank_store → current bytes ≡ Ok (record { slot = slot; header = header }) → header ≡ blank_header
-found_blank bytes slot header is now = ap (λ (c : Current). c.header) (ok_same {A = Current} (record { slot = slot; header = header }) (record { slot = 0; header = blank_header }) (sym now ∙ ap current is ∙ blank_current))
-
--- its only page behind the headers is that of the catalog
-pub blank_used : (s : State) (bytes : List ℕ) → bytes ≡ blank_store → current bytes ≡ Ok (record { slot = s.slot; header = s.header }) → AreUsed s bytes (2 ∷ [])
-blank_used s bytes is now =
-    let header = found_blank bytes s.slot s.header is now in
-    record {
-      graph = record { catalog = (2, blank_catalog) ∷ []; cars = [] };
-      found = (λ i. graph_of (pages_of (is i)) (header i)) ∙ opened_graph blank_store _ blank_found;
-      all = λ page used. used;
-      only = λ page listed. listed;
-    }
-
--- and so it is seen by those who attached to it
-pub attached_used : (s : State) (before now : Option (List ℕ)) (bytes : List ℕ) → before ≡ Some blank_store → now ≡ before → now ≡ Some bytes → IfTold before (HasFound s) → AreUsed s bytes (2 ∷ [])
-attached_used s before now bytes blank same told found =
-    let both : Some bytes ≡ Some blank_store = sym told ∙ same ∙ blank in
-    let is : bytes ≡ blank_store = cc both in
-    blank_used s bytes is (ap current is ∙ (found blank_store blank).now)
-
-pub attached_first : (s : State) (before : Option (List ℕ)) → before ≡ Some blank_store → IfTold before (HasFound s) → Contains (2 ∷ []) s.header.first
-attached_first s before blank found =
-    let header = found_blank blank_store s.slot s.header refl (found blank_store blank).now in
-    subst (Contains (2 ∷ [])) (sym (ap (λ (h : Header). h.first) header)) (at_first 2 [])

@@ -89,7 +89,3 @@ slot_in seen slot = if slot == 0 then seen.zeroth else seen.first
 abbrev pub header_seen : Seen → Option ℕ → Result Current OpenFault
 header_seen seen None = Err NotAStore
 header_seen seen (Some slot) = sound_header seen.count slot (header_at (slot_in seen slot).body)
-
-abbrev pub current_seen : Option Seen → Result Current OpenFault
-current_seen None = Err NotAStore
-current_seen (Some seen) = header_seen seen (picked_in seen)

@@ -29,7 +29,7 @@ pub record Renews (s : State) (header : Header) (bytes image : List ℕ) : Type 
 
 -- What is known of a disk that holds these bytes: it has at least so many pages, and a crash leaves the current
 -- header with its pages.
-pub record IsSound (s : State) (bytes : List ℕ) (images : List ℕ → Type 0) : Type 0 where
+pub record IsSoundState (s : State) (bytes : List ℕ) (images : List ℕ → Type 0) : Type 0 where
   pub counted : s.count ≤ page_count bytes
   pub each : (image : List ℕ) → images image → Holds s bytes image
 

@@ -4,7 +4,7 @@ use Rattle.pm_disk.specs.declared.disk.Disk.{Ghosts}
 use Rattle.pm_shadow.specs.declared.pages.Pages.{Pages}
 use Rattle.pm_shadow.specs.State.{State}
 use Rattle.pm_shadow.specs.Uses.{use_of}
-use Rattle.pm_shadow.specs.Images.{IsSound}
+use Rattle.pm_shadow.specs.Images.{IsSoundState}
 
 module _ {D : Type 0} {g : Ghosts D} where
   abbrev pub state : Pages D g → State
@@ -14,5 +14,5 @@ module _ {D : Type 0} {g : Ghosts D} where
   disk_of it = it.disk
 
   -- while no publish has failed, whatever a crash leaves has the current header and the current copy's pages
-  pub current_kept : (it : Pages D g) → (state it).failed ≡ false → (bytes : List ℕ) → g.contents (disk_of it) ≡ Some bytes → IsSound (state it) bytes (g.image (disk_of it))
+  pub current_kept : (it : Pages D g) → (state it).failed ≡ false → (bytes : List ℕ) → g.contents (disk_of it) ≡ Some bytes → IsSoundState (state it) bytes (g.image (disk_of it))
   current_kept it fine bytes told = it.sound fine bytes told

@@ -1,8 +1,8 @@
 //! Finding the current header of a store.
-ghost use Rattle.std.specs.Prelude.{◌≡◌, ◌≤◌, ◌<◌, ◌*◌, ◌^◌, not, ◌==◌, Ok, Err, Some, MatchResult, IfOk, IfErr, IfSome, length};
+ghost use Rattle.std.specs.Prelude.{◌≡◌, ◌<◌, not, ◌==◌, Ok, Err, Some, IfOk, IfErr, IfSome};
 ghost use Rattle.pm_layout.specs.Headers.{header_at, HasHeaderSpelling};
 ghost use Rattle.pm_layout.specs.Reading.{number_from};
-ghost use Rattle.pm_image.specs.Opening.{greater_slot, header_refusal, sound_header, is_placed};
+ghost use Rattle.pm_image.specs.Opening.{greater_slot, header_refusal, sound_header};
 
 use crate::slots::{OPEN, gate_place};
 use byteorder::{BigEndian, ByteOrder};
@@ -86,7 +86,8 @@ impl Seen {
 
     /// The current header, or the first rule that fails.
     pub(crate) fn current(&self) -> Result<Found, OpenFault>
-        ensures ok { IfOk result (λ found. header_seen self.now (picked_in self.now) ≡ Ok (record { slot = found.slot; header = found.header })) }
+        ensures ok { IfOk result (λ found. header_seen self.now (picked_in self.now) ≡ Ok
+            (record { slot = found.slot; header = found.header })) }
         ensures err { IfErr result (λ fault. header_seen self.now (picked_in self.now) ≡ Err fault) }
         ensures slot { IfOk result (λ found. found.slot < 2) }
         ensures count { IfOk result (λ found. found.count ≡ self.now.count) }
@@ -132,7 +133,8 @@ fn refusal(slot: u64, fault: HeaderFault) -> OpenFault
 
 /// The header that stands in a slot of a store of so many pages, or the first rule that fails.
 fn sound(count: u64, slot: u64, body: &[u8; 96]) -> Result<Header, OpenFault>
-    ensures ok { IfOk result (λ header. sound_header count slot (header_at body.now) ≡ Ok (record { slot = slot; header = header })) }
+    ensures ok { IfOk result (λ header. sound_header count slot (header_at body.now) ≡ Ok
+        (record { slot = slot; header = header })) }
     ensures err { IfErr result (λ fault. sound_header count slot (header_at body.now) ≡ Err fault) }
     ensures spelled { IfOk result HasHeaderSpelling }
 {

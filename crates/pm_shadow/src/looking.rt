@@ -36,7 +36,8 @@ fn read_slots<D: Disk>(disk: &mut D, count: u64) -> Result<Seen, DiskFailed>
     requires long { IfTold (D.contents disk.old) (λ bytes. 2 * PAGE_BYTES ≤ length bytes) }
     requires synced { IsSynced (D.contents disk.old) (D.image disk.old) }
     ensures count { IfOk result (λ seen. seen.count ≡ count) }
-    ensures read { IfOk result (λ seen. IfTold (D.contents disk.old) (λ bytes. IsSlotOf bytes 0 seen.zeroth × IsSlotOf bytes 1 seen.first)) }
+    ensures read { IfOk result (λ seen. IfTold (D.contents disk.old) (λ bytes. IsSlotOf bytes 0 seen.zeroth
+        × IsSlotOf bytes 1 seen.first)) }
     ensures looks { OnlyLooks D.contents D.image D.moment D.since disk.old disk.new }
     ensures cause { HasCause (D.count disk.old) (D.count disk.new) result }
     ensures made { D.made disk.new ≡ D.made disk.old }
@@ -55,7 +56,8 @@ pub(crate) fn look<D: Disk>(disk: &mut D) -> Result<Option<Seen>, DiskFailed>
     ensures seen { IfOk result (λ seen. IfTold (D.contents disk.old) (λ bytes. IsSeenIn bytes seen)) }
     ensures few { IfOk result (λ found. IfSome found (λ seen. seen.count < 2 ^ 50)) }
     ensures told { D.contents disk.new ≡ D.contents disk.old }
-    ensures only { OnOk result (IfTold (D.contents disk.old) (λ bytes. (left : List ℕ) → D.image disk.new left → left ≡ bytes)) }
+    ensures only { OnOk result (IfTold (D.contents disk.old) (λ bytes. (left : List ℕ) → D.image disk.new left
+        → left ≡ bytes)) }
     ensures leaves { LeavesOnly D.moment D.since disk.old disk.new (D.image disk.old) }
     ensures cause { HasCause (D.count disk.old) (D.count disk.new) result }
     // One sync is made, and no write and no read past the end of what the disk told, whatever is found.
@@ -72,7 +74,8 @@ pub(crate) fn look<D: Disk>(disk: &mut D) -> Result<Option<Seen>, DiskFailed>
 
 /// Finds the current header of a store on a disk that is synced first.
 pub(crate) fn find<D: Disk>(disk: &mut D) -> Result<Found, OpenFault>
-    ensures found { IfOk result (λ found. IfTold (D.contents disk.old) (λ bytes. IsFoundIn bytes (D.image disk.new) found)) }
+    ensures found { IfOk result (λ found. IfTold (D.contents disk.old)
+        (λ bytes. IsFoundIn bytes (D.image disk.new) found)) }
     ensures slot { IfOk result (λ found. found.slot < 2) }
     ensures few { IfOk result (λ found. found.count < 2 ^ 50) }
     ensures spelled { IfOk result (λ found. HasHeaderSpelling found.header) }

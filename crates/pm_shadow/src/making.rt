@@ -1,5 +1,5 @@
 //! Making a store.
-ghost use Rattle.std.specs.Prelude.{◌≡◌, ◌+◌, ◌*◌, ◌-◌, ◌^◌, ◌<◌, ◌≤◌, [], List, ℕ, Some, length, option_map, IfOk, IfErr, OnOk, OnErr};
+ghost use Rattle.std.specs.Prelude.{◌≡◌, ◌*◌, ◌-◌, ◌<◌, ◌≤◌, [], List, ℕ, Some, length, IfOk, IfErr, OnOk, OnErr};
 ghost use Rattle.pm_disk.specs.Writes.{written};
 ghost use Rattle.pm_disk.specs.Disk.{IfTold, SameImages, LeavesOnly, HasCause};
 ghost use Rattle.pm_layout.specs.Headers.{header_spelling};
@@ -66,8 +66,10 @@ fn write_pages<D: Disk>(
     requires first { length first.now ≡ PAGE_BYTES }
     requires second { length second.now ≡ PAGE_BYTES }
     ensures written { OnOk result (IfTold (D.contents disk.old) (λ bytes. D.contents disk.new ≡ Some
-        (with_gate 0 open_gate (written (place_of 2) second.now (written (place_of 1) first.now (written 0 zeroth.now bytes)))))) }
-    ensures only { OnOk result (IfTold (D.contents disk.new) (λ told. (left : List ℕ) → D.image disk.new left → left ≡ told)) }
+        (with_gate 0 open_gate (written (place_of 2) second.now
+        (written (place_of 1) first.now (written 0 zeroth.now bytes)))))) }
+    ensures only { OnOk result (IfTold (D.contents disk.new) (λ told. (left : List ℕ) → D.image disk.new left
+        → left ≡ told)) }
     ensures cause { HasCause (D.count disk.old) (D.count disk.new) result }
     ensures past { (D.made disk.new).past ≡ (D.made disk.old).past }
 {
@@ -80,8 +82,10 @@ fn write_pages<D: Disk>(
 
 /// Writes a store without an object and without a root: three pages, of which the first has the header.
 fn make<D: Disk>(alloc: Global, disk: &mut D) -> Result<Result<(), DiskFailed>, NoMemory>
-    ensures blank { IfOk result (λ made. OnOk made (IfTold (D.contents disk.old) (λ bytes. length bytes ≡ 0 → D.contents disk.new ≡ Some blank_store))) }
-    ensures only { IfOk result (λ made. OnOk made (IfTold (D.contents disk.new) (λ told. (left : List ℕ) → D.image disk.new left → left ≡ told))) }
+    ensures blank { IfOk result (λ made. OnOk made (IfTold (D.contents disk.old) (λ bytes. length bytes ≡ 0
+        → D.contents disk.new ≡ Some blank_store))) }
+    ensures only { IfOk result (λ made. OnOk made (IfTold (D.contents disk.new) (λ told. (left : List ℕ)
+        → D.image disk.new left → left ≡ told))) }
     ensures cause { IfOk result (λ made. HasCause (D.count disk.old) (D.count disk.new) made) }
     ensures past { (D.made disk.new).past ≡ (D.made disk.old).past }
     ensures still { OnErr result (disk.new ≡ disk.old) }
@@ -103,7 +107,8 @@ fn make<D: Disk>(alloc: Global, disk: &mut D) -> Result<Result<(), DiskFailed>, 
 pub fn init<D: Disk>(alloc: Global, disk: &mut D) -> Result<(), InitFault>
     ensures blank { OnOk result (IfTold (D.contents disk.old) (λ bytes. D.contents disk.new ≡ Some blank_store)) }
     ensures empty { OnOk result (IfTold (D.contents disk.old) (λ bytes. length bytes ≡ 0)) }
-    ensures only { OnOk result (IfTold (D.contents disk.new) (λ told. (left : List ℕ) → D.image disk.new left → left ≡ told)) }
+    ensures only { OnOk result (IfTold (D.contents disk.new) (λ told. (left : List ℕ) → D.image disk.new left
+        → left ≡ told)) }
     ensures count { OnOk result (D.count disk.new ≡ D.count disk.old) }
     ensures fault { IfErr result (λ fault. IfTold (D.contents disk.old) (λ bytes. IsInitFaultOf bytes fault)) }
     ensures cause { IfErr result (IsInitFault (D.count disk.old) (D.count disk.new)) }

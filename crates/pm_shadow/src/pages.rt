@@ -2,7 +2,7 @@
 ghost use Rattle.std.specs.Prelude.{◌≡◌, ◌+◌, ◌*◌, ◌-◌, ◌^◌, ◌<◌, ◌≤◌, ℕ, List, [], Some, false, length};
 ghost use Rattle.pm_layout.specs.Headers.{HasHeaderSpelling};
 ghost use Rattle.pm_shadow.specs.Uses.{use_of};
-ghost use Rattle.pm_shadow.specs.Images.{IsSound};
+ghost use Rattle.pm_shadow.specs.Images.{IsSoundState};
 
 use crate::PageUse;
 use crate::attaching::Found;
@@ -43,21 +43,21 @@ pub struct Pages<D: Disk> {
     // where the pages of the current copy are not known, no page is used
     ghost unused: { known ≡ false → use_of table.uses.items ≡ use_of [] },
     ghost sound: { failed ≡ false → (bytes : List ℕ) → D.contents disk ≡ Some bytes
-        → IsSound (record { slot = slot; header = header; settled = settled; count = count; known = known; uses = use_of table.uses.items; closed = closed; failed = failed }) bytes (D.image disk) },
+        → IsSoundState (record { slot = slot; header = header; settled = settled; count = count; known = known; uses = use_of table.uses.items; closed = closed; failed = failed }) bytes (D.image disk) },
 }
 
 impl<D: Disk> Pages<D> {
-    ghost use Rattle.std.specs.Prelude.{◌≡◌, ◌⊎◌, ◌+◌, ◌*◌, ◌-◌, ◌^◌, ◌<◌, ◌≤◌, ℕ, List, All, Contains, Some, true, false, [], ◌∷◌, length, option_map, not, Ok, MatchResult, IsOk, IfOk, IfErr, OnOk, OnErr};
+    ghost use Rattle.std.specs.Prelude.{◌≡◌, ◌⊎◌, ◌+◌, ◌*◌, ◌-◌, ◌^◌, ◌<◌, ◌≤◌, ℕ, List, All, Contains, Some, true, false, [], length, option_map, not, Ok, MatchResult, IsOk, IfOk, IfErr, OnOk, OnErr};
     ghost use Rattle.pm_disk.specs.Writes.{written, TornIfTold};
     ghost use Rattle.pm_disk.specs.Made.{with_sync, with_write};
-    ghost use Rattle.pm_disk.specs.Disk.{IfTold, SameImages, LeavesOnly, HasCause};
+    ghost use Rattle.pm_disk.specs.Disk.{IfTold, LeavesOnly, HasCause};
     ghost use Rattle.pm_layout.specs.Headers.{HasHeaderSpelling};
-    ghost use Rattle.pm_image.specs.Opening.{current, is_open, page_count, page_of, gate_place, open_gate};
+    ghost use Rattle.pm_image.specs.Opening.{current, page_count, page_of, gate_place, open_gate};
     ghost use Rattle.pm_image.specs.Graphs.{Graph};
     ghost use Rattle.pm_shadow.specs.Uses.{IsLowestFree, IsListed};
     ghost use Rattle.pm_shadow.specs.State.{other, attached, IsListable, IsKeepable, IsWritable, IsPublishable, known_by, with_claimed, with_kept, abandoned_in, with_page, with_closed, with_failed, published};
     ghost use Rattle.pm_shadow.specs.Copies.{AreUsed, KeepsGraph};
-    ghost use Rattle.pm_shadow.specs.Images.{IsSound, Holds, Renews, WritesPage, place_of, with_header, with_gate};
+    ghost use Rattle.pm_shadow.specs.Images.{IsSoundState, Holds, Renews, WritesPage, place_of, with_header, with_gate};
     ghost use Rattle.pm_shadow.specs.Runs.{OnlyLooks};
     ghost use Rattle.pm_shadow.specs.Attaching.{IsFaultOf, IsAttachFault, IsFoundIn, HasFound};
     ghost use Rattle.pm_shadow.specs.Pages.{state, disk_of};
@@ -71,7 +71,8 @@ impl<D: Disk> Pages<D> {
     /// `Disk` where the disk failed. The disk is handed back.
     pub fn attach(alloc: Global, disk: D) -> Result<Pages<D>, (D, OpenFault)>
         ensures found { IfOk result (λ it. IfTold (D.contents disk) (HasFound (state it))) }
-        ensures state { IfOk result (λ it. state it ≡ attached (state it).slot (state it).header (state it).count (state it).closed) }
+        ensures state { IfOk result (λ it. state it ≡ attached (state it).slot (state it).header (state it).count
+            (state it).closed) }
         // The header is one that can be spelled, whether the disk tells its contents or not.
         ensures spelled { IfOk result (λ it. HasHeaderSpelling (state it).header) }
         ensures only { IfOk result (λ it. IfTold (D.contents disk) (λ bytes.
@@ -230,14 +231,18 @@ impl<D: Disk> Pages<D> {
     /// Writes a page that was claimed.
     pub fn write_page(&mut self, page: u64, bytes: &[u8]) -> Result<(), DiskFailed>
         requires { IsWritable (state self.old) page bytes.now }
-        ensures written { OnOk result (D.contents (disk_of self.new) ≡ option_map (written (place_of page) bytes.now) (D.contents (disk_of self.old))) }
+        ensures written { OnOk result (D.contents (disk_of self.new) ≡ option_map (written (place_of page) bytes.now)
+            (D.contents (disk_of self.old))) }
         // The page reads so, and every other page stays.
-        ensures pages { OnOk result ((was now : List ℕ) → D.contents (disk_of self.old) ≡ Some was → D.contents (disk_of self.new) ≡ Some now → WritesPage page bytes.now was now) }
-        ensures torn { OnErr result (TornIfTold (place_of page) PAGE_BYTES (D.contents (disk_of self.old)) (D.contents (disk_of self.new))) }
+        ensures pages { OnOk result ((was now : List ℕ) → D.contents (disk_of self.old) ≡ Some was
+            → D.contents (disk_of self.new) ≡ Some now → WritesPage page bytes.now was now) }
+        ensures torn { OnErr result (TornIfTold (place_of page) PAGE_BYTES (D.contents (disk_of self.old))
+            (D.contents (disk_of self.new))) }
         ensures state { OnOk result (state self.new ≡ with_page (state self.old) page) }
         ensures state_err { OnErr result (state self.new ≡ state self.old) }
         // A crash at any moment of the call leaves the current header and its pages.
-        ensures leaves { IfTold (D.contents (disk_of self.old)) (λ told. LeavesOnly D.moment D.since (disk_of self.old) (disk_of self.new) (Holds (state self.old) told)) }
+        ensures leaves { IfTold (D.contents (disk_of self.old))
+            (λ told. LeavesOnly D.moment D.since (disk_of self.old) (disk_of self.new) (Holds (state self.old) told)) }
         ensures cause { HasCause (D.count (disk_of self.old)) (D.count (disk_of self.new)) result }
         ensures made { D.made (disk_of self.new) ≡ with_write (D.made (disk_of self.old)) }
     {
@@ -249,7 +254,9 @@ impl<D: Disk> Pages<D> {
     /// A law of the pages between calls: while no publish has failed, whatever a crash leaves has the current header and
     /// the current copy's pages, as they stand on the disk.
     pub fn keep_the_current_copy(&self)
-        ensures { (state self.now).failed ≡ false → IfTold (D.contents (disk_of self.now)) (λ bytes. IsSound (state self.now) bytes (D.image (disk_of self.now))) }
+        ensures { (state self.now).failed ≡ false
+            → IfTold (D.contents (disk_of self.now)) (λ bytes. IsSoundState (state self.now) bytes
+            (D.image (disk_of self.now))) }
     {}
 
     /// A law of the pages at any time: the current header is one that can be spelled, and no page went since it became
@@ -267,10 +274,16 @@ impl<D: Disk> Pages<D> {
         ensures state { OnOk result (state self.new ≡ with_closed (state self.old)) }
         ensures state_err { OnErr result (state self.new ≡ state self.old) }
         ensures still { (state self.old).closed ≡ true → disk_of self.new ≡ disk_of self.old }
-        ensures written { OnOk result ((state self.old).closed ≡ false → D.contents (disk_of self.new) ≡ option_map (with_gate (other (state self.old).slot) 0) (D.contents (disk_of self.old))) }
-        ensures only { OnOk result ((state self.old).closed ≡ false → IfTold (D.contents (disk_of self.new)) (λ told. (left : List ℕ) → D.image (disk_of self.new) left → left ≡ told)) }
-        ensures torn { OnErr result (TornIfTold (gate_place (other (state self.old).slot)) 1 (D.contents (disk_of self.old)) (D.contents (disk_of self.new))) }
-        ensures leaves { IfTold (D.contents (disk_of self.old)) (λ told. LeavesOnly D.moment D.since (disk_of self.old) (disk_of self.new) (Holds (state self.old) told)) }
+        ensures written { OnOk result ((state self.old).closed ≡ false
+            → D.contents (disk_of self.new) ≡ option_map (with_gate (other (state self.old).slot) 0)
+            (D.contents (disk_of self.old))) }
+        ensures only { OnOk result ((state self.old).closed ≡ false
+            → IfTold (D.contents (disk_of self.new)) (λ told. (left : List ℕ) → D.image (disk_of self.new) left
+            → left ≡ told)) }
+        ensures torn { OnErr result (TornIfTold (gate_place (other (state self.old).slot)) 1
+            (D.contents (disk_of self.old)) (D.contents (disk_of self.new))) }
+        ensures leaves { IfTold (D.contents (disk_of self.old))
+            (λ told. LeavesOnly D.moment D.since (disk_of self.old) (disk_of self.new) (Holds (state self.old) told)) }
         ensures cause { HasCause (D.count (disk_of self.old)) (D.count (disk_of self.new)) result }
         ensures past { (D.made (disk_of self.new)).past ≡ (D.made (disk_of self.old)).past }
     {
@@ -289,14 +302,19 @@ impl<D: Disk> Pages<D> {
         requires { IsPublishable (state self.old) header.now }
         ensures state { OnOk result (state self.new ≡ published (state self.old) header.now) }
         ensures state_err { OnErr result (state self.new ≡ with_failed (state self.old)) }
-        ensures written { OnOk result (D.contents (disk_of self.new) ≡ option_map (λ told. with_gate (other (state self.old).slot) open_gate (with_header (other (state self.old).slot) header.now told)) (D.contents (disk_of self.old))) }
-        ensures only { OnOk result (IfTold (D.contents (disk_of self.new)) (λ told. (left : List ℕ) → D.image (disk_of self.new) left → left ≡ told)) }
-        ensures renews { OnOk result (IfTold (D.contents (disk_of self.old)) (λ told. IfTold (D.contents (disk_of self.new)) (Renews (state self.old) header.now told))) }
+        ensures written { OnOk result (D.contents (disk_of self.new) ≡ option_map
+            (λ told. with_gate (other (state self.old).slot) open_gate
+            (with_header (other (state self.old).slot) header.now told)) (D.contents (disk_of self.old))) }
+        ensures only { OnOk result (IfTold (D.contents (disk_of self.new)) (λ told. (left : List ℕ)
+            → D.image (disk_of self.new) left → left ≡ told)) }
+        ensures renews { OnOk result (IfTold (D.contents (disk_of self.old))
+            (λ told. IfTold (D.contents (disk_of self.new)) (Renews (state self.old) header.now told))) }
         // Where it fails the contents are told still, and no page but that of the other slot is another.
         ensures torn { OnErr result (TornIfTold (place_of (other (state self.old).slot)) PAGE_BYTES
             (D.contents (disk_of self.old)) (D.contents (disk_of self.new))) }
         // A crash at any moment of the call leaves the one header with its pages or the other.
-        ensures leaves { IfTold (D.contents (disk_of self.old)) (λ told. LeavesOnly D.moment D.since (disk_of self.old) (disk_of self.new)
+        ensures leaves { IfTold (D.contents (disk_of self.old))
+            (λ told. LeavesOnly D.moment D.since (disk_of self.old) (disk_of self.new)
             (λ image. Holds (state self.old) told image ⊎ Renews (state self.old) header.now told image)) }
         ensures cause { HasCause (D.count (disk_of self.old)) (D.count (disk_of self.new)) result }
         ensures past { (D.made (disk_of self.new)).past ≡ (D.made (disk_of self.old)).past }

@@ -1,5 +1,5 @@
 //! Runs of a few calls of a disk.
-ghost use Rattle.std.specs.Prelude.{◌≡◌, ◌+◌, ◌-◌, ◌^◌, ◌≤◌, ℕ, List, Some, length, option_map, OnOk, OnErr};
+ghost use Rattle.std.specs.Prelude.{◌≡◌, ◌+◌, ◌-◌, ◌^◌, ◌≤◌, ℕ, List, length, option_map, OnOk, OnErr};
 ghost use Rattle.pm_disk.specs.Writes.{written, TornIfTold};
 ghost use Rattle.pm_disk.specs.Disk.{IfTold, OnlyTorn, LeavesOnly, HasCause};
 ghost use Rattle.pm_disk.specs.Ordered.{IsInOrder};
@@ -11,7 +11,8 @@ use pm_disk::{Disk, DiskFailed};
 pub(crate) fn write_and_sync<D: Disk>(disk: &mut D, at: u64, bytes: &[u8]) -> Result<(), DiskFailed>
     requires { at + length bytes.now ≤ 2 ^ 63 - 1 }
     ensures written { OnOk result (D.contents disk.new ≡ option_map (written at bytes.now) (D.contents disk.old)) }
-    ensures only { OnOk result (IfTold (D.contents disk.new) (λ told. (left : List ℕ) → D.image disk.new left → left ≡ told)) }
+    ensures only { OnOk result (IfTold (D.contents disk.new) (λ told. (left : List ℕ) → D.image disk.new left
+        → left ≡ told)) }
     ensures torn { OnErr result (TornIfTold at (length bytes.now) (D.contents disk.old) (D.contents disk.new)) }
     ensures images { OnlyTorn at (length bytes.now) (D.image disk.old) (D.image disk.new) }
     ensures leaves { LeavesOnly D.moment D.since disk.old disk.new (IsCut at (length bytes.now) (D.image disk.old)) }
@@ -33,8 +34,10 @@ pub(crate) fn write_one_by_one<D: Disk>(
 ) -> Result<(), DiskFailed>
     requires first { first_at + length first.now ≤ second_at }
     requires second { second_at + length second.now ≤ 2 ^ 63 - 1 }
-    ensures written { OnOk result (D.contents disk.new ≡ option_map (λ bytes. written second_at second.now (written first_at first.now bytes)) (D.contents disk.old)) }
-    ensures only { OnOk result (IfTold (D.contents disk.new) (λ told. (left : List ℕ) → D.image disk.new left → left ≡ told)) }
+    ensures written { OnOk result (D.contents disk.new ≡ option_map
+        (λ bytes. written second_at second.now (written first_at first.now bytes)) (D.contents disk.old)) }
+    ensures only { OnOk result (IfTold (D.contents disk.new) (λ told. (left : List ℕ) → D.image disk.new left
+        → left ≡ told)) }
     ensures torn { OnErr result (TornIfTold first_at (second_at + length second.now - first_at)
         (D.contents disk.old) (D.contents disk.new)) }
     ensures in_order { IfTold (D.contents disk.old) (λ bytes. LeavesOnly D.moment D.since disk.old disk.new

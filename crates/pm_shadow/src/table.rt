@@ -1,5 +1,5 @@
 //! The pages of a store from page 2 on, and what each is used for.
-ghost use Rattle.std.specs.Prelude.{◌≡◌, ◌≢◌, ◌≤◌, ◌<◌, ◌+◌, ◌-◌, ◌^◌, ◌++◌, [], ◌∷◌, ℕ, List, All, length, map, replicate, reverse, vec_capacity, vec_len, Contains, IfOk, OnOk, OnErr};
+ghost use Rattle.std.specs.Prelude.{◌≡◌, ◌≤◌, ◌<◌, ◌+◌, ◌-◌, ◌^◌, [], All, length, map, replicate, reverse, vec_capacity, IfOk, OnErr};
 ghost use Rattle.pm_shadow.specs.Uses.{use_of, free_from, renewed, abandoned, marked};
 
 use crate::PageUse;
@@ -24,7 +24,7 @@ pub(crate) struct Table {
 }
 
 impl Table {
-    ghost use Rattle.std.specs.Prelude.{◌≡◌, ◌<◌, ◌≤◌, ◌+◌, ◌-◌, ◌^◌, ℕ, List, [], All, IfOk, OnOk, OnErr, true};
+    ghost use Rattle.std.specs.Prelude.{◌≡◌, ◌<◌, ◌≤◌, ◌+◌, ◌-◌, ◌^◌, [], All, IfOk, OnErr, true};
     ghost use Rattle.pm_shadow.specs.Uses.{IsLowestFree, is_current, with_use, renewed_uses, abandoned_uses, IsListed};
     ghost use Rattle.pm_shadow.specs.Tables.{uses_in};
 

@@ -1,5 +1,4 @@
-ghost use Rattle.std.specs.Prelude.{◌≡◌, ℕ, nat_eq, Bool, true, ◌||◌, not, is_some, None, IsSome, IsOk, OnOk, OnErr};
-ghost use Rattle.std.specs.Ordering.{nat_cmp};
+ghost use Rattle.std.specs.Prelude.{◌≡◌, nat_eq, true, ◌||◌, not, is_some, None, IsSome, IsOk, OnOk, OnErr};
 ghost use Rattle.std.specs.HashMap as hash;
 ghost use Rattle.pm_snap.specs.Kept.{noted, Notes, KeepsNotes};
 

@@ -10,7 +10,7 @@ use Rattle.pm_view.specs.declared.phase.Phase.{Phase}
 use Rattle.pm_view.specs.declared.phase.Phase.TheVariants.{Idle, Draining, Moving, Sweeping, Doomed}
 use Rattle.pm_view.specs.View.{SpaceView}
 use Rattle.pm_view.specs.Seen.{Seen, Leads}
-use Rattle.pm_view.specs.Law.{HeapLaw, IsAt, IsFront, IsOldest}
+use Rattle.pm_view.specs.Law.{HeapLaw, IsPhaseOf, IsFront, IsOldest}
 
 Rise-prop : (low : ℕ) (ts : List Train) → IsProp (Rise low ts)
 Rise-prop low [] = hlevel props
@@ -32,7 +32,7 @@ IsSomeAnd-prop (Some x) P each = hlevel (props, each)
 IsFront-prop : (ts : List Train) (car : ℕ) → IsProp (IsFront ts car)
 IsFront-prop ts car = IsSomeAnd-prop (oldest ts) (λ train. IsOldest ts train × (first_car ts train ≡ Some car)) (λ train. hlevel props)
 
-IsAt-prop : (phase : Phase) (ts : List Train) (anchor : Option (Addr × ℕ)) → IsProp (IsAt phase ts anchor)
+IsAt-prop : (phase : Phase) (ts : List Train) (anchor : Option (Addr × ℕ)) → IsProp (IsPhaseOf phase ts anchor)
 IsAt-prop Idle ts anchor = hlevel props
 IsAt-prop (Draining train) ts anchor = hlevel props
 IsAt-prop (Moving car) ts anchor = IsFront-prop ts car

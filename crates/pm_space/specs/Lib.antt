@@ -3,5 +3,4 @@ pub mod Shown
 pub mod KeptOnce
 pub mod Counted
 pub mod Quiet
-pub mod Stale
 pub mod Places

@@ -2,6 +2,7 @@
 use Rattle.std.specs.Prelude.{◌≡◌, ℕ, ◌+◌, ◌≤◌, ◌==◌, ◌&&◌, Bool, not, cond, if◌then◌else◌, List, [], ◌∷◌, Option, Some, None, IsSome}
 use Rattle.std.specs.List.{sum_by}
 use Rattle.std.specs.Ordering.{nat_cmp}
+use Rattle.std.specs.BTreeMap as tree
 use Rattle.std.specs.FinMap.{FinMap, get, insert, remove, empty}
 use Rattle.std.specs.Option.{unwrap_or}
 use Rattle.pm_base.specs.Mapped.{mapped}
@@ -54,6 +55,10 @@ HasRoomFor links (Some a) = HasRoom links a.car 1
 abbrev pub told_by : ℕ → Option Addr → ℕ
 told_by car None = 0
 told_by car (Some a) = cond (a.car == car) 1 0
+
+-- what is counted for a car
+abbrev pub counted : tree.BTreeMap ℕ ℕ → ℕ → ℕ
+counted counts car = unwrap_or (tree.get nat_cmp counts car) 0
 
 -- how often a car stands in a list
 abbrev pub times : ℕ → List ℕ → ℕ

@@ -12,7 +12,7 @@ use Rattle.pm_types.specs.declared.source.RefSource.TheVariants.{Root, Handle, F
 use Rattle.pm_cars.specs.Cars.{Car, new_car}
 use Rattle.pm_roots.specs.Bindings.{address_at}
 use Rattle.pm_view.specs.View.{Cars, SpaceView}
-use Rattle.pm_view.specs.Reading.{object_at, stored, Stands}
+use Rattle.pm_view.specs.Reading.{object_at, stored, SourceStands}
 use Rattle.pm_view.specs.Seen.{seen, IsLive}
 use Rattle.pm_view.specs.Rows.{with_car}
 use Rattle.pm_snap.specs.Snapped.{Snapped, is_ready}
@@ -93,4 +93,4 @@ with_car_in_new_train view number = with_car (in_new_train view) (youngest (rota
 
 -- where a source that stands stores the first address, the second is that of an object that stands
 abbrev pub LeadsWhereStored : SpaceView → Addr → Addr → Type 0
-LeadsWhereStored view at to = (source : RefSource) → Stands view source → stored view source ≡ Some at → IsLive (seen view) to
+LeadsWhereStored view at to = (source : RefSource) → SourceStands view source → stored view source ≡ Some at → IsLive (seen view) to

@@ -12,7 +12,7 @@ use pm_types::{Addr, Change, RefSource};
 use pm_view::Phase;
 
 /// Whether a car that is in a train is set aside.
-pub(crate) fn is_aside(trains: &Trains, phase: Phase, car: u64) -> bool
+pub fn is_aside(trains: &Trains, phase: Phase, car: u64) -> bool
     requires { IsSome (train_of trains.now.trains car) }
     ensures { result ≡ aside_in phase trains.now.trains car }
 {

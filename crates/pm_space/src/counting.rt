@@ -39,7 +39,8 @@ fn in_cars<F>(parts: &Parts<F>, cars: &[u64]) -> u64
 // How many objects stand in a train.
 fn in_train<F>(parts: &Parts<F>, train: u64) -> u64
     requires { IsSome (cars_at parts.now.trains.trains train) }
-    ensures { IsSomeAnd (cars_at parts.now.trains.trains train) (λ cars. result ≡ capped (sum_by (standing_in (view parts.now)) cars)) }
+    ensures { IsSomeAnd (cars_at parts.now.trains.trains train)
+        (λ cars. result ≡ capped (sum_by (standing_in (view parts.now)) cars)) }
 {
     parts.trains.sound();
     a_car_is_found_where_it_stands();
@@ -49,7 +50,8 @@ fn in_train<F>(parts: &Parts<F>, train: u64) -> u64
 // How many objects stand in a train, or none where its number is over this one.
 fn in_old_train<F>(parts: &Parts<F>, train: u64, youngest: u64) -> u64
     requires { IsSome (cars_at parts.now.trains.trains train) }
-    ensures { IsSomeAnd (cars_at parts.now.trains.trains train) (λ cars. result ≡ capped (cond (nat_le train youngest) (sum_by (standing_in (view parts.now)) cars) 0)) }
+    ensures { IsSomeAnd (cars_at parts.now.trains.trains train)
+        (λ cars. result ≡ capped (cond (nat_le train youngest) (sum_by (standing_in (view parts.now)) cars) 0)) }
 {
     if train <= youngest {
         in_train(parts, train)

@@ -1,4 +1,4 @@
-ghost use Rattle.std.specs.Prelude.{◌≡◌, ◌+◌, ◌==◌, ℕ, cond, [], ◌∷◌, drop, OnOk, OnErr, None, is_some, IsSome};
+ghost use Rattle.std.specs.Prelude.{◌≡◌, ◌==◌, ℕ, cond, [], ◌∷◌, drop, OnOk, OnErr, None, is_some, IsSome};
 ghost use Rattle.std.specs.Option.{option_copied};
 ghost use Rattle.std.specs.FinMap as map;
 ghost use Rattle.pm_view.specs.Effective.{with_source};
@@ -142,8 +142,10 @@ impl LinkTable {
     /// The change that waits longest in the car's queue goes into the car's remembered set, and leaves the
     /// queue; where none waits, nothing is done. After want of memory all is as it was.
     pub fn apply_front(&mut self, car: u64) -> Result<(), NoMemory>
-        ensures sets { OnOk result (sets_of self.new ≡ with_front (sets_of self.old) car (waiting (queues_of self.old) car)) }
-        ensures queues { OnOk result (queues_of self.new ≡ without_front (queues_of self.old) car (waiting (queues_of self.old) car)) }
+        ensures sets { OnOk result (sets_of self.new ≡ with_front (sets_of self.old) car
+            (waiting (queues_of self.old) car)) }
+        ensures queues { OnOk result (queues_of self.new ≡ without_front (queues_of self.old) car
+            (waiting (queues_of self.old) car)) }
         ensures err { OnErr result (self.new ≡ self.old) }
     {
         let Some(links) = self.links.get_mut(&car) else {

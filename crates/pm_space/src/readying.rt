@@ -1,8 +1,7 @@
-ghost use Rattle.std.specs.Prelude.{◌≡◌, ℕ, ◌<◌, true, IsSome, IsSomeAnd, OnOk};
+ghost use Rattle.std.specs.Prelude.{◌≡◌, ℕ, ◌<◌, true, IsSome, OnOk};
 ghost use Rattle.std.specs.FinMap as map;
 ghost use Rattle.pm_snap.specs.Snapped.{is_ready};
-ghost use Rattle.pm_space.specs.Linked.{KeepsRoom};
-ghost use Rattle.pm_space.specs.Shown.{view, cars_of, HasBirthRoom, IsPrepared, KeepsReady, KeepsRest};
+ghost use Rattle.pm_space.specs.Shown.{cars_of, HasBirthRoom, KeepsReady};
 
 use crate::held::Held;
 use crate::parts::Parts;

@@ -1,8 +1,5 @@
-ghost use Rattle.std.specs.Prelude.{◌≡◌, ℕ, ◌+◌, ◌<◌, ◌^◌, ◌==◌, if◌then◌else◌, Some, IfOk, OnOk};
-ghost use Rattle.std.specs.Ordering.{nat_cmp};
-ghost use Rattle.std.specs.Option.{unwrap_or};
-ghost use Rattle.std.specs.BTreeMap as tree;
-ghost use Rattle.pm_space.specs.Linked.{sets_of, queues_of, HasRoom, HasRoomFor, times};
+ghost use Rattle.std.specs.Prelude.{◌≡◌, ℕ, ◌+◌, ◌<◌, ◌^◌, ◌==◌, cond, IfOk, OnOk};
+ghost use Rattle.pm_space.specs.Linked.{sets_of, queues_of, counted, HasRoom, HasRoomFor, times};
 
 use crate::links::LinkTable;
 use pm_types::{Addr, NoMemory};
@@ -39,11 +36,12 @@ pub fn make_room(
     make_room_for(links, new)
 }
 
-// Counts the car once more, and answers how often it was counted.
-fn count_again(counts: &mut BTreeMap<u64, u64>, car: u64) -> Result<u64, NoMemory>
-    requires { unwrap_or (tree.get nat_cmp counts.old car) 0 + 1 < 2 ^ 64 }
-    ensures count { IfOk result (λ count. count ≡ unwrap_or (tree.get nat_cmp counts.old car) 0 + 1) }
-    ensures counts { IfOk result (λ count. (other : ℕ) → tree.get nat_cmp counts.new other ≡ (if other == car then Some count else tree.get nat_cmp counts.old other)) }
+/// Counts the car once more, and answers how often it was counted.
+pub fn count_car(counts: &mut BTreeMap<u64, u64>, car: u64) -> Result<u64, NoMemory>
+    requires { counted counts.old car + 1 < 2 ^ 64 }
+    ensures count { IfOk result (λ count. count ≡ counted counts.new car) }
+    ensures counts { OnOk result ((other : ℕ)
+        → counted counts.new other ≡ counted counts.old other + cond (car == other) 1 0) }
 {
     let count = match counts.get(&car) {
         Some(count) => *count + 1,
@@ -67,7 +65,7 @@ pub fn make_room_for_each(
 {
     let mut counts = BTreeMap::new(alloc);
     for car in cars {
-        let count = count_again(&mut counts, *car)?;
+        let count = count_car(&mut counts, *car)?;
         links.reserve(*car, count)?;
     }
     Ok(())

@@ -25,7 +25,8 @@ fn set_root(roots: &mut Roots, number: u64, to: Option<Addr>)
 // Sets a field that is there.
 fn set_field(cars: &mut Table<Held>, at: Addr, index: u32, to: Option<Addr>) -> Result<(), NoMemory>
     requires { HasFieldAt (cars_of cars.old) at index }
-    ensures ok { OnOk result (cars_of cars.new ≡ with_object (cars_of cars.old) at (λ object. with_field object index to)) }
+    ensures ok { OnOk result (cars_of cars.new ≡ with_object (cars_of cars.old) at
+        (λ object. with_field object index to)) }
     ensures err { OnErr result (cars.new ≡ cars.old) }
     ensures frozen { cars.new.frozen ≡ cars.old.frozen }
 {

@@ -1,14 +1,14 @@
 ghost use Rattle.std.specs.Prelude.{◌≡◌, IfOk, OnOk, OnErr, None};
 ghost use Rattle.pm_view.specs.Seen.{seen, MayStore};
 ghost use Rattle.pm_view.specs.Law.{HeapLaw};
-ghost use Rattle.pm_view.specs.Reading.{Stands, stored, resolve};
+ghost use Rattle.pm_view.specs.Reading.{SourceStands, stored, resolve};
 ghost use Rattle.pm_view.specs.Rows.{new_space, spread, HasValue};
 ghost use Rattle.pm_view.specs.Counts.{standing, old};
 ghost use Rattle.pm_base.specs.Counts.{capped};
 ghost use Rattle.pm_space.specs.Shown.{view, LeadsWhereStored, KeepsRest};
 ghost use Rattle.pm_space.specs.KeptOnce.{HeapLaw-prop};
 ghost use Rattle.pm_space.specs.Quiet.{IsQuiet, IsQuiet-prop};
-ghost use Rattle.pm_space.specs.Stale.{IsSole, IsSole-prop};
+ghost use Rattle.pm_view.specs.Stale.{IsSole, IsSole-prop};
 
 use crate::links::LinkTable;
 use crate::parts::Parts;
@@ -79,7 +79,7 @@ impl<F: Drop> Space<F> {
 
     /// The address that the source stores, or `None` where it is null. The source stands.
     pub fn stored(&self, source: RefSource) -> Option<Addr>
-        requires { Stands (view self.now.parts) source }
+        requires { SourceStands (view self.now.parts) source }
         ensures { result ≡ stored (view self.now.parts) source }
     {
         sources::stored(&self.parts, source)
@@ -90,7 +90,7 @@ impl<F: Drop> Space<F> {
     /// address is null or that of an object that stands, and not null for a root. After want of memory all
     /// is as it was.
     pub fn spread(&mut self, source: RefSource, to: Option<Addr>) -> Result<(), NoMemory>
-        requires stands { Stands (view self.old.parts) source }
+        requires stands { SourceStands (view self.old.parts) source }
         requires value { HasValue source to }
         requires target { MayStore (seen (view self.old.parts)) to }
         ensures ok { OnOk result (view self.new.parts ≡ spread (view self.old.parts) source to) }

@@ -2,6 +2,7 @@
 //! nothing.
 
 ghost use Rattle.std.specs.Prelude.{◌≡◌, ◌<◌, true};
+ghost use Rattle.pm_types.specs.declared.limits.TheConstants.{CLIENTS};
 ghost use Rattle.pm_place.specs.Choosers.{IsChooser};
 ghost use Rattle.pm_view.specs.Commands.{is_act};
 
@@ -49,7 +50,7 @@ fn ask<F: Fn(&[u64]) -> usize + Drop>(
     client: u32,
     cmd: Cmd,
 ) -> Result<Reply, Fault>
-    requires client { client < 8 }
+    requires client { client < CLIENTS }
     requires act { is_act cmd ≡ true }
     requires chooser { IsChooser F.Fn both.old.space.parts.place }
     ensures { IsChooser F.Fn both.new.space.parts.place }
@@ -67,7 +68,7 @@ fn give<F: Fn(&[u64]) -> usize + Drop>(
     client: u32,
     cmd: Cmd,
 ) -> Result<(), Fault>
-    requires client { client < 8 }
+    requires client { client < CLIENTS }
     requires act { is_act cmd ≡ true }
     requires chooser { IsChooser F.Fn both.old.space.parts.place }
     ensures { IsChooser F.Fn both.new.space.parts.place }
@@ -82,7 +83,7 @@ fn identity<F: Fn(&[u64]) -> usize + Drop>(
     client: u32,
     reg: Reg,
 ) -> Result<Option<Id>, Fault>
-    requires client { client < 8 }
+    requires client { client < CLIENTS }
     requires chooser { IsChooser F.Fn both.old.space.parts.place }
     ensures { IsChooser F.Fn both.new.space.parts.place }
 {
@@ -106,7 +107,7 @@ fn is_new<F: Fn(&[u64]) -> usize + Drop>(
     reg: Reg,
     seen: &mut BTreeSet<Id>,
 ) -> Result<bool, Fault>
-    requires client { client < 8 }
+    requires client { client < CLIENTS }
     requires chooser { IsChooser F.Fn both.old.space.parts.place }
     ensures { IsChooser F.Fn both.new.space.parts.place }
 {
@@ -128,7 +129,7 @@ fn load<F: Fn(&[u64]) -> usize + Drop>(
     left: u32,
     index: u32,
 ) -> Result<(), Fault>
-    requires client { client < 8 }
+    requires client { client < CLIENTS }
     requires some { 0 < left }
     requires left { left < 101 }
     requires chooser { IsChooser F.Fn both.old.space.parts.place }
@@ -147,7 +148,7 @@ fn walk<F: Fn(&[u64]) -> usize + Drop>(
     left: u32,
     seen: &mut BTreeSet<Id>,
 ) -> Result<(), Fault>
-    requires client { client < 8 }
+    requires client { client < CLIENTS }
     requires left { left < 101 }
     requires chooser { IsChooser F.Fn both.old.space.parts.place }
     ensures { IsChooser F.Fn both.new.space.parts.place }
@@ -170,7 +171,7 @@ fn look_from_register<F: Fn(&[u64]) -> usize + Drop>(
     start: u32,
     seen: &mut BTreeSet<Id>,
 ) -> Result<(), Fault>
-    requires client { client < 8 }
+    requires client { client < CLIENTS }
     requires chooser { IsChooser F.Fn both.old.space.parts.place }
     ensures { IsChooser F.Fn both.new.space.parts.place }
 {
@@ -187,7 +188,7 @@ fn look_from_name<F: Fn(&[u64]) -> usize + Drop>(
     start: u32,
     seen: &mut BTreeSet<Id>,
 ) -> Result<(), Fault>
-    requires client { client < 8 }
+    requires client { client < CLIENTS }
     requires chooser { IsChooser F.Fn both.old.space.parts.place }
     ensures { IsChooser F.Fn both.new.space.parts.place }
 {
@@ -203,7 +204,7 @@ fn look_behind<F: Fn(&[u64]) -> usize + Drop>(
     client: u32,
     seen: &mut BTreeSet<Id>,
 ) -> Result<(), Fault>
-    requires client { client < 8 }
+    requires client { client < CLIENTS }
     requires chooser { IsChooser F.Fn both.old.space.parts.place }
     ensures { IsChooser F.Fn both.new.space.parts.place }
 {
@@ -217,7 +218,7 @@ fn look_behind<F: Fn(&[u64]) -> usize + Drop>(
 
 // Looks at all that a client reaches: from its four registers, and from the four names.
 fn look<F: Fn(&[u64]) -> usize + Drop>(both: &mut Both<F>, client: u32) -> Result<(), Fault>
-    requires client { client < 8 }
+    requires client { client < CLIENTS }
     requires chooser { IsChooser F.Fn both.old.space.parts.place }
     ensures { IsChooser F.Fn both.new.space.parts.place }
 {
@@ -231,7 +232,7 @@ fn glance_at<F: Fn(&[u64]) -> usize + Drop>(
     client: u32,
     number: u32,
 ) -> Result<(), Fault>
-    requires client { client < 8 }
+    requires client { client < CLIENTS }
     requires chooser { IsChooser F.Fn both.old.space.parts.place }
     ensures { IsChooser F.Fn both.new.space.parts.place }
 {
@@ -242,7 +243,7 @@ fn glance_at<F: Fn(&[u64]) -> usize + Drop>(
 
 // Glances at each of a client's four registers.
 fn glance<F: Fn(&[u64]) -> usize + Drop>(both: &mut Both<F>, client: u32) -> Result<(), Fault>
-    requires client { client < 8 }
+    requires client { client < CLIENTS }
     requires chooser { IsChooser F.Fn both.old.space.parts.place }
     ensures { IsChooser F.Fn both.new.space.parts.place }
 {

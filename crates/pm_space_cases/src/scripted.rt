@@ -1,14 +1,15 @@
 //! Lines of a script over a space in memory, with the collector's events among them.
 
-ghost use Rattle.std.specs.Prelude.{◌≡◌, ◌<◌, true};
+ghost use Rattle.std.specs.Prelude.{◌≡◌, ◌<◌};
+ghost use Rattle.pm_types.specs.declared.limits.TheConstants.{CLIENTS};
 ghost use Rattle.pm_place.specs.Choosers.{IsChooser};
 ghost use Rattle.pm_view.specs.Commands.{is_act};
 
 use crate::fault::Fault;
-use pm_grammar::{Line, Script, read_script, reply_text};
 use pm_mutate::act;
 use pm_place::Placement;
 use pm_reclaim::collect_one;
+use pm_script::{Line, Script, read_script, reply_text};
 use pm_space::Space;
 use pm_types::{Cmd, Entry, Reply, SOURCE_BYTES, Step};
 use std::alloc::Global;
@@ -148,7 +149,7 @@ fn collect<F: Fn(&[u64]) -> usize + Drop>(
 
 // A reply's line, which does not depend on the command.
 fn line_of(alloc: Global, client: u32, reply: Reply) -> Result<String, Fault>
-    requires { client < 8 }
+    requires { client < CLIENTS }
 {
     let entry = Entry {
         client,

@@ -1,6 +1,7 @@
 //! Commands over a space in memory.
 
 ghost use Rattle.std.specs.Prelude.{◌≡◌, ◌<◌, true, IfOk};
+ghost use Rattle.pm_types.specs.declared.limits.TheConstants.{CLIENTS};
 ghost use Rattle.pm_view.specs.Commands.{is_act};
 
 use crate::drawn::{command, next_draw, register};
@@ -30,7 +31,7 @@ struct Both<F> {
 
 // Gives a command to the space and to the plain slow program.
 fn ask<F: Drop>(both: &mut Both<F>, client: u32, cmd: &Cmd) -> Result<(), Fault>
-    requires client { client < 8 }
+    requires client { client < CLIENTS }
     requires act { is_act cmd.now ≡ true }
 {
     let reply = act(&mut both.space, both.alloc, client, cmd)?;

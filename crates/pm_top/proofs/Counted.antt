@@ -6,11 +6,11 @@ use Rattle.std.proofs.lemmas.List.Sums.{sum_by-cons}
 use Rattle.pm_base.specs.Counts.{greatest_count}
 use Rattle.pm_types.specs.declared.entry.Entry.{Entry}
 use Rattle.pm_model.specs.Journal.{requests_of}
-use Rattle.pm_grammar.specs.declared.line.Line.{Line}
-use Rattle.pm_grammar.specs.declared.line.Line.TheVariants.{Client, Gc, Flush}
-use Rattle.pm_grammar.specs.Words.{AreSpelled}
-use Rattle.pm_grammar.specs.Script.{AreBodies, IsScript, said}
-use Rattle.pm_grammar.proofs.ScriptLaws.{lines_of_script}
+use Rattle.pm_script.specs.declared.line.Line.{Line}
+use Rattle.pm_script.specs.declared.line.Line.TheVariants.{Client, Gc, Flush}
+use Rattle.pm_script.specs.Words.{AreSpelled}
+use Rattle.pm_script.specs.Script.{AreBodies, IsScript, said}
+use Rattle.pm_script.proofs.ScriptLaws.{lines_of_script}
 use Rattle.pm_engine.specs.Shown.{Total}
 use Rattle.pm_serial.specs.Asked.{events_asked, flushes_asked, flushes_of, requests_asked, steps_asked, steps_of}
 use Rattle.pm_top.specs.Journals.{MakesAll}

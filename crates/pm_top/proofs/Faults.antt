@@ -1,5 +1,5 @@
 -- The causes of ends in which no line was run.
-use Rattle.std.proofs.Common.{◌≡◌, ℕ, ◌<◌, ◌≤◌, List, [], ◌∷◌, refl, subst, ◌∙◌, arith}
+use Rattle.std.proofs.Common.{◌≡◌, ℕ, ◌<◌, List, [], ◌∷◌, refl, subst, ◌∙◌, arith}
 use Rattle.pm_types.specs.declared.entry.Entry.{Entry}
 use Rattle.pm_types.specs.declared.fault.OpenFault.{OpenFault}
 use Rattle.pm_types.specs.declared.fault.OpenFault.TheVariants.{NotAStore, Version, Damaged, Malformed, Disk, Memory as NoRoom}
@@ -7,7 +7,7 @@ use Rattle.pm_types.specs.declared.fault.InitFault.{InitFault}
 use Rattle.pm_types.specs.declared.fault.InitFault.TheVariants.{NotEmpty as NotEmptied, Disk as InitDisk, Memory as InitMemory}
 use Rattle.pm_disk.specs.Made.{Made}
 use Rattle.pm_shadow.specs.Init.{IsInitFault}
-use Rattle.pm_opening.specs.Refused.{IsOpenFault}
+use Rattle.pm_reopen.specs.Refused.{IsOpenFault}
 use Rattle.pm_top.specs.declared.ended.Detail.{Detail}
 use Rattle.pm_top.specs.declared.ended.Detail.TheVariants.{Fine, Usage, Script, Reading, Writing, Device, NotEmpty, Refused, Memory}
 use Rattle.pm_top.specs.Ends.{ShowsReading, ShowsDevice, not_opened, not_made}

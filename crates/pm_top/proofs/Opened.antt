@@ -1,5 +1,5 @@
 -- How a run leaves the disk, from its parts.
-use Rattle.std.proofs.Common.{◌≡◌, ◌⊎◌, inl, inr, ℕ, ◌<◌, ◌≤◌, List, [], Option, Some, Result, Ok, Err, refl, sym, ap, subst, ◌∙◌, arith}
+use Rattle.std.proofs.Common.{◌≡◌, ◌⊎◌, inl, inr, ℕ, ◌<◌, List, [], Option, Some, Result, Ok, Err, refl, sym, ap, subst, ◌∙◌, arith}
 use Rattle.pm_types.specs.declared.entry.Entry.{Entry}
 use Rattle.pm_types.specs.declared.fault.OpenFault.{OpenFault}
 use Rattle.pm_types.specs.declared.fault.OpenFault.TheVariants.{NotAStore, Version, Damaged, Malformed, Disk, Memory as NoRoom}
@@ -7,12 +7,12 @@ use Rattle.pm_disk.specs.Disk.{LeavesOnly}
 use Rattle.pm_disk.proofs.RunLemmas.{started, weaker, joined}
 use Rattle.pm_model.specs.World.{World, Copy, begin}
 use Rattle.pm_model.specs.Journal.{IsLegal, after}
-use Rattle.pm_image.specs.Stands.{Opened, Stands, opened}
+use Rattle.pm_image.specs.Stands.{Opened, StandsForCopy, opened}
 use Rattle.pm_image.proofs.StandsLaws.{one_copy}
 use Rattle.pm_serving.specs.Images.{IsTold}
-use Rattle.pm_opening.specs.Refused.{IsRefusal}
-use Rattle.pm_grammar.specs.declared.fault.ScriptFault.{ScriptFault}
-use Rattle.pm_grammar.specs.declared.fault.ScriptFault.TheVariants.{Line as BadLine, TooManyLines, TooLong, Memory as ScriptMemory}
+use Rattle.pm_reopen.specs.Refused.{IsRefusal}
+use Rattle.pm_script.specs.declared.fault.ScriptFault.{ScriptFault}
+use Rattle.pm_script.specs.declared.fault.ScriptFault.TheVariants.{Line as BadLine, TooManyLines, TooLong, Memory as ScriptMemory}
 use Rattle.pm_top.specs.declared.ended.Detail.{Detail}
 use Rattle.pm_top.specs.declared.ended.Detail.TheVariants.{Fine, Usage, Script, Reading, Writing, Device, NotEmpty, Refused, Memory}
 use Rattle.pm_top.specs.Ends.{not_opened, not_read}
@@ -50,7 +50,7 @@ tried_open (Disk before after) = omega arith
 tried_open NoRoom = omega arith
 
 -- bytes that stand for a copy break no rule
-pub never_shut : (bytes : List ℕ) (number : ℕ) (copy : Copy) (fault : OpenFault) → Stands bytes number copy → opened bytes ≡ Err fault → ⊥
+pub never_shut : (bytes : List ℕ) (number : ℕ) (copy : Copy) (fault : OpenFault) → StandsForCopy bytes number copy → opened bytes ≡ Err fault → ⊥
 never_shut bytes number copy fault stands shut =
     let same : ◌≡◌ {A = Result Opened OpenFault} (Ok stands.found) (Err fault) = sym stands.is_found ∙ shut in
     cc same
@@ -74,7 +74,7 @@ read_for bytes ScriptMemory = tt
 module _ {D : Type 0} (contents : D → Option (List ℕ)) (image : D → List ℕ → Type 0) (moment : D → ℕ) (since : D → ℕ → List ℕ → Type 0) where
   -- a store that was opened, and run
   pub opened_run : (start mid end : D) (number : ℕ) (copy : Copy) (detail : Detail) (journal : List Entry) → contents mid ≡ contents start → LeavesOnly moment since start mid (image start)
-      → ((bytes : List ℕ) → contents start ≡ Some bytes → Stands bytes number copy)
+      → ((bytes : List ℕ) → contents start ≡ Some bytes → StandsForCopy bytes number copy)
       → IsLegal (begin number copy) journal
       → (IsTold (contents start) → LeavesOnly moment since mid end (IsOfRun detail (begin number copy) journal))
       → (IsTold (contents start) → (left : List ℕ) → image end left → IsLastOf detail (after (begin number copy) journal) left)
@@ -96,7 +96,7 @@ module _ {D : Type 0} (contents : D → Option (List ℕ)) (image : D → List �
     uncalled = λ before. absurd (omega (arith, before, late));
   }
     where
-      same : (bytes : List ℕ) → contents start ≡ Some bytes → (number_ : ℕ) (copy_ : Copy) → Stands bytes number_ copy_ → begin number copy ≡ begin number_ copy_
+      same : (bytes : List ℕ) → contents start ≡ Some bytes → (number_ : ℕ) (copy_ : Copy) → StandsForCopy bytes number_ copy_ → begin number copy ≡ begin number_ copy_
       same bytes told number_ copy_ there =
           let one = one_copy bytes number number_ copy copy_ (stands bytes told) there in
           λ i. begin (one.0 i) (one.1 i)

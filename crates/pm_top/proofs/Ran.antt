@@ -1,5 +1,5 @@
 -- What a run has done, in the words of its end.
-use Rattle.std.proofs.Common.{◌≡◌, ◌⊎◌, inl, inr, ⊎_elim, ℕ, ◌<◌, ◌≤◌, List, [], ◌∷◌, Option, Some, None, IsSome, length, refl, sym, ap, subst, ◌∙◌, arith}
+use Rattle.std.proofs.Common.{◌≡◌, ◌⊎◌, inl, inr, ⊎_elim, ℕ, ◌<◌, List, [], ◌∷◌, Option, Some, None, IsSome, length, refl, sym, ap, subst, ◌∙◌, arith}
 use Rattle.pm_types.specs.declared.entry.Entry.{Entry}
 use Rattle.pm_base.specs.Counts.{Rose, ShowsRise}
 use Rattle.pm_disk.specs.Made.{Made}
@@ -10,7 +10,7 @@ use Rattle.pm_model.specs.Closed.{IsClosed}
 use Rattle.pm_model.specs.Journal.{IsLegal, after}
 use Rattle.pm_model.specs.Text.{text}
 use Rattle.pm_model.proofs.ClosedLaws.{empty_closed}
-use Rattle.pm_grammar.specs.declared.line.Line.{Line}
+use Rattle.pm_script.specs.declared.line.Line.{Line}
 use Rattle.pm_view.specs.View.{SpaceView}
 use Rattle.pm_view.specs.Counts.{standing}
 use Rattle.pm_copies.specs.Listed.{copy_in}

@@ -1,16 +1,16 @@
 -- What a run answers of bytes, from what it answers of their lines; and runs that end before the store.
-use Rattle.std.proofs.Common.{◌≡◌, ◌⊎◌, inl, inr, ℕ, ◌<◌, ◌≤◌, List, [], Option, Some, None, refl, ap, subst, ◌∙◌, arith}
+use Rattle.std.proofs.Common.{◌≡◌, ◌⊎◌, inl, inr, ℕ, ◌<◌, List, [], Option, Some, None, refl, ap, subst, ◌∙◌, arith}
 use Rattle.std.specs.Prelude.{IfSome}
 use Rattle.pm_types.specs.declared.entry.Entry.{Entry}
 use Rattle.pm_disk.specs.Made.{Made}
 use Rattle.pm_model.specs.Journal.{requests_of, commands_of}
-use Rattle.pm_grammar.specs.declared.fault.ScriptFault.{ScriptFault}
-use Rattle.pm_grammar.specs.declared.fault.ScriptFault.TheVariants.{Line as BadLine, TooManyLines, TooLong, Memory as ScriptMemory}
-use Rattle.pm_grammar.specs.declared.line.Line.{Line}
-use Rattle.pm_grammar.specs.Bad.{IsBad}
-use Rattle.pm_grammar.specs.Script.{IsScript}
-use Rattle.pm_grammar.proofs.BadLaws.{no_fault, one_fault}
-use Rattle.pm_grammar.proofs.ScriptLaws.{one_reading}
+use Rattle.pm_script.specs.declared.fault.ScriptFault.{ScriptFault}
+use Rattle.pm_script.specs.declared.fault.ScriptFault.TheVariants.{Line as BadLine, TooManyLines, TooLong, Memory as ScriptMemory}
+use Rattle.pm_script.specs.declared.line.Line.{Line}
+use Rattle.pm_script.specs.Bad.{IsBad}
+use Rattle.pm_script.specs.Script.{IsScript}
+use Rattle.pm_script.proofs.BadLaws.{no_fault, one_fault}
+use Rattle.pm_script.proofs.ScriptLaws.{one_reading}
 use Rattle.pm_engine.specs.declared.tally.Tally.{Tally}
 use Rattle.pm_engine.specs.Shown.{tally_of}
 use Rattle.pm_serial.specs.Asked.{requests_asked}
@@ -106,10 +106,6 @@ unopened_read TooLong past = absurd (omega arith)
 unopened_read ScriptMemory past = absurd (omega arith)
 
 module _ {D S K : Type 0} (disk_count : D → ℕ) (made : D → Made) (source_count : S → ℕ) (sink_count : K → ℕ) where
-  -- what was not called did not fail
-  pub usage_causes : (disk : D) (source : S) (sink : K) → ShowsCauses disk_count made source_count sink_count disk disk source source sink sink Usage
-  usage_causes disk source sink = record { reading = refl; writing = refl; device = refl; rule = tt; reads = refl }
-
   pub read_causes : (disk : D) (source : S) (sink : K) (fault : ScriptFault) → ShowsCauses disk_count made source_count sink_count disk disk source source sink sink (not_read fault)
   read_causes disk source sink (BadLine number cause) = record { reading = refl; writing = refl; device = refl; rule = tt; reads = refl }
   read_causes disk source sink TooManyLines = record { reading = refl; writing = refl; device = refl; rule = tt; reads = refl }

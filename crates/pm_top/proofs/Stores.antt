@@ -1,11 +1,11 @@
 -- What a run does to disk and sink, from its parts.
-use Rattle.std.proofs.Common.{◌≡◌, ℕ, ◌<◌, ◌≤◌, List, [], Option, Some, None, IsSome, refl, sym, subst, arith}
+use Rattle.std.proofs.Common.{◌≡◌, ℕ, ◌<◌, List, [], Option, Some, None, IsSome, refl, sym, subst, arith}
 use Rattle.std.specs.Prelude.{IfSome}
 use Rattle.pm_types.specs.declared.entry.Entry.{Entry}
 use Rattle.pm_model.specs.Text.{text}
-use Rattle.pm_grammar.specs.declared.line.Line.{Line}
+use Rattle.pm_script.specs.declared.line.Line.{Line}
 use Rattle.pm_model.specs.World.{begin}
-use Rattle.pm_image.specs.Stands.{Stands}
+use Rattle.pm_image.specs.Stands.{StandsForCopy}
 use Rattle.pm_engine.specs.declared.tally.Tally.{Tally}
 use Rattle.pm_engine.specs.Shown.{tally_of}
 use Rattle.pm_serial.specs.Asked.{requests_asked}
@@ -50,7 +50,7 @@ module _ {D K : Type 0} (writes : Writes) (contents : D → Option (List ℕ)) (
 
   -- lines were run
   pub store_run : (disk end : D) (sink last : K) (detail : Detail) (journal : List Entry) (tally : Option Tally) (begun : IsBegun journal) → the_events < unreached detail → IsSome tally
-      → ((bytes : List ℕ) → contents disk ≡ Some bytes → Stands bytes begun.number begun.copy) → IfSome tally (λ it. ComesTo (begin begun.number begun.copy) journal (tally_of it))
+      → ((bytes : List ℕ) → contents disk ≡ Some bytes → StandsForCopy bytes begun.number begun.copy) → IfSome tally (λ it. ComesTo (begin begun.number begun.copy) journal (tally_of it))
       → LeavesDisk contents image moment since disk end detail journal
       → IfSome tally (λ it. Wrote writes written finished count sink last (text journal) (tail_of (tally_of it)) (stop_in detail))
       → RunsStore writes contents image moment since written finished count disk end sink last detail journal tally

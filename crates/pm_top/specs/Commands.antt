@@ -5,11 +5,11 @@ use Rattle.pm_disk.specs.Disk.{LeavesOnly}
 use Rattle.pm_disk.specs.Made.{Made}
 use Rattle.pm_model.specs.World.{begin}
 use Rattle.pm_model.specs.Text.{text}
-use Rattle.pm_image.specs.Stands.{Stands}
+use Rattle.pm_image.specs.Stands.{StandsForCopy}
 use Rattle.pm_engine.specs.declared.tally.Tally.{Tally}
 use Rattle.pm_engine.specs.Shown.{tally_of}
 use Rattle.pm_serial.specs.Writing.{tail_of}
-use Rattle.pm_survey.specs.Surveyed.{IsReport, IsSomeReport}
+use Rattle.pm_inspect.specs.Surveyed.{IsReport, IsSomeReport}
 use Rattle.pm_make.specs.Made.{made_text}
 use Rattle.pm_types.specs.declared.limits.TheConstants.{MOST_TURNS}
 use Rattle.pm_words.specs.declared.command.Command.{Command}
@@ -59,7 +59,7 @@ pub record RunsStore {D K : Type 0} (writes : Writes) (contents : D → Option (
   pub begun : IsBegun journal
   pub none : IfNone tally (journal ≡ [])
   -- where one was, it is the world of the copy for which the disk's bytes stand
-  pub stands : IsSome tally → (bytes : List ℕ) → contents disk ≡ Some bytes → Stands bytes begun.number begun.copy
+  pub stands : IsSome tally → (bytes : List ℕ) → contents disk ≡ Some bytes → StandsForCopy bytes begun.number begun.copy
   -- what the engine came to, from that world
   pub tallies : TalliesRun (begin begun.number begun.copy) detail journal tally
   -- what it does to the disk

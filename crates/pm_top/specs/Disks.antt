@@ -5,7 +5,7 @@ use Rattle.pm_types.specs.declared.fault.OpenFault.{OpenFault}
 use Rattle.pm_disk.specs.Disk.{LeavesOnly, SameImages}
 use Rattle.pm_model.specs.World.{World, Copy, begin, empty_copy}
 use Rattle.pm_model.specs.Journal.{IsLegal, after}
-use Rattle.pm_image.specs.Stands.{Stands, opened}
+use Rattle.pm_image.specs.Stands.{StandsForCopy, opened}
 use Rattle.pm_image.specs.Blank.{blank_store}
 use Rattle.pm_shadow.specs.Init.{KeepsBytes}
 use Rattle.pm_serving.specs.Images.{IsInProgress, IsOfChain, IsSettled}
@@ -40,15 +40,15 @@ IsRefusedFor bytes detail = Unit {0}
 -- How a run leaves the disk, from its start to its end, by what the disk told at the start.
 pub record LeavesDisk {D : Type 0} (contents : D → Option (List ℕ)) (image : D → List ℕ → Type 0) (moment : D → ℕ) (since : D → ℕ → List ℕ → Type 0) (start end : D) (detail : Detail) (journal : List Entry) : Type 0 where
   -- the journal is legal from the world of the copy that the bytes stand for
-  pub legal : (bytes : List ℕ) → contents start ≡ Some bytes → (number : ℕ) (copy : Copy) → Stands bytes number copy → IsLegal (begin number copy) journal
+  pub legal : (bytes : List ℕ) → contents start ≡ Some bytes → (number : ℕ) (copy : Copy) → StandsForCopy bytes number copy → IsLegal (begin number copy) journal
   -- each image since the start is one that a crash might have left then, or of the run
-  pub images : (bytes : List ℕ) → contents start ≡ Some bytes → (number : ℕ) (copy : Copy) → Stands bytes number copy
+  pub images : (bytes : List ℕ) → contents start ≡ Some bytes → (number : ℕ) (copy : Copy) → StandsForCopy bytes number copy
       → LeavesOnly moment since start end (λ left. image start left ⊎ IsOfRun detail (begin number copy) journal left)
   -- each image at the end is the last one
-  pub last : (bytes : List ℕ) → contents start ≡ Some bytes → (number : ℕ) (copy : Copy) → Stands bytes number copy → IsPast the_store detail journal
+  pub last : (bytes : List ℕ) → contents start ≡ Some bytes → (number : ℕ) (copy : Copy) → StandsForCopy bytes number copy → IsPast the_store detail journal
       → (left : List ℕ) → image end left → IsLastOf detail (after (begin number copy) journal) left
   -- only bytes that stand for a copy are opened
-  pub opened : (bytes : List ℕ) → contents start ≡ Some bytes → IsPast the_store detail journal → (number : ℕ) × (copy : Copy) × Stands bytes number copy
+  pub opened : (bytes : List ℕ) → contents start ≡ Some bytes → IsPast the_store detail journal → (number : ℕ) × (copy : Copy) × StandsForCopy bytes number copy
   -- bytes are refused for no rule but the first that they break, and where they break one they are not opened
   pub refused : (bytes : List ℕ) → contents start ≡ Some bytes → IsRefusedFor bytes detail
   pub shut : (bytes : List ℕ) → contents start ≡ Some bytes → (fault : OpenFault) → Breaks bytes fault → IsPast the_store detail journal → ⊥
@@ -61,7 +61,7 @@ pub record LeavesDisk {D : Type 0} (contents : D → Option (List ℕ)) (image :
 abbrev pub LeavesMade : {D : Type 0} → (D → Option (List ℕ)) → (D → List ℕ → Type 0) → D → D → Detail → Type 0
 -- a store was made on a disk that was empty, and each image stands for copy 0, of nothing
 LeavesMade contents image start end Fine =
-    (bytes : List ℕ) → contents start ≡ Some bytes → (length bytes ≡ 0) × (contents end ≡ Some blank_store) × ((left : List ℕ) → image end left → Stands left 0 empty_copy)
+    (bytes : List ℕ) → contents start ≡ Some bytes → (length bytes ≡ 0) × (contents end ≡ Some blank_store) × ((left : List ℕ) → image end left → StandsForCopy left 0 empty_copy)
 -- the disk holds so many bytes, and all is as it was
 LeavesMade contents image start end (NotEmpty n) =
     (0 < n) × ((bytes : List ℕ) → contents start ≡ Some bytes → n ≡ length bytes) × (contents end ≡ contents start) × SameImages (image start) (image end)

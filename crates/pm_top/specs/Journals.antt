@@ -6,10 +6,10 @@ use Rattle.pm_model.specs.declared.request.Request.{Request}
 use Rattle.pm_model.specs.World.{Copy, begin}
 use Rattle.pm_model.specs.Closed.{IsClosed}
 use Rattle.pm_model.specs.Journal.{IsLegal, requests_of, Serves}
-use Rattle.pm_grammar.specs.declared.fault.ScriptFault.{ScriptFault}
-use Rattle.pm_grammar.specs.declared.line.Line.{Line}
-use Rattle.pm_grammar.specs.Bad.{IsBad}
-use Rattle.pm_grammar.specs.Script.{IsScript}
+use Rattle.pm_script.specs.declared.fault.ScriptFault.{ScriptFault}
+use Rattle.pm_script.specs.declared.line.Line.{Line}
+use Rattle.pm_script.specs.Bad.{IsBad}
+use Rattle.pm_script.specs.Script.{IsScript}
 use Rattle.pm_engine.specs.declared.tally.Tally.{Tally}
 use Rattle.pm_engine.specs.Shown.{Total, tally_of}
 use Rattle.pm_serial.specs.Asked.{events_asked, flushes_asked, requests_asked, steps_asked}

@@ -2,9 +2,9 @@
 use Rattle.std.specs.Prelude.{◌≡◌, ℕ, List, [], Option, Some}
 use Rattle.pm_base.specs.Counts.{Rose}
 use Rattle.pm_model.specs.World.{Copy}
-use Rattle.pm_image.specs.Stands.{Stands}
-use Rattle.pm_grammar.specs.declared.line.Line.{Line}
-use Rattle.pm_grammar.specs.Script.{IsScript}
+use Rattle.pm_image.specs.Stands.{StandsForCopy}
+use Rattle.pm_script.specs.declared.line.Line.{Line}
+use Rattle.pm_script.specs.Script.{IsScript}
 use Rattle.pm_words.specs.declared.command.Command.{Command}
 use Rattle.pm_words.specs.declared.command.Command.TheVariants.{Init, Run, Inspect, Make, Trial}
 
@@ -21,7 +21,7 @@ pub record HoldsStore (told : Option (List ℕ)) : Type 0 where
   pub is_told : told ≡ Some bytes
   pub number : ℕ
   pub copy : Copy
-  pub stands : Stands bytes number copy
+  pub stands : StandsForCopy bytes number copy
 
 -- what a command needs of what disk and source tell
 abbrev pub HasNeeds : Command → Option (List ℕ) → Option (List ℕ) → Type 0

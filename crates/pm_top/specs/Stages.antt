@@ -1,5 +1,5 @@
 -- The stages that a run passes, in their order, and what each end says of them.
-use Rattle.std.specs.Prelude.{◌≡◌, ℕ, ◌≤◌, List, [], ◌∷◌}
+use Rattle.std.specs.Prelude.{ℕ, ◌≤◌, List, [], ◌∷◌}
 use Rattle.pm_types.specs.declared.entry.Entry.{Entry}
 use Rattle.pm_top.specs.declared.ended.Detail.{Detail}
 use Rattle.pm_top.specs.declared.ended.Detail.TheVariants.{Fine, Usage, Script, Reading, Writing, Device, NotEmpty, Refused, Memory}

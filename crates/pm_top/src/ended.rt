@@ -4,8 +4,8 @@ ghost use Rattle.pm_top.specs.Ends.{status_of, ended_by, not_opened};
 
 use pm_disk::Disk;
 use pm_engine::Tally;
-use pm_grammar::ScriptFault;
 use pm_io::{Sink, Source};
+use pm_script::ScriptFault;
 use pm_serial::Stop;
 use pm_types::{Entry, OpenFault};
 use std::alloc::Global;

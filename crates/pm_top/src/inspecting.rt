@@ -7,8 +7,8 @@ use crate::ended::{end_unopened, not_opened};
 use crate::texting::write_text;
 use crate::{Detail, Ended};
 use pm_disk::Disk;
+use pm_inspect::survey::survey;
 use pm_io::{Sink, Source};
-use pm_survey::survey;
 use std::alloc::Global;
 
 /// Writes the report of the store on the disk.

@@ -1,7 +1,7 @@
 //! Scripts that are made from a seed: one is written, and one is run on a store.
 ghost use Rattle.std.specs.Prelude.{◌≡◌, ◌≤◌, IfOk};
 ghost use Rattle.pm_place.specs.Choosers.{IsChooser};
-ghost use Rattle.pm_grammar.specs.Script.{IsScript};
+ghost use Rattle.pm_script.specs.Script.{IsScript};
 ghost use Rattle.pm_make.specs.Made.{made_lines, made_text};
 ghost use Rattle.pm_top.specs.Ends.{status_of};
 ghost use Rattle.pm_top.specs.Commands.{ShowsCauses, MakesScript, TriesScript};

@@ -1,6 +1,6 @@
 //! A run: the store is opened, and the lines are run over its copy.
 ghost use Rattle.std.specs.Prelude.{◌≡◌};
-ghost use Rattle.pm_grammar.specs.Script.{AreLines};
+ghost use Rattle.pm_script.specs.Script.{AreLines};
 ghost use Rattle.pm_place.specs.Choosers.{IsChooser};
 ghost use Rattle.pm_engine.specs.Shown.{chooser, disk_in, serving};
 ghost use Rattle.pm_serial.specs.Running.{IsFresh};
@@ -14,9 +14,9 @@ use crate::ended::{end_unopened, end_with, ended_by, not_opened};
 use crate::writes::{Writes, write_lines};
 use pm_disk::Disk;
 use pm_engine::Engine;
-use pm_grammar::Line;
 use pm_io::{Sink, Source};
 use pm_place::Placement;
+use pm_script::Line;
 use std::alloc::Global;
 
 // Runs the lines over an engine that was just opened, on a disk with this count of failed calls.

@@ -1,11 +1,11 @@
 //! A run: the bytes are read as a script, and the script is run.
-ghost use Rattle.std.specs.Prelude.{◌≡◌, ◌<◌, ◌≤◌, ◌⊎◌, List, ℕ, length, IfOk, IfErr, Ok, Err};
-ghost use Rattle.pm_grammar.specs.declared.fault.ScriptFault.{ScriptFault as Fault};
-ghost use Rattle.pm_grammar.specs.declared.fault.ScriptFault.TheVariants as script_fault;
-ghost use Rattle.pm_grammar.specs.declared.line.Line.{Line as Says};
-ghost use Rattle.pm_grammar.specs.Bad.{IsBad};
-ghost use Rattle.pm_grammar.specs.Reading.{Answers};
-ghost use Rattle.pm_grammar.specs.Script.{IsScript};
+ghost use Rattle.std.specs.Prelude.{◌≡◌, ◌<◌, ◌≤◌, ◌⊎◌, List, length, IfOk, IfErr, Ok, Err};
+ghost use Rattle.pm_script.specs.declared.fault.ScriptFault.{ScriptFault as Fault};
+ghost use Rattle.pm_script.specs.declared.fault.ScriptFault.TheVariants as script_fault;
+ghost use Rattle.pm_script.specs.declared.line.Line.{Line as Says};
+ghost use Rattle.pm_script.specs.Bad.{IsBad};
+ghost use Rattle.pm_script.specs.Reading.{Answers};
+ghost use Rattle.pm_script.specs.Script.{IsScript};
 ghost use Rattle.pm_place.specs.Choosers.{IsChooser};
 ghost use Rattle.pm_top.specs.Ends.{status_of, not_read};
 ghost use Rattle.pm_top.specs.Stages.{IsPast, unreached, the_words, the_script};
@@ -17,9 +17,9 @@ use crate::opening::open_and_run;
 use crate::writes::Writes;
 use crate::{Detail, Ended};
 use pm_disk::Disk;
-use pm_grammar::{Script, ScriptFault, read_script};
 use pm_io::{ReadAll, Sink, Source, read_all};
 use pm_place::Placement;
+use pm_script::{Script, ScriptFault, read_script};
 use pm_types::SOURCE_BYTES;
 use std::alloc::Global;
 

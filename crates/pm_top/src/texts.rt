@@ -1,11 +1,11 @@
 //! What the program writes on standard error.
 ghost use Rattle.std.specs.Prelude.{◌≡◌, ◌≤◌, ◌++◌, length, IfOk, codes, decimal};
-ghost use Rattle.pm_grammar.specs.declared.fault.ScriptFault.TheVariants as script_fault;
+ghost use Rattle.pm_script.specs.declared.fault.ScriptFault.TheVariants as script_fault;
 ghost use Rattle.pm_top.specs.Ends.{cause_word, detail_line, refusal_line, script_line};
 
 use crate::Detail;
-use pm_grammar::{Cause, ScriptFault};
-use pm_line::{Line, append, append_digest, append_number, line_with};
+use pm_output::line::{Line, append, append_digest, append_number, line_with};
+use pm_script::{Cause, ScriptFault};
 use pm_types::{NoMemory, OpenFault};
 use std::alloc::Global;
 

@@ -1,7 +1,6 @@
 //! What a run of lines writes.
-ghost use Rattle.std.specs.Prelude.{◌≡◌};
 ghost use Rattle.pm_model.specs.Text.{text};
-ghost use Rattle.pm_grammar.specs.Script.{AreLines};
+ghost use Rattle.pm_script.specs.Script.{AreLines};
 ghost use Rattle.pm_place.specs.Choosers.{IsChooser};
 ghost use Rattle.pm_engine.specs.Shown.{KeepsStart, chooser, serving, tally_in};
 ghost use Rattle.pm_serial.specs.Causes.{CountsSink, why};
@@ -11,8 +10,8 @@ ghost use Rattle.pm_top.specs.Wrote.{Wrote};
 
 use pm_disk::Disk;
 use pm_engine::Engine;
-use pm_grammar::Line;
 use pm_io::Sink;
+use pm_script::Line;
 use pm_serial::{Stop, run_lines};
 use pm_trial::run_trial;
 use std::alloc::Global;

@@ -25,7 +25,7 @@ places car ts = count_by (λ c. c == car) (all_cars ts)
 
 -- Some train stands; numbers are over 0 and rise; every train but the youngest has a car; a car stands
 -- at one place of one train at most; and at most 1,024 objects were born in the open train.
-pub record IsSound (t : Trains) : Type 0 where
+pub record AreSoundTrains (t : Trains) : Type 0 where
   pub standing : 0 < length t.trains
   pub rising : Rise 0 t.trains
   pub filled : Filled t.trains

@@ -60,7 +60,8 @@ impl Line {
     /// Puts the car at the end of the train, and notes the train as its home.
     pub fn append(&mut self, homes: &mut BTreeMap<u64, u64>, car: u64) -> Result<(), NoMemory>
         ensures train { OnOk result (self.new ≡ record self.old { cars = self.old.cars ++ car ∷ [] }) }
-        ensures home { OnOk result (Notes (tree.get nat_cmp homes.old) (tree.get nat_cmp homes.new) car self.old.number) }
+        ensures home { OnOk result (Notes (tree.get nat_cmp homes.old)
+            (tree.get nat_cmp homes.new) car self.old.number) }
         ensures err_train { OnErr result (self.new ≡ self.old) }
         ensures err_homes { OnErr result ((c : ℕ) → tree.get nat_cmp homes.new c ≡ tree.get nat_cmp homes.old c) }
     {

@@ -1,6 +1,6 @@
 ghost use Rattle.std.specs.Prelude.{◌≡◌, ◌+◌, ◌<◌, ◌≤◌, ◌^◌, length, map, slice_index, Some, None, IsSome, IfSome, IfOk, OnOk, OnErr};
-ghost use Rattle.pm_trains.specs.Trains.{Train, first_trains, cars_at, HasCar, train_of, oldest, youngest, first_car, tail, appended, without_first, rotated};
-ghost use Rattle.pm_trains.specs.Sound.{IsSound};
+ghost use Rattle.pm_trains.specs.Trains.{first_trains, cars_at, HasCar, train_of, oldest, youngest, first_car, tail, appended, without_first, rotated};
+ghost use Rattle.pm_trains.specs.Sound.{AreSoundTrains};
 ghost use Rattle.pm_trains.specs.Changes.{StandsIn, opened};
 
 use crate::line::Line;
@@ -34,7 +34,7 @@ impl Model for Trains {
     ghost use Rattle.std.specs.Ordering.{nat_cmp};
     ghost use Rattle.std.specs.BTreeMap as tree;
     ghost use Rattle.pm_trains.specs.Trains.{Trains as Shown, trains_code, train_of};
-    ghost use Rattle.pm_trains.specs.Sound.{IsSound};
+    ghost use Rattle.pm_trains.specs.Sound.{AreSoundTrains};
 
     ghost Value = { Shown };
 
@@ -43,7 +43,7 @@ impl Model for Trains {
     ghost view = { λ it. record { trains = it.trains.items; births = it.births } };
 
     ghost invariant = { λ it. record {
-      sound : IsSound (record { trains = it.trains.items; births = it.births });
+      sound : AreSoundTrains (record { trains = it.trains.items; births = it.births });
       housed : (car : ℕ) → tree.get nat_cmp it.homes car ≡ train_of it.trains.items car;
     } };
 }
@@ -52,7 +52,7 @@ impl Trains {
     /// The trains of a store in which no object was made: train 1 is open and has no car.
     pub fn new(alloc: Global) -> Result<Trains, NoMemory>
         ensures trains { IfOk result (λ trains. trains ≡ first_trains) }
-        ensures sound { IfOk result (λ trains. IsSound trains) }
+        ensures sound { IfOk result (λ trains. AreSoundTrains trains) }
     {
         let mut trains = VecDeque::new(alloc);
         trains.push_back(Line::new(alloc, 1))?;
@@ -65,7 +65,7 @@ impl Trains {
 
     /// What holds of the trains at every moment. It does nothing, and takes no memory.
     pub fn sound(&self)
-        ensures { IsSound self.now }
+        ensures { AreSoundTrains self.now }
     {
         let _births = self.births;
     }
@@ -163,7 +163,7 @@ impl Trains {
     pub fn born(&mut self)
         requires { self.old.births < BIRTHS }
         ensures after { self.new ≡ record self.old { births = self.old.births + 1 } }
-        ensures sound { IsSound self.new }
+        ensures sound { AreSoundTrains self.new }
     {
         self.births += 1;
     }
@@ -176,7 +176,7 @@ impl Trains {
         ensures number { IfOk result (λ number. number ≡ youngest self.old.trains + 1) }
         ensures ok { OnOk result (self.new ≡ record { trains = rotated self.old.trains; births = 0 }) }
         ensures err { OnErr result (self.new ≡ self.old) }
-        ensures sound { IsSound self.new }
+        ensures sound { AreSoundTrains self.new }
     {
         let number = self.youngest() + 1;
         self.trains.push_back(Line::new(alloc, number))?;
@@ -191,7 +191,7 @@ impl Trains {
         requires car { train_of self.old.trains car ≡ None }
         ensures ok { OnOk result (self.new ≡ record self.old { trains = appended train car self.old.trains }) }
         ensures err { OnErr result (self.new ≡ self.old) }
-        ensures sound { IsSound self.new }
+        ensures sound { AreSoundTrains self.new }
     {
         let Some(place) = place_of(&self.trains, train) else {
             unreachable!()
@@ -209,7 +209,7 @@ impl Trains {
         ensures number { IfOk result (λ number. number ≡ youngest self.old.trains + 1) }
         ensures ok { OnOk result (self.new ≡ opened self.old car) }
         ensures err { OnErr result (self.new ≡ self.old) }
-        ensures sound { IsSound self.new }
+        ensures sound { AreSoundTrains self.new }
     {
         let number = self.youngest() + 1;
         self.trains.reserve(1)?;
@@ -225,7 +225,7 @@ impl Trains {
     pub fn remove_first(&mut self, train: u64)
         requires { HasCar self.old.trains train }
         ensures after { self.new ≡ record self.old { trains = without_first train self.old.trains } }
-        ensures sound { IsSound self.new }
+        ensures sound { AreSoundTrains self.new }
     {
         let Some(place) = place_of(&self.trains, train) else {
             unreachable!()

@@ -3,7 +3,7 @@
 ghost use Rattle.std.specs.Prelude.{◌≡◌};
 ghost use Rattle.pm_trial.specs.Trials.{shown_digest};
 
-use pm_line::{Line, append, append_digest, line_with};
+use pm_output::line::{Line, append, append_digest, line_with};
 
 /// The line of a digest: 7 bytes of words, 64 digits and a newline.
 pub(crate) fn digest_line(digest: &[u8; 32]) -> Line

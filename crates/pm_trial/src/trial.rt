@@ -4,7 +4,7 @@ ghost use Rattle.std.specs.Prelude.{◌≡◌, ◌++◌, [], ℕ, List, Some, le
 ghost use Rattle.pm_base.specs.Counts.{Rose};
 ghost use Rattle.pm_place.specs.Choosers.{IsChooser};
 ghost use Rattle.pm_model.specs.Text.{text};
-ghost use Rattle.pm_grammar.specs.Script.{AreLines};
+ghost use Rattle.pm_script.specs.Script.{AreLines};
 ghost use Rattle.pm_output.specs.Gathered.{gathered};
 ghost use Rattle.pm_output.specs.Writing.{PutsAll, PutsPart};
 ghost use Rattle.pm_engine.specs.Shown.{KeepsStart, chooser, serving, tally_in};
@@ -17,9 +17,9 @@ use crate::digest_sink::DigestSink;
 use crate::line::digest_line;
 use pm_disk::Disk;
 use pm_engine::Engine;
-use pm_grammar::Line;
 use pm_io::{Failed, Sink};
 use pm_output::Output;
+use pm_script::Line;
 use pm_serial::{Stop, answer_lines, finish_with_last_lines};
 use std::alloc::Global;
 

@@ -7,7 +7,6 @@ use Rattle.std.specs.Cmp.{IsTotalOrder, nat_cmp_total, then_total, on_total}
 use Rattle.std.specs.Cmp.Lexicographic.{nat_list_cmp_total}
 use Rattle.std.specs.FinMap.{IsAntisymmetric, nat_cmp-IsAntisymmetric, slice_cmp-IsAntisymmetric}
 use Rattle.std.proofs.lemmas.Map.Lookups.{exact_pairs}
-use Rattle.pm_types.specs.declared.address.Addr.{Addr}
 use Rattle.pm_types.specs.declared.source.RefSource.{RefSource}
 use Rattle.pm_types.specs.declared.source.RefSource.TheVariants.{Root, Handle, Field}
 use Rattle.pm_types.specs.contracts.source.RefSourceOrd.TheImpl.{ghosts}
@@ -25,9 +24,6 @@ places_total = then_total (on_total (λ (p : ℕ × ℕ). p.0) nat_cmp_total) (o
 
 pub places_antisymmetric : IsAntisymmetric place_cmp
 places_antisymmetric = exact_pairs nat_cmp nat_cmp nat_cmp-IsAntisymmetric nat_cmp-IsAntisymmetric
-
-pub addresses_total : IsTotalOrder address_cmp
-addresses_total = then_total (on_total (λ (a : Addr). a.car) nat_cmp_total) (on_total (λ (a : Addr). a.slot) nat_cmp_total)
 
 -- two comparisons one after the other tie only where both do
 both_tie : (one two : Ordering) → ordering_then one two ≡ Equal → (one ≡ Equal) × (two ≡ Equal)

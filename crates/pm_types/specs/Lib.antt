@@ -3,3 +3,4 @@ pub mod NameFaults
 pub mod Orders
 pub mod Fields
 pub mod Replies
+pub mod Registers

@@ -1,4 +1,5 @@
 ghost use Rattle.std.specs.Prelude.{◌≡◌, IfOk};
+ghost use Rattle.pm_types.specs.Registers.{HasRegisters};
 
 use crate::{Bytes, Name, NoMemory, Reg};
 use std::alloc::Global;
@@ -86,6 +87,46 @@ pub enum Cmd {
 }
 
 impl Cmd {
+    /// A law: each register of a command is one that a client has. The function changes nothing.
+    pub fn sound(&self)
+        ensures { HasRegisters self.now }
+    {
+        match self {
+            Cmd::New { reg, .. } => reg.sound(),
+            Cmd::Load { to, reg, .. } => {
+                to.sound();
+                reg.sound();
+            }
+            Cmd::Store { reg, value, .. } => {
+                reg.sound();
+                value.sound();
+            }
+            Cmd::Clear { reg, .. } => reg.sound(),
+            Cmd::Show { reg } => reg.sound(),
+            Cmd::Put { reg, .. } => reg.sound(),
+            Cmd::Copy { to, reg } => {
+                to.sound();
+                reg.sound();
+            }
+            Cmd::IdOf { reg } => reg.sound(),
+            Cmd::Forget { reg } => reg.sound(),
+            Cmd::Bind { reg, .. } => reg.sound(),
+            Cmd::Find { to, .. } => to.sound(),
+            Cmd::Swap {
+                reg,
+                old,
+                value,
+                ..
+            } => {
+                reg.sound();
+                old.sound();
+                value.sound();
+            }
+            Cmd::Unbind { .. } | Cmd::Close | Cmd::Save | Cmd::Settle | Cmd::Unsave | Cmd::Watch =>
+                {}
+        }
+    }
+
     /// The same command again.
     pub fn copy(&self, alloc: Global) -> Result<Cmd, NoMemory>
         ensures { IfOk result (λ copied. copied ≡ self.now) }

@@ -6,7 +6,7 @@ ghost use Rattle.std.specs.declared.cmp.Ordering.TheVariants.{Equal};
 ghost use Rattle.std.specs.Cmp.{IsTotalOrder};
 ghost use Rattle.pm_types.specs.declared.address.Addr.{Addr};
 ghost use Rattle.pm_types.specs.declared.source.RefSource.{RefSource};
-ghost use Rattle.pm_types.specs.declared.limits.TheConstants.{CLIENTS, REGISTERS, FIELDS, OLD_FIELDS, OBJECT_BYTES, LAST_ID, NAME_BYTES, ROOTS, WATCHES, LAST_COPY, PAGE_BYTES, SOURCE_BYTES, SCRIPT_LINES, VERSION, OLD_VERSION, LAST_SLOT, CAR_BYTES, CAR_HEAD_BYTES, CAR_ROOM, OBJECT_HEAD_BYTES, FIELD_BYTES, MOVED_BYTES, MOST_TURNS};
+ghost use Rattle.pm_types.specs.declared.limits.TheConstants.{CLIENTS, REGISTERS, FIELDS, OLD_FIELDS, OBJECT_BYTES, LAST_ID, END_ID, NAME_BYTES, ROOTS, WATCHES, LAST_COPY, PAGE_BYTES, SOURCE_BYTES, SCRIPT_LINES, VERSION, OLD_VERSION, LAST_SLOT, CAR_BYTES, CAR_HEAD_BYTES, CAR_ROOM, OBJECT_HEAD_BYTES, FIELD_BYTES, MOVED_BYTES, MOST_TURNS};
 ghost use Rattle.pm_types.specs.Orders.{name_cmp, place_cmp, address_cmp, source_cmp};
 ghost use Rattle.pm_types.specs.contracts.address.AddrOrd.TheImpl as address;
 ghost use Rattle.pm_types.specs.contracts.source.RefSourceOrd.TheImpl as source;
@@ -18,6 +18,7 @@ pub fn limits_of_clients()
     ensures fields { FIELDS ≡ 255 }
     ensures object_bytes { OBJECT_BYTES ≡ 4096 }
     ensures last_id { LAST_ID ≡ 4294967295 }
+    ensures end_id { END_ID ≡ 4294967296 }
     ensures roots { ROOTS ≡ 4096 }
     ensures name_bytes { NAME_BYTES ≡ 64 }
     ensures watches { WATCHES ≡ 64 }

@@ -22,6 +22,9 @@ pub const OBJECT_BYTES: usize = 4096;
 /// The last identity: once it was given, no further object can be made.
 pub const LAST_ID: u32 = 4_294_967_295;
 
+/// One past the last identity: the greatest value that the next identity has, once the last one was given.
+pub const END_ID: u64 = LAST_ID as u64 + 1;
+
 /// The most names that are bound at one time.
 pub const ROOTS: usize = 4096;
 

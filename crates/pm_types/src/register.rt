@@ -35,6 +35,13 @@ impl Reg {
         }
     }
 
+    /// A law: a register is one that a client has. The function does nothing.
+    pub fn sound(&self)
+        ensures { self.now < REGISTERS }
+    {
+        let _number = self.number;
+    }
+
     /// The register's number.
     pub fn number(&self) -> u32
         ensures number { result ≡ self.now }

@@ -1,4 +1,5 @@
-ghost use Rattle.std.specs.Prelude.{◌≡◌, IfOk};
+ghost use Rattle.std.specs.Prelude.{◌≡◌, IfOk, OnErr, true};
+ghost use Rattle.pm_types.specs.Replies.{is_shown};
 
 use crate::{Bytes, Id, NoMemory};
 use std::alloc::Global;
@@ -50,9 +51,10 @@ pub enum Reply {
 }
 
 impl Reply {
-    /// The same reply again.
+    /// The same reply again. It takes memory for bytes that are shown alone.
     pub fn copy(&self, alloc: Global) -> Result<Reply, NoMemory>
-        ensures { IfOk result (λ copied. copied ≡ self.now) }
+        ensures same { IfOk result (λ copied. copied ≡ self.now) }
+        ensures shown { OnErr result (is_shown self.now ≡ true) }
     {
         Ok(match self {
             Reply::Done => Reply::Done,

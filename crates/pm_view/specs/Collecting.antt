@@ -1,26 +1,22 @@
 -- The collector: which event comes next, and the whole space after it. What a row does not name stays.
-use Rattle.std.specs.Prelude.{ℕ, ◌+◌, Bool, true, false, cond, ◌==◌, if◌then◌else◌, List, [], ◌∷◌, ◌++◌, length, Option, Some, None, map, option_map, option_and_then}
+use Rattle.std.specs.Prelude.{ℕ, ◌+◌, ◌==◌, if◌then◌else◌, List, [], ◌∷◌, ◌++◌, length, Option, Some, None, map, option_map}
 use Rattle.std.specs.Option.{unwrap_or}
-use Rattle.std.specs.List.{find}
-use Rattle.std.specs.FinMap.{get, insert, remove, entries, empty}
+use Rattle.std.specs.FinMap.{get, insert, remove, empty}
 use Rattle.pm_types.specs.declared.address.Addr.{Addr}
 use Rattle.pm_types.specs.declared.object.Object.{Object}
-use Rattle.pm_types.specs.declared.object.Slot.{Slot}
-use Rattle.pm_types.specs.declared.object.Slot.TheVariants.{Live, Moved}
+use Rattle.pm_types.specs.declared.object.Slot.TheVariants.{Moved}
 use Rattle.pm_types.specs.declared.source.RefSource.{RefSource}
 use Rattle.pm_types.specs.declared.source.RefSource.TheVariants.{Field}
 use Rattle.pm_types.specs.declared.source.Change.{Change}
-use Rattle.pm_cars.specs.Cars.{Car, object_room, without_slot}
-use Rattle.pm_cars.specs.Entries.{holds_object}
-use Rattle.pm_trains.specs.Trains.{Train, train_of, first_car, oldest, youngest, rotated, without_first}
-use Rattle.pm_view.specs.declared.phase.Phase.{Phase}
+use Rattle.pm_cars.specs.Cars.{object_room, without_slot}
+use Rattle.pm_trains.specs.Trains.{youngest, rotated, without_first}
 use Rattle.pm_view.specs.declared.phase.Phase.TheVariants as phases
-use Rattle.pm_view.specs.View.{Cars, Sets, Queues, SpaceView}
-use Rattle.pm_view.specs.Reading.{slot_at, object_at, cars_of, is_aside, followed, resolve}
+use Rattle.pm_view.specs.View.{Cars, Sets, SpaceView}
+use Rattle.pm_view.specs.Reading.{object_at, cars_of, is_aside, resolve}
 use Rattle.pm_view.specs.Effective.{with_source}
 use Rattle.pm_view.specs.Barrier.{left, entered, told}
 use Rattle.pm_view.specs.Rows.{put_car, with_slot_at, with_object, with_stored, tail_for, put_in, place_in}
-use Rattle.pm_view.specs.Candidates.{set_of, queue_of, least_outside, referenced_car}
+use Rattle.pm_view.specs.Candidates.{set_of, queue_of}
 
 -- ---- phases
 

@@ -1,5 +1,5 @@
 -- What a client's command answers on a space, and the space after it. Whatever is stored is followed first.
-use Rattle.std.specs.Prelude.{ℕ, ◌+◌, ◌<◌, Bool, true, false, ◌||◌, nat_lt, nat_le, nat_eq, if◌then◌else◌, List, length, replicate, zero, suc, Option, Some, None, is_some}
+use Rattle.std.specs.Prelude.{ℕ, ◌+◌, Bool, true, false, ◌||◌, nat_lt, nat_le, nat_eq, if◌then◌else◌, List, length, replicate, zero, suc, Option, Some, None, is_some}
 use Rattle.std.specs.List.{slice_get}
 use Rattle.std.specs.FinMap.{get, len}
 use Rattle.pm_types.specs.declared.limits.TheConstants.{FIELDS, OBJECT_BYTES, LAST_ID, ROOTS, REGISTERS}
@@ -167,21 +167,10 @@ abbrev pub is_new : Cmd → Bool
 is_new (New reg count bytes) = true
 is_new cmd = false
 
--- each register of the command is one that a client has
-abbrev pub HasRegisters : Cmd → Type 0
-HasRegisters (New reg count bytes) = reg < REGISTERS
-HasRegisters (Load to reg index) = (to < REGISTERS) × (reg < REGISTERS)
-HasRegisters (Store reg index value) = (reg < REGISTERS) × (value < REGISTERS)
-HasRegisters (Clear reg index) = reg < REGISTERS
-HasRegisters (Show reg) = reg < REGISTERS
-HasRegisters (Put reg at bytes) = reg < REGISTERS
-HasRegisters (Copy to reg) = (to < REGISTERS) × (reg < REGISTERS)
-HasRegisters (IdOf reg) = reg < REGISTERS
-HasRegisters (Forget reg) = reg < REGISTERS
-HasRegisters (Bind name reg) = reg < REGISTERS
-HasRegisters (Find to name) = to < REGISTERS
-HasRegisters (Swap reg index old value) = (reg < REGISTERS) × (old < REGISTERS) × (value < REGISTERS)
-HasRegisters cmd = Unit {0}
+-- the command empties all registers of its client
+abbrev pub is_close : Cmd → Bool
+is_close Close = true
+is_close cmd = false
 
 -- what is picked for a command: the number of a root that no name has, and the least number from 1 on that no car has
 pub record Picks : Type 0 where

@@ -1,5 +1,5 @@
 -- Which event of the collector comes next, and the whole space after it.
-use Rattle.std.specs.Prelude.{◌≡◌, ℕ, Bool, true, false, ◌==◌, cond, if◌then◌else◌, List, [], ◌∷◌, length, Option, Some, None, IsTrue, option_map, option_and_then}
+use Rattle.std.specs.Prelude.{◌≡◌, ℕ, Bool, true, false, ◌==◌, cond, List, [], ◌∷◌, Option, Some, None, IsTrue, option_map, option_and_then}
 use Rattle.std.specs.Option.{unwrap_or}
 use Rattle.std.specs.List.{find}
 use Rattle.std.specs.FinMap.{get, entries}

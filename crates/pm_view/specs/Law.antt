@@ -1,13 +1,12 @@
 -- The heap law: what holds of a space after every event.
 use Rattle.std.specs.Prelude.{◌≡◌, ℕ, ◌<◌, ◌≤◌, ◌≢◌, false, ◌==◌, List, length, Option, Some, None, IsSome, IsSomeAnd, is_some}
 use Rattle.std.specs.FinMap.{get, len}
-use Rattle.pm_types.specs.declared.limits.TheConstants.{CLIENTS, REGISTERS, FIELDS, OBJECT_BYTES, ROOTS}
+use Rattle.pm_types.specs.declared.limits.TheConstants.{CLIENTS, REGISTERS, FIELDS, OBJECT_BYTES, ROOTS, END_ID}
 use Rattle.pm_types.specs.declared.address.Addr.{Addr}
 use Rattle.pm_types.specs.declared.object.Object.{Object}
-use Rattle.pm_cars.specs.Cars.{Car, live_count, moved_count}
-use Rattle.pm_cars.specs.Cars as car_sound
+use Rattle.pm_trains.specs.Sound.{AreSoundTrains}
+use Rattle.pm_cars.specs.Cars.{Car, live_count, moved_count, IsSoundCar}
 use Rattle.pm_trains.specs.Trains.{Train, cars_at, train_of, first_car, oldest, youngest}
-use Rattle.pm_trains.specs.Sound as line
 use Rattle.pm_roots.specs.Bindings.{AllNumbersDiffer}
 use Rattle.pm_view.specs.declared.phase.Phase.{Phase}
 use Rattle.pm_view.specs.declared.phase.Phase.TheVariants.{Idle, Draining, Moving, Sweeping, Doomed}
@@ -22,7 +21,7 @@ use Rattle.std.specs.List.{sum_by}
 pub record IsCar (view : SpaceView) (number : ℕ) (car : Car) : Type 0 where
   pub numbered : car.number ≡ number
   pub from_one : 0 < number
-  pub sound : car_sound.IsSound car
+  pub sound : IsSoundCar car
   pub live : is_from view number ≡ false → is_aside view number ≡ false → 0 < live_count car
   pub moved : is_from view number ≡ false → moved_count car ≡ 0
 
@@ -35,14 +34,14 @@ pub record IsObject (view : SpaceView) (object : Object) : Type 0 where
 
 -- cars, trains and objects: each car is in one train and has its remembered set and its queue, and identities differ
 pub record IsBuilt (view : SpaceView) : Type 0 where
-  pub trains : line.IsSound view.trains
+  pub trains : AreSoundTrains view.trains
   pub linked : (car : ℕ) → is_some (train_of view.trains.trains car) ≡ is_some (get view.cars car)
   pub sets : (car : ℕ) → is_some (get view.sets car) ≡ is_some (get view.cars car)
   pub queues : (car : ℕ) → is_some (get view.queues car) ≡ is_some (get view.cars car)
   pub cars : (number : ℕ) (car : Car) → get view.cars number ≡ Some car → IsCar view number car
   pub objects : (a : Addr) (object : Object) → object_at view.cars a ≡ Some object → IsObject view object
   pub apart : (a b : Addr) (o p : Object) → object_at view.cars a ≡ Some o → object_at view.cars b ≡ Some p → o.id ≡ p.id → a ≡ b
-  pub next : (1 ≤ view.next) × (view.next ≤ 4294967296)
+  pub next : (1 ≤ view.next) × (view.next ≤ END_ID)
   pub births : view.trains.births ≤ sum_by (standing_in view) (cars_of view.trains.trains (youngest view.trains.trains))
 
 -- names and registers: no two names have one number, they are not too many, and registers are those of a client
@@ -60,12 +59,12 @@ abbrev pub IsFront : List Train → ℕ → Type 0
 IsFront trains car = IsSomeAnd (oldest trains) (λ train. IsOldest trains train × (first_car trains train ≡ Some car))
 
 -- what a phase says of the trains and of the anchor
-abbrev pub IsAt : Phase → List Train → Option (Addr × ℕ) → Type 0
-IsAt Idle trains anchor = Unit {0}
-IsAt (Draining train) trains anchor = IsOldest trains train
-IsAt (Moving car) trains anchor = IsFront trains car
-IsAt (Sweeping car) trains anchor = IsFront trains car
-IsAt (Doomed train) trains anchor = IsOldest trains train × (anchor ≡ None)
+abbrev pub IsPhaseOf : Phase → List Train → Option (Addr × ℕ) → Type 0
+IsPhaseOf Idle trains anchor = Unit {0}
+IsPhaseOf (Draining train) trains anchor = IsOldest trains train
+IsPhaseOf (Moving car) trains anchor = IsFront trains car
+IsPhaseOf (Sweeping car) trains anchor = IsFront trains car
+IsPhaseOf (Doomed train) trains anchor = IsOldest trains train × (anchor ≡ None)
 
 -- an anchor is an object of the oldest train that is not set aside, and goes to another train, which stands
 pub record IsAnchor (view : SpaceView) (a : Addr) (to : ℕ) : Type 0 where
@@ -80,5 +79,5 @@ pub record HeapLaw (view : SpaceView) : Type 0 where
   pub built : IsBuilt view
   pub named : IsNamed view
   pub tied : IsTied (seen view)
-  pub phase : IsAt view.phase view.trains.trains view.anchor
+  pub phase : IsPhaseOf view.phase view.trains.trains view.anchor
   pub anchor : (a : Addr) (to : ℕ) → view.anchor ≡ Some (a, to) → IsAnchor view a to

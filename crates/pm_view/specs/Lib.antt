@@ -15,3 +15,4 @@ pub mod Collecting
 pub mod Events
 pub mod Work
 pub mod Watches
+pub mod Stale

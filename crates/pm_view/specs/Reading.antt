@@ -70,10 +70,10 @@ is_kept view source = not (lies_in (is_aside view) source)
 
 -- A source stands: a root where its number is bound, a register where there is one, also empty, and a field where
 -- its object stands and has it.
-abbrev pub Stands : SpaceView → RefSource → Type 0
-Stands view (Root number) = IsSome (address_at view.roots number)
-Stands view (Handle client register) = (client < CLIENTS) × (register < REGISTERS)
-Stands view (Field a index) = (is_aside view a.car ≡ false) × IsSome (option_and_then (λ (o : Object). slice_get o.fields index) (object_at view.cars a))
+abbrev pub SourceStands : SpaceView → RefSource → Type 0
+SourceStands view (Root number) = IsSome (address_at view.roots number)
+SourceStands view (Handle client register) = (client < CLIENTS) × (register < REGISTERS)
+SourceStands view (Field a index) = (is_aside view a.car ≡ false) × IsSome (option_and_then (λ (o : Object). slice_get o.fields index) (object_at view.cars a))
 
 -- where an address leads: through a Moved slot one step, and else nowhere else
 abbrev pub followed : Option Slot → Addr → Addr

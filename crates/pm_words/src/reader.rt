@@ -1,4 +1,4 @@
-ghost use Rattle.std.specs.Prelude.{◌≡◌, ◌^◌, ◌<◌, ◌∷◌, [], ℕ, map, decimal, codes, IfSome, IfNone, true, false};
+ghost use Rattle.std.specs.Prelude.{◌≡◌, ◌<◌, ◌∷◌, [], ℕ, map, decimal, codes, IfSome, IfNone, true, false};
 ghost use Rattle.pm_words.specs.Words.{IsFile, IsSeed, IsTurns, Spells, SpellsNothing};
 
 use crate::command::Command;

@@ -1,4 +1,4 @@
-ghost use Rattle.std.specs.Prelude.{◌≡◌, map, IfOk, IfSome, IfNone};
+ghost use Rattle.std.specs.Prelude.{map, IfOk, IfSome, IfNone};
 ghost use Rattle.pm_words.specs.Words.{Spells, SpellsNothing};
 
 use crate::command::Command;

@@ -1,5 +1,5 @@
 use Rattle.std.proofs.Common.{subst, sym, ap, ◌∙◌, ◌<◌, ◌++◌, ◌+◌, List, ℕ}
-use Rattle.pm_grammar.specs.Script.{text_of}
+use Rattle.pm_script.specs.Script.{text_of}
 use Rattle.pm_make.specs.declared.drawing.Turn.{Turn}
 use Rattle.pm_make.specs.Made.{thousandth_lines}
 use Rattle.pm_make.proofs.Drawn.{turn_drawn}

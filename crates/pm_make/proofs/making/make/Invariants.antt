@@ -1,5 +1,5 @@
 use Rattle.std.proofs.Common.{◌≡◌}
-use Rattle.pm_grammar.specs.Script.{text_of}
+use Rattle.pm_script.specs.Script.{text_of}
 use Rattle.pm_make.specs.Drawing.{state_after}
 use Rattle.pm_make.specs.Made.{first_lines}
 use Rattle.pm_make.proofs.making.make.Given as goal

@@ -1,7 +1,7 @@
 use Rattle.std.proofs.Common.{refl}
 use Rattle.pm_view.specs.Law.{HeapLaw}
 use Rattle.pm_space.specs.Shown.{view}
-use Rattle.pm_space.specs.Stale.{IsSole}
+use Rattle.pm_view.specs.Stale.{IsSole}
 use Rattle.pm_mutate.proofs.Carried.{refused_still, born_so, row_holds, adds_little}
 use Rattle.pm_mutate.proofs.ShownBytes.{shown_leaves, shown_short}
 use Rattle.pm_mutate.proofs.acting.act.Goals as goal
@@ -15,7 +15,7 @@ invariant_of-space g c =
     let few = c.requires.client in
     let law = c.args.space.now.kept in
     record {
-      kept = row_holds c.run.result HeapLaw v w client cmd law (λ picks are. c.a_command_keeps_the_heap_law.ensures v client cmd picks law few c.sound_registers.ensures are) c.run.ensures.row c.run.ensures.err;
+      kept = row_holds c.run.result HeapLaw v w client cmd law (λ picks are. c.a_command_keeps_the_heap_law.ensures v client cmd picks law few c.sound.ensures are) c.run.ensures.row c.run.ensures.err;
       still = λ train is. refl;
       sole = row_holds c.run.result (λ u. IsSole u c.args.space.now.moved) v w client cmd c.args.space.now.sole
           (λ picks are. c.a_command_leaves_the_slot_that_moved.ensures v client cmd picks c.args.space.now.moved law few are c.args.space.now.sole) c.run.ensures.row c.run.ensures.err;
@@ -29,7 +29,7 @@ returns-clause-refused g c =
 pub returns-clause-born : goal.returns-clause-born
 returns-clause-born g c =
     let v = view c.args.space.now.parts in
-    born_so c.run.result v (view c.run.new.parts) c.args.client c.args.cmd.now c.sound_registers.ensures c.run.ensures.row
+    born_so c.run.result v (view c.run.new.parts) c.args.client c.args.cmd.now c.sound.ensures c.run.ensures.row
     (λ reg count bytes picks small are is. c.new_adds_one_object_in_the_open_train.ensures v c.args.client reg count bytes picks c.args.space.now.kept c.requires.client small are is)
 
 pub returns-clause-work : goal.returns-clause-work

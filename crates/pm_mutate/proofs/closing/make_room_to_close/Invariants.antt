@@ -1,6 +1,6 @@
 use Rattle.std.proofs.Common.{◌≡◌, ℕ}
-use Rattle.pm_space.specs.Linked.{sets_of, queues_of, HasRoom}
-use Rattle.pm_mutate.specs.Closing.{stored_in, counted}
+use Rattle.pm_space.specs.Linked.{sets_of, queues_of, counted, HasRoom}
+use Rattle.pm_mutate.specs.Closing.{stored_in}
 use Rattle.pm_mutate.proofs.closing.make_room_to_close.Given as goal
 
 -- what the registers so far store is counted, and there is room for it

@@ -2,9 +2,9 @@ use Rattle.std.proofs.Common.{◌≡◌, ◌+◌, List, [], ◌∷◌, ◌++◌,
 use Rattle.std.proofs.lemmas.List.{append-nil}
 use Rattle.std.specs.List.{AllByRecursion}
 use Rattle.pm_place.specs.Choosers.{IsChooser}
-use Rattle.pm_grammar.specs.Script.{first_of}
-use Rattle.pm_grammar.specs.Words.{IsFirst}
-use Rattle.pm_grammar.specs.declared.line.Line.{Line}
+use Rattle.pm_script.specs.Script.{first_of}
+use Rattle.pm_script.specs.Words.{IsFirst}
+use Rattle.pm_script.specs.declared.line.Line.{Line}
 use Rattle.pm_engine.specs.Shown.{disk_in, room, serving}
 use Rattle.pm_output.specs.Gathered.{gathered}
 use Rattle.pm_serial.specs.Asked.{events_asked, request_of, requests_asked, steps_asked, steps_of}

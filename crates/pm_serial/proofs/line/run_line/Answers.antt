@@ -1,6 +1,6 @@
 use Rattle.std.proofs.Common.{arith, subst, sym}
-use Rattle.pm_grammar.specs.declared.line.Line.{Line}
-use Rattle.pm_grammar.specs.declared.line.Line.TheVariants.{Gc, Flush}
+use Rattle.pm_script.specs.declared.line.Line.{Line}
+use Rattle.pm_script.specs.declared.line.Line.TheVariants.{Gc, Flush}
 use Rattle.pm_engine.specs.Shown.{serving}
 use Rattle.pm_output.specs.Gathered.{gathered}
 use Rattle.pm_serial.specs.Causes.{why}

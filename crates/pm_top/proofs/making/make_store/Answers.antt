@@ -2,7 +2,7 @@ use Rattle.std.proofs.Common.{sym, subst, refl, ◌∙◌, List, ℕ, Option}
 use Rattle.pm_types.specs.declared.entry.Entry.{Entry}
 use Rattle.pm_model.specs.World.{empty_copy}
 use Rattle.pm_image.specs.Blank.{blank_store}
-use Rattle.pm_image.specs.Stands.{Stands}
+use Rattle.pm_image.specs.Stands.{StandsForCopy}
 use Rattle.pm_image.proofs.BlankLaws.{blank_stands}
 use Rattle.pm_engine.specs.declared.tally.Tally.{Tally}
 use Rattle.pm_top.specs.declared.ended.Detail.{Detail}
@@ -27,7 +27,7 @@ returns-in-Ok-clause-makes g c =
     (record {
       makes = λ bytes told.
           let is = c.in-Ok.ensures.blank bytes told in
-          (c.in-Ok.ensures.empty bytes told, is, λ left now. subst (λ (image : List ℕ). Stands image 0 empty_copy) (sym (c.in-Ok.ensures.only blank_store is left now)) blank_stands);
+          (c.in-Ok.ensures.empty bytes told, is, λ left now. subst (λ (image : List ℕ). StandsForCopy image 0 empty_copy) (sym (c.in-Ok.ensures.only blank_store is left now)) blank_stands);
       leaves = c.init.ensures.leaves;
       source_stays = refl;
       sink_stays = refl;

@@ -1,6 +1,6 @@
 use Rattle.std.proofs.Common.{◌∙◌, ◌<◌, sym, subst, List, Option, arith}
 use Rattle.pm_types.specs.declared.entry.Entry.{Entry}
-use Rattle.pm_grammar.specs.Script.{IsScript}
+use Rattle.pm_script.specs.Script.{IsScript}
 use Rattle.pm_engine.specs.declared.tally.Tally.{Tally}
 use Rattle.pm_top.specs.declared.ended.Detail.{Detail}
 use Rattle.pm_top.specs.Ends.{not_read}

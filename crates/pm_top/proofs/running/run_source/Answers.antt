@@ -1,5 +1,5 @@
-use Rattle.std.proofs.Common.{◌<◌, ◌∙◌, ap, subst, refl, List, ℕ, Option, Err, arith}
-use Rattle.pm_grammar.specs.declared.fault.ScriptFault.TheVariants.{TooLong as ScriptTooLong}
+use Rattle.std.proofs.Common.{◌∙◌, ap, subst, refl, List, ℕ, Option, Err, arith}
+use Rattle.pm_script.specs.declared.fault.ScriptFault.TheVariants.{TooLong as ScriptTooLong}
 use Rattle.pm_types.specs.declared.entry.Entry.{Entry}
 use Rattle.pm_io.specs.declared.reading.ReadAll.{ReadAll}
 use Rattle.pm_io.specs.Reading.{CountsAs}

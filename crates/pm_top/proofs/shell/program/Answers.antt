@@ -1,4 +1,4 @@
-use Rattle.std.proofs.Common.{ℕ, List, map, Bor, Ok, sym, subst}
+use Rattle.std.proofs.Common.{ℕ, List, map, Bor, sym, subst}
 use Rattle.std.specs.Prelude.{Result, IfOk}
 use Rattle.pm_types.specs.declared.no_memory.NoMemory.{NoMemory}
 use Rattle.pm_top.specs.Program.{Tells, Performs}

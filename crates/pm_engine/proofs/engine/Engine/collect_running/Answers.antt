@@ -1,4 +1,4 @@
-use Rattle.std.proofs.Common.{ℕ, ap, arith}
+use Rattle.std.proofs.Common.{ap, arith}
 use Rattle.pm_engine.specs.Working.{disk_at}
 use Rattle.pm_engine.proofs.engine.Engine.collect_running.Goals as goal
 use Rattle.pm_engine.proofs.Asking.{stored}

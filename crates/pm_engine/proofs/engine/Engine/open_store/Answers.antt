@@ -2,13 +2,13 @@ use Rattle.std.proofs.Common.{ℕ, refl, sym, ap, subst, ◌∙◌, arith}
 use Rattle.std.specs.Prelude.{option_map}
 use Rattle.std.proofs.lemmas.Result.{err_from_is_err_and}
 use Rattle.pm_base.specs.Mapped.{mapped}
-use Rattle.pm_image.specs.Stands.{Stands}
+use Rattle.pm_image.specs.Stands.{StandsForCopy}
 use Rattle.pm_shadow.specs.State.{State}
 use Rattle.pm_shadow.specs.Pages.{state, disk_of}
 use Rattle.pm_space.specs.Shown.{car_of, view}
 use Rattle.pm_copies.specs.Listed.{copy_in}
-use Rattle.pm_opening.proofs.Refusals.{graph_refused, header_refused}
-use Rattle.pm_engine.specs.declared.opening.Opening.{Opening}
+use Rattle.pm_reopen.proofs.Refusals.{graph_refused, header_refused}
+use Rattle.pm_engine.specs.declared.start.Start.{Start}
 use Rattle.pm_engine.specs.declared.works.Works.{Works}
 use Rattle.pm_engine.proofs.engine.Engine.open_store.Goals as goal
 use Rattle.pm_engine.proofs.Begun.{stands, start_sound}
@@ -23,7 +23,7 @@ invariant_of-result g c =
     let first = c.in_ok-pages.pages in
     let last = c.open_space.new.pages in
     let works : Works g.row.D.Denot g.row.F.Denot g.D.Disk = record { pages = last; space = c.in-Ok.space; saver = c.new.result; journal = c.new-in-Ok.result; watches = c.new-in-Ok-2.result; events = 0; steps = 0 } in
-    let start : Opening g.row.D.Denot g.row.F.Denot g.D.Disk = record { number = c.header.result.now.epoch; space = c.of.result; pages = c.of-in-Ok.result; count = c.faults.result } in
+    let start : Start g.row.D.Denot g.row.F.Denot g.D.Disk = record { number = c.header.result.now.epoch; space = c.of.result; pages = c.of-in-Ok.result; count = c.faults.result } in
     let attached_is = c.in_ok-pages.ensures.state in
     let unknown = ap (λ (s : State). s.known) attached_is in
     let knows = c.in-Ok.ensures.state in
@@ -43,7 +43,7 @@ returns-in-Ok-clause-stands g c =
     let first = c.in_ok-pages.pages in
     let last = c.open_space.new.pages in
     let works : Works g.row.D.Denot g.row.F.Denot g.D.Disk = record { pages = last; space = c.in-Ok.space; saver = c.new.result; journal = c.new-in-Ok.result; watches = c.new-in-Ok-2.result; events = 0; steps = 0 } in
-    let start : Opening g.row.D.Denot g.row.F.Denot g.D.Disk = record { number = c.header.result.now.epoch; space = c.of.result; pages = c.of-in-Ok.result; count = c.faults.result } in
+    let start : Start g.row.D.Denot g.row.F.Denot g.D.Disk = record { number = c.header.result.now.epoch; space = c.of.result; pages = c.of-in-Ok.result; count = c.faults.result } in
     let attached_is = c.in_ok-pages.ensures.state in
     let unknown = ap (λ (s : State). s.known) attached_is in
     let knows = c.in-Ok.ensures.state in
@@ -51,8 +51,8 @@ returns-in-Ok-clause-stands g c =
     let disk = disk_of last in
     let stay = g.met.D.Disk.contents_stay disk in
     λ bytes told.
-    subst (λ (n : ℕ). Stands bytes n (copy_in (view c.of.result.value.parts))) (sym (ap (λ h. h.epoch) c.header.ensures))
-    (subst (λ space. Stands bytes (state last).header.epoch (copy_in (view space.parts))) (sym c.of.ensures)
+    subst (λ (n : ℕ). StandsForCopy bytes n (copy_in (view c.of.result.value.parts))) (sym (ap (λ h. h.epoch) c.header.ensures))
+    (subst (λ space. StandsForCopy bytes (state last).header.epoch (copy_in (view space.parts))) (sym c.of.ensures)
     (stands start works (state first) c.args.place c.in-Ok.settled unknown knows c.in-Ok.ensures.made_of fine last.within c.in-Ok.ensures.opened stay
     (λ bytes told. g.met.D.Disk.leaves_bytes disk (g.D.Disk.moment disk) bytes (g.met.D.Disk.counts_now disk (g.D.Disk.moment disk) bytes (omega arith) (stay bytes told)))
     bytes (c.open_space.ensures.looks.told ∙ c.in_ok-pages.ensures.told ∙ told)))

@@ -1,7 +1,7 @@
 use Rattle.std.proofs.Common.{ℕ, ap, refl, sym, subst, arith}
 use Rattle.pm_shadow.specs.declared.page_use.PageUse.{PageUse}
 use Rattle.pm_shadow.specs.State.{attached, with_uses}
-use Rattle.pm_shadow.specs.Images.{IsSound}
+use Rattle.pm_shadow.specs.Images.{IsSoundState}
 use Rattle.pm_shadow.proofs.AttachLemmas.{sound_found}
 use Rattle.pm_shadow.proofs.pages.Pages.found.Goals as goal
 
@@ -16,7 +16,7 @@ invariant_of-result g c =
       begun = λ unknown. refl;
       unused = λ unknown. c.new.ensures;
       sound = λ fine bytes told.
-          subst (λ (u : ℕ → PageUse). IsSound (with_uses (attached found.slot found.header found.count found.closed) u) bytes (g.D.Disk.image c.args.disk)) (sym c.new.ensures)
+          subst (λ (u : ℕ → PageUse). IsSoundState (with_uses (attached found.slot found.header found.count found.closed) u) bytes (g.D.Disk.image c.args.disk)) (sym c.new.ensures)
           (sound_found found bytes (g.D.Disk.image c.args.disk) (c.requires.sound bytes told));
     }
 

@@ -1,7 +1,7 @@
 use Rattle.std.proofs.Common.{ℕ, ap, sym, subst}
 use Rattle.pm_shadow.specs.declared.page_use.PageUse.{PageUse}
 use Rattle.pm_shadow.specs.State.{with_uses}
-use Rattle.pm_shadow.specs.Images.{IsSound}
+use Rattle.pm_shadow.specs.Images.{IsSoundState}
 use Rattle.pm_shadow.specs.Pages.{state}
 use Rattle.pm_shadow.proofs.SoundLemmas.{sound_kept, known_current}
 use Rattle.pm_shadow.proofs.pages.Pages.keep.Goals as goal
@@ -23,7 +23,7 @@ invariant_of-self g c =
       begun = λ unknown. (let known = c.requires.known in absurd (cc (known, unknown)));
       unused = λ unknown. (let known = c.requires.known in absurd (cc (known, unknown)));
       sound = λ fine bytes told.
-          subst (λ (u : ℕ → PageUse). IsSound (with_uses (state it) u) bytes (g.D.Disk.image it.disk)) (sym c.keep.ensures)
+          subst (λ (u : ℕ → PageUse). IsSoundState (with_uses (state it) u) bytes (g.D.Disk.image it.disk)) (sym c.keep.ensures)
           (sound_kept (state it) c.args.page bytes (g.D.Disk.image it.disk) c.requires.kept (it.sound fine bytes told));
     }
 

@@ -5,7 +5,7 @@ use Rattle.pm_disk.specs.Ordered.{IsInOrder}
 use Rattle.pm_disk.proofs.RunLemmas.{weaker}
 use Rattle.pm_image.specs.Opening.{open_gate}
 use Rattle.pm_shadow.specs.State.{other, published_with}
-use Rattle.pm_shadow.specs.Images.{Holds, Renews, IsSound, place_of, with_header, with_gate}
+use Rattle.pm_shadow.specs.Images.{Holds, Renews, IsSoundState, place_of, with_header, with_gate}
 use Rattle.pm_shadow.specs.Uses.{use_of}
 use Rattle.pm_shadow.specs.Pages.{state}
 use Rattle.pm_shadow.proofs.RunLemmas.{told_before}
@@ -43,7 +43,7 @@ invariant_of-self-2 g c =
           let before = told_before (λ was. with_gate o open_gate (with_header o header was)) (g.D.Disk.contents it.disk) bytes (sym made ∙ told) in
           let sound = it.sound c.requires.sound before.0 before.1 in
           let held = sound.each before.0 (g.met.D.Disk.contents_stay it.disk before.0 before.1) in
-          let P : List ℕ → Type 0 = λ after. IsSound (published_with (state it) header (use_of c.renew.new.self.uses.items)) after (g.D.Disk.image now) in
+          let P : List ℕ → Type 0 = λ after. IsSoundState (published_with (state it) header (use_of c.renew.new.self.uses.items)) after (g.D.Disk.image now) in
           let opened = with_gate o open_gate (with_header o header before.0) in
           subst P (sym before.2)
           (sound_published (state it) header (use_of c.renew.new.self.uses.items) before.0 opened (g.D.Disk.image now) (λ image left. c.in_ok-write_one_by_one.ensures.only bytes told image left ∙ before.2) sound.counted

@@ -1,0 +1,7 @@
+use Rattle.std.proofs.Common.{rules, ◌≡◌}
+use Rattle.pm_space.specs.Shown.{view}
+use Rattle.pm_engine.proofs.works.act_and_copy_reply.Goals as goal
+
+pub returns-in_err-told-clause-err : goal.returns-in_err-told-clause-err
+returns-in_err-told-clause-err g c =
+    let same : view c.act.new.space.parts ≡ view c.args.space.now.parts = c.in_ok-reply.ensures.shown c.in_err-told.ensures.shown in search (rules, same)

@@ -1,0 +1,52 @@
+//! What clients ask.
+
+ghost use Rattle.pm_types.specs.declared.limits.TheConstants.{CLIENTS};
+
+use crate::Engine;
+use pm_disk::Disk;
+use pm_save::SaveFault;
+use pm_types::{Cmd, EngineFault, Reply};
+use std::alloc::Global;
+
+impl<D: Disk, F: Drop> Engine<D, F> {
+    ghost use Rattle.std.specs.Prelude.{◌≡◌, ◌<◌, None};
+    ghost use Rattle.pm_engine.specs.Shown.{KeepsStart, serving};
+    ghost use Rattle.pm_engine.specs.Calls.{AnswersClient};
+
+    /// Answers a client's command: the reply and the next world are those of the world at the journal's end, and one entry
+    /// is appended. Only `settle` calls the disk.
+    ///
+    /// # Errors
+    ///
+    /// `Memory`: world and journal are as they were. `Disk`, for `settle` alone: the disk failed, no entry is appended, and
+    /// the engine is stopped. `Reopen` where an earlier call answered `Disk`, with the count then.
+    pub fn client(&mut self, alloc: Global, client: u32, cmd: &Cmd) -> Result<Reply, EngineFault>
+        requires client { client < CLIENTS }
+        ensures call { AnswersClient client cmd.now self.old self.new result }
+        ensures start { KeepsStart self.old self.new }
+    {
+        match self.stopped {
+            Some(count) => Err(EngineFault::Reopen { count }),
+            None => self.ask(alloc, client, cmd),
+        }
+    }
+
+    /// The same, while no call has answered that the disk failed.
+    fn ask(&mut self, alloc: Global, client: u32, cmd: &Cmd) -> Result<Reply, EngineFault>
+        requires client { client < CLIENTS }
+        requires running { (serving self.old).stopped ≡ None }
+        ensures call { AnswersClient client cmd.now self.old self.new result }
+        ensures start { KeepsStart self.old self.new }
+    {
+        let before = self.works.pages.faults();
+        match self.works.answer(alloc, client, cmd) {
+            Ok(reply) => Ok(reply),
+            Err(SaveFault::Memory) => Err(EngineFault::Memory),
+            Err(SaveFault::Disk) => {
+                let after = self.works.pages.faults();
+                self.stopped = Some(after);
+                Err(EngineFault::Disk { before, after })
+            }
+        }
+    }
+}

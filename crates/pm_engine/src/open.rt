@@ -1,0 +1,86 @@
+//! How an engine begins.
+
+use crate::Engine;
+use crate::start::Start;
+use crate::works::Works;
+use arrayvec::ArrayVec;
+use pm_disk::Disk;
+use pm_place::Placement;
+use pm_reopen::open_space;
+use pm_save::Saver;
+use pm_shadow::Pages;
+use pm_types::OpenFault;
+use std::alloc::Global;
+use std::snapshot::Snapshot;
+
+impl<D: Disk, F: Drop> Engine<D, F> {
+    ghost use Rattle.std.specs.Prelude.{◌≡◌, ℕ, List, None, IfOk, IfErr, MatchResult};
+    ghost use Rattle.pm_disk.specs.Disk.{IfTold, LeavesOnly};
+    ghost use Rattle.pm_disk.specs.Made.{with_sync};
+    ghost use Rattle.pm_image.specs.Stands.{StandsForCopy};
+    ghost use Rattle.pm_copies.specs.Listed.{copy_in};
+    ghost use Rattle.pm_serving.specs.Serving.{just_opened};
+    ghost use Rattle.pm_engine.specs.Shown.{chooser, disk_in, opened_count, opened_disk, serving};
+    ghost use Rattle.pm_reopen.specs.Refused.{IsOpenFault, IsRefusal};
+
+    /// Opens the copy for which the bytes of a disk stand: its world has no register, no watch and no copy in progress.
+    /// The disk is synced once, before it is read, and nothing is written. An object moves to the train that the chooser
+    /// of `place` picks.
+    ///
+    /// # Errors
+    ///
+    /// `NotAStore`, `Version`, `Damaged` and `Malformed` by the first rule that the bytes break; `Disk` where the disk
+    /// failed, with its counts of failed calls before and after; `Memory`. The disk is handed back.
+    pub fn open_store(
+        alloc: Global,
+        disk: D,
+        place: Placement<F>,
+    ) -> Result<Engine<D, F>, (D, OpenFault)>
+        // The bytes stand for the copy in the space that was opened, under its number,
+        ensures stands { IfOk result (λ it. IfTold (D.contents disk) (λ bytes.
+            StandsForCopy bytes (serving it).number (copy_in (serving it).opened))) }
+        // and nothing was asked yet, nor is a copy in progress.
+        ensures begins { IfOk result (λ it.
+            serving it ≡ just_opened (serving it).number (serving it).opened (serving it).saving) }
+        ensures idle { IfOk result (λ it. (serving it).saving.progress ≡ None) }
+        // An object moves to the train that this chooser picks.
+        ensures chooser { IfOk result (λ it. chooser it ≡ place) }
+        // The disk is as it was opened, and a crash leaves what it holds.
+        ensures opening { IfOk result (λ it. opened_disk it ≡ disk_in it) }
+        ensures only { IfOk result (λ it. IfTold (D.contents disk) (λ bytes.
+            (left : List ℕ) → D.image (disk_in it) left → left ≡ bytes)) }
+        ensures told { MatchResult result (λ it. D.contents (disk_in it) ≡ D.contents disk)
+            (λ e. D.contents e.0 ≡ D.contents disk) }
+        ensures leaves { MatchResult result (λ it. LeavesOnly D.moment D.since disk (disk_in it) (D.image disk))
+            (λ e. LeavesOnly D.moment D.since disk e.0 (D.image disk)) }
+        ensures made { MatchResult result (λ it. D.made (disk_in it) ≡ with_sync (D.moment disk) (D.made disk))
+            (λ e. D.made e.0 ≡ with_sync (D.moment disk) (D.made disk)) }
+        ensures count { IfOk result (λ it. (D.count (disk_in it) ≡ D.count disk)
+            × (opened_count it ≡ D.count disk)) }
+        ensures fault { IfErr result (λ e. IfTold (D.contents disk) (λ bytes. IsRefusal bytes e.1)) }
+        ensures cause { IfErr result (λ e. IsOpenFault (D.count disk) (D.count e.0) e.1) }
+    {
+        let mut pages = Pages::attach(alloc, disk)?;
+        match open_space(alloc, &mut pages, place) {
+            Ok((space, settled)) => Ok(Engine {
+                opening: Start {
+                    number: pages.header().epoch,
+                    space: Snapshot::of(&space),
+                    pages: Snapshot::of(&pages),
+                    count: pages.faults(),
+                },
+                works: Works {
+                    pages,
+                    space,
+                    saver: Saver::new(settled),
+                    journal: Vec::new(alloc),
+                    watches: ArrayVec::new(),
+                    events: 0,
+                    steps: 0,
+                },
+                stopped: None,
+            }),
+            Err(fault) => Err((pages.into_disk(), fault)),
+        }
+    }
+}

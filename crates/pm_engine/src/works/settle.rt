@@ -1,0 +1,47 @@
+//! `settle`: making the copy in progress the settled one.
+
+ghost use Rattle.std.specs.Prelude.{◌≡◌, IfErr, IfOk, OnErr, true};
+
+use crate::works::Works;
+use pm_disk::Disk;
+use pm_save::SaveFault;
+use pm_types::{Cmd, Reply};
+use std::alloc::Global;
+
+impl<D: Disk, F: Drop> Works<D, F> {
+    ghost use Rattle.pm_save.specs.Answers.{OnMemory, TellsOn, UnlessDisk};
+    ghost use Rattle.pm_save.specs.Settling.{IsCausedBy};
+    ghost use Rattle.pm_engine.specs.Working.{IsFaultFor, IsShort, IsTiedIn, LastsSo, LeavesEither, Rests, SettlesIt, contents_in, disk_at, place_in};
+
+    /// `settle`: the copy in progress is written to its end and published, if there is one. Its entry takes no memory
+    /// where there is room for it.
+    ///
+    /// # Errors
+    ///
+    /// `Disk` where the disk failed; `Memory`, after which the copy is in progress still.
+    pub(crate) fn settle(&mut self, alloc: Global, client: u32) -> Result<Reply, SaveFault>
+        requires tied { IsTiedIn self.old }
+        ensures settles { IfOk result (SettlesIt client self.old self.new) }
+        ensures tied { UnlessDisk result (IsTiedIn self.new) }
+        ensures rests { OnErr result (Rests self.old self.new) }
+        ensures memory { OnMemory result (LastsSo self.old self.new) }
+        ensures short { OnMemory result (IsShort self.old self.new) }
+        ensures fault { IfErr result (IsFaultFor true self.old) }
+        ensures leaves { LeavesEither self.old self.new }
+        ensures told { TellsOn (contents_in self.old) (contents_in self.new) }
+        ensures causes { IsCausedBy (D.count (disk_at self.old)) (D.count (disk_at self.new))
+            (D.made (disk_at self.old))
+            (D.made (disk_at self.new)) result }
+        ensures place { place_in self.new ≡ place_in self.old }
+    {
+        self.pages.keep_the_current_copy();
+        self.journal.reserve(1)?;
+        if self.saver.number().is_none() {
+            self.append(client, Cmd::Settle, Reply::Idle);
+            return Ok(Reply::Idle);
+        }
+        let number = self.saver.settle(alloc, &mut self.space, &mut self.pages)?;
+        self.append(client, Cmd::Settle, Reply::Saved(number));
+        Ok(Reply::Saved(number))
+    }
+}

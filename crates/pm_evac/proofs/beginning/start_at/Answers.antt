@@ -1,0 +1,21 @@
+use Rattle.std.proofs.Common.{rules, ap, ◌∙◌}
+use Rattle.pm_types.specs.declared.event.Step.TheVariants.{Started}
+use Rattle.pm_view.specs.View.{SpaceView}
+use Rattle.pm_view.specs.declared.phase.Phase.TheVariants.{Moving}
+use Rattle.pm_view.specs.Collecting.{started}
+use Rattle.pm_view.specs.Events.{start}
+use Rattle.pm_space.specs.Shown.{view}
+use Rattle.pm_evac.proofs.Chosen.{made}
+use Rattle.pm_evac.proofs.Views.{is_counted}
+use Rattle.pm_evac.proofs.beginning.start_at.Goals as goal
+
+pub note-requires-clause-some : goal.note-requires-clause-some
+note-requires-clause-some g c = c.there_is_a_train_to_pick.ensures.noted (view c.args.parts.now) c.args.car c.args.at c.requires.law c.requires.row
+
+pub returns-clause-ok : goal.returns-clause-ok
+returns-clause-ok g c =
+    let v = view c.args.parts.now in
+    let noted = c.in_ok-anchored.ensures.ok in
+    let then : SpaceView = started v c.args.car c.args.at noted.picked in
+    made g.F.Fn c.args.parts.now.place v noted.picked _ (Started c.args.car c.in_ok-anchored.anchored) (start c.args.car c.args.at) 0 c.requires.row noted.chosen tt
+    ((λ i. record (noted.after i) { phase = Moving c.args.car }) ∙ is_counted then (search rules)) (ap (Started c.args.car) noted.answer)

@@ -1,5 +1,0 @@
-use Rattle.pm_grammar.proofs.ScriptLaws.{one_reading}
-use Rattle.pm_grammar.proofs.laws.a_script_has_one_reading.Goals as goal
-
-pub returns : goal.returns
-returns c = one_reading

@@ -1,5 +1,0 @@
-use Rattle.pm_grammar.proofs.SpellingLaws.{text_read}
-use Rattle.pm_grammar.proofs.laws.spelled_lines_are_read_again.Goals as goal
-
-pub returns : goal.returns
-returns c = text_read

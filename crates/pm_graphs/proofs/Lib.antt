@@ -1,0 +1,9 @@
+pub mod Faults
+pub mod ReadLaws
+pub mod Lists
+pub mod LookedLaws
+pub mod ChainLaws
+pub mod HeldLaws
+pub mod Walks
+pub mod GraphLaws
+pub mod OpenLaws

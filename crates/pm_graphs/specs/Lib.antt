@@ -1,0 +1,3 @@
+pub mod Reading
+pub mod Linking
+pub mod Reopening

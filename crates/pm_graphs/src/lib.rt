@@ -1,0 +1,14 @@
+//! Reading the graph behind a header.
+#![tactic(auto)]
+
+mod chain;
+mod fault;
+mod held;
+mod links;
+mod numbered;
+mod opening;
+mod reading;
+
+pub use chain::Chain;
+pub use numbered::Numbered;
+pub use opening::{flatten, read_graph, with_cars};

@@ -1,4 +1,0 @@
-pub mod Looks
-pub mod AfterCommands
-pub mod Fixing
-pub mod Moving

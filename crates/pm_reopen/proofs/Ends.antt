@@ -1,0 +1,29 @@
+-- Lists that are gone through from their ends.
+use Rattle.std.proofs.Common.{◌≡◌, ℕ, zero, suc, ◌+◌, ◌-◌, ◌<◌, ◌≤◌, List, [], ◌∷◌, ◌++◌, length, map, drop, get_or, refl, ap, ◌∙◌, arith, append_assoc}
+use Rattle.pm_graphs.proofs.Lists.{drop_here}
+
+-- the elements from the one before on are that one and the others
+pub drop_back : {X : Type 0} (xs : List X) (left : ℕ) (x : X) → 0 < left → left ≤ length xs → x ≡ get_or xs (left - 1) x → drop (left - 1) xs ≡ x ∷ drop left xs
+drop_back xs left x some inside is =
+    let back : left - 1 + 1 ≡ left = omega arith in
+    drop_here xs (left - 1) x (omega arith) is ∙ ap (λ (k : ℕ). x ∷ drop k xs) back
+
+pub map_dropped : {X Y : Type 0} (f : X → Y) (xs : List X) (i : ℕ) → map f (drop i xs) ≡ drop i (map f xs)
+map_dropped f [] zero = refl
+map_dropped f [] (suc i) = refl
+map_dropped f (x ∷ xs) zero = refl
+map_dropped f (x ∷ xs) (suc i) = map_dropped f xs i
+
+pub map_both : {X Y : Type 0} (f : X → Y) (xs ys : List X) → map f (xs ++ ys) ≡ map f xs ++ map f ys
+map_both f [] ys = refl
+map_both f (x ∷ xs) ys = ap (λ rest. f x ∷ rest) (map_both f xs ys)
+
+-- the last one of a front was taken
+pub last_taken : {X Y : Type 0} (f : X → Y) (all done : List Y) (left front : List X) (x : X) → all ≡ map f left ++ done → left ≡ front ++ x ∷ [] → all ≡ map f front ++ f x ∷ done
+last_taken f all done left front x is last =
+    is ∙ ap (λ xs. map f xs ++ done) last ∙ ap (λ ys. ys ++ done) (map_both f front (x ∷ [])) ∙ append_assoc (map f front) (f x ∷ []) done
+
+-- a list of no element is empty
+pub none_long : {X : Type 0} (xs : List X) → length xs ≡ 0 → xs ≡ []
+none_long [] none = refl
+none_long (x ∷ xs) none = absurd (omega (arith, none))

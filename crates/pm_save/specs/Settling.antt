@@ -1,0 +1,68 @@
+-- What a settle leaves.
+use Rattle.std.specs.Prelude.{◌≡◌, ◌⊎◌, ◌<◌, ◌≤◌, ℕ, List, Option, Some, None, IfSome, Result, MatchResult}
+use Rattle.pm_disk.specs.Disk.{IfTold, LeavesOnly}
+use Rattle.pm_disk.specs.Made.{Made}
+use Rattle.pm_model.specs.World.{Copy}
+use Rattle.pm_image.specs.Stands.{StandsForCopy}
+use Rattle.pm_image.specs.Opening.{page_count, page_of}
+use Rattle.pm_layout.specs.declared.header.Header.{Header}
+use Rattle.pm_shadow.specs.State.{State, other}
+use Rattle.pm_shadow.specs.Images.{Holds, Renews}
+use Rattle.pm_space.specs.declared.parts.Parts.{Parts}
+use Rattle.pm_space.specs.Shown.{view}
+use Rattle.pm_view.specs.View.{Cars}
+use Rattle.pm_saving.specs.Progress.{Progress, Saving, copy_of}
+use Rattle.pm_saving.specs.Tied.{GoesOn, HasCopy, StaysInProgress}
+use Rattle.pm_save.specs.declared.fault.SaveFault.{SaveFault}
+use Rattle.pm_save.specs.Shown.{frozen_of}
+use Rattle.pm_save.specs.Answers.{HasCause, KeepsCopy, Spares}
+
+-- no page but this one is another, among those that there were
+pub record StaysBesidePage (page : ℕ) (before after : List ℕ) : Type 0 where
+  pub longer : page_count before ≤ page_count after
+  pub same : (other : ℕ) → other < page_count before → (other ≡ page → ⊥) → page_of after other ≡ page_of before other
+
+-- the gate of the other slot was closed, beside the current header and its pages
+abbrev pub ClosesFrom : State → Option (List ℕ) → List ℕ → Type 0
+ClosesFrom s was after = (before : List ℕ) × (was ≡ Some before) × Holds s before after × StaysBesidePage (other s.slot) before after
+
+-- the header was published in the other slot, with the pages as they were
+abbrev pub PublishesFrom : State → Header → Option (List ℕ) → List ℕ → Type 0
+PublishesFrom s header was after = (before : List ℕ) × (was ≡ Some before) × Renews s header before after × StaysBesidePage (other s.slot) before after
+
+-- every image stands for the copy that was in progress, and it stands behind the current header
+abbrev pub StandsThen : {D : Type 0} → (D → Option (List ℕ)) → (D → List ℕ → Type 0) → Option Progress → Cars → State → D → D → ℕ → Type 0
+StandsThen contents image progress cars t old new number =
+    IfSome progress (λ (progress : Progress). (was : List ℕ) → contents old ≡ Some was
+    → ((left : List ℕ) → image new left → StandsForCopy left number (copy_of cars progress)) × IfTold (contents new) (λ after. HasCopy t after (copy_of cars progress)))
+
+-- A crash at any moment of the call leaves the copy that was settled, or the one that was in progress.
+abbrev pub SparesEither : {D : Type 0} → (D → Option (List ℕ)) → (D → ℕ) → (D → ℕ → List ℕ → Type 0) → Option Progress → Cars → State → D → D → Type 0
+SparesEither contents moment since progress cars s old new =
+    IfSome progress (λ (progress : Progress). (copy : Copy) (bytes : List ℕ) → contents old ≡ Some bytes → HasCopy s bytes copy
+    → LeavesOnly moment since old new (λ image. StandsForCopy image s.header.epoch copy ⊎ StandsForCopy image progress.number (copy_of cars progress)))
+
+-- a disk that failed has raised its count, and whatever is answered no read reached past the end of what it told
+pub record IsCausedBy {T : Type 0} (before after : ℕ) (was now : Made) (result : Result T SaveFault) : Type 0 where
+  pub cause : HasCause before after result
+  pub past : now.past ≡ was.past
+
+-- memory ran out: the copy is in progress still, and the current one stands where it stood, at every moment of the call
+pub record IsLeftSo {D : Type 0} (contents : D → Option (List ℕ)) (moment : D → ℕ) (since : D → ℕ → List ℕ → Type 0) (old new : Saving) (s t : State) (before after : D) : Type 0 where
+  pub stays : StaysInProgress old new s t (contents before) (contents after)
+  pub spares : Spares contents moment since s before after
+  pub has : KeepsCopy s t (contents before) (contents after)
+
+-- The copy is in progress still: more of its pages may have been written, and the settled cars stay.
+pub record StaysOn (old new : Saving) : Type 0 where
+  pub progress : Progress
+  pub after : Progress
+  pub is_progress : old.progress ≡ Some progress
+  pub saving : new ≡ record old { progress = Some after }
+  pub goes_on : GoesOn progress after
+
+-- what is seen of the space stays, and its chooser; its cars are frozen no more after Ok, and as before otherwise
+pub record LeavesSpace {F T : Type 0} (old new : Parts F) (result : Result T SaveFault) : Type 0 where
+  pub view : view new ≡ view old
+  pub place : new.place ≡ old.place
+  pub frozen : MatchResult result (λ _. frozen_of new ≡ None) (λ _. frozen_of new ≡ frozen_of old)

@@ -1,0 +1,11 @@
+-- A space whose cars are frozen no more.
+use Rattle.std.specs.Prelude.{◌≡◌, None}
+use Rattle.pm_space.specs.declared.parts.Parts.{Parts}
+use Rattle.pm_space.specs.Shown.{view}
+use Rattle.pm_save.specs.Shown.{frozen_of}
+
+-- What is seen of the space stays, and so does its chooser.
+pub record IsThawed {F : Type 0} (old new : Parts F) : Type 0 where
+  pub view : view new ≡ view old
+  pub place : new.place ≡ old.place
+  pub frozen : frozen_of new ≡ None

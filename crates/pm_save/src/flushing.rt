@@ -1,0 +1,117 @@
+//! Writing the next page of the copy in progress.
+
+ghost use Rattle.std.specs.Prelude.{◌≡◌, IfOk, IfSome, IsSome, OnErr};
+ghost use Rattle.pm_disk.specs.Disk.{IfTold, LeavesOnly};
+ghost use Rattle.pm_shadow.specs.Images.{Holds};
+ghost use Rattle.pm_shadow.specs.Pages.{state, disk_of};
+ghost use Rattle.pm_saving.specs.Paging.{next_page};
+ghost use Rattle.pm_saving.specs.Tied.{HasPage};
+ghost use Rattle.pm_save.specs.Frozen.{frozen_in};
+ghost use Rattle.pm_save.specs.Seen.{progress_seen};
+ghost use Rattle.pm_save.specs.Kept.{IsKept};
+ghost use Rattle.pm_save.specs.Answers.{HasCause, Makes, OnMemory, TellsOn};
+ghost use Rattle.pm_save.specs.Putting.{IsReady};
+ghost use Rattle.pm_save.specs.Steps.{IsStep};
+
+use crate::next::{find_next, ready_next};
+use crate::place::InProgress;
+use crate::written::{note_written, put_page};
+use crate::{SaveFault, Saver};
+use pm_disk::Disk;
+use pm_law_saving::{
+    a_published_copy_is_the_settled_one, pages_of_a_copy_are_written_in_order,
+    the_next_page_is_written_beside_the_current_copy,
+};
+use pm_settled::PackedPage;
+use pm_shadow::Pages;
+use pm_snap::Table;
+use pm_space::{Held, Space};
+use pm_types::Flushed;
+use std::alloc::Global;
+
+/// Writes the next page of a copy in progress, where one is left.
+fn flush<D: Disk>(
+    alloc: Global,
+    settled: &[PackedPage],
+    cars: &Table<Held>,
+    it: &mut InProgress,
+    pages: &mut Pages<D>,
+) -> Result<Flushed, SaveFault>
+    requires kept { IsKept settled.now it.old }
+    requires may { IfSome (next_page (frozen_in cars.now) (progress_seen settled.now it.old)) HasPage }
+    requires ready { IsReady (state pages.old) settled.now }
+    ensures kept { IsKept settled.now it.new }
+    ensures step { IfOk result (IsStep (frozen_in cars.now) (progress_seen settled.now it.old)
+        (progress_seen settled.now it.new)
+        (state pages.old) (state pages.new) (D.contents (disk_of pages.old)) (D.contents (disk_of pages.new))) }
+    ensures err { OnErr result (progress_seen settled.now it.new ≡ progress_seen settled.now it.old) }
+    ensures memory { OnMemory result ((state pages.new ≡ state pages.old) × (disk_of pages.new ≡ disk_of pages.old)) }
+    ensures leaves { IfTold (D.contents (disk_of pages.old)) (λ told. LeavesOnly D.moment D.since
+        (disk_of pages.old) (disk_of pages.new) (Holds (state pages.old) told)) }
+    ensures told { TellsOn (D.contents (disk_of pages.old)) (D.contents (disk_of pages.new)) }
+    ensures cause { HasCause (D.count (disk_of pages.old)) (D.count (disk_of pages.new)) result }
+    ensures made { Makes (D.made (disk_of pages.old)) (D.made (disk_of pages.new)) result }
+    // A fault comes only where a page is left.
+    ensures fault { OnErr result (IsSome (next_page (frozen_in cars.now) (progress_seen settled.now it.old))) }
+{
+    find_next(it);
+    let Some(ready) = ready_next(alloc, settled, cars, it)? else {
+        return Ok(Flushed::AllFlushed);
+    };
+    let page = put_page(settled, it, pages, &ready.bytes)?;
+    note_written(it, ready, page);
+    Ok(Flushed::Wrote(page))
+}
+
+impl Saver {
+    ghost use Rattle.std.specs.Prelude.{◌≡◌, ◌<◌, IfOk, OnErr};
+    ghost use Rattle.pm_saving.specs.Paging.{left_of};
+    ghost use Rattle.pm_shadow.specs.Pages.{state, disk_of};
+    ghost use Rattle.pm_saving.specs.Tied.{IsTied};
+    ghost use Rattle.pm_save.specs.Shown.{saving, frozen_of, frozen_cars};
+    ghost use Rattle.pm_save.specs.Answers.{HasCause, IsFlushed, Makes, IsStill, KeepsCopy, OnMemory, Spares, TellsOn, UnlessDisk};
+
+    /// Writes the next page of the copy in progress on the lowest page that is free. `AllFlushed` exactly where no
+    /// copy is in progress, or nothing of it is left to be written; nothing changed then.
+    ///
+    /// # Errors
+    ///
+    /// `Disk` where the disk failed, and `Memory` where memory ran out. After `Memory` all is as it was.
+    pub fn flush_one<D: Disk, F: Drop>(
+        &mut self,
+        alloc: Global,
+        space: &Space<F>,
+        pages: &mut Pages<D>,
+    ) -> Result<Flushed, SaveFault>
+        requires tied { IsTied (saving self.old) (frozen_of space.now.parts) (state pages.old) (D.contents
+            (disk_of pages.old)) }
+        ensures flushed { IfOk result (IsFlushed (saving self.old) (saving self.new) (frozen_cars space.now.parts)
+            (state pages.old) (state pages.new) (D.contents (disk_of pages.old)) (D.contents (disk_of pages.new))) }
+        // What holds between calls holds again.
+        ensures tied { UnlessDisk result (IsTied (saving self.new) (frozen_of space.now.parts) (state pages.new)
+            (D.contents (disk_of pages.new))) }
+        ensures memory { OnMemory result (IsStill (saving self.old) (saving self.new) (state pages.old)
+            (state pages.new)
+            (D.contents (disk_of pages.old)) (D.contents (disk_of pages.new))) }
+        // The current copy stands where it stood,
+        ensures has { UnlessDisk result (KeepsCopy (state pages.old) (state pages.new) (D.contents
+            (disk_of pages.old)) (D.contents (disk_of pages.new))) }
+        // and a crash at any moment of the call leaves it.
+        ensures leaves { Spares D.contents D.moment D.since (state pages.old) (disk_of pages.old) (disk_of pages.new) }
+        ensures told { TellsOn (D.contents (disk_of pages.old)) (D.contents (disk_of pages.new)) }
+        ensures cause { HasCause (D.count (disk_of pages.old)) (D.count (disk_of pages.new)) result }
+        // One write was made for a page, and no read reached past the end of what the disk told.
+        ensures made { Makes (D.made (disk_of pages.old)) (D.made (disk_of pages.new)) result }
+        // A fault comes only where a page is left, and leaves the copies as they were.
+        ensures fault { OnErr result (0 < left_of (saving self.old).progress) }
+        ensures err { OnErr result (saving self.new ≡ saving self.old) }
+    {
+        pages_of_a_copy_are_written_in_order();
+        the_next_page_is_written_beside_the_current_copy();
+        a_published_copy_is_the_settled_one();
+        let Some(it) = &mut self.progress else {
+            return Ok(Flushed::AllFlushed);
+        };
+        flush(alloc, &self.settled, &space.parts.cars, it, pages)
+    }
+}

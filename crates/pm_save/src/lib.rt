@@ -1,0 +1,21 @@
+//! Saving copies of a space page by page while its clients go on.
+#![tactic(auto)]
+
+mod beginning;
+mod clean;
+mod copying;
+mod cuts;
+mod dropping;
+mod entries;
+mod fault;
+mod flushing;
+mod listed_cars;
+mod next;
+mod place;
+mod roots;
+mod saver;
+mod settling;
+mod written;
+
+pub use fault::SaveFault;
+pub use saver::Saver;

@@ -1,0 +1,235 @@
+//! The cars of a copy once it is the settled one.
+
+ghost use Rattle.std.specs.Prelude.{◌≡◌, ◌⊎◌, ◌∷◌, [], ℕ, false, List, length, OnOk};
+ghost use Rattle.pm_disk.specs.Disk.{IfTold, LeavesOnly};
+ghost use Rattle.pm_shadow.specs.State.{IsPublishable, published, with_closed};
+ghost use Rattle.pm_shadow.specs.Images.{Holds, Renews};
+ghost use Rattle.pm_shadow.specs.Pages.{state, disk_of};
+ghost use Rattle.pm_save.specs.Answers.{HasCause, OnMemory, TellsOn};
+ghost use Rattle.pm_save.specs.Settling.{ClosesFrom, PublishesFrom};
+ghost use Rattle.std.specs.List.{AllByRecursion};
+ghost use Rattle.pm_image.specs.declared.settled.KeptPage.{KeptPage};
+ghost use Rattle.pm_saving.specs.Progress.{car_pages, page_in};
+ghost use Rattle.pm_saving.specs.Paging.{header_of};
+ghost use Rattle.pm_save.specs.Seen.{place_seen, progress_seen};
+ghost use Rattle.pm_save.specs.Kept.{IsKept, IsPlaced, IsWithin, is_open};
+ghost use Rattle.pm_save.specs.Taken.{AreOnce, StaysBut};
+
+use crate::next::first_part;
+use crate::place::{InProgress, Place};
+use crate::{SaveFault, Saver};
+use pm_disk::Disk;
+use pm_layout::Header;
+use pm_settled::{PackedCar, PackedPage};
+use pm_shadow::Pages;
+use pm_space::Space;
+use pm_types::{Flushed, VERSION};
+use std::alloc::Global;
+use std::mem;
+
+/// A car of no slot on no page: it takes the place of one that was taken out of a list.
+fn nothing(alloc: Global) -> PackedPage {
+    PackedPage::new(PackedCar::empty(alloc), 0, [0; 32])
+}
+
+/// The car of one place: where it is clean it is taken out of the settled ones.
+fn take_kept(alloc: Global, settled: &mut Vec<PackedPage>, place: Place) -> PackedPage
+    requires within { IsWithin settled.old.items place }
+    requires placed { is_open place ≡ false }
+    ensures kept { result ∷ [] ≡ page_in (place_seen settled.old.items place) }
+    ensures rest { StaysBut place settled.old.items settled.new.items }
+    ensures len { length settled.new.items ≡ length settled.old.items }
+{
+    match place {
+        Place::Clean(index) => mem::replace(&mut settled[index], nothing(alloc)),
+        Place::Written(kept) => kept,
+        Place::Unwritten => unreachable!(),
+    }
+}
+
+/// The cars of a copy that stands on its pages, in the room that was made for them. It takes no memory.
+pub(crate) fn settled_list(
+    alloc: Global,
+    settled: Vec<PackedPage>,
+    it: InProgress,
+) -> Vec<PackedPage>
+    requires kept { IsKept settled.items it }
+    requires placed { AllByRecursion IsPlaced it.cars.items }
+    requires once { AreOnce it.cars.items }
+    ensures { result.items ≡ car_pages (progress_seen settled.items it) }
+{
+    let InProgress { cars, room, .. } = it;
+    let mut cars = cars;
+    let mut settled = settled;
+    let mut room = room;
+    for index in 0..cars.len() {
+        let place = mem::replace(&mut cars[index].place, Place::Unwritten);
+        room.push_reserved(take_kept(alloc, &mut settled, place));
+    }
+    room
+}
+
+/// Closes the gate of the slot that the next header goes to.
+fn close_gate<D: Disk>(pages: &mut Pages<D>) -> Result<(), SaveFault>
+    requires sound { (state pages.old).failed ≡ false }
+    ensures state { OnOk result (state pages.new ≡ with_closed (state pages.old)) }
+    ensures closes { OnOk result (IfTold (D.contents (disk_of pages.new))
+        (ClosesFrom (state pages.old) (D.contents (disk_of pages.old)))) }
+    ensures leaves { IfTold (D.contents (disk_of pages.old)) (λ told.
+        LeavesOnly D.moment D.since (disk_of pages.old) (disk_of pages.new) (Holds (state pages.old) told)) }
+    ensures told { TellsOn (D.contents (disk_of pages.old)) (D.contents (disk_of pages.new)) }
+    ensures cause { HasCause (D.count (disk_of pages.old)) (D.count (disk_of pages.new)) result }
+    ensures memory { OnMemory result ⊥ }
+    ensures past { (D.made (disk_of pages.new)).past ≡ (D.made (disk_of pages.old)).past }
+{
+    pages.close_gate()?;
+    Ok(())
+}
+
+/// A digest has 32 bytes. It does nothing.
+fn known(digest: [u8; 32])
+    ensures { length digest ≡ 32 }
+{
+    let _len = digest.len();
+}
+
+/// Makes this header the current one, in the slot whose gate is closed.
+fn publish<D: Disk>(pages: &mut Pages<D>, header: &Header) -> Result<(), SaveFault>
+    requires { IsPublishable (state pages.old) header.now }
+    ensures state { OnOk result (state pages.new ≡ published (state pages.old) header.now) }
+    ensures publishes { OnOk result (IfTold (D.contents (disk_of pages.new))
+        (PublishesFrom (state pages.old) header.now (D.contents (disk_of pages.old)))) }
+    ensures only { OnOk result (IfTold (D.contents (disk_of pages.new)) (λ told.
+        (left : List ℕ) → D.image (disk_of pages.new) left → left ≡ told)) }
+    ensures leaves { IfTold (D.contents (disk_of pages.old)) (λ told.
+        LeavesOnly D.moment D.since (disk_of pages.old) (disk_of pages.new)
+        (λ image. Holds (state pages.old) told image ⊎ Renews (state pages.old) header.now told image)) }
+    ensures told { TellsOn (D.contents (disk_of pages.old)) (D.contents (disk_of pages.new)) }
+    ensures cause { HasCause (D.count (disk_of pages.old)) (D.count (disk_of pages.new)) result }
+    ensures memory { OnMemory result ⊥ }
+    ensures past { (D.made (disk_of pages.new)).past ≡ (D.made (disk_of pages.old)).past }
+{
+    known(header.digest);
+    pages.publish(header)?;
+    Ok(())
+}
+
+/// The header of a copy in progress, each page of which was written.
+fn header_in(it: &InProgress) -> Header
+    ensures { (settled : List KeptPage) → IsKept settled it.now → AllByRecursion IsPlaced it.now.cars.items
+        → result ≡ header_of (progress_seen settled it.now) }
+{
+    let digest = it.digest;
+    Header {
+        version: VERSION,
+        epoch: it.number,
+        next: it.next_id,
+        first: first_part(it),
+        digest,
+    }
+}
+
+impl Saver {
+    ghost use Rattle.std.specs.Prelude.{◌≡◌, ◌<◌, None, IsSome, IfSome, IfOk, OnOk, OnErr};
+    ghost use Rattle.std.specs.List.{AllByRecursion};
+    ghost use Rattle.pm_saving.specs.Progress.{car_pages};
+    ghost use Rattle.pm_save.specs.Kept.{IsPlaced};
+    ghost use Rattle.pm_save.specs.Taken.{AreOnce};
+    ghost use Rattle.pm_shadow.specs.Pages.{state, disk_of};
+    ghost use Rattle.pm_saving.specs.Paging.{left_of};
+    ghost use Rattle.pm_saving.specs.Tied.{IsTied, Settles};
+    ghost use Rattle.pm_save.specs.Shown.{saving, frozen_of, frozen_cars};
+    ghost use Rattle.pm_save.specs.Answers.{HasCause, OnMemory, Spares, TellsOn, UnlessDisk};
+    ghost use Rattle.pm_save.specs.Settling.{IsCausedBy, IsLeftSo, LeavesSpace, SparesEither, StandsThen, StaysOn};
+    ghost use Rattle.pm_save.specs.Runs.{Runs};
+
+    /// Writes what is left of the copy in progress.
+    fn write_rest<D: Disk, F: Drop>(
+        &mut self,
+        alloc: Global,
+        space: &Space<F>,
+        pages: &mut Pages<D>,
+    ) -> Result<(), SaveFault>
+        requires tied { IsTied (saving self.old) (frozen_of space.now.parts) (state pages.old)
+            (D.contents (disk_of pages.old)) }
+        requires begun { IsSome (saving self.old).progress }
+        ensures run { UnlessDisk result (Runs (frozen_of space.now.parts) (frozen_cars space.now.parts)
+            (saving self.old) (saving self.new) (state pages.old) (state pages.new)
+            (D.contents (disk_of pages.old)) (D.contents (disk_of pages.new))) }
+        ensures none { OnOk result (left_of (saving self.new).progress ≡ 0) }
+        ensures fault { OnErr result (0 < left_of (saving self.old).progress) }
+        ensures left { OnErr result (0 < left_of (saving self.new).progress) }
+        ensures goes { OnErr result (StaysOn (saving self.old) (saving self.new)) }
+        ensures spares { Spares D.contents D.moment D.since (state pages.old) (disk_of pages.old) (disk_of pages.new) }
+        ensures told { TellsOn (D.contents (disk_of pages.old)) (D.contents (disk_of pages.new)) }
+        ensures cause { HasCause (D.count (disk_of pages.old)) (D.count (disk_of pages.new)) result }
+        ensures past { (D.made (disk_of pages.new)).past ≡ (D.made (disk_of pages.old)).past }
+    {
+        while let Flushed::Wrote(_page) = self.flush_one(alloc, space, pages)? {}
+        Ok(())
+    }
+
+    /// Makes the copy in progress, each car of which stands on a page, the settled one. It takes no memory.
+    fn finish(&mut self, alloc: Global)
+        requires placed { IfSome self.old.progress (λ it. AllByRecursion IsPlaced it.cars.items) }
+        requires once { IfSome self.old.progress (λ it. AreOnce it.cars.items) }
+        ensures { IfSome (saving self.old).progress (λ progress.
+            saving self.new ≡ record { settled = car_pages progress; progress = None }) }
+    {
+        let Some(it) = self.progress.take() else {
+            return;
+        };
+        let settled = mem::replace(&mut self.settled, Vec::new(alloc));
+        self.settled = settled_list(alloc, settled, it);
+    }
+
+    /// Writes what is left of the copy in progress and makes it the settled one: the other gate is closed, the header is
+    /// published, and the cars are frozen no more. Answers its number. Once all of it was written no memory is taken.
+    ///
+    /// # Errors
+    ///
+    /// `Disk` where the disk failed, and `Memory` where memory ran out before all of the copy was written; then it is in
+    /// progress still.
+    pub fn settle<D: Disk, F: Drop>(
+        &mut self,
+        alloc: Global,
+        space: &mut Space<F>,
+        pages: &mut Pages<D>,
+    ) -> Result<u32, SaveFault>
+        requires tied { IsTied (saving self.old) (frozen_of space.old.parts) (state pages.old)
+            (D.contents (disk_of pages.old)) }
+        requires begun { IsSome (saving self.old).progress }
+        ensures settled { IfOk result (Settles (saving self.old) (saving self.new) (frozen_cars space.old.parts)
+            (state pages.old) (state pages.new)
+            (D.contents (disk_of pages.old)) (D.contents (disk_of pages.new))) }
+        // Every image stands for that copy then, and its pages are kept,
+        ensures now { IfOk result (StandsThen D.contents D.image (saving self.old).progress
+            (frozen_cars space.old.parts) (state pages.new) (disk_of pages.old) (disk_of pages.new)) }
+        // and at every moment of the call for the copy that was settled or for this one.
+        ensures leaves { SparesEither D.contents D.moment D.since (saving self.old).progress
+            (frozen_cars space.old.parts) (state pages.old) (disk_of pages.old) (disk_of pages.new) }
+        ensures tied { UnlessDisk result (IsTied (saving self.new) (frozen_of space.new.parts) (state pages.new)
+            (D.contents (disk_of pages.new))) }
+        ensures memory { OnMemory result (IsLeftSo D.contents D.moment D.since (saving self.old) (saving self.new)
+            (state pages.old) (state pages.new) (disk_of pages.old) (disk_of pages.new)) }
+        // Then something of the copy is left to be written, as it was before.
+        ensures left { OnMemory result (0 < left_of (saving self.new).progress) }
+        // After a fault the copy is in progress still.
+        ensures goes { OnErr result (StaysOn (saving self.old) (saving self.new)) }
+        ensures space { LeavesSpace space.old.parts space.new.parts result }
+        ensures told { TellsOn (D.contents (disk_of pages.old)) (D.contents (disk_of pages.new)) }
+        ensures causes { IsCausedBy (D.count (disk_of pages.old)) (D.count (disk_of pages.new))
+            (D.made (disk_of pages.old)) (D.made (disk_of pages.new)) result }
+    {
+        self.write_rest(alloc, space, pages)?;
+        close_gate(pages)?;
+        let Some(it) = &self.progress else {
+            unreachable!()
+        };
+        let header = header_in(it);
+        publish(pages, &header)?;
+        self.finish(alloc);
+        space.parts.cars.thaw();
+        Ok(header.epoch)
+    }
+}

@@ -1,7 +1,0 @@
-use Rattle.std.proofs.Common.{take}
-use Rattle.pm_saver.specs.Planned.{IsIndex}
-use Rattle.pm_saver.proofs.placing.index_of.Given as goal
-
--- the places of the cars so far
-abbrev pub invariant-loop-place : goal.invariant-loop-place
-invariant-loop-place l = IsIndex (take l.place l.settled) l.index

@@ -1,0 +1,101 @@
+-- Lines that are read one after the other, and how the last newline is left out.
+use Rattle.std.proofs.Common.{◌≡◌, ℕ, ◌+◌, ◌-◌, ◌<◌, ◌≤◌, ◌==◌, Bool, true, false, cond, ◌&&◌, List, [], ◌∷◌, ◌++◌, length, drop, take, get_or, Option, Some, None, Result, Ok, Err, refl, sym, ap, ◌∙◌, arith, nat_eq, Bor, if◌then◌else◌}
+use Rattle.std.proofs.lemmas.Bool.Decides.{nat_tests}
+use Rattle.std.proofs.lemmas.List.{at_drop_more, at_drop_all, append-nil, take-append-drop}
+use Rattle.std.specs.Option.{MatchOption, unwrap_or}
+use Rattle.std.specs.List.{slice_split, onto_first}
+use Rattle.std.specs.Cmp.Lexicographic.{pointwise}
+use Rattle.pm_base.specs.Results.{◌>>=◌}
+use Rattle.pm_base.proofs.Fronts.{with_front, regroup}
+use Rattle.pm_script.specs.declared.fault.ScriptFault.{ScriptFault}
+use Rattle.pm_script.specs.declared.fault.ScriptFault.TheVariants as fault
+use Rattle.pm_script.specs.declared.line.Line.{Line}
+use Rattle.pm_script.specs.Lines.{lines_of, is_silent}
+use Rattle.pm_script.specs.Reading.{Stops, line_at, numbered, lines_at}
+
+-- the parts between newlines
+abbrev pub parts : List ℕ → List (List ℕ)
+parts bytes = slice_split (λ b. nat_eq b 10) bytes
+
+turn : (bodies : List (List ℕ)) (m n : ℕ) (body : List ℕ) → n < length bodies → body ≡ get_or bodies n body
+    → lines_at m (drop n bodies) ≡ (if is_silent body then lines_at (m + 1) (drop (n + 1) bodies) else (numbered m (line_at body) >>= λ line. lines_at (m + 1) (drop (n + 1) bodies) >>= λ lines. Ok (line ∷ lines)))
+turn bodies m n body lt is = at_drop_more (lines_at m) bodies n body lt ∙ ap (λ b. lines_at m (b ∷ drop (n + 1) bodies)) (sym is)
+
+-- a line that says nothing is passed over
+pub passed_over : (front : List Line) (bodies : List (List ℕ)) (all : Result (List Line) ScriptFault) (m n : ℕ) (body : List ℕ) → n < length bodies → body ≡ get_or bodies n body → is_silent body ≡ true
+    → with_front front (lines_at m (drop n bodies)) ≡ all → with_front front (lines_at (m + 1) (drop (n + 1) bodies)) ≡ all
+passed_over front bodies all m n body lt is silent so =
+    sym (ap (with_front front) (turn bodies m n body lt is ∙ ap (λ b. if b then lines_at (m + 1) (drop (n + 1) bodies) else (numbered m (line_at body) >>= λ line. lines_at (m + 1) (drop (n + 1) bodies) >>= λ lines. Ok (line ∷ lines))) silent)) ∙ so
+
+spoken_turn : (front : List Line) (bodies : List (List ℕ)) (all : Result (List Line) ScriptFault) (m n : ℕ) (body : List ℕ) → n < length bodies → body ≡ get_or bodies n body → is_silent body ≡ false
+    → with_front front (lines_at m (drop n bodies)) ≡ all → with_front front (numbered m (line_at body) >>= λ line. lines_at (m + 1) (drop (n + 1) bodies) >>= λ lines. Ok (line ∷ lines)) ≡ all
+spoken_turn front bodies all m n body lt is spoken so =
+    sym (ap (with_front front) (turn bodies m n body lt is ∙ ap (λ b. if b then lines_at (m + 1) (drop (n + 1) bodies) else (numbered m (line_at body) >>= λ line. lines_at (m + 1) (drop (n + 1) bodies) >>= λ lines. Ok (line ∷ lines))) spoken)) ∙ so
+
+-- one line more
+pub line_more : (front : List Line) (line : Line) (bodies : List (List ℕ)) (all : Result (List Line) ScriptFault) (m n : ℕ) (body : List ℕ) → n < length bodies → body ≡ get_or bodies n body → is_silent body ≡ false
+    → with_front front (lines_at m (drop n bodies)) ≡ all → numbered m (line_at body) ≡ Ok line → with_front (front ++ line ∷ []) (lines_at (m + 1) (drop (n + 1) bodies)) ≡ all
+line_more front line bodies all m n body lt is spoken so read =
+    sym (regroup front line (lines_at (m + 1) (drop (n + 1) bodies)))
+    ∙ ap (λ (r : Result Line ScriptFault). with_front front (r >>= λ line. lines_at (m + 1) (drop (n + 1) bodies) >>= λ lines. Ok (line ∷ lines))) (sym read)
+    ∙ spoken_turn front bodies all m n body lt is spoken so
+
+stopped : (front : List Line) (bodies : List (List ℕ)) (all : Result (List Line) ScriptFault) (m n : ℕ) (body : List ℕ) (f : ScriptFault) → n < length bodies → body ≡ get_or bodies n body → is_silent body ≡ false
+    → with_front front (lines_at m (drop n bodies)) ≡ all → numbered m (line_at body) ≡ Err f → all ≡ Err f
+stopped front bodies all m n body f lt is spoken so read =
+    sym (spoken_turn front bodies all m n body lt is spoken so)
+    ∙ ap (λ (r : Result Line ScriptFault). with_front front (r >>= λ line. lines_at (m + 1) (drop (n + 1) bodies) >>= λ lines. Ok (line ∷ lines))) read
+
+-- a bad line ends all
+pub bad_ends : (f : ScriptFault) (front : List Line) (bodies : List (List ℕ)) (all : Result (List Line) ScriptFault) (m n : ℕ) (body : List ℕ) → n < length bodies → body ≡ get_or bodies n body → is_silent body ≡ false
+    → with_front front (lines_at m (drop n bodies)) ≡ all → Stops {X = Line} f (numbered m (line_at body)) → Stops {X = List Line} f all
+bad_ends (fault.Line number cause) front bodies all m n body lt is spoken so read = stopped front bodies all m n body (fault.Line number cause) lt is spoken so read
+bad_ends fault.TooManyLines front bodies all m n body lt is spoken so read = stopped front bodies all m n body fault.TooManyLines lt is spoken so read
+bad_ends fault.TooLong front bodies all m n body lt is spoken so read = stopped front bodies all m n body fault.TooLong lt is spoken so read
+bad_ends fault.Memory front bodies all m n body lt is spoken so read = tt
+
+-- all lines are read
+pub lines_done : (front : List Line) (bodies : List (List ℕ)) (all : Result (List Line) ScriptFault) (m n : ℕ) → length bodies ≤ n → with_front front (lines_at m (drop n bodies)) ≡ all → all ≡ Ok front
+lines_done front bodies all m n le so =
+    sym so ∙ ap (with_front front) (at_drop_all (lines_at m) bodies n le) ∙ ap (λ (ls : List Line). Ok ls) (append-nil front)
+
+-- a newline at the end ends the last line
+newline_last : (xs : List ℕ) → lines_of (xs ++ 10 ∷ []) ≡ parts xs
+newline_last [] = refl
+newline_last (x ∷ xs) = ap (λ ls. if nat_eq x 10 then [] ∷ ls else onto_first x ls) (newline_last xs)
+
+one_line : (x : ℕ) (test : Bool) → test ≡ false → (if test then [] ∷ [] else onto_first x []) ≡ cond test ([] ∷ ([] ∷ [])) (onto_first x ([] ∷ []))
+one_line x true is = absurd cc
+one_line x false is = refl
+
+-- bytes after the last newline are one more line
+other_last : (xs : List ℕ) (y : ℕ) → nat_eq y 10 ≡ false → lines_of (xs ++ y ∷ []) ≡ parts (xs ++ y ∷ [])
+other_last [] y other = one_line y (nat_eq y 10) other
+other_last (x ∷ xs) y other = ap (λ ls. if nat_eq x 10 then [] ∷ ls else onto_first x ls) (other_last xs y other)
+
+last_of : (bytes : List ℕ) → 0 < length bytes → drop (length bytes - 1) bytes ≡ get_or bytes (length bytes - 1) 0 ∷ []
+last_of bytes some =
+    at_drop_more (λ xs. xs) bytes (length bytes - 1) 0 (omega arith) ∙ ap (λ xs. get_or bytes (length bytes - 1) 0 ∷ xs) (at_drop_all (λ xs. xs) bytes (length bytes - 1 + 1) (omega arith))
+
+with_last : (bytes : List ℕ) → 0 < length bytes → bytes ≡ take (length bytes - 1) bytes ++ get_or bytes (length bytes - 1) 0 ∷ []
+with_last bytes some = sym (take-append-drop (length bytes - 1) bytes) ∙ ap (λ xs. take (length bytes - 1) bytes ++ xs) (last_of bytes some)
+
+byte_by : (x y : ℕ) (b : Bool) → ((x == y) && true) ≡ b → nat_eq x y ≡ b
+byte_by x y b is = grind (arith, nat_tests)
+
+same_byte : (x y : ℕ) → nat_eq x y ≡ true → x ≡ y
+same_byte x y is = grind (arith, nat_tests)
+
+-- what stands before a last newline, or all
+pub before_last : (bytes : List ℕ) (whole found : Bor (List ℕ)) (r : Option (Bor (List ℕ))) → 0 < length bytes → whole.now ≡ bytes
+    → MatchOption r (pointwise ◌==◌ (drop (length bytes - 1) bytes) (10 ∷ []) ≡ false) (λ x. (pointwise ◌==◌ (drop (length bytes - 1) bytes) (10 ∷ []) ≡ true) × (x.now ≡ take (length bytes - 1) bytes) × (length x.now + 1 ≡ length bytes))
+    → found ≡ unwrap_or r whole → parts found.now ≡ lines_of bytes
+before_last bytes whole found (Some x) some all is so =
+    let last = get_or bytes (length bytes - 1) 0 in
+    let newline : last ≡ 10 = same_byte last 10 (byte_by last 10 true (ap (λ xs. pointwise ◌==◌ xs (10 ∷ [])) (sym (last_of bytes some)) ∙ is.0)) in
+    ap (λ (b : Bor (List ℕ)). parts b.now) so ∙ ap parts is.1 ∙ sym (newline_last (take (length bytes - 1) bytes))
+    ∙ ap lines_of (ap (λ b. take (length bytes - 1) bytes ++ b ∷ []) (sym newline) ∙ sym (with_last bytes some))
+before_last bytes whole found None some all is so =
+    let last = get_or bytes (length bytes - 1) 0 in
+    let other : nat_eq last 10 ≡ false = byte_by last 10 false (ap (λ xs. pointwise ◌==◌ xs (10 ∷ [])) (sym (last_of bytes some)) ∙ is) in
+    ap (λ (b : Bor (List ℕ)). parts b.now) so ∙ ap parts all ∙ ap parts (with_last bytes some) ∙ sym (other_last (take (length bytes - 1) bytes) last other) ∙ ap lines_of (sym (with_last bytes some))

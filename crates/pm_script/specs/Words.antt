@@ -1,0 +1,136 @@
+-- The words of lines: which word names a command, what kinds of words follow it, and how each kind is spelled.
+use Rattle.std.specs.Prelude.{◌≡◌, ℕ, ◌^◌, ◌<◌, Bool, true, false, not, List, [], ◌∷◌, codes, decimal}
+use Rattle.hex.specs.Hex.{IsBytes}
+use Rattle.pm_types.specs.declared.limits.TheConstants.{CLIENTS, REGISTERS}
+use Rattle.pm_types.specs.Names.{IsName}
+use Rattle.pm_model.specs.Text.{pairs}
+use Rattle.pm_script.specs.declared.fault.Cause.{Cause}
+use Rattle.pm_script.specs.declared.fault.Cause.TheVariants as cause
+use Rattle.pm_script.specs.declared.verb.Verb.{Verb}
+use Rattle.pm_script.specs.declared.verb.Verb.TheVariants as verb
+use Rattle.pm_script.specs.declared.verb.Kind.{Kind}
+use Rattle.pm_script.specs.declared.verb.Kind.TheVariants as kind
+use Rattle.pm_script.specs.declared.verb.First.{First}
+use Rattle.pm_script.specs.declared.verb.First.TheVariants as first
+use Rattle.pm_script.specs.declared.value.Value.{Value}
+use Rattle.pm_script.specs.declared.value.Value.TheVariants as value
+use Rattle.pm_script.specs.HexDigits.{ArePairsOf}
+
+-- the word that names what is asked
+abbrev pub word_of : Verb → List ℕ
+word_of verb.New = codes "new"
+word_of verb.Load = codes "load"
+word_of verb.Store = codes "store"
+word_of verb.Clear = codes "clear"
+word_of verb.Data = codes "data"
+word_of verb.Put = codes "put"
+word_of verb.Copy = codes "copy"
+word_of verb.Id = codes "id"
+word_of verb.Drop = codes "drop"
+word_of verb.Root = codes "root"
+word_of verb.Unroot = codes "unroot"
+word_of verb.Find = codes "find"
+word_of verb.Save = codes "save"
+word_of verb.Settle = codes "settle"
+word_of verb.Watch = codes "watch"
+word_of verb.Close = codes "close"
+word_of verb.Swap = codes "swap"
+word_of verb.Unsave = codes "unsave"
+word_of verb.Gc = codes "gc"
+word_of verb.Flush = codes "flush"
+
+-- the kinds of the words after it
+abbrev pub kinds : Verb → List Kind
+kinds verb.New = kind.Register ∷ kind.Number ∷ kind.Hex ∷ []
+kinds verb.Load = kind.Register ∷ kind.Register ∷ kind.Number ∷ []
+kinds verb.Store = kind.Register ∷ kind.Number ∷ kind.Register ∷ []
+kinds verb.Clear = kind.Register ∷ kind.Number ∷ []
+kinds verb.Data = kind.Register ∷ []
+kinds verb.Put = kind.Register ∷ kind.Number ∷ kind.Hex ∷ []
+kinds verb.Copy = kind.Register ∷ kind.Register ∷ []
+kinds verb.Id = kind.Register ∷ []
+kinds verb.Drop = kind.Register ∷ []
+kinds verb.Root = kind.Name ∷ kind.Register ∷ []
+kinds verb.Unroot = kind.Name ∷ []
+kinds verb.Find = kind.Register ∷ kind.Name ∷ []
+kinds verb.Save = []
+kinds verb.Settle = []
+kinds verb.Watch = []
+kinds verb.Close = []
+kinds verb.Swap = kind.Register ∷ kind.Number ∷ kind.Register ∷ kind.Register ∷ []
+kinds verb.Unsave = []
+kinds verb.Gc = kind.Number ∷ []
+kinds verb.Flush = kind.Number ∷ []
+
+-- all of them
+abbrev pub verbs : List Verb
+verbs =
+    verb.New ∷ verb.Load ∷ verb.Store ∷ verb.Clear ∷ verb.Data ∷ verb.Put ∷ verb.Copy ∷ verb.Id ∷ verb.Drop ∷ verb.Root
+    ∷ verb.Unroot ∷ verb.Find ∷ verb.Save ∷ verb.Settle ∷ verb.Watch ∷ verb.Close ∷ verb.Swap ∷ verb.Unsave ∷ verb.Gc ∷ verb.Flush ∷ []
+
+-- asked of the collector and of the checkpoint, and by no client
+abbrev pub is_event : Verb → Bool
+is_event verb.Gc = true
+is_event verb.Flush = true
+is_event verb = false
+
+-- what may be asked after such a first word
+abbrev pub belongs : First → Verb → Bool
+belongs (first.Client client) verb = not (is_event verb)
+belongs first.Bang verb = is_event verb
+
+-- the word that a line begins with
+abbrev pub first_word : First → List ℕ
+first_word (first.Client client) = decimal client
+first_word first.Bang = codes "!"
+
+-- a client is one of the eight
+abbrev pub IsFirst : First → Type 0
+IsFirst (first.Client client) = client < CLIENTS
+IsFirst first.Bang = Unit {0}
+
+-- the kind of a value
+abbrev pub kind_of : Value → Kind
+kind_of (value.Register register) = kind.Register
+kind_of (value.Number number) = kind.Number
+kind_of (value.Hex bytes) = kind.Hex
+kind_of (value.Name name) = kind.Name
+
+-- why a word is not of its kind
+abbrev pub kind_cause : Kind → Cause
+kind_cause kind.Register = cause.Number
+kind_cause kind.Number = cause.Number
+kind_cause kind.Hex = cause.Hex
+kind_cause kind.Name = cause.Name
+
+-- the word spells the bytes: a dash where there are none, and otherwise two hexadecimal digits for each, in either case
+abbrev pub IsHexWord : List ℕ → List ℕ → Type 0
+IsHexWord word [] = word ≡ codes "-"
+IsHexWord word (byte ∷ bytes) = ArePairsOf (byte ∷ bytes) word
+
+-- the word spells the value
+abbrev pub IsSpelled : Value → List ℕ → Type 0
+IsSpelled (value.Register register) word = (register < REGISTERS) × (word ≡ decimal register)
+IsSpelled (value.Number number) word = (number < 2 ^ 32) × (word ≡ decimal number)
+IsSpelled (value.Hex bytes) word = IsHexWord word bytes
+IsSpelled (value.Name name) word = IsName name × (word ≡ name)
+
+-- as many words as values, each of which spells the value in its place
+abbrev pub AreSpelled : List Value → List (List ℕ) → Type 0
+AreSpelled [] [] = Unit {0}
+AreSpelled (value ∷ values) (word ∷ words) = IsSpelled value word × AreSpelled values words
+AreSpelled values words = ⊥
+
+-- a value that has a spelling
+abbrev pub IsValue : Value → Type 0
+IsValue (value.Register register) = register < REGISTERS
+IsValue (value.Number number) = number < 2 ^ 32
+IsValue (value.Hex bytes) = IsBytes bytes
+IsValue (value.Name name) = IsName name
+
+-- one word that spells it: bytes are spelled in lower case
+abbrev pub value_word : Value → List ℕ
+value_word (value.Register register) = decimal register
+value_word (value.Number number) = decimal number
+value_word (value.Hex bytes) = pairs bytes
+value_word (value.Name name) = name

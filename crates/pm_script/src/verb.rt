@@ -1,0 +1,153 @@
+ghost use Rattle.std.specs.Prelude.{◌≡◌, ◌==◌, ◌&&◌};
+ghost use Rattle.std.specs.Cmp.Lexicographic.{pointwise};
+ghost use Rattle.pm_script.specs.Words.{word_of, kinds, is_event, belongs};
+ghost use Rattle.pm_script.specs.Values.{verb_at};
+
+/// What a line asks, by the word that names it.
+#[derive(Clone, Copy, Debug, PartialEq, Eq)]
+pub(crate) enum Verb {
+    New,
+    Load,
+    Store,
+    Clear,
+    Data,
+    Put,
+    Copy,
+    Id,
+    Drop,
+    Root,
+    Unroot,
+    Find,
+    Save,
+    Settle,
+    Watch,
+    Close,
+    Swap,
+    Unsave,
+    Gc,
+    Flush,
+}
+
+/// The kinds of words that stand after it.
+#[derive(Clone, Copy, Debug, PartialEq, Eq)]
+pub(crate) enum Kind {
+    /// A number from 0 to 1023.
+    Register,
+    /// A number below 2^32.
+    Number,
+    /// Pairs of hexadecimal digits, or a dash for no byte.
+    Hex,
+    /// The name of a root.
+    Name,
+}
+
+/// The word that a line begins with.
+#[derive(Clone, Copy, Debug, PartialEq, Eq)]
+pub(crate) enum First {
+    /// A client, 0 to 7.
+    Client(u32),
+    /// The exclamation mark, for what no client asks.
+    Bang,
+}
+
+const VERBS: [Verb; 20] = [
+    Verb::New,
+    Verb::Load,
+    Verb::Store,
+    Verb::Clear,
+    Verb::Data,
+    Verb::Put,
+    Verb::Copy,
+    Verb::Id,
+    Verb::Drop,
+    Verb::Root,
+    Verb::Unroot,
+    Verb::Find,
+    Verb::Save,
+    Verb::Settle,
+    Verb::Watch,
+    Verb::Close,
+    Verb::Swap,
+    Verb::Unsave,
+    Verb::Gc,
+    Verb::Flush,
+];
+
+impl Verb {
+    // The word that names it.
+    fn word(self) -> &'static [u8]
+        ensures { result.now ≡ word_of self }
+    {
+        match self {
+            Verb::New => b"new",
+            Verb::Load => b"load",
+            Verb::Store => b"store",
+            Verb::Clear => b"clear",
+            Verb::Data => b"data",
+            Verb::Put => b"put",
+            Verb::Copy => b"copy",
+            Verb::Id => b"id",
+            Verb::Drop => b"drop",
+            Verb::Root => b"root",
+            Verb::Unroot => b"unroot",
+            Verb::Find => b"find",
+            Verb::Save => b"save",
+            Verb::Settle => b"settle",
+            Verb::Watch => b"watch",
+            Verb::Close => b"close",
+            Verb::Swap => b"swap",
+            Verb::Unsave => b"unsave",
+            Verb::Gc => b"gc",
+            Verb::Flush => b"flush",
+        }
+    }
+
+    /// The kinds of the words after it, from left to right.
+    pub fn kinds(self) -> &'static [Kind]
+        ensures { result.now ≡ kinds self }
+    {
+        match self {
+            Verb::New | Verb::Put => &[Kind::Register, Kind::Number, Kind::Hex],
+            Verb::Load => &[Kind::Register, Kind::Register, Kind::Number],
+            Verb::Store => &[Kind::Register, Kind::Number, Kind::Register],
+            Verb::Clear => &[Kind::Register, Kind::Number],
+            Verb::Data | Verb::Id | Verb::Drop => &[Kind::Register],
+            Verb::Copy => &[Kind::Register, Kind::Register],
+            Verb::Root => &[Kind::Name, Kind::Register],
+            Verb::Unroot => &[Kind::Name],
+            Verb::Find => &[Kind::Register, Kind::Name],
+            Verb::Save | Verb::Settle | Verb::Watch | Verb::Close | Verb::Unsave => &[],
+            Verb::Swap => &[Kind::Register, Kind::Number, Kind::Register, Kind::Register],
+            Verb::Gc | Verb::Flush => &[Kind::Number],
+        }
+    }
+
+    // Whether it is asked after `!`, and by no client.
+    fn is_event(self) -> bool
+        ensures { result ≡ is_event self }
+    {
+        matches!(self, Verb::Gc | Verb::Flush)
+    }
+
+    // Whether this word names it, and it may be asked after that first word.
+    fn is_named(self, first: First, word: &[u8]) -> bool
+        ensures { result ≡ (pointwise ◌==◌ word.now (word_of self) && belongs first self) }
+    {
+        let asked = match first {
+            First::Client(_) => !self.is_event(),
+            First::Bang => self.is_event(),
+        };
+        word == self.word() && asked
+    }
+
+    /// What the word names, of what may be asked after that first word.
+    #[tactic(auto, unfolding(crate::specs::Values::verb_at))]
+    pub fn read(first: First, word: &[u8]) -> Option<Verb>
+        ensures { result ≡ verb_at first word.now }
+    {
+        VERBS
+            .iter()
+            .copied()
+            .find(|verb| verb.is_named(first, word))
+    }
+}

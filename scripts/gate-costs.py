@@ -1,0 +1,115 @@
+#!/usr/bin/env python3
+"""What the gate costs, crate by crate and part by part.
+
+    scripts/gate-costs.py watch FILE        notes each check of the prover that runs, until it is stopped; then a table
+    scripts/gate-costs.py table FILE..      the table of what was noted
+    scripts/gate-costs.py chain FILE..      the longest chain of crates, each of which waits for the one before it
+
+Run `watch` beside `rt ci` on a machine that does nothing else:
+
+    scripts/gate-costs.py watch /tmp/costs.json & rt ci; kill %1; wait
+
+It looks at /proc once a second. A process of the prover says in its command line which crate it is for and whether it
+reads the crate with its tests, and in its folder whether it tries a must-fail edit. What it had used when it was last
+seen is what it cost, in processor seconds, user and system. Only what a run proves is seen: what an earlier run on this
+machine passed is kept, and costs nothing (`rt ci --anew` proves all).
+"""
+import glob
+import json
+import os
+import signal
+import sys
+import time
+
+TICK = os.sysconf("SC_CLK_TCK")
+PARTS = ("proof", "tests", "edits")
+
+
+def text_of(path):
+    with open(path, "rb") as it:
+        return it.read().decode(errors="replace")
+
+
+def check_of(pid):
+    """Returns (start, crate, part, processor seconds) of a check that a gate runs, or None for any other process."""
+    words = text_of(f"/proc/{pid}/cmdline").split("\0")
+    where = os.readlink(f"/proc/{pid}/cwd")
+    if os.path.basename(words[0]) != "rattle" or "--crate-name" not in words:
+        return None
+    fields = text_of(f"/proc/{pid}/stat").rpartition(") ")[2].split()
+    seconds = sum(int(it) for it in fields[11:15]) / TICK
+    part = "edits" if "/rt-edit-" in where else "tests" if "--test" in words else "proof"
+    return fields[19], words[words.index("--crate-name") + 1], part, seconds
+
+
+def watch(file):
+    seen, ended = {}, []
+    for number in (signal.SIGTERM, signal.SIGINT):
+        signal.signal(number, lambda *_: ended.append(True))
+    while not ended:
+        for path in glob.glob("/proc/[0-9]*"):
+            pid = os.path.basename(path)
+            try:
+                found = check_of(pid)
+            except (OSError, ValueError, IndexError):
+                continue
+            if found:
+                seen[f"{pid} {found[0]}"] = found[1:]
+        time.sleep(1)
+    with open(file, "w", encoding="utf-8") as out:
+        json.dump(list(seen.values()), out)
+
+
+def sums_of(files):
+    """Returns the seconds of each part of each crate."""
+    sums = {}
+    for file in files:
+        with open(file, encoding="utf-8") as it:
+            for crate, part, seconds in json.load(it):
+                sums.setdefault(crate, dict.fromkeys(PARTS, 0.0))[part] += seconds
+    return sums
+
+
+def print_table(sums):
+    rows = sorted(sums.items(), key=lambda it: -sum(it[1].values()))
+    rows.append(("all", {part: sum(row[part] for row in sums.values()) for part in PARTS}))
+    print("| Crate | Proof | Tests | Edits | All |\n|---|---|---|---|---|")
+    for crate, row in rows:
+        print("|", " | ".join([crate, *[f"{row[part]:.0f}" for part in PARTS], f"{sum(row.values()):.0f}"]), "|")
+
+
+def print_chain(sums):
+    below = {}
+    for line in text_of("crates.txt").split("\n"):
+        name, colon, names = line.partition("#")[0].partition(":")
+        if colon:
+            below[name.split()[0]] = names.split()
+    best = {}
+
+    def chain(crate):
+        if crate not in best:
+            before = max((chain(it) for it in below[crate] if it in below), key=lambda it: it[0], default=(0.0, []))
+            own = sums.get(crate, {}).get("proof", 0.0)
+            best[crate] = (before[0] + own, [*before[1], (crate, own)])
+        return best[crate]
+
+    longest = max((chain(it) for it in below), key=lambda it: it[0])
+    for crate, own in longest[1]:
+        print(f"{own:7.0f} s  {crate}")
+    print(f"{longest[0]:7.0f} s  in all")
+
+
+def main(words):
+    if len(words) == 2 and words[0] == "watch":
+        watch(words[1])
+        print_table(sums_of(words[1:]))
+    elif len(words) > 1 and words[0] == "table":
+        print_table(sums_of(words[1:]))
+    elif len(words) > 1 and words[0] == "chain":
+        print_chain(sums_of(words[1:]))
+    else:
+        sys.exit(__doc__)
+
+
+if __name__ == "__main__":
+    main(sys.argv[1:])
