@@ -2,15 +2,20 @@
 use Rattle.std.proofs.Common.{◌≡◌, ◌⊎◌, inl, inr, ℕ, List, [], Option, Some, refl, subst, arith}
 use Rattle.pm_base.specs.Counts.{Rose, ShowsRise}
 use Rattle.pm_types.specs.declared.entry.Entry.{Entry}
-use Rattle.pm_disk.specs.Made.{Made}
+use Rattle.pm_disk.specs.declared.disk.Disk as disk
+use Rattle.pm_io.specs.declared.source.Source as source
+use Rattle.pm_io.specs.declared.sink.Sink as sink
 use Rattle.pm_script.proofs.BadLaws.{no_fault}
-use Rattle.pm_engine.specs.declared.tally.Tally.{Tally}
-use Rattle.pm_top.specs.declared.ended.Detail.{Detail}
-use Rattle.pm_top.specs.declared.ended.Detail.TheVariants.{Fine, Usage, Script, Reading, Writing, Device, NotEmpty, Refused, Memory}
-use Rattle.pm_top.specs.Ends.{status_of}
 use Rattle.pm_words.specs.declared.command.Command.{Command}
 use Rattle.pm_words.specs.declared.command.Command.TheVariants.{Init, Run, Inspect, Make, Trial}
-use Rattle.pm_top.specs.Commands.{ShowsCauses, MakesStore, RunsScript, InspectsStore, MakesScript, TriesScript, Does}
+use Rattle.pm_top.specs.declared.ended.Detail.{Detail}
+use Rattle.pm_top.specs.declared.ended.Detail.TheVariants.{Fine, Usage, Script, Reading, Writing, Device, NotEmpty, Refused, Memory}
+use Rattle.pm_top.specs.declared.ended.Ended.{Ended}
+use Rattle.pm_top.specs.Ends.{ShowsReading, ShowsWriting, ShowsDevice, status_of}
+use Rattle.pm_top.specs.Stages.{IsPast, the_words}
+use Rattle.pm_top.specs.Journals.{IsScriptEnd}
+use Rattle.pm_top.specs.Disks.{IsRefusedFor, LeavesMade}
+use Rattle.pm_top.specs.Commands.{ShowsCauses, EndsInspecting, EndsMaking, EndsTrying, Does}
 use Rattle.pm_top.specs.Needs.{HasNeeds, HoldsScript, HoldsStore, NothingFails}
 use Rattle.pm_top.proofs.Opened.{never_shut}
 
@@ -20,100 +25,109 @@ IsComplete detail = (status_of detail ≡ 0) ⊎ (status_of detail ≡ 7)
 rises : (before after was now : ℕ) → ShowsRise before after was now → Rose was now
 rises before after was now shown = subst (λ (n : ℕ). Rose n now) shown.0 (subst (λ (n : ℕ). Rose before n) shown.1 shown.2)
 
-module _ {D S K : Type 0} (disk_count : D → ℕ) (made : D → Made) (source_count : S → ℕ) (sink_count : K → ℕ) (disk disk_end : D) (source source_end : S) (sink sink_end : K) where
-  module _ (contents : D → Option (List ℕ)) (image : D → List ℕ → Type 0) (moment : D → ℕ) (since : D → ℕ → List ℕ → Type 0) (left : S → Option (List ℕ)) (written : K → Option (List ℕ)) (finished : K → ℕ) where
-    pub run_complete : (detail : Detail) (journal : List Entry) (tally : Option Tally)
-        → RunsScript contents image moment since left written finished sink_count disk disk_end source source_end sink sink_end detail journal tally
-        → ShowsCauses disk_count made source_count sink_count disk disk_end source source_end sink sink_end detail
-        → NothingFails disk_count source_count sink_count disk disk_end source source_end sink sink_end
-        → HoldsStore (contents disk) → HoldsScript (left source) → IsComplete detail
-    run_complete Fine journal tally runs causes none store script = inl refl
-    run_complete Usage journal tally runs causes none store script = let ends = runs.ends in absurd (omega (arith, ends))
-    run_complete (Script fault) journal tally runs causes none store script = absurd (no_fault script.bytes fault script.lines (runs.script script.bytes script.is_told).refused script.script)
-    run_complete (Reading before after) journal tally runs causes none store script = absurd (none.source_stands (rises before after (source_count source) (source_count source_end) causes.reading))
-    run_complete (Writing before after) journal tally runs causes none store script = absurd (none.sink_stands (rises before after (sink_count sink) (sink_count sink_end) causes.writing))
-    run_complete (Device before after) journal tally runs causes none store script = absurd (none.disk_stands (rises before after (disk_count disk) (disk_count disk_end) causes.device))
-    run_complete (NotEmpty bytes) journal tally runs causes none store script = let ends = runs.ends in absurd (omega (arith, ends))
-    run_complete (Refused fault) journal tally runs causes none store script =
-        absurd (never_shut store.bytes store.number store.copy fault store.stands (runs.store.leaves.refused store.bytes store.is_told))
-    run_complete Memory journal tally runs causes none store script = inr refl
+-- ---- what a command with its needs may end with
 
-  module _ (contents : D → Option (List ℕ)) (image : D → List ℕ → Type 0) (moment : D → ℕ) (since : D → ℕ → List ℕ → Type 0) where
-    pub make_complete : (detail : Detail) (journal : List Entry) (tally : Option Tally)
-        → MakesStore contents image moment since disk disk_end source source_end sink sink_end detail journal tally
-        → ShowsCauses disk_count made source_count sink_count disk disk_end source source_end sink sink_end detail
-        → NothingFails disk_count source_count sink_count disk disk_end source source_end sink sink_end
-        → contents disk ≡ Some [] → IsComplete detail
-    make_complete Fine journal tally makes causes none empty = inl refl
-    make_complete Usage journal tally makes causes none empty = absurd makes.makes
-    make_complete (Script fault) journal tally makes causes none empty = absurd makes.makes
-    make_complete (Reading before after) journal tally makes causes none empty = absurd makes.makes
-    make_complete (Writing before after) journal tally makes causes none empty = absurd makes.makes
-    make_complete (Device before after) journal tally makes causes none empty = absurd (none.disk_stands (rises before after (disk_count disk) (disk_count disk_end) causes.device))
-    make_complete (NotEmpty n) journal tally makes causes none empty =
-        let some = makes.makes.0 in
-        let zero : n ≡ 0 = makes.makes.1 [] empty in
-        absurd (omega (arith, some, zero))
-    make_complete (Refused fault) journal tally makes causes none empty = absurd makes.makes
-    make_complete Memory journal tally makes causes none empty = inr refl
+-- done, for want of memory, or where something failed
+abbrev MayEnd : Detail → Type 0
+MayEnd Usage = ⊥
+MayEnd (Script fault) = ⊥
+MayEnd (NotEmpty bytes) = ⊥
+MayEnd (Refused fault) = ⊥
+MayEnd detail = Unit {0}
 
-  module _ (contents : D → Option (List ℕ)) (image : D → List ℕ → Type 0) (moment : D → ℕ) (since : D → ℕ → List ℕ → Type 0) (written : K → Option (List ℕ)) (finished : K → ℕ) where
-    pub inspect_complete : (detail : Detail) (journal : List Entry) (tally : Option Tally)
-        → InspectsStore contents image moment since made written finished disk disk_end source source_end sink sink_end detail journal tally
-        → ShowsCauses disk_count made source_count sink_count disk disk_end source source_end sink sink_end detail
-        → NothingFails disk_count source_count sink_count disk disk_end source source_end sink sink_end
-        → HoldsStore (contents disk) → IsComplete detail
-    inspect_complete Fine journal tally inspects causes none store = inl refl
-    inspect_complete Usage journal tally inspects causes none store = absurd inspects.ends
-    inspect_complete (Script fault) journal tally inspects causes none store = absurd inspects.ends
-    inspect_complete (Reading before after) journal tally inspects causes none store = absurd inspects.ends
-    inspect_complete (Writing before after) journal tally inspects causes none store = absurd (none.sink_stands (rises before after (sink_count sink) (sink_count sink_end) causes.writing))
-    inspect_complete (Device before after) journal tally inspects causes none store = absurd (none.disk_stands (rises before after (disk_count disk) (disk_count disk_end) causes.device))
-    inspect_complete (NotEmpty bytes) journal tally inspects causes none store = absurd inspects.ends
-    inspect_complete (Refused fault) journal tally inspects causes none store =
-        absurd (never_shut store.bytes store.number store.copy fault store.stands (inspects.refused store.bytes store.is_told))
-    inspect_complete Memory journal tally inspects causes none store = inr refl
+module _ {D : Type 0} (d : disk.Ghosts D) where
+  make_ends : (start end : D) (detail : Detail) → LeavesMade d start end detail → d.contents start ≡ Some [] → MayEnd detail
+  make_ends start end Fine makes empty = tt
+  make_ends start end Usage makes empty = makes
+  make_ends start end (Script fault) makes empty = makes
+  make_ends start end (Reading before after) makes empty = tt
+  make_ends start end (Writing before after) makes empty = tt
+  make_ends start end (Device before after) makes empty = tt
+  make_ends start end (NotEmpty n) makes empty =
+      let some = makes.0 in
+      let zero : n ≡ 0 = makes.1 [] empty in
+      absurd (omega (arith, some, zero))
+  make_ends start end (Refused fault) makes empty = makes
+  make_ends start end Memory makes empty = tt
 
-    pub trial_complete : (seed turns : ℕ) (detail : Detail) (journal : List Entry) (tally : Option Tally)
-        → TriesScript seed turns contents image moment since written finished sink_count disk disk_end source source_end sink sink_end detail journal tally
-        → ShowsCauses disk_count made source_count sink_count disk disk_end source source_end sink sink_end detail
-        → NothingFails disk_count source_count sink_count disk disk_end source source_end sink sink_end
-        → HoldsStore (contents disk) → IsComplete detail
-    trial_complete seed turns Fine journal tally tries causes none store = inl refl
-    trial_complete seed turns Usage journal tally tries causes none store = absurd tries.ends
-    trial_complete seed turns (Script fault) journal tally tries causes none store = absurd tries.ends
-    trial_complete seed turns (Reading before after) journal tally tries causes none store = absurd tries.ends
-    trial_complete seed turns (Writing before after) journal tally tries causes none store = absurd (none.sink_stands (rises before after (sink_count sink) (sink_count sink_end) causes.writing))
-    trial_complete seed turns (Device before after) journal tally tries causes none store = absurd (none.disk_stands (rises before after (disk_count disk) (disk_count disk_end) causes.device))
-    trial_complete seed turns (NotEmpty bytes) journal tally tries causes none store = absurd tries.ends
-    trial_complete seed turns (Refused fault) journal tally tries causes none store =
-        absurd (never_shut store.bytes store.number store.copy fault store.stands (tries.store.leaves.refused store.bytes store.is_told))
-    trial_complete seed turns Memory journal tally tries causes none store = inr refl
+run_ends : (told read : Option (List ℕ)) (store : HoldsStore told) (script : HoldsScript read) (detail : Detail) (journal : List Entry)
+    → IsPast the_words detail journal → IsScriptEnd script.bytes detail → IsRefusedFor store.bytes detail → MayEnd detail
+run_ends told read store script Fine journal past bad refused = tt
+run_ends told read store script Usage journal past bad refused = absurd (omega (arith, past))
+run_ends told read store script (Script fault) journal past bad refused = no_fault script.bytes fault script.lines bad script.script
+run_ends told read store script (Reading before after) journal past bad refused = tt
+run_ends told read store script (Writing before after) journal past bad refused = tt
+run_ends told read store script (Device before after) journal past bad refused = tt
+run_ends told read store script (NotEmpty bytes) journal past bad refused = absurd (omega (arith, past))
+run_ends told read store script (Refused fault) journal past bad refused = never_shut store.bytes store.number store.copy fault store.stands refused
+run_ends told read store script Memory journal past bad refused = tt
 
-  module _ (written : K → Option (List ℕ)) (finished : K → ℕ) where
-    pub script_complete : (seed turns : ℕ) (detail : Detail) (journal : List Entry) (tally : Option Tally)
-        → MakesScript seed turns written finished disk disk_end source source_end sink sink_end detail journal tally
-        → ShowsCauses disk_count made source_count sink_count disk disk_end source source_end sink sink_end detail
-        → NothingFails disk_count source_count sink_count disk disk_end source source_end sink sink_end → IsComplete detail
-    script_complete seed turns Fine journal tally makes causes none = inl refl
-    script_complete seed turns Usage journal tally makes causes none = absurd makes.ends
-    script_complete seed turns (Script fault) journal tally makes causes none = absurd makes.ends
-    script_complete seed turns (Reading before after) journal tally makes causes none = absurd makes.ends
-    script_complete seed turns (Writing before after) journal tally makes causes none = absurd (none.sink_stands (rises before after (sink_count sink) (sink_count sink_end) causes.writing))
-    script_complete seed turns (Device before after) journal tally makes causes none = absurd makes.ends
-    script_complete seed turns (NotEmpty bytes) journal tally makes causes none = absurd makes.ends
-    script_complete seed turns (Refused fault) journal tally makes causes none = absurd makes.ends
-    script_complete seed turns Memory journal tally makes causes none = inr refl
+inspect_ends : (told : Option (List ℕ)) (store : HoldsStore told) (detail : Detail) → EndsInspecting detail → IsRefusedFor store.bytes detail → MayEnd detail
+inspect_ends told store Fine ends refused = tt
+inspect_ends told store Usage ends refused = ends
+inspect_ends told store (Script fault) ends refused = ends
+inspect_ends told store (Reading before after) ends refused = tt
+inspect_ends told store (Writing before after) ends refused = tt
+inspect_ends told store (Device before after) ends refused = tt
+inspect_ends told store (NotEmpty bytes) ends refused = ends
+inspect_ends told store (Refused fault) ends refused = never_shut store.bytes store.number store.copy fault store.stands refused
+inspect_ends told store Memory ends refused = tt
+
+make_script_ends : (detail : Detail) → EndsMaking detail → MayEnd detail
+make_script_ends Fine ends = tt
+make_script_ends Usage ends = ends
+make_script_ends (Script fault) ends = ends
+make_script_ends (Reading before after) ends = tt
+make_script_ends (Writing before after) ends = tt
+make_script_ends (Device before after) ends = tt
+make_script_ends (NotEmpty bytes) ends = ends
+make_script_ends (Refused fault) ends = ends
+make_script_ends Memory ends = tt
+
+-- a trial ends as an inspection may
+trial_ends : (detail : Detail) → EndsTrying detail → EndsInspecting detail
+trial_ends Fine ends = tt
+trial_ends Usage ends = ends
+trial_ends (Script fault) ends = ends
+trial_ends (Reading before after) ends = ends
+trial_ends (Writing before after) ends = tt
+trial_ends (Device before after) ends = tt
+trial_ends (NotEmpty bytes) ends = ends
+trial_ends (Refused fault) ends = tt
+trial_ends Memory ends = tt
+
+-- where nothing failed, no end of those is left but two
+stands_done : (detail : Detail) (source_was source_now sink_was sink_now disk_was disk_now : ℕ) → MayEnd detail
+    → ShowsReading detail source_was source_now → ShowsWriting detail sink_was sink_now → ShowsDevice detail disk_was disk_now
+    → ¬ (Rose source_was source_now) → ¬ (Rose sink_was sink_now) → ¬ (Rose disk_was disk_now) → IsComplete detail
+stands_done Fine a b c d e f may reading writing device source sink disk = inl refl
+stands_done Usage a b c d e f may reading writing device source sink disk = absurd may
+stands_done (Script fault) a b c d e f may reading writing device source sink disk = absurd may
+stands_done (Reading before after) a b c d e f may reading writing device source sink disk = absurd (source (rises before after a b reading))
+stands_done (Writing before after) a b c d e f may reading writing device source sink disk = absurd (sink (rises before after c d writing))
+stands_done (Device before after) a b c d e f may reading writing device source sink disk = absurd (disk (rises before after e f device))
+stands_done (NotEmpty bytes) a b c d e f may reading writing device source sink disk = absurd may
+stands_done (Refused fault) a b c d e f may reading writing device source sink disk = absurd may
+stands_done Memory a b c d e f may reading writing device source sink disk = inr refl
+
+module _ {D S K : Type 0} (d : disk.Ghosts D) (s : source.Ghosts S) (k : sink.Ghosts K) where
+  may_end : (command : Command) (disk : D) (source : S) (sink : K) (it : Ended D S K)
+      → Does d s k command disk source sink it → HasNeeds d s command disk source → MayEnd it.detail
+  may_end Init disk source sink it does needs = make_ends d disk it.disk it.detail does.makes needs
+  may_end Run disk source sink it does needs =
+      run_ends (d.contents disk) (s.left source) needs.0 needs.1 it.detail it.journal.items does.ends
+      (does.script needs.1.bytes needs.1.is_told).refused (does.store.leaves.refused needs.0.bytes needs.0.is_told)
+  may_end Inspect disk source sink it does needs =
+      inspect_ends (d.contents disk) needs it.detail does.ends (does.refused needs.bytes needs.is_told)
+  may_end (Make seed turns) disk source sink it does needs = make_script_ends it.detail does.ends
+  may_end (Trial seed turns) disk source sink it does needs =
+      inspect_ends (d.contents disk) needs it.detail (trial_ends it.detail does.ends) (does.store.leaves.refused needs.bytes needs.is_told)
 
   -- whatever the command is
-  module _ (contents : D → Option (List ℕ)) (image : D → List ℕ → Type 0) (moment : D → ℕ) (since : D → ℕ → List ℕ → Type 0) (left : S → Option (List ℕ)) (written : K → Option (List ℕ)) (finished : K → ℕ) where
-    pub complete : (command : Command) (detail : Detail) (journal : List Entry) (tally : Option Tally)
-        → Does command contents image moment since made left written finished sink_count disk disk_end source source_end sink sink_end detail journal tally
-        → ShowsCauses disk_count made source_count sink_count disk disk_end source source_end sink sink_end detail
-        → HasNeeds command (contents disk) (left source)
-        → NothingFails disk_count source_count sink_count disk disk_end source source_end sink sink_end → IsComplete detail
-    complete Init detail journal tally does causes needs none = make_complete contents image moment since detail journal tally does causes none needs
-    complete Run detail journal tally does causes needs none = run_complete contents image moment since left written finished detail journal tally does causes none needs.0 needs.1
-    complete Inspect detail journal tally does causes needs none = inspect_complete contents image moment since written finished detail journal tally does causes none needs
-    complete (Make seed turns) detail journal tally does causes needs none = script_complete written finished seed turns detail journal tally does causes none
-    complete (Trial seed turns) detail journal tally does causes needs none = trial_complete contents image moment since written finished seed turns detail journal tally does causes none needs
+  pub complete : (command : Command) (disk : D) (source : S) (sink : K) (it : Ended D S K)
+      → Does d s k command disk source sink it → ShowsCauses d s k disk source sink it
+      → HasNeeds d s command disk source → NothingFails d s k disk source sink it → IsComplete it.detail
+  complete command disk source sink it does causes needs none =
+      stands_done it.detail (s.count source) (s.count it.source) (k.count sink) (k.count it.sink) (d.count disk) (d.count it.disk)
+      (may_end command disk source sink it does needs) causes.reading causes.writing causes.device
+      none.source_stands none.sink_stands none.disk_stands

@@ -1,18 +1,22 @@
 -- The causes of ends in which no line was run.
-use Rattle.std.proofs.Common.{◌≡◌, ℕ, ◌<◌, List, [], ◌∷◌, refl, subst, ◌∙◌, arith}
+use Rattle.std.proofs.Common.{◌≡◌, ℕ, ◌<◌, List, [], ◌∷◌, None, refl, subst, ◌∙◌, arith}
 use Rattle.pm_types.specs.declared.entry.Entry.{Entry}
 use Rattle.pm_types.specs.declared.fault.OpenFault.{OpenFault}
 use Rattle.pm_types.specs.declared.fault.OpenFault.TheVariants.{NotAStore, Version, Damaged, Malformed, Disk, Memory as NoRoom}
 use Rattle.pm_types.specs.declared.fault.InitFault.{InitFault}
 use Rattle.pm_types.specs.declared.fault.InitFault.TheVariants.{NotEmpty as NotEmptied, Disk as InitDisk, Memory as InitMemory}
-use Rattle.pm_disk.specs.Made.{Made}
+use Rattle.pm_disk.specs.declared.disk.Disk as disk
+use Rattle.pm_io.specs.declared.source.Source as source
+use Rattle.pm_io.specs.declared.sink.Sink as sink
 use Rattle.pm_shadow.specs.Init.{IsInitFault}
 use Rattle.pm_reopen.specs.Refused.{IsOpenFault}
 use Rattle.pm_top.specs.declared.ended.Detail.{Detail}
 use Rattle.pm_top.specs.declared.ended.Detail.TheVariants.{Fine, Usage, Script, Reading, Writing, Device, NotEmpty, Refused, Memory}
+use Rattle.pm_top.specs.declared.ended.Ended.{Ended}
 use Rattle.pm_top.specs.Ends.{ShowsReading, ShowsDevice, not_opened, not_made}
 use Rattle.pm_top.specs.Stages.{IsPast, unreached, the_words, the_events, the_output}
 use Rattle.pm_top.specs.Commands.{ShowsCauses}
+use Rattle.pm_top.proofs.Parts.{with_parts}
 
 -- a store that is not opened: its end is one of a run, and nothing is done
 pub ends_open : (fault : OpenFault) → IsPast the_words (not_opened fault) []
@@ -45,40 +49,42 @@ late_past (Refused fault) journal late = absurd (omega arith)
 late_past Memory [] late = omega arith
 late_past Memory (entry ∷ journal) late = omega arith
 
-module _ {D S K : Type 0} (disk_count : D → ℕ) (made : D → Made) (source_count : S → ℕ) (sink_count : K → ℕ) where
+module _ {D S K : Type 0} (d : disk.Ghosts D) (s : source.Ghosts S) (k : sink.Ghosts K) where
   -- no store was opened
-  pub open_causes : (disk end : D) (source : S) (sink : K) (fault : OpenFault) → IsOpenFault (disk_count disk) (disk_count end) fault → (made end).past ≡ (made disk).past
-      → ShowsCauses disk_count made source_count sink_count disk end source source sink sink (not_opened fault)
-  open_causes disk end source sink NotAStore cause reads = record { reading = refl; writing = refl; device = cause; rule = tt; reads = reads }
-  open_causes disk end source sink (Version version) cause reads = record { reading = refl; writing = refl; device = cause; rule = tt; reads = reads }
-  open_causes disk end source sink (Damaged page kept found) cause reads = record { reading = refl; writing = refl; device = cause; rule = tt; reads = reads }
-  open_causes disk end source sink (Malformed page at) cause reads = record { reading = refl; writing = refl; device = cause; rule = tt; reads = reads }
-  open_causes disk end source sink (Disk before after) cause reads = record { reading = refl; writing = tt; device = cause; rule = tt; reads = reads }
-  open_causes disk end source sink NoRoom cause reads = record { reading = refl; writing = tt; device = cause; rule = tt; reads = reads }
+  pub open_causes : (disk end : D) (source : S) (sink : K) (it : Ended D S K) (fault : OpenFault)
+      → IsOpenFault (d.count disk) (d.count end) fault → (d.made end).past ≡ (d.made disk).past
+      → ShowsCauses d s k disk source sink (with_parts it (not_opened fault) None end source sink)
+  open_causes disk end source sink it NotAStore cause reads = record { reading = refl; writing = refl; device = cause; rule = tt; reads = reads }
+  open_causes disk end source sink it (Version version) cause reads = record { reading = refl; writing = refl; device = cause; rule = tt; reads = reads }
+  open_causes disk end source sink it (Damaged page kept found) cause reads = record { reading = refl; writing = refl; device = cause; rule = tt; reads = reads }
+  open_causes disk end source sink it (Malformed page at) cause reads = record { reading = refl; writing = refl; device = cause; rule = tt; reads = reads }
+  open_causes disk end source sink it (Disk before after) cause reads = record { reading = refl; writing = tt; device = cause; rule = tt; reads = reads }
+  open_causes disk end source sink it NoRoom cause reads = record { reading = refl; writing = tt; device = cause; rule = tt; reads = reads }
 
   -- no store was made
-  pub init_causes : (disk end : D) (source : S) (sink : K) (fault : InitFault) → IsInitFault (disk_count disk) (disk_count end) fault → (made end).past ≡ (made disk).past
-      → ShowsCauses disk_count made source_count sink_count disk end source source sink sink (not_made fault)
-  init_causes disk end source sink (NotEmptied bytes) cause reads = record { reading = refl; writing = refl; device = cause.1; rule = tt; reads = reads }
-  init_causes disk end source sink (InitDisk before after) cause reads = record { reading = refl; writing = tt; device = cause; rule = tt; reads = reads }
-  init_causes disk end source sink InitMemory cause reads = record { reading = refl; writing = tt; device = cause; rule = tt; reads = reads }
+  pub init_causes : (disk end : D) (source : S) (sink : K) (it : Ended D S K) (fault : InitFault)
+      → IsInitFault (d.count disk) (d.count end) fault → (d.made end).past ≡ (d.made disk).past
+      → ShowsCauses d s k disk source sink (with_parts it (not_made fault) None end source sink)
+  init_causes disk end source sink it (NotEmptied bytes) cause reads = record { reading = refl; writing = refl; device = cause.1; rule = tt; reads = reads }
+  init_causes disk end source sink it (InitDisk before after) cause reads = record { reading = refl; writing = tt; device = cause; rule = tt; reads = reads }
+  init_causes disk end source sink it InitMemory cause reads = record { reading = refl; writing = tt; device = cause; rule = tt; reads = reads }
 
   -- the disk was looked at before
-  pub causes_after : (first disk end : D) (source source_end : S) (sink sink_end : K) (detail : Detail) → disk_count disk ≡ disk_count first → (made disk).past ≡ (made first).past
-      → ShowsCauses disk_count made source_count sink_count disk end source source_end sink sink_end detail → ShowsCauses disk_count made source_count sink_count first end source source_end sink sink_end detail
-  causes_after first disk end source source_end sink sink_end detail counted read causes = record {
+  pub causes_after : (first disk : D) (source : S) (sink : K) (it : Ended D S K) → d.count disk ≡ d.count first → (d.made disk).past ≡ (d.made first).past
+      → ShowsCauses d s k disk source sink it → ShowsCauses d s k first source sink it
+  causes_after first disk source sink it counted read causes = record {
     reading = causes.reading;
     writing = causes.writing;
-    device = subst (λ (n : ℕ). ShowsDevice detail n (disk_count end)) counted causes.device;
+    device = subst (λ (n : ℕ). ShowsDevice it.detail n (d.count it.disk)) counted causes.device;
     rule = causes.rule;
     reads = causes.reads ∙ read;
   }
 
   -- the source was read before
-  pub causes_read : (disk end : D) (first source source_end : S) (sink sink_end : K) (detail : Detail) → source_count source ≡ source_count first
-      → ShowsCauses disk_count made source_count sink_count disk end source source_end sink sink_end detail → ShowsCauses disk_count made source_count sink_count disk end first source_end sink sink_end detail
-  causes_read disk end first source source_end sink sink_end detail counted causes = record {
-    reading = subst (λ (n : ℕ). ShowsReading detail n (source_count source_end)) counted causes.reading;
+  pub causes_read : (disk : D) (first source : S) (sink : K) (it : Ended D S K) → s.count source ≡ s.count first
+      → ShowsCauses d s k disk source sink it → ShowsCauses d s k disk first sink it
+  causes_read disk first source sink it counted causes = record {
+    reading = subst (λ (n : ℕ). ShowsReading it.detail n (s.count it.source)) counted causes.reading;
     writing = causes.writing;
     device = causes.device;
     rule = causes.rule;

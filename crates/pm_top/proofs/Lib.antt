@@ -1,3 +1,4 @@
+pub mod Parts
 pub mod Tallied
 pub mod Counted
 pub mod Ran

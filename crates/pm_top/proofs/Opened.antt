@@ -1,8 +1,9 @@
 -- How a run leaves the disk, from its parts.
-use Rattle.std.proofs.Common.{◌≡◌, ◌⊎◌, inl, inr, ℕ, ◌<◌, List, [], Option, Some, Result, Ok, Err, refl, sym, ap, subst, ◌∙◌, arith}
+use Rattle.std.proofs.Common.{◌≡◌, ◌⊎◌, inl, inr, ℕ, ◌<◌, List, [], Some, Result, Ok, Err, refl, sym, ap, subst, ◌∙◌, arith}
 use Rattle.pm_types.specs.declared.entry.Entry.{Entry}
 use Rattle.pm_types.specs.declared.fault.OpenFault.{OpenFault}
 use Rattle.pm_types.specs.declared.fault.OpenFault.TheVariants.{NotAStore, Version, Damaged, Malformed, Disk, Memory as NoRoom}
+use Rattle.pm_disk.specs.declared.disk.Disk as disk
 use Rattle.pm_disk.specs.Disk.{LeavesOnly}
 use Rattle.pm_disk.proofs.RunLemmas.{started, weaker, joined}
 use Rattle.pm_model.specs.World.{World, Copy, begin}
@@ -71,42 +72,52 @@ read_for bytes TooManyLines = tt
 read_for bytes TooLong = tt
 read_for bytes ScriptMemory = tt
 
-module _ {D : Type 0} (contents : D → Option (List ℕ)) (image : D → List ℕ → Type 0) (moment : D → ℕ) (since : D → ℕ → List ℕ → Type 0) where
+module _ {D : Type 0} (d : disk.Ghosts D) where
   -- a store that was opened, and run
-  pub opened_run : (start mid end : D) (number : ℕ) (copy : Copy) (detail : Detail) (journal : List Entry) → contents mid ≡ contents start → LeavesOnly moment since start mid (image start)
-      → ((bytes : List ℕ) → contents start ≡ Some bytes → StandsForCopy bytes number copy)
+  pub opened_run : (start mid end : D) (number : ℕ) (copy : Copy) (detail : Detail) (journal : List Entry)
+      → d.contents mid ≡ d.contents start → LeavesOnly d.moment d.since start mid (d.image start)
+      → ((bytes : List ℕ) → d.contents start ≡ Some bytes → StandsForCopy bytes number copy)
       → IsLegal (begin number copy) journal
-      → (IsTold (contents start) → LeavesOnly moment since mid end (IsOfRun detail (begin number copy) journal))
-      → (IsTold (contents start) → (left : List ℕ) → image end left → IsLastOf detail (after (begin number copy) journal) left)
+      → (IsTold (d.contents start) → LeavesOnly d.moment d.since mid end (IsOfRun detail (begin number copy) journal))
+      → (IsTold (d.contents start) → (left : List ℕ) → d.image end left → IsLastOf detail (after (begin number copy) journal) left)
       → (journal ≡ [] → end ≡ mid) → the_events < unreached detail
-      → LeavesDisk contents image moment since start end detail journal
+      → LeavesDisk d start end detail journal
   opened_run start mid end number copy detail journal same_told leaves stands legal images last still late = record {
     legal = λ bytes told number_ copy_ there. subst (λ (w : World). IsLegal w journal) (same bytes told number_ copy_ there) legal;
     images = λ bytes told number_ copy_ there.
-        let P : List ℕ → Type 0 = λ left. image start left ⊎ IsOfRun detail (begin number_ copy_) journal left in
-        joined moment since start mid end P
-        (weaker moment since start mid (image start) P leaves (λ left was. inl was))
-        (weaker moment since mid end (IsOfRun detail (begin number copy) journal) P (images (bytes, told))
+        let P : List ℕ → Type 0 = λ left. d.image start left ⊎ IsOfRun detail (begin number_ copy_) journal left in
+        joined d.moment d.since start mid end P
+        (weaker d.moment d.since start mid (d.image start) P leaves (λ left was. inl was))
+        (weaker d.moment d.since mid end (IsOfRun detail (begin number copy) journal) P (images (bytes, told))
         (λ left of. inr (subst (λ (w : World). IsOfRun detail w journal left) (same bytes told number_ copy_ there) of)));
-    last = λ bytes told number_ copy_ there has left here. subst (λ (w : World). IsLastOf detail (after w journal) left) (same bytes told number_ copy_ there) (last (bytes, told) left here);
+    last = λ bytes told number_ copy_ there has left here.
+        subst (λ (w : World). IsLastOf detail (after w journal) left) (same bytes told number_ copy_ there)
+        (last (bytes, told) left here);
     opened = λ bytes told has. (number, copy, stands bytes told);
     refused = λ bytes told. stopped_for bytes detail late;
     shut = λ bytes told fault shut has. never_shut bytes number copy fault (stands bytes told) shut;
-    quiet = λ none. (ap contents (still none) ∙ same_told, subst (λ (d : D). LeavesOnly moment since start d (image start)) (sym (still none)) leaves);
+    quiet = λ none. (
+      ap d.contents (still none) ∙ same_told,
+      subst (λ (it : D). LeavesOnly d.moment d.since start it (d.image start)) (sym (still none)) leaves,
+    );
     uncalled = λ before. absurd (omega (arith, before, late));
   }
     where
-      same : (bytes : List ℕ) → contents start ≡ Some bytes → (number_ : ℕ) (copy_ : Copy) → StandsForCopy bytes number_ copy_ → begin number copy ≡ begin number_ copy_
+      same : (bytes : List ℕ) → d.contents start ≡ Some bytes → (number_ : ℕ) (copy_ : Copy) → StandsForCopy bytes number_ copy_
+          → begin number copy ≡ begin number_ copy_
       same bytes told number_ copy_ there =
           let one = one_copy bytes number number_ copy copy_ (stands bytes told) there in
           λ i. begin (one.0 i) (one.1 i)
 
   -- a store that was not opened
-  pub refused_run : (start end : D) (detail : Detail) → (IsPast the_store detail [] → ⊥) → the_store < unreached detail → contents end ≡ contents start → LeavesOnly moment since start end (image start)
-      → ((bytes : List ℕ) → contents start ≡ Some bytes → IsRefusedFor bytes detail) → LeavesDisk contents image moment since start end detail []
+  pub refused_run : (start end : D) (detail : Detail) → (IsPast the_store detail [] → ⊥) → the_store < unreached detail
+      → d.contents end ≡ d.contents start → LeavesOnly d.moment d.since start end (d.image start)
+      → ((bytes : List ℕ) → d.contents start ≡ Some bytes → IsRefusedFor bytes detail) → LeavesDisk d start end detail []
   refused_run start end detail none tried told leaves refused = record {
     legal = λ bytes is number copy stands. tt;
-    images = λ bytes is number copy stands. weaker moment since start end (image start) (λ left. image start left ⊎ IsOfRun detail (begin number copy) [] left) leaves (λ left was. inl was);
+    images = λ bytes is number copy stands.
+        weaker d.moment d.since start end (d.image start) (λ left. d.image start left ⊎ IsOfRun detail (begin number copy) [] left)
+        leaves (λ left was. inl was);
     last = λ bytes is number copy stands has. absurd (none has);
     opened = λ bytes is has. absurd (none has);
     refused = refused;
@@ -116,13 +127,15 @@ module _ {D : Type 0} (contents : D → Option (List ℕ)) (image : D → List �
   }
 
   -- a disk that was not called
-  pub uncalled_run : (disk : D) (detail : Detail) → ((left : List ℕ) → since disk (moment disk) left → image disk left) → (IsPast the_store detail [] → ⊥)
-      → ((bytes : List ℕ) → IsRefusedFor bytes detail) → LeavesDisk contents image moment since disk disk detail []
+  pub uncalled_run : (disk : D) (detail : Detail) → ((left : List ℕ) → d.since disk (d.moment disk) left → d.image disk left)
+      → (IsPast the_store detail [] → ⊥) → ((bytes : List ℕ) → IsRefusedFor bytes detail) → LeavesDisk d disk disk detail []
   uncalled_run disk detail now none refused =
-      let leaves = started moment since disk (image disk) now in
+      let leaves = started d.moment d.since disk (d.image disk) now in
       record {
         legal = λ bytes is number copy stands. tt;
-        images = λ bytes is number copy stands. weaker moment since disk disk (image disk) (λ left. image disk left ⊎ IsOfRun detail (begin number copy) [] left) leaves (λ left was. inl was);
+        images = λ bytes is number copy stands.
+            weaker d.moment d.since disk disk (d.image disk) (λ left. d.image disk left ⊎ IsOfRun detail (begin number copy) [] left)
+            leaves (λ left was. inl was);
         last = λ bytes is number copy stands has. absurd (none has);
         opened = λ bytes is has. absurd (none has);
         refused = λ bytes is. refused bytes;

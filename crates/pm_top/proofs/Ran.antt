@@ -1,10 +1,12 @@
 -- What a run has done, in the words of its end.
-use Rattle.std.proofs.Common.{◌≡◌, ◌⊎◌, inl, inr, ⊎_elim, ℕ, ◌<◌, List, [], ◌∷◌, Option, Some, None, IsSome, length, refl, sym, ap, subst, ◌∙◌, arith}
+use Rattle.std.proofs.Common.{◌≡◌, inl, inr, ⊎_elim, ℕ, ◌<◌, List, [], ◌∷◌, Option, Some, None, IsSome, length, refl, sym, ap, subst, ◌∙◌, arith}
 use Rattle.pm_types.specs.declared.entry.Entry.{Entry}
 use Rattle.pm_base.specs.Counts.{Rose, ShowsRise}
-use Rattle.pm_disk.specs.Made.{Made}
-use Rattle.pm_disk.specs.declared.disk.Disk.{Ghosts}
+use Rattle.pm_disk.specs.declared.disk.Disk as disk
+use Rattle.pm_disk.specs.Disk.{LeavesOnly}
 use Rattle.pm_disk.proofs.RunLemmas.{weaker}
+use Rattle.pm_io.specs.declared.source.Source as source
+use Rattle.pm_io.specs.declared.sink.Sink as sink
 use Rattle.pm_model.specs.World.{World, begin, empty_copy}
 use Rattle.pm_model.specs.Closed.{IsClosed}
 use Rattle.pm_model.specs.Journal.{IsLegal, after}
@@ -17,9 +19,10 @@ use Rattle.pm_copies.specs.Listed.{copy_in}
 use Rattle.pm_saving.specs.Progress.{Saving}
 use Rattle.pm_serving.specs.Serving.{Serving, just_opened, opening, world}
 use Rattle.pm_serving.specs.Images as images
+use Rattle.pm_serving.specs.Images.{IsTold}
 use Rattle.pm_engine.specs.declared.engine.Engine.{Engine}
 use Rattle.pm_engine.specs.declared.tally.Tally.{Tally}
-use Rattle.pm_engine.specs.Shown.{KeepsStart, Total, disk_in, serving, tally_in, tally_of}
+use Rattle.pm_engine.specs.Shown.{KeepsStart, Total, disk_in, opened_disk, serving, tally_in, tally_of}
 use Rattle.pm_serial.specs.declared.stop.Stop.{Stop}
 use Rattle.pm_serial.specs.declared.stop.Stop.TheVariants.{Memory as StopMemory, Writing as StopWriting, Device as StopDevice}
 use Rattle.pm_serial.specs.Causes as causes
@@ -27,6 +30,7 @@ use Rattle.pm_serial.specs.Causes.{IsDone, CountsDisk, CountsSink}
 use Rattle.pm_serial.specs.Running.{AnswersLines, IsFresh, RunsOnDisk}
 use Rattle.pm_serial.specs.Writing.{tail_of}
 use Rattle.pm_top.specs.declared.ended.Detail.{Detail}
+use Rattle.pm_top.specs.declared.ended.Ended.{Ended}
 use Rattle.pm_top.specs.declared.writes.Writes.{Writes}
 use Rattle.pm_top.specs.Ends.{stop_in, ended_by}
 use Rattle.pm_top.specs.Stages.{IsPast, unreached, the_events, the_output}
@@ -36,6 +40,7 @@ use Rattle.pm_top.specs.Engines.{RunsEngine}
 use Rattle.pm_top.specs.Wrote.{Wrote}
 use Rattle.pm_top.specs.Journals.{IsBegun, ServesLines}
 use Rattle.pm_top.specs.Commands.{ShowsCauses}
+use Rattle.pm_top.proofs.Parts.{with_parts}
 use Rattle.pm_top.proofs.Faults.{late_past}
 use Rattle.pm_top.proofs.Tallied.{engine_comes}
 
@@ -46,7 +51,7 @@ none_begun = record { number = 0; copy = empty_copy; closed = empty_closed; lega
 -- ---- an engine that was just opened
 
 -- nothing was asked of it yet, and no copy is in progress
-pub fresh_engine : {D : Type 0} {F : Type 0} {g : Ghosts D} (it : Engine D F g) (number : ℕ) (view : SpaceView) (saving : Saving) → serving it ≡ just_opened number view saving → (serving it).saving.progress ≡ None → IsFresh (serving it)
+pub fresh_engine : {D : Type 0} {F : Type 0} {g : disk.Ghosts D} (it : Engine D F g) (number : ℕ) (view : SpaceView) (saving : Saving) → serving it ≡ just_opened number view saving → (serving it).saving.progress ≡ None → IsFresh (serving it)
 fresh_engine it number view saving is idle = record {
   journal = ap (λ (s : Serving). s.journal) is;
   watches = ap (λ (s : Serving). s.watches) is;
@@ -94,11 +99,11 @@ of_last : (it : Serving) (stop : Option Stop) (a b c d : ℕ) (left : List ℕ) 
 of_last it stop a b c d left going = ⊎_elim (λ kept. inl kept) (λ begun. inr (disk_back stop it.stopped a b c d going begun.0, begun.1))
 
 -- what was answered
-pub lines_served : (lines : List Line) (it : Serving) (tally : Tally) (stop : Option Stop) (detail : Detail) (a b c d : ℕ) → detail ≡ ended_by stop a b c d → tally_of tally ≡ tally_in it → AnswersLines lines it stop → ServesLines lines detail it.journal (Some tally)
-lines_served lines it tally stop detail a b c d ends is answers =
+pub lines_served : (lines : List Line) (it : Serving) (tally : Tally) (stop : Option Stop) (a b c d : ℕ) → tally_of tally ≡ tally_in it
+    → AnswersLines lines it stop → ServesLines lines (ended_by stop a b c d) it.journal (Some tally)
+lines_served lines it tally stop a b c d is answers =
     let late = ended_late stop a b c d in
-    subst (λ (e : Detail). ServesLines lines e it.journal (Some tally)) (sym ends)
-    (record {
+    record {
       ends = late_past (ended_by stop a b c d) it.journal late;
       tried = omega (arith, late);
       rest = answers.rest;
@@ -106,36 +111,60 @@ lines_served lines it tally stop detail a b c d ends is answers =
       all = λ past. answers.all (done_back stop a b c d it.journal past);
       steps = λ past. ap (λ (total : Total). total.steps) is ∙ answers.steps (done_back stop a b c d it.journal past);
       events = λ past. ap (λ (total : Total). total.events) is ∙ answers.events (done_back stop a b c d it.journal past);
-    })
+    }
 
-module _ {D : Type 0} {F : Type 0} {g : Ghosts D} {K : Type 0} (writes : Writes) (written : K → Option (List ℕ)) (finished count : K → ℕ) where
+module _ {D F K : Type 0} {g : disk.Ghosts D} (k : sink.Ghosts K) where
+  -- what a run over this engine leaves that ended so, by its journal
+  abbrev Leaves : Writes → Engine D F g → D → Tally → K → K → Detail → List Entry → Type 0
+  Leaves writes old end tally sink last detail journal =
+      IsLegal (opening (serving old)) journal
+      × (IsTold (g.contents (opened_disk old)) → LeavesOnly g.moment g.since (disk_in old) end (IsOfRun detail (opening (serving old)) journal))
+      × (IsTold (g.contents (opened_disk old)) → (left : List ℕ) → g.image end left → IsLastOf detail (after (opening (serving old)) journal) left)
+      × (journal ≡ [] → end ≡ disk_in old)
+      × ComesTo (opening (serving old)) journal (tally_of tally)
+      × Wrote k writes sink last (text journal) (tail_of (tally_of tally)) (stop_in detail)
+
+module _ {D F S K : Type 0} {g : disk.Ghosts D} (k : sink.Ghosts K) where
   -- what it left
-  pub engine_run : (old new : Engine D F g) (tally : Tally) (sink last : K) (stop : Option Stop) (ending : Detail) (a b c d : ℕ) → ending ≡ ended_by stop a b c d → RunsOnDisk old new stop → KeepsStart old new → IsClosed (opening (serving new)) → IsLegal (opening (serving new)) (serving new).journal
-      → (world (serving new)).watches ≡ length (serving new).watches → ReachesAtMost (world (serving new)) (standing (serving new).view) → tally_of tally ≡ tally_in (serving new)
-      → Wrote writes written finished count sink last (text (serving new).journal) (tail_of (tally_in (serving new))) stop
-      → RunsEngine writes written finished count old (disk_in new) sink last ending (serving new).journal (Some tally)
-  engine_run old new tally sink last stop ending a b c d ends disk start closed legal watching few is wrote =
-      let detail = ended_by stop a b c d in
-      let journal = (serving new).journal in
-      subst (λ (e : Detail). RunsEngine writes written finished count old (disk_in new) sink last e journal (Some tally)) (sym ends)
-      (record {
+  pub engine_run : (writes : Writes) (old new : Engine D F g) (tally : Tally) (source : S) (sink last : K) (it : Ended D S K)
+      (stop : Option Stop) (a b c d : ℕ)
+      → it.journal.items ≡ (serving new).journal → RunsOnDisk old new stop → KeepsStart old new
+      → IsClosed (opening (serving new)) → IsLegal (opening (serving new)) (serving new).journal
+      → (world (serving new)).watches ≡ length (serving new).watches
+      → ReachesAtMost (world (serving new)) (standing (serving new).view) → tally_of tally ≡ tally_in (serving new)
+      → Wrote k writes sink last (text (serving new).journal) (tail_of (tally_in (serving new))) stop
+      → RunsEngine k writes old sink (with_parts it (ended_by stop a b c d) (Some tally) (disk_in new) source last)
+  engine_run writes old new tally source sink last it stop a b c d is_journal on_disk start closed legal watching few is wrote =
+      let left = subst (Leaves k writes old (disk_in new) tally sink last (ended_by stop a b c d)) (sym is_journal) leaves in
+      record {
         late = ended_late stop a b c d;
         closed = subst IsClosed same closed;
-        legal = subst (λ (w : World). IsLegal w journal) same legal;
-        images = λ told.
-            weaker g.moment g.since (disk_in old) (disk_in new) (images.IsOfRun (serving new)) (IsOfRun detail (opening (serving old)) journal) (disk.leaves told)
-            (λ left it. subst (λ (w : World). IsOfRun detail w journal left) same (of_run (serving new) stop a b c d left disk.going it));
-        last = λ told left there. subst (λ (w : World). IsLastOf detail (after w journal) left) same (of_last (serving new) stop a b c d left disk.going (disk.last told left there));
-        idle = disk.idle;
+        legal = left.0;
+        images = left.1;
+        last = left.2;
+        idle = left.3;
         there = refl;
-        comes_to = subst (ComesTo (opening (serving old)) journal) (sym is) (subst (λ (w : World). ComesTo w journal (tally_in (serving new))) same (engine_comes (serving new) watching few));
-        replies =
-            subst (λ (total : Total). Wrote writes written finished count sink last (text journal) (tail_of total) (stop_in detail)) (sym is)
-            (subst (λ (s : Option Stop). Wrote writes written finished count sink last (text journal) (tail_of (tally_in (serving new))) s) (stop_back stop a b c d) wrote);
-      })
+        comes_to = left.4;
+        replies = left.5;
+      }
     where
       same : opening (serving new) ≡ opening (serving old)
       same = λ i. begin (start.opening.number i) (copy_in (start.opening.opened i))
+
+      leaves : Leaves k writes old (disk_in new) tally sink last (ended_by stop a b c d) (serving new).journal
+      leaves =
+          let detail = ended_by stop a b c d in
+          let journal = (serving new).journal in (
+            subst (λ (w : World). IsLegal w journal) same legal,
+            (λ told.
+                weaker g.moment g.since (disk_in old) (disk_in new) (images.IsOfRun (serving new)) (IsOfRun detail (opening (serving old)) journal) (on_disk.leaves told)
+                (λ left it. subst (λ (w : World). IsOfRun detail w journal left) same (of_run (serving new) stop a b c d left on_disk.going it))),
+            (λ told left there. subst (λ (w : World). IsLastOf detail (after w journal) left) same (of_last (serving new) stop a b c d left on_disk.going (on_disk.last told left there))),
+            on_disk.idle,
+            subst (ComesTo (opening (serving old)) journal) (sym is) (subst (λ (w : World). ComesTo w journal (tally_in (serving new))) same (engine_comes (serving new) watching few)),
+            subst (λ (total : Total). Wrote k writes sink last (text journal) (tail_of total) (stop_in detail)) (sym is)
+                (subst (λ (why : Option Stop). Wrote k writes sink last (text journal) (tail_of (tally_in (serving new))) why) (stop_back stop a b c d) wrote),
+          )
 
 -- ---- causes
 
@@ -143,18 +172,17 @@ module _ {D : Type 0} {F : Type 0} {g : Ghosts D} {K : Type 0} (writes : Writes)
 pub shows_rise : (before after was now : ℕ) → before ≡ was → after ≡ now → Rose was now → ShowsRise before after was now
 shows_rise before after was now is_was is_now rose = (is_was, is_now, subst (λ (n : ℕ). Rose before n) (sym is_now) (subst (λ (n : ℕ). Rose n now) (sym is_was) rose))
 
-module _ {D S K : Type 0} (disk_count : D → ℕ) (made : D → Made) (source_count : S → ℕ) (sink_count : K → ℕ) where
+module _ {D S K : Type 0} (d : disk.Ghosts D) (s : source.Ghosts S) (k : sink.Ghosts K) where
   -- after a run of lines
-  pub causes_end : (disk disk_end : D) (source source_end : S) (sink sink_end : K) (stop : Option Stop) (detail : Detail) (a b c d : ℕ) → detail ≡ ended_by stop a b c d
-      → a ≡ disk_count disk → b ≡ disk_count disk_end → c ≡ sink_count sink → d ≡ sink_count sink_end
-      → source_end ≡ source → CountsDisk stop (disk_count disk) (disk_count disk_end) → CountsSink stop (sink_count sink) (sink_count sink_end) → (made disk_end).past ≡ (made disk).past
-      → ShowsCauses disk_count made source_count sink_count disk disk_end source source_end sink sink_end detail
-  causes_end disk disk_end source source_end sink sink_end stop detail a b c d is is_a is_b is_c is_d same on_disk on_sink reads =
-      subst (ShowsCauses disk_count made source_count sink_count disk disk_end source source_end sink sink_end) (sym is) (by stop on_disk on_sink)
-    where
-      by : (stop : Option Stop) → CountsDisk stop (disk_count disk) (disk_count disk_end) → CountsSink stop (sink_count sink) (sink_count sink_end)
-          → ShowsCauses disk_count made source_count sink_count disk disk_end source source_end sink sink_end (ended_by stop a b c d)
-      by None on_disk on_sink = record { reading = ap source_count same; writing = on_sink; device = on_disk; rule = tt; reads = reads }
-      by (Some StopMemory) on_disk on_sink = record { reading = ap source_count same; writing = tt; device = on_disk; rule = tt; reads = reads }
-      by (Some StopWriting) on_disk on_sink = record { reading = ap source_count same; writing = shows_rise c d (sink_count sink) (sink_count sink_end) is_c is_d on_sink; device = on_disk; rule = tt; reads = reads }
-      by (Some StopDevice) on_disk on_sink = record { reading = ap source_count same; writing = tt; device = shows_rise a b (disk_count disk) (disk_count disk_end) is_a is_b on_disk; rule = tt; reads = reads }
+  pub causes_end : (start end : D) (source : S) (sink last : K) (it : Ended D S K) (tally : Option Tally) (stop : Option Stop) (a b c e : ℕ)
+      → a ≡ d.count start → b ≡ d.count end → c ≡ k.count sink → e ≡ k.count last
+      → CountsDisk stop (d.count start) (d.count end) → CountsSink stop (k.count sink) (k.count last) → (d.made end).past ≡ (d.made start).past
+      → ShowsCauses d s k start source sink (with_parts it (ended_by stop a b c e) tally end source last)
+  causes_end start end source sink last it tally None a b c e is_a is_b is_c is_e on_disk on_sink reads =
+      record { reading = refl; writing = on_sink; device = on_disk; rule = tt; reads = reads }
+  causes_end start end source sink last it tally (Some StopMemory) a b c e is_a is_b is_c is_e on_disk on_sink reads =
+      record { reading = refl; writing = tt; device = on_disk; rule = tt; reads = reads }
+  causes_end start end source sink last it tally (Some StopWriting) a b c e is_a is_b is_c is_e on_disk on_sink reads =
+      record { reading = refl; writing = shows_rise c e (k.count sink) (k.count last) is_c is_e on_sink; device = on_disk; rule = tt; reads = reads }
+  causes_end start end source sink last it tally (Some StopDevice) a b c e is_a is_b is_c is_e on_disk on_sink reads =
+      record { reading = refl; writing = tt; device = shows_rise a b (d.count start) (d.count end) is_a is_b on_disk; rule = tt; reads = reads }

@@ -1,8 +1,10 @@
 -- What a run answers of bytes, from what it answers of their lines; and runs that end before the store.
-use Rattle.std.proofs.Common.{◌≡◌, ◌⊎◌, inl, inr, ℕ, ◌<◌, List, [], Option, Some, None, refl, ap, subst, ◌∙◌, arith}
+use Rattle.std.proofs.Common.{◌≡◌, ◌⊎◌, inl, inr, ℕ, ◌<◌, List, [], Option, Some, None, refl, sym, ap, subst, ◌∙◌, arith}
 use Rattle.std.specs.Prelude.{IfSome}
 use Rattle.pm_types.specs.declared.entry.Entry.{Entry}
-use Rattle.pm_disk.specs.Made.{Made}
+use Rattle.pm_disk.specs.declared.disk.Disk as disk
+use Rattle.pm_io.specs.declared.source.Source as source
+use Rattle.pm_io.specs.declared.sink.Sink as sink
 use Rattle.pm_model.specs.Journal.{requests_of, commands_of}
 use Rattle.pm_script.specs.declared.fault.ScriptFault.{ScriptFault}
 use Rattle.pm_script.specs.declared.fault.ScriptFault.TheVariants.{Line as BadLine, TooManyLines, TooLong, Memory as ScriptMemory}
@@ -16,11 +18,13 @@ use Rattle.pm_engine.specs.Shown.{tally_of}
 use Rattle.pm_serial.specs.Asked.{requests_asked}
 use Rattle.pm_top.specs.declared.ended.Detail.{Detail}
 use Rattle.pm_top.specs.declared.ended.Detail.TheVariants.{Fine, Usage, Script, Reading, Writing, Device, NotEmpty, Refused, Memory}
+use Rattle.pm_top.specs.declared.ended.Ended.{Ended}
 use Rattle.pm_top.specs.Ends.{not_read}
 use Rattle.pm_top.specs.Stages.{IsPast, unreached, the_words, the_script, the_store, the_output}
 use Rattle.pm_top.specs.Journals.{EndsFor, IsScriptEnd, MakesAll, ReadsScript, ServesLines}
 use Rattle.pm_top.specs.Commands.{ShowsCauses}
 use Rattle.pm_top.proofs.Counted.{made_all}
+use Rattle.pm_top.proofs.Parts.{with_parts}
 
 -- a run that came to the store does not refuse the script
 tried_read : (bytes : List ℕ) (detail : Detail) → the_store < unreached detail → IsScriptEnd bytes detail
@@ -76,6 +80,10 @@ script_unknown bytes detail refused ends none = record {
   made = λ past. absurd (none (omega (arith, past)));
 }
 
+-- nothing was served
+pub unserved : (bytes : List ℕ) (detail : Detail) (journal : List Entry) → journal ≡ [] → ReadsScript bytes detail [] None → ReadsScript bytes detail journal None
+unserved bytes detail journal empty reads = subst (λ (j : List Entry). ReadsScript bytes detail j None) (sym empty) reads
+
 -- a script that is not read
 pub script_not_read : (bytes : List ℕ) (fault : ScriptFault) → (fault ≡ ScriptMemory) ⊎ IsBad fault bytes → ReadsScript bytes (not_read fault) [] None
 script_not_read bytes (BadLine number cause) (inl never) = absurd (cc never)
@@ -105,9 +113,10 @@ unopened_read TooManyLines past = absurd (omega arith)
 unopened_read TooLong past = absurd (omega arith)
 unopened_read ScriptMemory past = absurd (omega arith)
 
-module _ {D S K : Type 0} (disk_count : D → ℕ) (made : D → Made) (source_count : S → ℕ) (sink_count : K → ℕ) where
-  pub read_causes : (disk : D) (source : S) (sink : K) (fault : ScriptFault) → ShowsCauses disk_count made source_count sink_count disk disk source source sink sink (not_read fault)
-  read_causes disk source sink (BadLine number cause) = record { reading = refl; writing = refl; device = refl; rule = tt; reads = refl }
-  read_causes disk source sink TooManyLines = record { reading = refl; writing = refl; device = refl; rule = tt; reads = refl }
-  read_causes disk source sink TooLong = record { reading = refl; writing = refl; device = refl; rule = tt; reads = refl }
-  read_causes disk source sink ScriptMemory = record { reading = refl; writing = tt; device = refl; rule = tt; reads = refl }
+module _ {D S K : Type 0} (d : disk.Ghosts D) (s : source.Ghosts S) (k : sink.Ghosts K) where
+  pub read_causes : (disk : D) (source : S) (sink : K) (it : Ended D S K) (fault : ScriptFault)
+      → ShowsCauses d s k disk source sink (with_parts it (not_read fault) None disk source sink)
+  read_causes disk source sink it (BadLine number cause) = record { reading = refl; writing = refl; device = refl; rule = tt; reads = refl }
+  read_causes disk source sink it TooManyLines = record { reading = refl; writing = refl; device = refl; rule = tt; reads = refl }
+  read_causes disk source sink it TooLong = record { reading = refl; writing = refl; device = refl; rule = tt; reads = refl }
+  read_causes disk source sink it ScriptMemory = record { reading = refl; writing = tt; device = refl; rule = tt; reads = refl }

@@ -1,7 +1,8 @@
 -- How a run, and how making a store, leaves the disk.
-use Rattle.std.specs.Prelude.{◌≡◌, ◌⊎◌, ℕ, ◌<◌, List, [], length, Option, Some, Err}
+use Rattle.std.specs.Prelude.{◌≡◌, ◌⊎◌, ℕ, ◌<◌, List, [], length, Some, Err}
 use Rattle.pm_types.specs.declared.entry.Entry.{Entry}
 use Rattle.pm_types.specs.declared.fault.OpenFault.{OpenFault}
+use Rattle.pm_disk.specs.declared.disk.Disk as disk
 use Rattle.pm_disk.specs.Disk.{LeavesOnly, SameImages}
 use Rattle.pm_model.specs.World.{World, Copy, begin, empty_copy}
 use Rattle.pm_model.specs.Journal.{IsLegal, after}
@@ -37,36 +38,45 @@ abbrev pub IsRefusedFor : List ℕ → Detail → Type 0
 IsRefusedFor bytes (Refused fault) = Breaks bytes fault
 IsRefusedFor bytes detail = Unit {0}
 
--- How a run leaves the disk, from its start to its end, by what the disk told at the start.
-pub record LeavesDisk {D : Type 0} (contents : D → Option (List ℕ)) (image : D → List ℕ → Type 0) (moment : D → ℕ) (since : D → ℕ → List ℕ → Type 0) (start end : D) (detail : Detail) (journal : List Entry) : Type 0 where
-  -- the journal is legal from the world of the copy that the bytes stand for
-  pub legal : (bytes : List ℕ) → contents start ≡ Some bytes → (number : ℕ) (copy : Copy) → StandsForCopy bytes number copy → IsLegal (begin number copy) journal
-  -- each image since the start is one that a crash might have left then, or of the run
-  pub images : (bytes : List ℕ) → contents start ≡ Some bytes → (number : ℕ) (copy : Copy) → StandsForCopy bytes number copy
-      → LeavesOnly moment since start end (λ left. image start left ⊎ IsOfRun detail (begin number copy) journal left)
-  -- each image at the end is the last one
-  pub last : (bytes : List ℕ) → contents start ≡ Some bytes → (number : ℕ) (copy : Copy) → StandsForCopy bytes number copy → IsPast the_store detail journal
-      → (left : List ℕ) → image end left → IsLastOf detail (after (begin number copy) journal) left
-  -- only bytes that stand for a copy are opened
-  pub opened : (bytes : List ℕ) → contents start ≡ Some bytes → IsPast the_store detail journal → (number : ℕ) × (copy : Copy) × StandsForCopy bytes number copy
-  -- bytes are refused for no rule but the first that they break, and where they break one they are not opened
-  pub refused : (bytes : List ℕ) → contents start ≡ Some bytes → IsRefusedFor bytes detail
-  pub shut : (bytes : List ℕ) → contents start ≡ Some bytes → (fault : OpenFault) → Breaks bytes fault → IsPast the_store detail journal → ⊥
-  -- where no command was answered, nothing was written
-  pub quiet : journal ≡ [] → (contents end ≡ contents start) × LeavesOnly moment since start end (image start)
-  -- before the store it is not called
-  pub uncalled : IsBefore the_store detail → end ≡ start
+module _ {D : Type 0} (d : disk.Ghosts D) where
+  -- How a run leaves the disk, from its start to its end, by what the disk told at the start.
+  pub record LeavesDisk (start end : D) (detail : Detail) (journal : List Entry) : Type 0 where
+    -- the journal is legal from the world of the copy that the bytes stand for
+    pub legal : (bytes : List ℕ) → d.contents start ≡ Some bytes → (number : ℕ) (copy : Copy) → StandsForCopy bytes number copy
+        → IsLegal (begin number copy) journal
+    -- each image since the start is one that a crash might have left then, or of the run
+    pub images : (bytes : List ℕ) → d.contents start ≡ Some bytes → (number : ℕ) (copy : Copy) → StandsForCopy bytes number copy
+        → LeavesOnly d.moment d.since start end (λ left. d.image start left ⊎ IsOfRun detail (begin number copy) journal left)
+    -- each image at the end is the last one
+    pub last : (bytes : List ℕ) → d.contents start ≡ Some bytes → (number : ℕ) (copy : Copy) → StandsForCopy bytes number copy
+        → IsPast the_store detail journal
+        → (left : List ℕ) → d.image end left → IsLastOf detail (after (begin number copy) journal) left
+    -- only bytes that stand for a copy are opened
+    pub opened : (bytes : List ℕ) → d.contents start ≡ Some bytes → IsPast the_store detail journal
+        → (number : ℕ) × (copy : Copy) × StandsForCopy bytes number copy
+    -- bytes are refused for no rule but the first that they break, and where they break one they are not opened
+    pub refused : (bytes : List ℕ) → d.contents start ≡ Some bytes → IsRefusedFor bytes detail
+    pub shut : (bytes : List ℕ) → d.contents start ≡ Some bytes → (fault : OpenFault) → Breaks bytes fault
+        → IsPast the_store detail journal → ⊥
+    -- where no command was answered, nothing was written
+    pub quiet : journal ≡ [] → (d.contents end ≡ d.contents start) × LeavesOnly d.moment d.since start end (d.image start)
+    -- before the store it is not called
+    pub uncalled : IsBefore the_store detail → end ≡ start
 
--- How making a store leaves the disk, by how it ended.
-abbrev pub LeavesMade : {D : Type 0} → (D → Option (List ℕ)) → (D → List ℕ → Type 0) → D → D → Detail → Type 0
--- a store was made on a disk that was empty, and each image stands for copy 0, of nothing
-LeavesMade contents image start end Fine =
-    (bytes : List ℕ) → contents start ≡ Some bytes → (length bytes ≡ 0) × (contents end ≡ Some blank_store) × ((left : List ℕ) → image end left → StandsForCopy left 0 empty_copy)
--- the disk holds so many bytes, and all is as it was
-LeavesMade contents image start end (NotEmpty n) =
-    (0 < n) × ((bytes : List ℕ) → contents start ≡ Some bytes → n ≡ length bytes) × (contents end ≡ contents start) × SameImages (image start) (image end)
--- nothing was written to a disk that is empty
-LeavesMade contents image start end Memory = (contents end ≡ contents start) × SameImages (image start) (image end)
--- the disk failed: where it told of some byte, nothing was written
-LeavesMade contents image start end (Device before after) = KeepsBytes (contents start) (contents end) (image start) (image end)
-LeavesMade contents image start end detail = ⊥
+  -- How making a store leaves the disk, by how it ended.
+  abbrev pub LeavesMade : D → D → Detail → Type 0
+  -- a store was made on a disk that was empty, and each image stands for copy 0, of nothing
+  LeavesMade start end Fine =
+      (bytes : List ℕ) → d.contents start ≡ Some bytes
+      → (length bytes ≡ 0) × (d.contents end ≡ Some blank_store)
+      × ((left : List ℕ) → d.image end left → StandsForCopy left 0 empty_copy)
+  -- the disk holds so many bytes, and all is as it was
+  LeavesMade start end (NotEmpty n) =
+      (0 < n) × ((bytes : List ℕ) → d.contents start ≡ Some bytes → n ≡ length bytes)
+      × (d.contents end ≡ d.contents start) × SameImages (d.image start) (d.image end)
+  -- nothing was written to a disk that is empty
+  LeavesMade start end Memory = (d.contents end ≡ d.contents start) × SameImages (d.image start) (d.image end)
+  -- the disk failed: where it told of some byte, nothing was written
+  LeavesMade start end (Device before after) =
+      KeepsBytes (d.contents start) (d.contents end) (d.image start) (d.image end)
+  LeavesMade start end detail = ⊥

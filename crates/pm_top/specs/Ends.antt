@@ -31,7 +31,8 @@ status_of Memory = 7
 abbrev pub refusal_line : OpenFault → List ℕ
 refusal_line NotAStore = codes "pmos: not a store\n"
 refusal_line (Version version) = codes "pmos: version " ++ decimal version ++ codes "\n"
-refusal_line (Damaged page kept found) = codes "pmos: damaged page " ++ decimal page ++ codes " kept " ++ encode_lower kept ++ codes " found " ++ encode_lower found ++ codes "\n"
+refusal_line (Damaged page kept found) =
+    codes "pmos: damaged page " ++ decimal page ++ codes " kept " ++ encode_lower kept ++ codes " found " ++ encode_lower found ++ codes "\n"
 refusal_line (Malformed page at) = codes "pmos: malformed page " ++ decimal page ++ codes " at " ++ decimal at ++ codes "\n"
 refusal_line (Disk before after) = codes "pmos: disk fault\n"
 refusal_line NoRoom = codes "pmos: no memory\n"

@@ -75,4 +75,5 @@ pub record ReadsScript (bytes : List ℕ) (detail : Detail) (journal : List Entr
   pub all : IsPast the_output detail journal → (lines : List Line) → IsScript bytes lines → requests_of journal ≡ requests_asked lines
   pub serves : IsPast the_output detail journal → (lines : List Line) → IsScript bytes lines → Serves journal (requests_asked lines)
   -- and every event was made that they ask for
-  pub made : IsPast the_output detail journal → (lines : List Line) → IsScript bytes lines → IfSome tally (λ it. MakesAll lines journal (tally_of it))
+  pub made : IsPast the_output detail journal → (lines : List Line) → IsScript bytes lines
+      → IfSome tally (λ it. MakesAll lines journal (tally_of it))

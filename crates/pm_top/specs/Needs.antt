@@ -1,12 +1,16 @@
 -- What a command needs. Where it has that, and nothing fails, it is done, or memory ran out.
 use Rattle.std.specs.Prelude.{◌≡◌, ℕ, List, [], Option, Some}
 use Rattle.pm_base.specs.Counts.{Rose}
+use Rattle.pm_disk.specs.declared.disk.Disk as disk
+use Rattle.pm_io.specs.declared.source.Source as source
+use Rattle.pm_io.specs.declared.sink.Sink as sink
 use Rattle.pm_model.specs.World.{Copy}
 use Rattle.pm_image.specs.Stands.{StandsForCopy}
 use Rattle.pm_script.specs.declared.line.Line.{Line}
 use Rattle.pm_script.specs.Script.{IsScript}
 use Rattle.pm_words.specs.declared.command.Command.{Command}
 use Rattle.pm_words.specs.declared.command.Command.TheVariants.{Init, Run, Inspect, Make, Trial}
+use Rattle.pm_top.specs.declared.ended.Ended.{Ended}
 
 -- the source tells that it holds a script
 pub record HoldsScript (told : Option (List ℕ)) : Type 0 where
@@ -23,16 +27,18 @@ pub record HoldsStore (told : Option (List ℕ)) : Type 0 where
   pub copy : Copy
   pub stands : StandsForCopy bytes number copy
 
--- what a command needs of what disk and source tell
-abbrev pub HasNeeds : Command → Option (List ℕ) → Option (List ℕ) → Type 0
-HasNeeds Init on_disk in_source = on_disk ≡ Some []
-HasNeeds Run on_disk in_source = HoldsStore on_disk × HoldsScript in_source
-HasNeeds Inspect on_disk in_source = HoldsStore on_disk
-HasNeeds (Make seed turns) on_disk in_source = Unit {0}
-HasNeeds (Trial seed turns) on_disk in_source = HoldsStore on_disk
+module _ {D S : Type 0} (d : disk.Ghosts D) (s : source.Ghosts S) where
+  -- what a command needs of what disk and source tell
+  abbrev pub HasNeeds : Command → D → S → Type 0
+  HasNeeds Init disk source = d.contents disk ≡ Some []
+  HasNeeds Run disk source = HoldsStore (d.contents disk) × HoldsScript (s.left source)
+  HasNeeds Inspect disk source = HoldsStore (d.contents disk)
+  HasNeeds (Make seed turns) disk source = Unit {0}
+  HasNeeds (Trial seed turns) disk source = HoldsStore (d.contents disk)
 
--- none of the three failed
-pub record NothingFails {D S K : Type 0} (disk_count : D → ℕ) (source_count : S → ℕ) (sink_count : K → ℕ) (disk disk_end : D) (source source_end : S) (sink sink_end : K) : Type 0 where
-  pub disk_stands : ¬ (Rose (disk_count disk) (disk_count disk_end))
-  pub source_stands : ¬ (Rose (source_count source) (source_count source_end))
-  pub sink_stands : ¬ (Rose (sink_count sink) (sink_count sink_end))
+module _ {D S K : Type 0} (d : disk.Ghosts D) (s : source.Ghosts S) (k : sink.Ghosts K) where
+  -- none of the three failed
+  pub record NothingFails (disk : D) (source : S) (sink : K) (ended : Ended D S K) : Type 0 where
+    pub disk_stands : ¬ (Rose (d.count disk) (d.count ended.disk))
+    pub source_stands : ¬ (Rose (s.count source) (s.count ended.source))
+    pub sink_stands : ¬ (Rose (k.count sink) (k.count ended.sink))

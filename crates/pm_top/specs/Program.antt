@@ -1,45 +1,40 @@
 -- What the whole program does, down to its status and to standard error.
-use Rattle.std.specs.Prelude.{◌≡◌, ◌⊎◌, ℕ, List, Option}
+use Rattle.std.specs.Prelude.{◌≡◌, ◌⊎◌, ℕ, List}
 use Rattle.pm_base.specs.Counts.{Rose}
-use Rattle.pm_types.specs.declared.entry.Entry.{Entry}
-use Rattle.pm_disk.specs.Made.{Made}
+use Rattle.pm_disk.specs.declared.disk.Disk as disk
+use Rattle.pm_io.specs.declared.source.Source as source
+use Rattle.pm_io.specs.declared.sink.Sink as sink
 use Rattle.pm_output.specs.Writing.{PutsAll, PutsPart}
-use Rattle.pm_engine.specs.declared.tally.Tally.{Tally}
 use Rattle.pm_words.specs.declared.command.Command.{Command}
 use Rattle.pm_words.specs.Words.{Spells, SpellsNothing}
 use Rattle.pm_top.specs.declared.ended.Detail.{Detail}
 use Rattle.pm_top.specs.declared.ended.Detail.TheVariants.{Usage, Memory}
+use Rattle.pm_top.specs.declared.ended.Ended.{Ended}
 use Rattle.pm_top.specs.Ends.{status_of, detail_line}
 use Rattle.pm_top.specs.Commands.{ShowsCauses, IsUntouched, Does}
 use Rattle.pm_top.specs.Needs.{HasNeeds, NothingFails}
 
--- This line was written to the sink and nothing else, or, where the sink failed, a first part of it.
-pub record Tells {E : Type 0} (written : E → Option (List ℕ)) (count : E → ℕ) (old new : E) (line : List ℕ) : Type 0 where
-  pub all : ¬ (Rose (count old) (count new)) → PutsAll (written old) (written new) line
-  pub part : PutsPart (written old) (written new) line
+module _ {E : Type 0} (e : sink.Ghosts E) where
+  -- This line was written to the sink and nothing else, or, where the sink failed, a first part of it.
+  pub record Tells (old new : E) (line : List ℕ) : Type 0 where
+    pub all : ¬ (Rose (e.count old) (e.count new)) → PutsAll (e.written old) (e.written new) line
+    pub part : PutsPart (e.written old) (e.written new) line
 
--- The line of an end was told, and this is the status of that end.
-pub record TellsEnd {E : Type 0} (written : E → Option (List ℕ)) (count : E → ℕ) (old new : E) (status : ℕ) : Type 0 where
-  pub detail : Detail
-  pub is_status : status ≡ status_of detail
-  pub told : Tells written count old new (detail_line detail)
+  -- The line of an end was told, and this is the status of that end.
+  pub record TellsEnd (old new : E) (status : ℕ) : Type 0 where
+    pub detail : Detail
+    pub is_status : status ≡ status_of detail
+    pub told : Tells old new (detail_line detail)
 
--- The program ended with this status, and told the line of its end: there is an end, with a journal, a tally and what is
--- left of disk, source and sink, of which all holds that holds of the top call.
-pub record Performs {D S K : Type 0} (contents : D → Option (List ℕ)) (image : D → List ℕ → Type 0) (moment : D → ℕ) (since : D → ℕ → List ℕ → Type 0) (disk_count : D → ℕ) (made : D → Made) (left : S → Option (List ℕ)) (source_count : S → ℕ) (written : K → Option (List ℕ)) (finished sink_count : K → ℕ) (words : List (List ℕ)) (disk : D) (source : S) (sink : K) (status : ℕ) (tells : List ℕ → Type 0) : Type 0 where
-  pub detail : Detail
-  pub journal : List Entry
-  pub tally : Option Tally
-  pub disk_end : D
-  pub source_end : S
-  pub sink_end : K
-  pub is_status : status ≡ status_of detail
-  pub told : tells (detail_line detail)
-  pub usage : detail ≡ Usage → SpellsNothing words
-  pub refused : SpellsNothing words → (detail ≡ Usage) ⊎ (detail ≡ Memory)
-  pub untouched : SpellsNothing words → IsUntouched disk disk_end source source_end sink sink_end journal tally
-  pub causes : ShowsCauses disk_count made source_count sink_count disk disk_end source source_end sink sink_end detail
-  pub does : (command : Command) → Spells words command
-      → Does command contents image moment since made left written finished sink_count disk disk_end source source_end sink sink_end detail journal tally
-  pub complete : (command : Command) → Spells words command → HasNeeds command (contents disk) (left source)
-      → NothingFails disk_count source_count sink_count disk disk_end source source_end sink sink_end → (status ≡ 0) ⊎ (status ≡ 7)
+module _ {D S K : Type 0} (d : disk.Ghosts D) (s : source.Ghosts S) (k : sink.Ghosts K) where
+  -- The program ended so, with a status, a journal, a tally and what is left of disk, source and sink: all holds of this
+  -- end that holds of the top call.
+  pub record Performs (words : List (List ℕ)) (disk : D) (source : S) (sink : K) (ended : Ended D S K) : Type 0 where
+    pub is_status : ended.status ≡ status_of ended.detail
+    pub usage : ended.detail ≡ Usage → SpellsNothing words
+    pub refused : SpellsNothing words → (ended.detail ≡ Usage) ⊎ (ended.detail ≡ Memory)
+    pub untouched : SpellsNothing words → IsUntouched disk source sink ended
+    pub causes : ShowsCauses d s k disk source sink ended
+    pub does : (command : Command) → Spells words command → Does d s k command disk source sink ended
+    pub complete : (command : Command) → Spells words command → HasNeeds d s command disk source
+        → NothingFails d s k disk source sink ended → (ended.status ≡ 0) ⊎ (ended.status ≡ 7)

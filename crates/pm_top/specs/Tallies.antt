@@ -14,7 +14,8 @@ use Rattle.pm_top.specs.Stages.{IsPast, IsBefore, the_store, the_events}
 
 -- different identities that the names and registers of this world reach are no more than this number
 abbrev pub ReachesAtMost : World → ℕ → Type 0
-ReachesAtMost world count = (ids : List ℕ) → IsDistinct nat_eq ids → AllByRecursion (IsReachable world.heap (IsHeld world)) ids → length ids ≤ count
+ReachesAtMost world count =
+    (ids : List ℕ) → IsDistinct nat_eq ids → AllByRecursion (IsReachable world.heap (IsHeld world)) ids → length ids ≤ count
 
 -- What an engine came to that was opened in this world, and has this journal.
 pub record ComesTo (start : World) (journal : List Entry) (total : Total) : Type 0 where

@@ -1,5 +1,6 @@
 -- What a command wrote.
 use Rattle.std.specs.Prelude.{◌≡◌, ℕ, List, ◌++◌, Option, Some, length}
+use Rattle.pm_io.specs.declared.sink.Sink as sink
 use Rattle.pm_output.specs.Writing.{PutsAll, PutsPart}
 use Rattle.pm_serial.specs.declared.stop.Stop.{Stop}
 use Rattle.pm_serial.specs.Writing.{WroteRun}
@@ -8,12 +9,6 @@ use Rattle.pm_top.specs.declared.ended.Detail.{Detail}
 use Rattle.pm_top.specs.declared.ended.Detail.TheVariants.{Fine, Writing}
 use Rattle.pm_top.specs.declared.writes.Writes.{Writes}
 use Rattle.pm_top.specs.declared.writes.Writes.TheVariants.{Replies, Digest}
-
--- what a run of lines put into the sink for the text of its journal and for the lines behind it, by what it writes and by
--- why it stopped, if it did
-abbrev pub Wrote : {K : Type 0} → Writes → (K → Option (List ℕ)) → (K → ℕ) → (K → ℕ) → K → K → List ℕ → List ℕ → Option Stop → Type 0
-Wrote Replies written finished count old new text tail stop = WroteRun written finished count old new text tail stop
-Wrote Digest written finished count old new text tail stop = WroteTrial written finished count old new text tail stop
 
 -- the command is done
 abbrev pub IsFine : Detail → Type 0
@@ -31,12 +26,19 @@ IsWriting Fine = Unit {0}
 IsWriting (Writing before after) = Unit {0}
 IsWriting detail = ⊥
 
--- What a command that writes one text put into the sink, by how it ended.
-pub record WroteText {K : Type 0} (written : K → Option (List ℕ)) (finished : K → ℕ) (old new : K) (text : List ℕ) (detail : Detail) : Type 0 where
-  -- where it is done, all of the text, and all of it is finished
-  pub all : IsFine detail → PutsAll (written old) (written new) text
-  pub all_finished : IsFine detail → (before : List ℕ) → written old ≡ Some before → finished new ≡ length (before ++ text)
-  -- where the sink failed, a first part of it
-  pub part : IsOfSink detail → PutsPart (written old) (written new) text
-  -- and else the sink is not called
-  pub none : (IsWriting detail → ⊥) → new ≡ old
+module _ {K : Type 0} (k : sink.Ghosts K) where
+  -- what a run of lines put into the sink for the text of its journal and for the lines behind it, by what it writes and by
+  -- why it stopped, if it did
+  abbrev pub Wrote : Writes → K → K → List ℕ → List ℕ → Option Stop → Type 0
+  Wrote Replies old new text tail stop = WroteRun k.written k.finished k.count old new text tail stop
+  Wrote Digest old new text tail stop = WroteTrial k.written k.finished k.count old new text tail stop
+
+  -- What a command that writes one text put into the sink, by how it ended.
+  pub record WroteText (old new : K) (text : List ℕ) (detail : Detail) : Type 0 where
+    -- where it is done, all of the text, and all of it is finished
+    pub all : IsFine detail → PutsAll (k.written old) (k.written new) text
+    pub all_finished : IsFine detail → (before : List ℕ) → k.written old ≡ Some before → k.finished new ≡ length (before ++ text)
+    -- where the sink failed, a first part of it
+    pub part : IsOfSink detail → PutsPart (k.written old) (k.written new) text
+    -- and else the sink is not called
+    pub none : (IsWriting detail → ⊥) → new ≡ old

@@ -19,11 +19,8 @@ pub(crate) fn inspect_store<D: Disk, S: Source, K: Sink>(
     mut sink: K,
 ) -> Ended<D, S, K>
     ensures status { result.status ≡ status_of result.detail }
-    ensures causes { ShowsCauses D.count D.made S.count K.count disk result.disk source result.source
-        sink result.sink result.detail }
-    ensures inspects { InspectsStore D.contents D.image D.moment D.since D.made K.written K.finished
-        disk result.disk source result.source sink result.sink
-        result.detail result.journal.items result.tally }
+    ensures causes { ShowsCauses D.Disk S.Source K.Sink disk source sink result }
+    ensures inspects { InspectsStore D.Disk K.Sink disk source sink result }
 {
     let (disk, surveyed) = survey(alloc, disk);
     let detail = match surveyed {

@@ -39,10 +39,8 @@ pub(crate) fn make_script<D: Disk, S: Source, K: Sink>(
 ) -> Ended<D, S, K>
     requires { turns ≤ MOST_TURNS }
     ensures status { result.status ≡ status_of result.detail }
-    ensures causes { ShowsCauses D.count D.made S.count K.count disk result.disk source result.source
-        sink result.sink result.detail }
-    ensures makes { MakesScript seed turns K.written K.finished disk result.disk source result.source
-        sink result.sink result.detail result.journal.items result.tally }
+    ensures causes { ShowsCauses D.Disk S.Source K.Sink disk source sink result }
+    ensures makes { MakesScript K.Sink seed turns disk source sink result }
 {
     let detail = match script(alloc, seed, turns) {
         Ok(text) => write_text(&mut sink, text.as_slice()),
@@ -64,11 +62,8 @@ pub(crate) fn try_script<D: Disk, F: Fn(&[u64]) -> usize + Drop, S: Source, K: S
     requires turns { turns ≤ MOST_TURNS }
     requires chooser { IsChooser F.Fn place }
     ensures status { result.status ≡ status_of result.detail }
-    ensures causes { ShowsCauses D.count D.made S.count K.count disk result.disk source result.source
-        sink result.sink result.detail }
-    ensures tries { TriesScript seed turns D.contents D.image D.moment D.since K.written K.finished K.count
-        disk result.disk source result.source sink result.sink
-        result.detail result.journal.items result.tally }
+    ensures causes { ShowsCauses D.Disk S.Source K.Sink disk source sink result }
+    ensures tries { TriesScript D.Disk K.Sink seed turns disk source sink result }
 {
     match script(alloc, seed, turns) {
         Ok(bytes) => run_bytes(alloc, Writes::Digest, bytes, disk, place, source, sink),

@@ -30,10 +30,8 @@ pub(crate) fn make_store<D: Disk, S: Source, K: Sink>(
     sink: K,
 ) -> Ended<D, S, K>
     ensures status { result.status ≡ status_of result.detail }
-    ensures causes { ShowsCauses D.count D.made S.count K.count disk result.disk source result.source
-        sink result.sink result.detail }
-    ensures makes { MakesStore D.contents D.image D.moment D.since disk result.disk source result.source
-        sink result.sink result.detail result.journal.items result.tally }
+    ensures causes { ShowsCauses D.Disk S.Source K.Sink disk source sink result }
+    ensures makes { MakesStore D.Disk disk source sink result }
 {
     match init(alloc, &mut disk) {
         Ok(()) => end_unopened(alloc, Detail::Fine, disk, source, sink),

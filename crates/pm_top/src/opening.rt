@@ -36,10 +36,8 @@ fn run_engine<D: Disk, F: Fn(&[u64]) -> usize + Drop, S: Source, K: Sink>(
     ensures status { result.status ≡ status_of result.detail }
     ensures source { result.source ≡ source }
     ensures serves { ServesLines lines.items result.detail result.journal.items result.tally }
-    ensures runs { RunsEngine writes K.written K.finished K.count engine result.disk sink result.sink
-        result.detail result.journal.items result.tally }
-    ensures causes { ShowsCauses D.count D.made S.count K.count (disk_in engine) result.disk source result.source
-        sink result.sink result.detail }
+    ensures runs { RunsEngine K.Sink writes engine sink result }
+    ensures causes { ShowsCauses D.Disk S.Source K.Sink (disk_in engine) source sink result }
 {
     let sink_before = sink.faults();
     let outcome = write_lines(alloc, writes, lines, &mut engine, &mut sink);
@@ -65,10 +63,8 @@ pub(crate) fn open_and_run<D: Disk, F: Fn(&[u64]) -> usize + Drop, S: Source, K:
     ensures status { result.status ≡ status_of result.detail }
     ensures source { result.source ≡ source }
     ensures serves { ServesLines lines.items result.detail result.journal.items result.tally }
-    ensures store { RunsStore writes D.contents D.image D.moment D.since K.written K.finished K.count
-        disk result.disk sink result.sink result.detail result.journal.items result.tally }
-    ensures causes { ShowsCauses D.count D.made S.count K.count disk result.disk source result.source
-        sink result.sink result.detail }
+    ensures store { RunsStore D.Disk K.Sink writes disk sink result }
+    ensures causes { ShowsCauses D.Disk S.Source K.Sink disk source sink result }
 {
     let before = disk.faults();
     match Engine::open_store(alloc, disk, place) {

@@ -61,10 +61,8 @@ pub(crate) fn run_bytes<D: Disk, F: Fn(&[u64]) -> usize + Drop, S: Source, K: Si
     ensures ends { IsPast the_words result.detail result.journal.items }
     ensures past { the_script < unreached result.detail }
     ensures script { ReadsScript bytes.items result.detail result.journal.items result.tally }
-    ensures store { RunsStore writes D.contents D.image D.moment D.since K.written K.finished K.count
-        disk result.disk sink result.sink result.detail result.journal.items result.tally }
-    ensures causes { ShowsCauses D.count D.made S.count K.count disk result.disk source result.source
-        sink result.sink result.detail }
+    ensures store { RunsStore D.Disk K.Sink writes disk sink result }
+    ensures causes { ShowsCauses D.Disk S.Source K.Sink disk source sink result }
 {
     match read_lines(alloc, bytes) {
         Ok(script) => open_and_run(
@@ -90,10 +88,8 @@ pub(crate) fn run_source<D: Disk, F: Fn(&[u64]) -> usize + Drop, S: Source, K: S
 ) -> Ended<D, S, K>
     requires chooser { IsChooser F.Fn place }
     ensures status { result.status ≡ status_of result.detail }
-    ensures runs { RunsScript D.contents D.image D.moment D.since S.left K.written K.finished K.count
-        disk result.disk source result.source sink result.sink result.detail result.journal.items result.tally }
-    ensures causes { ShowsCauses D.count D.made S.count K.count disk result.disk source result.source
-        sink result.sink result.detail }
+    ensures runs { RunsScript D.Disk S.Source K.Sink disk source sink result }
+    ensures causes { ShowsCauses D.Disk S.Source K.Sink disk source sink result }
 {
     let before = source.faults();
     match read_all(alloc, &mut source) {

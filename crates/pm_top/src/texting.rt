@@ -25,7 +25,7 @@ fn put_text<K: Sink>(sink: &mut K, text: &[u8]) -> Result<(), Failed>
 /// where the sink failed.
 pub(crate) fn write_text<K: Sink>(sink: &mut K, text: &[u8]) -> Detail
     ensures ends { IsWriting result }
-    ensures wrote { WroteText K.written K.finished sink.old sink.new text.now result }
+    ensures wrote { WroteText K.Sink sink.old sink.new text.now result }
     ensures cause { ShowsWriting result (K.count sink.old) (K.count sink.new) }
 {
     let before = sink.faults();

@@ -31,11 +31,8 @@ fn perform<D: Disk, F: Fn(&[u64]) -> usize + Drop, S: Source, K: Sink>(
     requires may { MayPerform command }
     requires chooser { IsChooser F.Fn place }
     ensures status { result.status ≡ status_of result.detail }
-    ensures causes { ShowsCauses D.count D.made S.count K.count disk result.disk source result.source
-        sink result.sink result.detail }
-    ensures does { Does command D.contents D.image D.moment D.since D.made S.left K.written K.finished K.count
-        disk result.disk source result.source sink result.sink
-        result.detail result.journal.items result.tally }
+    ensures causes { ShowsCauses D.Disk S.Source K.Sink disk source sink result }
+    ensures does { Does D.Disk S.Source K.Sink command disk source sink result }
 {
     match command {
         Command::Init => make_store(alloc, disk, source, sink),
@@ -81,26 +78,23 @@ pub fn pmos<R: AllocGlobal, D: Disk, S: Source, K: Sink, F: Fn(&[u64]) -> usize 
     ensures status { result.status ≡ status_of result.detail }
 
     // Whatever the words are, an end has its cause, which is the first. Want of memory alone may come at any time.
-    ensures causes { ShowsCauses D.count D.made S.count K.count disk result.disk source result.source
-        sink result.sink result.detail }
+    ensures causes { ShowsCauses D.Disk S.Source K.Sink disk source sink result }
 
     // Words that are no command's are refused, and no others, and all is as it was.
     ensures usage { result.detail ≡ Detail.Usage → SpellsNothing (map (λ word. word.now) words.now) }
     ensures refused { SpellsNothing (map (λ word. word.now) words.now)
         → (result.detail ≡ Detail.Usage) ⊎ (result.detail ≡ Detail.Memory) }
     ensures untouched { SpellsNothing (map (λ word. word.now) words.now)
-        → IsUntouched disk result.disk source result.source sink result.sink result.journal.items result.tally }
+        → IsUntouched disk source sink result }
 
     // What each command does.
     ensures does { (command : Asked) → Spells (map (λ word. word.now) words.now) command
-        → Does command D.contents D.image D.moment D.since D.made S.left K.written K.finished K.count
-        disk result.disk source result.source sink result.sink
-        result.detail result.journal.items result.tally }
+        → Does D.Disk S.Source K.Sink command disk source sink result }
 
     // With what it needs a command is done, or memory ran out, unless disk, source or sink fails.
     ensures complete { (command : Asked) → Spells (map (λ word. word.now) words.now) command
-        → HasNeeds command (D.contents disk) (S.left source)
-        → NothingFails D.count S.count K.count disk result.disk source result.source sink result.sink
+        → HasNeeds D.Disk S.Source command disk source
+        → NothingFails D.Disk S.Source K.Sink disk source sink result
         → (result.status ≡ 0) ⊎ (result.status ≡ 7) }
 {
     words_spell_one_command();

@@ -38,7 +38,7 @@ pub(crate) fn write_lines<D: Disk, F: Fn(&[u64]) -> usize + Drop, K: Sink>(
     requires chooser { IsChooser F.Fn (chooser engine.old) }
     ensures answers { AnswersLines lines.items (serving engine.new) (why result) }
     ensures disk { RunsOnDisk engine.old engine.new (why result) }
-    ensures wrote { Wrote writes K.written K.finished K.count sink.old sink.new
+    ensures wrote { Wrote K.Sink writes sink.old sink.new
         (text (serving engine.new).journal) (tail_of (tally_in (serving engine.new))) (why result) }
     ensures cause { CountsSink (why result) (K.count sink.old) (K.count sink.new) }
     ensures start { KeepsStart engine.old engine.new }

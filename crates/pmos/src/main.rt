@@ -2,32 +2,45 @@
 //! leaves all else to `pm_top`.
 #![tactic(auto)]
 
-ghost use Rattle.std.specs.Prelude.{◌≡◌, ◌⊎◌, map, string_bytes, IfOk, OnErr};
-ghost use Rattle.pm_words.specs.Words.{SpellsNothing};
-ghost use Rattle.pm_top.specs.Program.{TellsEnd};
+ghost use Rattle.std.specs.Prelude.{◌≡◌, ℕ, List, map, drop, string_bytes, IfOk, OnErr};
+ghost use Rattle.std.specs.Process.{exit_status};
+ghost use Rattle.std.specs.Vec.Iter.{into_iter_items};
+ghost use Rattle.pm_top.specs.Ends.{detail_line};
+ghost use Rattle.pm_top.specs.Program.{Tells, TellsEnd};
+ghost use Rattle.pmos.specs.Main.{path_in, PerformsFrom};
 
-use pm_file::FileDisk;
-use pm_io::{Sink, StdSink, StdSource};
+use pm_disk::Disk;
+use pm_file::{FileDisk, StoreFile};
+use pm_io::{Sink, Source, StdSink, StdSource};
 use pm_place::Placement;
-use pm_top::{Detail, program, tell};
+use pm_top::{Detail, Ended, program, tell};
+use pm_types::NoMemory;
 use std::alloc::{AllocError, Global};
-use std::io::ErrorKind;
+use std::env::{Args, Env};
+use std::fs::Files;
+use std::io::{ErrorKind, Read, Write};
 use std::process::ExitCode;
 use std::{env, io};
 
-// The words after the program's name. Those that are no text are no command line, as no words are.
-fn words(rt: &HostRuntime) -> Result<Vec<String>, AllocError> {
-    let mut words = Vec::new(rt.alloc());
+// The words behind the program's name, all of them.
+fn behind_name(alloc: Global, mut all: Args) -> Result<Vec<String>, AllocError>
+    ensures { IfOk result (λ words. words.items ≡ drop 1 (into_iter_items all)) }
+{
+    let mut words = Vec::new(alloc);
+    let _ = all.next();
+    for word in all {
+        words.push(word)?;
+    }
+    Ok(words)
+}
+
+// The words of the command line. Those that are no text are no command line, as no words are.
+fn words<R: AllocGlobal + Env>(rt: &R) -> Result<Vec<String>, AllocError> {
     match env::args(rt) {
-        Ok(all) => {
-            for word in all.skip(1) {
-                words.push(word)?;
-            }
-            Ok(words)
-        }
+        Ok(all) => behind_name(rt.alloc(), all),
         Err(error) => match error.kind() {
             ErrorKind::OutOfMemory => Err(AllocError),
-            _ => Ok(words),
+            _ => Ok(Vec::new(rt.alloc())),
         },
     }
 }
@@ -43,57 +56,92 @@ fn texts(alloc: Global, words: &[String]) -> Result<Vec<&str>, AllocError>
 }
 
 // The file's name: the second word, or nothing where there is none.
-fn path_of<'a>(words: &[&'a str]) -> &'a str {
+fn path_of<'a>(words: &[&'a str]) -> &'a str
+    ensures { result.now ≡ path_in (map (λ word. word.now) words.now) }
+{
     match words {
         [_, file, ..] => *file,
         _ => "",
     }
 }
 
-// Runs the program over the real file, input and output, and answers its status.
-fn run<E: Sink>(rt: &HostRuntime, words: &[&str], errors: &mut E) -> u8
-    ensures usage { SpellsNothing (map (λ word. word.now) words.now) → (result ≡ 1) ⊎ (result ≡ 7) }
-    ensures command { result ≡ 1 → SpellsNothing (map (λ word. word.now) words.now) }
-    ensures told { TellsEnd E.written E.count errors.old errors.new result }
+// Runs the program over the file that the words name, over a reader and over a writer, and hands back what it left.
+fn run<R: AllocGlobal + Files + Copy + Drop, I: Read + Drop, O: Write + Drop, E: Sink>(
+    rt: &R,
+    words: &[&str],
+    reader: I,
+    writer: O,
+    errors: &mut E,
+) -> Result<Ended<FileDisk<R>, StdSource<I>, StdSink<O>>, NoMemory>
+where
+    R::File: StoreFile,
+    ensures told { IfOk result (λ ended. Tells E.Sink errors.old errors.new (detail_line ended.detail)) }
+    ensures untold { OnErr result (errors.new ≡ errors.old) }
+    ensures performs { IfOk result (λ ended. PerformsFrom
+        ⟦<FileDisk<R> as Disk>⟧ ⟦<StdSource<I> as Source>⟧ ⟦<StdSink<O> as Sink>⟧
+        (λ disk source sink. (⟦<FileDisk<R> as Disk>⟧.count disk ≡ 0)
+        × (source.known ≡ I.remaining reader) × (sink.known ≡ O.contents writer))
+        (map (λ word. word.now) words.now) ended) }
 {
-    let disk = FileDisk::at(*rt, rt.alloc(), path_of(words));
-    let source = StdSource::new(rt.reader());
-    let sink = StdSink::new(io::writer(rt));
+    let disk = FileDisk::at(*rt, rt.alloc(), path_of(words))?;
+    let source = StdSource::new(reader);
+    let sink = StdSink::new(writer);
     // Of the trains an object may move to it picks the first.
     let place = Placement::new(|_: &[u64]| 0);
-    program(rt, words, disk, source, sink, errors, place)
+    Ok(program(rt, words, disk, source, sink, errors, place))
 }
 
 // Runs the program over the words, of which the texts are lent.
-fn run_words<E: Sink>(rt: &HostRuntime, words: &[String], errors: &mut E) -> Result<u8, AllocError>
-    ensures usage { IfOk result (λ status. SpellsNothing (map string_bytes words.now)
-        → (status ≡ 1) ⊎ (status ≡ 7)) }
-    ensures command { IfOk result (λ status. status ≡ 1 → SpellsNothing (map string_bytes words.now)) }
-    ensures told { IfOk result (λ status. TellsEnd E.written E.count errors.old errors.new status) }
+fn run_words<R: AllocGlobal + Files + Copy + Drop, I: Read + Drop, O: Write + Drop, E: Sink>(
+    rt: &R,
+    words: &[String],
+    reader: I,
+    writer: O,
+    errors: &mut E,
+) -> Result<Ended<FileDisk<R>, StdSource<I>, StdSink<O>>, NoMemory>
+where
+    R::File: StoreFile,
+    ensures told { IfOk result (λ ended. Tells E.Sink errors.old errors.new (detail_line ended.detail)) }
     ensures untold { OnErr result (errors.new ≡ errors.old) }
+    ensures performs { IfOk result (λ ended. PerformsFrom
+        ⟦<FileDisk<R> as Disk>⟧ ⟦<StdSource<I> as Source>⟧ ⟦<StdSink<O> as Sink>⟧
+        (λ disk source sink. (⟦<FileDisk<R> as Disk>⟧.count disk ≡ 0)
+        × (source.known ≡ I.remaining reader) × (sink.known ≡ O.contents writer))
+        (map string_bytes words.now) ended) }
 {
-    match texts(rt.alloc(), words) {
-        Ok(texts) => Ok(run(rt, texts.as_slice(), errors)),
-        Err(error) => Err(error),
-    }
+    let texts = texts(rt.alloc(), words)?;
+    run(rt, texts.as_slice(), reader, writer, errors)
 }
 
-// Runs the program over the words of the command line.
-fn run_all<E: Sink>(rt: &HostRuntime, errors: &mut E) -> Result<u8, AllocError>
-    ensures told { IfOk result (λ status. TellsEnd E.written E.count errors.old errors.new status) }
+// Runs the program over the words of the command line, and answers its status.
+fn run_all<R: AllocGlobal + Env + Files + Copy + Drop, I: Read + Drop, O: Write + Drop, E: Sink>(
+    rt: &R,
+    reader: I,
+    writer: O,
+    errors: &mut E,
+) -> Result<u8, NoMemory>
+where
+    R::File: StoreFile,
+    ensures told { IfOk result (λ status. TellsEnd E.Sink errors.old errors.new status) }
     ensures untold { OnErr result (errors.new ≡ errors.old) }
 {
-    match words(rt) {
-        Ok(words) => run_words(rt, words.as_slice(), errors),
-        Err(error) => Err(error),
-    }
+    let words = words(rt)?;
+    let ended = run_words(rt, words.as_slice(), reader, writer, errors)?;
+    Ok(ended.status)
 }
 
-// The status with which the program ends. Where there is no memory for its words, that is told.
-fn end<E: Sink>(rt: &HostRuntime, errors: &mut E) -> u8
-    ensures { TellsEnd E.written E.count errors.old errors.new result }
+// The status with which the program ends. Where there is no memory for its words or for the file's name, that is told.
+fn end<R: AllocGlobal + Env + Files + Copy + Drop, I: Read + Drop, O: Write + Drop, E: Sink>(
+    rt: &R,
+    reader: I,
+    writer: O,
+    errors: &mut E,
+) -> u8
+where
+    R::File: StoreFile,
+    ensures { TellsEnd E.Sink errors.old errors.new result }
 {
-    match run_all(rt, errors) {
+    match run_all(rt, reader, writer, errors) {
         Ok(status) => status,
         Err(_) => {
             tell(errors, &Detail::Memory);
@@ -102,7 +150,14 @@ fn end<E: Sink>(rt: &HostRuntime, errors: &mut E) -> u8
     }
 }
 
+// The exit code with this status.
+fn exit_of(status: u8) -> ExitCode
+    ensures { exit_status result ≡ status }
+{
+    ExitCode::from(status)
+}
+
 fn main(rt: HostRuntime) -> ExitCode {
     let mut errors = StdSink::new(rt.stderr());
-    ExitCode::from(end(&rt, &mut errors))
+    exit_of(end(&rt, rt.reader(), io::writer(&rt), &mut errors))
 }

@@ -9,5 +9,5 @@ returns-in-Err g c =
     record {
       detail = Memory;
       is_status = refl;
-      told = subst (λ (errors : g.row.E.Denot). Tells g.E.Sink.written g.E.Sink.count errors c.tell.new.errors (detail_line Memory)) c.in-Err.ensures.untold c.tell.ensures;
+      told = subst (λ (errors : g.row.E.Denot). Tells g.E.Sink errors c.tell.new.errors (detail_line Memory)) c.in-Err.ensures.untold c.tell.ensures;
     }
