@@ -21,6 +21,7 @@ use Rattle.pm_view.specs.Counts.{IsStanding, IsStandingAt, IsPlaced}
 use Rattle.pm_view.specs.Stale.{IsSole}
 use Rattle.pm_view.specs.Work.{work, lowers}
 use Rattle.pm_law_course.specs.Course.{completes}
+use Rattle.pm_bound.specs.Bounded.{KeepsRank, KeepsSunk}
 use Rattle.pm_space.specs.declared.parts.Parts.{Parts}
 use Rattle.pm_base.specs.Counts.{capped}
 use Rattle.pm_space.specs.Quiet.{IsQuiet}
@@ -145,12 +146,15 @@ module _ {F : Type 0} (calls : Shared F (Bor (List ℕ) × Unit {0}) ℕ) (choos
     pub event : IsEvent old new step
     pub chosen : IsChosen old event.picked (next_row old)
 
-  -- the next event was made, with the chooser's pick, and what follows from that of places and of work
+  -- the next event was made, with the chooser's pick, and what follows from that: of places and of work, of what
+  -- fits and the rank, and of sunk sets
   pub record IsMade (old new : SpaceView) (step : Step) : Type 0 where
     pub event : IsEvent old new step
     pub chosen : IsChosen old event.picked (next_row old)
     pub places : MovesOneAtMost old new event.picked
     pub work : LowersWork old new
+    pub rank : KeepsRank old new
+    pub sunk : KeepsSunk old new
 
 -- What a call says that makes the next event: it was made, with the chooser's pick, or after want of memory all that is
 -- seen is as it was; in any case each world for which the space stood stays, the frozen cars, and the chooser.

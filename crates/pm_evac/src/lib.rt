@@ -2,8 +2,8 @@
 #![tactic(auto)]
 
 mod applying;
-mod beginning;
 mod finding;
+mod first_rows;
 mod fixing;
 mod freeing;
 mod moving;

@@ -7,7 +7,7 @@ ghost use Rattle.pm_evac.specs.Seen.{seen_row};
 ghost use Rattle.pm_evac.specs.Steps.{IsChosenEvent, IsPicking};
 
 use crate::applying::apply;
-use crate::beginning::{doom_at, select_at, start_at};
+use crate::first_rows::{doom_at, select_at, start_at};
 use crate::fixing::fix;
 use crate::freeing::{finish, free};
 use crate::moving::relocate;

@@ -7,6 +7,7 @@ ghost use Rattle.pm_view.specs.Stale.{IsSole};
 ghost use Rattle.pm_view.specs.Events.{next_row};
 ghost use Rattle.pm_space.specs.Shown.{view};
 ghost use Rattle.pm_space.specs.Quiet.{IsQuiet};
+ghost use Rattle.pm_bound.specs.Bounded.{KeepsRank, KeepsSunk};
 ghost use Rattle.pm_evac.specs.Seen.{seen_row};
 ghost use Rattle.pm_evac.specs.Steps.{IsEvent, IsApply, IsFix, IsMove, IsFinish, IsSweep, IsFree, IsPicking, HoldOnceMade, KeepsWorlds, MovesOneAtMost, LowersWork, MakesEvent};
 
@@ -16,24 +17,31 @@ use crate::row::Row;
 use crate::sources::moved_once_applied;
 use pm_law_collect::{an_event_keeps_the_law_and_the_worlds, an_event_moves_one_object_at_most};
 use pm_law_course::one_event_completes_a_collection;
+use pm_law_rank::an_event_keeps_the_rank;
+use pm_law_sunk::an_event_keeps_sunk_sets;
 use pm_law_work::{an_event_lowers_the_work_left, only_the_slot_that_moved_last_is_named};
 use pm_space::Space;
 use pm_types::{NoMemory, Step};
 use std::alloc::Global;
 
 /// A law of events that were made: the heap law is kept, and each world for which the space stood; the place of one
-/// object at most is another; and less work is left of a collection that is not completed. The function does nothing.
+/// object at most is another; less work is left of a collection that is not completed; what fits stays, and the rank
+/// has not risen; and sunk sets stay so. The function does nothing.
 pub fn an_event_that_was_made_keeps_all()
     ensures law { (old new : SpaceView) (step : Step) → HeapLaw old → IsEvent old new step → HeapLaw new }
     ensures worlds { (old new : SpaceView) (step : Step) → HeapLaw old → IsEvent old new step → KeepsWorlds old new }
     ensures places { (old new : SpaceView) (step : Step) → HeapLaw old → (event : IsEvent old new step)
         → MovesOneAtMost old new event.picked }
     ensures work { (old new : SpaceView) (step : Step) → HeapLaw old → IsEvent old new step → LowersWork old new }
+    ensures rank { (old new : SpaceView) (step : Step) → HeapLaw old → IsEvent old new step → KeepsRank old new }
+    ensures sunk { (old new : SpaceView) (step : Step) → HeapLaw old → IsEvent old new step → KeepsSunk old new }
 {
     an_event_keeps_the_law_and_the_worlds();
     an_event_moves_one_object_at_most();
     an_event_lowers_the_work_left();
     one_event_completes_a_collection();
+    an_event_keeps_the_rank();
+    an_event_keeps_sunk_sets();
 }
 
 // So many cars at the front of the train that is drained have no change waiting, now and once this row was made, which

@@ -11,6 +11,7 @@ use Rattle.pm_view.specs.View.{SpaceView}
 use Rattle.pm_view.specs.Objects.{AddsObject}
 use Rattle.pm_view.specs.Work.{work}
 use Rattle.pm_law_work.specs.Raises.{raises}
+use Rattle.pm_bound.specs.Bounded.{KeepsSunk}
 use Rattle.pm_view.specs.Rows.{spent, birthplace, IsVacant}
 use Rattle.pm_types.specs.Registers.{HasRegisters}
 use Rattle.pm_view.specs.Commands.{row, fresh, Picks, ArePicked}
@@ -64,6 +65,10 @@ AddsToRow v client cmd = (picks : Picks) → ArePicked v picks → work (row v c
 pub adds_little : (r : Result Reply NoMemory) (v w : SpaceView) (client : ℕ) (cmd : Cmd) → AddsToRow v client cmd → IfOk r (λ reply. IsRow v client cmd (reply, w)) → OnErr r (w ≡ v) → AddsLittleWork v cmd w
 adds_little (Ok reply) v w client cmd adds is same = subst (λ (p : Reply × SpaceView). work p.1 ≤ work v + raises cmd) (sym is.2) (adds is.0 is.1)
 adds_little (Err e) v w client cmd adds is same = subst (λ (u : SpaceView). work u ≤ work v + raises cmd) (sym same) (omega arith)
+
+-- a space keeps its own sunk sets
+pub keeps_sunk : (v : SpaceView) → KeepsSunk v v
+keeps_sunk v = record { every = λ test number was. was; lost = λ world number was. was }
 
 -- what the law says of births
 abbrev Adds : SpaceView → ℕ → Type 0

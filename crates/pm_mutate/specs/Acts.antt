@@ -14,6 +14,7 @@ use Rattle.pm_view.specs.Represents.{Represents}
 use Rattle.pm_view.specs.Objects.{AddsObject}
 use Rattle.pm_view.specs.Work.{work}
 use Rattle.pm_law_work.specs.Raises.{raises}
+use Rattle.pm_bound.specs.Bounded.{KeepsRank, KeepsSunk}
 use Rattle.pm_law_commands.specs.Served.{IsServed}
 
 -- for every world that the space stands for, and in which no object has the next identity, the reply is the world's
@@ -33,6 +34,13 @@ LeavesWhereShown view reply after = is_shown reply ≡ true → after ≡ view
 -- at most 3,072.
 abbrev pub AddsLittleWork : SpaceView → Cmd → SpaceView → Type 0
 AddsLittleWork view cmd after = work after ≤ work view + raises cmd
+
+-- What a command leaves of the course of the collections: it adds little work, what fits stays and the rank has not
+-- risen, and sunk sets stay so.
+pub record KeepsCourse (view : SpaceView) (cmd : Cmd) (after : SpaceView) : Type 0 where
+  pub work : AddsLittleWork view cmd after
+  pub rank : KeepsRank view after
+  pub sunk : KeepsSunk view after
 
 -- a `new` that is not refused adds one object, under the next identity, in the open train
 abbrev pub IsBirth : SpaceView → Cmd → Reply → SpaceView → Type 0

@@ -6,7 +6,7 @@ ghost use Rattle.pm_view.specs.Objects.{KeepsObjects};
 ghost use Rattle.pm_space.specs.Shown.{view, KeepsRest};
 ghost use Rattle.pm_mutate.specs.Picked.{IsRow};
 ghost use Rattle.pm_types.specs.Replies.{IsShortReply};
-ghost use Rattle.pm_mutate.specs.Acts.{Serves, IsStill, IsBirth, AddsLittleWork, LeavesWhereShown};
+ghost use Rattle.pm_mutate.specs.Acts.{Serves, IsStill, IsBirth, KeepsCourse, LeavesWhereShown};
 
 use crate::birth::new;
 use crate::bytes::put;
@@ -20,6 +20,8 @@ use pm_law_commands::{
     a_refused_command_leaves_the_space, every_command_but_new_leaves_objects_where_they_stand,
     new_adds_one_object_in_the_open_train,
 };
+use pm_law_rank::a_command_keeps_the_rank;
+use pm_law_sunk::a_command_keeps_sunk_sets;
 use pm_law_work::{a_command_adds_little_work, a_command_leaves_the_slot_that_moved};
 use pm_space::{Parts, Space};
 use pm_types::{Cmd, NoMemory, Reply};
@@ -62,7 +64,9 @@ fn run<F>(parts: &mut Parts<F>, alloc: Global, client: u32, cmd: &Cmd) -> Result
 
 /// Carries out a command of a client on the space: every one but those that save, settle, drop a copy or watch. The
 /// reply and the space after it are those of the command's row, and, for every world that the space stands for, those
-/// of the world's answer. It adds at most six to the work that is left of a collection, and `close` 3,072. Frozen cars and the chooser stay. After want of memory all is as it was.
+/// of the world's answer. It adds at most six to the work that is left of a collection, and `close` 3,072. What fits
+/// stays, the rank has not risen, and sunk sets stay so. Frozen cars and the chooser stay. After want of memory all is
+/// as it was.
 pub fn act<F: Drop>(
     space: &mut Space<F>,
     alloc: Global,
@@ -79,11 +83,13 @@ pub fn act<F: Drop>(
     ensures shown { IfOk result (λ reply. LeavesWhereShown (view space.old.parts) reply (view space.new.parts)) }
     ensures still { is_new cmd.now ≡ false → KeepsObjects (view space.old.parts) (view space.new.parts) }
     ensures born { IfOk result (λ reply. IsBirth (view space.old.parts) cmd.now reply (view space.new.parts)) }
-    ensures work { AddsLittleWork (view space.old.parts) cmd.now (view space.new.parts) }
+    ensures course { KeepsCourse (view space.old.parts) cmd.now (view space.new.parts) }
     ensures err { OnErr result (view space.new.parts ≡ view space.old.parts) }
     ensures rest { KeepsRest space.old.parts space.new.parts }
 {
     a_command_adds_little_work();
+    a_command_keeps_the_rank();
+    a_command_keeps_sunk_sets();
     a_command_keeps_the_heap_law();
     a_command_is_answered_as_by_the_world();
     a_refused_command_leaves_the_space();

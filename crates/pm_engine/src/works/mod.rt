@@ -5,7 +5,7 @@ ghost use Rattle.pm_types.specs.declared.limits.TheConstants.{CLIENTS};
 ghost use Rattle.pm_types.specs.Replies.{IsShortReply};
 ghost use Rattle.pm_view.specs.Commands.{is_act};
 ghost use Rattle.pm_space.specs.Shown.{view, KeepsRest};
-ghost use Rattle.pm_mutate.specs.Acts.{AddsLittleWork, Serves};
+ghost use Rattle.pm_mutate.specs.Acts.{KeepsCourse, Serves};
 
 mod answer;
 mod collect;
@@ -51,7 +51,7 @@ fn act_and_copy_reply<F: Drop>(
     ensures served { IfOk result (λ told. Serves (view space.old.parts) client cmd.now told.0 (view space.new.parts)) }
     ensures same { IfOk result (λ told. told.1 ≡ told.0) }
     ensures short { IfOk result (λ told. IsShortReply told.0) }
-    ensures work { AddsLittleWork (view space.old.parts) cmd.now (view space.new.parts) }
+    ensures course { KeepsCourse (view space.old.parts) cmd.now (view space.new.parts) }
     ensures err { OnErr result (view space.new.parts ≡ view space.old.parts) }
     ensures rest { KeepsRest space.old.parts space.new.parts }
 {

@@ -4,7 +4,8 @@ use Rattle.pm_view.specs.Law.{HeapLaw}
 use Rattle.pm_view.specs.Represents.{Represents}
 use Rattle.pm_view.specs.Work.{work, lowers}
 use Rattle.pm_view.specs.Events.{next_row, after, goal_of, ended_by}
-use Rattle.pm_evac.proofs.Counting.{counted_law, counted_stands, counted_placed, placed_counted, counted_standing, counted_ended, counted_work}
+use Rattle.pm_bound.specs.Bounded.{KeepsRank, KeepsSunk}
+use Rattle.pm_evac.proofs.Counting.{counted_law, counted_stands, counted_placed, placed_counted, counted_standing, counted_ended, counted_work, counted_keeps_rank, counted_keeps_sunk}
 use Rattle.pm_evac.proofs.on_space.an_event_that_was_made_keeps_all.Goals as goal
 
 pub returns-clause-law : goal.returns-clause-law
@@ -43,3 +44,13 @@ returns-clause-work c = λ old new step law event going incomplete.
     let same = c.one_event_completes_a_collection.ensures.counted old (next_row old) event.picked event.number ∙ ap (λ b. cond b (old.completed + 1) old.completed) incomplete in
     let left = c.an_event_lowers_the_work_left.ensures.lowers old (next_row old) event.picked event.number law refl event.may_pick event.may_place going same in
     subst (λ n. n + lowers (next_row old) ≤ work old) (sym (counted_work t) ∙ sym (ap work event.after)) left
+
+pub returns-clause-rank : goal.returns-clause-rank
+returns-clause-rank c = λ old new step law event.
+    subst (KeepsRank old) (sym event.after)
+    (counted_keeps_rank old _ (c.an_event_keeps_the_rank.ensures old (next_row old) event.picked event.number law refl event.may_pick event.may_place))
+
+pub returns-clause-sunk : goal.returns-clause-sunk
+returns-clause-sunk c = λ old new step law event.
+    subst (KeepsSunk old) (sym event.after)
+    (counted_keeps_sunk old _ (c.an_event_keeps_sunk_sets.ensures old (next_row old) event.picked event.number law refl event.may_pick event.may_place))

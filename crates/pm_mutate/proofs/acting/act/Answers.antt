@@ -2,7 +2,9 @@ use Rattle.std.proofs.Common.{refl}
 use Rattle.pm_view.specs.Law.{HeapLaw}
 use Rattle.pm_space.specs.Shown.{view}
 use Rattle.pm_view.specs.Stale.{IsSole}
-use Rattle.pm_mutate.proofs.Carried.{refused_still, born_so, row_holds, adds_little}
+use Rattle.pm_bound.specs.Bounded.{KeepsRank, KeepsSunk}
+use Rattle.pm_law_rank.proofs.Compared.{itself}
+use Rattle.pm_mutate.proofs.Carried.{refused_still, born_so, row_holds, adds_little, keeps_sunk}
 use Rattle.pm_mutate.proofs.ShownBytes.{shown_leaves, shown_short}
 use Rattle.pm_mutate.proofs.acting.act.Goals as goal
 
@@ -32,10 +34,21 @@ returns-clause-born g c =
     born_so c.run.result v (view c.run.new.parts) c.args.client c.args.cmd.now c.sound.ensures c.run.ensures.row
     (λ reg count bytes picks small are is. c.new_adds_one_object_in_the_open_train.ensures v c.args.client reg count bytes picks c.args.space.now.kept c.requires.client small are is)
 
-pub returns-clause-work : goal.returns-clause-work
-returns-clause-work g c =
+pub returns-clause-course : goal.returns-clause-course
+returns-clause-course g c =
     let v = view c.args.space.now.parts in
-    adds_little c.run.result v (view c.run.new.parts) c.args.client c.args.cmd.now (λ picks are. c.a_command_adds_little_work.ensures v c.args.client c.args.cmd.now picks c.args.space.now.kept c.requires.client are) c.run.ensures.row c.run.ensures.err
+    let w = view c.run.new.parts in
+    let client = c.args.client in
+    let cmd = c.args.cmd.now in
+    let few = c.requires.client in
+    let law = c.args.space.now.kept in
+    let row = c.run.ensures.row in
+    let err = c.run.ensures.err in
+    record {
+      work = adds_little c.run.result v w client cmd (λ picks are. c.a_command_adds_little_work.ensures v client cmd picks law few are) row err;
+      rank = row_holds c.run.result (KeepsRank v) v w client cmd (itself v) (λ picks are. c.a_command_keeps_the_rank.ensures v client cmd picks law few c.sound.ensures are) row err;
+      sunk = row_holds c.run.result (KeepsSunk v) v w client cmd (keeps_sunk v) (λ picks are. c.a_command_keeps_sunk_sets.ensures v client cmd picks law few c.sound.ensures are) row err;
+    }
 
 pub returns-clause-short : goal.returns-clause-short
 returns-clause-short g c = shown_short (view c.args.space.now.parts) (view c.run.new.parts) c.args.space.now.kept c.args.client c.args.cmd.now c.run.result c.run.ensures.row

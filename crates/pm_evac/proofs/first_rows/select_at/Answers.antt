@@ -7,7 +7,7 @@ use Rattle.pm_space.specs.Shown.{view}
 use Rattle.pm_evac.specs.Steps.{counted}
 use Rattle.pm_evac.proofs.Chosen.{made}
 use Rattle.pm_evac.proofs.Views.{is_counted}
-use Rattle.pm_evac.proofs.beginning.select_at.Goals as goal
+use Rattle.pm_evac.proofs.first_rows.select_at.Goals as goal
 
 pub select_train-requires : goal.select_train-requires
 select_train-requires g c =

@@ -7,7 +7,7 @@ use Rattle.pm_view.specs.Events.{start}
 use Rattle.pm_space.specs.Shown.{view}
 use Rattle.pm_evac.proofs.Chosen.{made}
 use Rattle.pm_evac.proofs.Views.{is_counted}
-use Rattle.pm_evac.proofs.beginning.start_at.Goals as goal
+use Rattle.pm_evac.proofs.first_rows.start_at.Goals as goal
 
 pub note-requires-clause-some : goal.note-requires-clause-some
 note-requires-clause-some g c = c.there_is_a_train_to_pick.ensures.noted (view c.args.parts.now) c.args.car c.args.at c.requires.law c.requires.row

@@ -6,7 +6,7 @@ use Rattle.pm_view.specs.Events.{doom}
 use Rattle.pm_space.specs.Shown.{view}
 use Rattle.pm_evac.proofs.Chosen.{made}
 use Rattle.pm_evac.proofs.Views.{is_counted}
-use Rattle.pm_evac.proofs.beginning.doom_at.Goals as goal
+use Rattle.pm_evac.proofs.first_rows.doom_at.Goals as goal
 
 pub returns-clause-event : goal.returns-clause-event
 returns-clause-event g c =

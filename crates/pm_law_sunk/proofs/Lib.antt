@@ -1,0 +1,10 @@
+pub mod Agreeing
+pub mod Birth
+pub mod Commanding
+pub mod Eventful
+pub mod Fixing
+pub mod Losing
+pub mod Lost
+pub mod Moving
+pub mod Sinks
+pub mod Ways
