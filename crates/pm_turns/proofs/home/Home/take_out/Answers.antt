@@ -1,0 +1,6 @@
+use Rattle.std.proofs.Common.{arith}
+use Rattle.pm_turns.proofs.Steps.{takes_out}
+use Rattle.pm_turns.proofs.home.Home.take_out.Goals as goal
+
+pub swap-requires : goal.swap-requires
+swap-requires g c = (c.requires.seat, omega (arith, c.args.self.now.one_word), takes_out _ _ _ _ _ _ c.requires.idle)
