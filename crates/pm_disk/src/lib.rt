@@ -12,8 +12,6 @@ mod noting;
 mod ordered;
 mod overwrite;
 mod reading;
-#[cfg(test)]
-mod tests;
 
 pub use call::DiskCall;
 pub use disk::{Disk, DiskFailed};

@@ -4,9 +4,6 @@
 
 ghost use Rattle.std.specs.Prelude.{◌≡◌, Some, None};
 
-#[cfg(test)]
-mod tests;
-
 use pm_types::Addr;
 use std::marker::Model;
 

@@ -36,8 +36,3 @@ pub use met::Met;
 pub use number_set::NumberSet;
 pub use rule_law::{addresses_lead_to_objects, opening_answers_its_rules};
 pub use settled::{KeptPage, Settled};
-
-#[cfg(test)]
-mod car_tests;
-#[cfg(test)]
-mod catalog_tests;

@@ -7,8 +7,6 @@ mod laws;
 mod lines;
 mod reporting;
 pub mod survey;
-#[cfg(test)]
-mod tests;
 
 pub use laws::{a_store_has_one_report, the_report_of_a_new_space, the_report_of_one_object};
 pub use reporting::report;

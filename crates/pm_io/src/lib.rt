@@ -11,8 +11,6 @@ mod sink;
 mod source;
 mod std_sink;
 mod std_source;
-#[cfg(test)]
-mod tests;
 
 pub use failed::Failed;
 pub use mem_sink::MemSink;

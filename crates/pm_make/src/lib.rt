@@ -6,8 +6,6 @@ mod drawing;
 mod laws;
 mod lines;
 mod making;
-#[cfg(test)]
-mod tests;
 
 pub use drawing::Turn;
 pub use laws::{a_seed_gives_a_script, one_turn_from_seed_one, the_first_draws_from_seed_one};

@@ -3,8 +3,6 @@
 
 mod choosers;
 mod placement;
-#[cfg(test)]
-mod tests;
 
 pub use choosers::{first_of, last_of, middle_of};
 pub use placement::Placement;

@@ -3,8 +3,6 @@
 
 mod law;
 mod remset;
-#[cfg(test)]
-mod tests;
 
 pub use law::the_first_is_the_least;
 pub use remset::Remset;

@@ -5,8 +5,6 @@
 mod fault;
 mod roots;
 mod search;
-#[cfg(test)]
-mod tests;
 
 pub use fault::BindFault;
 pub use roots::Roots;

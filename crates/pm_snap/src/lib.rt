@@ -8,8 +8,6 @@ mod keep;
 mod law;
 mod notes;
 mod table;
-#[cfg(test)]
-mod tests;
 mod use_of_change;
 
 pub use keep::Keep;

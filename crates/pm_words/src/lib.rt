@@ -5,8 +5,6 @@ mod command;
 mod grammar;
 mod laws;
 mod reader;
-#[cfg(test)]
-mod tests;
 mod words;
 
 pub use command::Command;

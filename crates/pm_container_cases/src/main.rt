@@ -1,0 +1,87 @@
+//! `pm_container_cases`: reads cases from standard input, each of calls of one container of the heap, and prints what
+//! they answered. `docs/TESTS.md` says how a case is written.
+#![tactic(auto)]
+
+mod anchors;
+mod calls;
+mod choosers;
+mod fault;
+mod queues;
+mod registers;
+mod roots;
+mod sets;
+mod spelling;
+mod tables;
+
+use anchors::push_anchor;
+use choosers::push_pick;
+use fault::{Fault, refuse};
+use queues::{push_long_queue, push_queue};
+use registers::push_registers;
+use roots::{push_all_names, push_roots};
+use sets::{push_long_set, push_set};
+use spelling::first_word;
+use std::alloc::Global;
+use std::fmt::Write;
+use std::io::{self, BufRead, BufReader};
+use tables::push_table;
+
+// Adds the name of a case.
+fn push_case(text: &str, out: &mut String) -> Result<(), Fault> {
+    writeln!(out, "case {text}")?;
+    Ok(())
+}
+
+// A step: its first word, and what follows.
+fn push_step(alloc: Global, step: &str, text: &str, out: &mut String) -> Result<(), Fault> {
+    match step {
+        "case" => push_case(text, out),
+        "roots" => push_roots(alloc, text, out),
+        "names" => push_all_names(alloc, text, out),
+        "table" => push_table(alloc, text, out),
+        "set" => push_set(alloc, text, out),
+        "long-set" => push_long_set(alloc, text, out),
+        "queue" => push_queue(alloc, text, out),
+        "long-queue" => push_long_queue(alloc, text, out),
+        _ => push_small(alloc, step, text, out),
+    }
+}
+
+// A step about a container that is small.
+fn push_small(alloc: Global, step: &str, text: &str, out: &mut String) -> Result<(), Fault> {
+    match step {
+        "registers" => push_registers(alloc, text, out),
+        "anchor" => push_anchor(alloc, text, out),
+        "pick" => push_pick(alloc, text, out),
+        _ => Err(refuse("no such step")),
+    }
+}
+
+// Takes a line of the input, and adds what it gives. A line that begins with `#`, and one that is empty, say nothing.
+fn take(alloc: Global, line: &str, out: &mut String) -> Result<(), Fault> {
+    if line.is_empty() || line.starts_with('#') {
+        return Ok(());
+    }
+    let (step, text) = first_word(line);
+    push_step(alloc, step, text, out)
+}
+
+// Takes a line, and adds what it gives, or why it was not done.
+fn push_line(alloc: Global, line: &str, out: &mut String) -> io::Result<()> {
+    if let Err(fault) = take(alloc, line, out) {
+        let reason = fault.reason;
+        writeln!(out, "? {reason}: {line}")?;
+    }
+    Ok(())
+}
+
+fn main(rt: HostRuntime) -> io::Result<()> {
+    let alloc = rt.alloc();
+    for line in BufReader::new(alloc, rt.reader())?.lines(alloc) {
+        let line = line?;
+        let mut out = String::new(alloc);
+        push_line(alloc, line.as_str(), &mut out)?;
+        print!(rt; "{out}")?;
+    }
+    Ok(())
+}

@@ -1,0 +1,62 @@
+//! Calls of the clients' registers.
+
+ghost use Rattle.std.specs.Prelude.{◌<◌};
+ghost use Rattle.pm_types.specs.declared.limits.TheConstants.{CLIENTS, REGISTERS};
+
+use crate::calls::{Called, push_calls};
+use crate::fault::{Fault, refuse};
+use crate::spelling::{address, first_word, push_value, small};
+use pm_handles::Handles;
+use pm_types::{Addr, CLIENTS, REGISTERS};
+use std::alloc::Global;
+
+// What a register holds from now on; `-` is nothing.
+fn held(text: &str) -> Result<Option<Addr>, Fault> {
+    if text == "-" {
+        return Ok(None);
+    }
+    Ok(Some(address(text)?))
+}
+
+// Makes a call of a register that there is.
+fn push_there(
+    handles: &mut Handles,
+    client: u32,
+    register: u32,
+    value: &str,
+    out: &mut String,
+) -> Result<(), Fault>
+    requires client { client < CLIENTS }
+    requires register { register < REGISTERS }
+{
+    if value.is_empty() {
+        return push_value(&handles.get(client, register), out);
+    }
+    let at = held(value)?;
+    push_value(&handles.set(client, register, at), out)
+}
+
+// `CLIENT REGISTER` asks for what the register holds; an address behind it, or `-`, is set.
+fn push_call(handles: &mut Handles, text: &str, out: &mut String) -> Result<(), Fault> {
+    let (client, rest) = first_word(text);
+    let (register, value) = first_word(rest);
+    let (client, register) = (small(client)?, small(register)?);
+    if client >= CLIENTS || register >= REGISTERS {
+        return Err(refuse("no register"));
+    }
+    push_there(handles, client, register, value, out)
+}
+
+impl Called for Handles {
+    fn call(&mut self, _alloc: Global, text: &str, out: &mut String) -> Result<(), Fault> {
+        push_call(self, text, out)
+    }
+}
+
+/// `CALLS`: the calls, between ` / `, of registers that are all empty: `CLIENT REGISTER` answers what the register
+/// holds, and `CLIENT REGISTER CAR:SLOT`, or `CLIENT REGISTER -`, what it held before.
+pub(crate) fn push_registers(alloc: Global, text: &str, out: &mut String) -> Result<(), Fault> {
+    let mut handles = Handles::new(alloc)?;
+    handles.sound();
+    push_calls(alloc, &mut handles, text, out)
+}

@@ -1,0 +1,40 @@
+//! `pm_disk_cases`: reads cases from standard input, each of bytes, pages, disks and streams by themselves, and prints
+//! what that gave. `docs/TESTS.md` says how a case is written.
+#![tactic(auto)]
+
+mod calls;
+mod cars;
+mod case;
+mod catalogs;
+mod disks;
+mod fault;
+mod headers;
+mod slots;
+mod spelling;
+mod streams;
+
+use case::Case;
+use std::alloc::Global;
+use std::fmt::Write;
+use std::io::{self, BufRead, BufReader};
+
+// Takes a line, and adds what it gives, or why it was not done.
+fn push_line(alloc: Global, case: &mut Case, line: &str, out: &mut String) -> io::Result<()> {
+    if let Err(fault) = case.take(alloc, line, out) {
+        let reason = fault.reason;
+        writeln!(out, "? {reason}: {line}")?;
+    }
+    Ok(())
+}
+
+fn main(rt: HostRuntime) -> io::Result<()> {
+    let alloc = rt.alloc();
+    let mut case = Case::new(alloc);
+    for line in BufReader::new(alloc, rt.reader())?.lines(alloc) {
+        let line = line?;
+        let mut out = String::new(alloc);
+        push_line(alloc, &mut case, line.as_str(), &mut out)?;
+        print!(rt; "{out}")?;
+    }
+    Ok(())
+}
