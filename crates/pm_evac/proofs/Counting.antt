@@ -23,7 +23,7 @@ use Rattle.pm_bound.specs.Sinking.{IsFieldOf, Sunk, Passes, IsLost}
 use Rattle.pm_bound.specs.Bounded.{KeepsRank, KeepsSunk}
 use Rattle.pm_space.specs.declared.parts.Parts.{Parts}
 use Rattle.pm_space.specs.Shown.{view, KeepsRest}
-use Rattle.pm_evac.specs.Steps.{counted, IsEvent, IsChosenEvent, KeepsWorlds, MovesOneAtMost, LowersWork, MakesEvent}
+use Rattle.pm_evac.specs.Steps.{counted, IsEvent, IsChosenEvent, KeepsWorlds, MovesOneAtMost, LowersWork, AnswersByPhase, MovesOn, MakesEvent}
 
 -- the law says nothing of the count of completed collections
 pub counted_law : (v : SpaceView) → HeapLaw v → HeapLaw (counted v)
@@ -51,6 +51,7 @@ counted_stands v world stands = record {
   roots = stands.roots;
   registers = stands.registers;
   next = stands.next;
+  given = stands.given;
   objects = stands.objects;
   reached = λ id is. let it = stands.reached id is in (it.0, record { kept = it.1.kept; here = it.1.here });
   leftover = stands.leftover;
@@ -147,6 +148,12 @@ KeepRanks = (old new : SpaceView) (step : Step) → HeapLaw old → IsEvent old 
 abbrev pub KeepSunkSets : Type 0
 KeepSunkSets = (old new : SpaceView) (step : Step) → HeapLaw old → IsEvent old new step → KeepsSunk old new
 
+abbrev pub AnswerByPhase : Type 0
+AnswerByPhase = (old new : SpaceView) (step : Step) → HeapLaw old → IsEvent old new step → AnswersByPhase old step
+
+abbrev pub MoveOn : Type 0
+MoveOn = (old new : SpaceView) (step : Step) → HeapLaw old → IsEvent old new step → MovesOn old new step
+
 module _ {F : Type 0} (calls : Shared F (Bor (List ℕ) × Unit {0}) ℕ) where
   -- what holds before an event and once it was made holds, also after want of memory
   pub holds_after : (choose : F) (old new : SpaceView) (P : SpaceView → Type 0) (r : Result Step NoMemory) → P old → ((after : SpaceView) (step : Step) → IsEvent old after step → P after)
@@ -156,15 +163,15 @@ module _ {F : Type 0} (calls : Shared F (Bor (List ℕ) × Unit {0}) ℕ) where
 
   module _ (old new : Parts F) (law : HeapLaw (view old)) where
     -- what a call says that makes an event
-    makes : (r : Result Step NoMemory) → KeepAllWorlds → KeepPlaces → LowerWork → KeepRanks → KeepSunkSets → IfOk r (λ step. IsChosenEvent calls old.place (view old) (view new) step) → OnErr r (view new ≡ view old) → KeepsRest old new
+    makes : (r : Result Step NoMemory) → KeepAllWorlds → KeepPlaces → LowerWork → KeepRanks → KeepSunkSets → AnswerByPhase → MoveOn → IfOk r (λ step. IsChosenEvent calls old.place (view old) (view new) step) → OnErr r (view new ≡ view old) → KeepsRest old new
         → MakesEvent calls old new r
-    makes (Ok step) worlds places works ranks sinks made same rest = record {
-      ok = record { event = made.event; chosen = made.chosen; places = places (view old) (view new) step law made.event; work = works (view old) (view new) step law made.event; rank = ranks (view old) (view new) step law made.event; sunk = sinks (view old) (view new) step law made.event };
+    makes (Ok step) worlds places works ranks sinks answers moves made same rest = record {
+      ok = record { event = made.event; chosen = made.chosen; places = places (view old) (view new) step law made.event; work = works (view old) (view new) step law made.event; rank = ranks (view old) (view new) step law made.event; sunk = sinks (view old) (view new) step law made.event; phase = answers (view old) (view new) step law made.event; progress = moves (view old) (view new) step law made.event };
       worlds = worlds (view old) (view new) step law made.event;
       err = tt;
       rest = rest;
     }
-    makes (Err fault) worlds places works ranks sinks made same rest = record {
+    makes (Err fault) worlds places works ranks sinks answers moves made same rest = record {
       ok = tt;
       worlds = λ world was. subst (λ t. Represents t world) (sym same) was;
       err = same;
@@ -172,6 +179,6 @@ module _ {F : Type 0} (calls : Shared F (Bor (List ℕ) × Unit {0}) ℕ) where
     }
 
   -- and one that first finds the event, by which the parts stay
-  pub makes_found : (was old new : Parts F) → old ≡ was → HeapLaw (view old) → (r : Result Step NoMemory) → KeepAllWorlds → KeepPlaces → LowerWork → KeepRanks → KeepSunkSets → IfOk r (λ step. IsChosenEvent calls old.place (view old) (view new) step)
+  pub makes_found : (was old new : Parts F) → old ≡ was → HeapLaw (view old) → (r : Result Step NoMemory) → KeepAllWorlds → KeepPlaces → LowerWork → KeepRanks → KeepSunkSets → AnswerByPhase → MoveOn → IfOk r (λ step. IsChosenEvent calls old.place (view old) (view new) step)
       → OnErr r (view new ≡ view old) → KeepsRest old new → MakesEvent calls was new r
-  makes_found was old new same law r worlds places works ranks sinks made err rest = subst (λ (p : Parts F). MakesEvent calls p new r) same (makes old new law r worlds places works ranks sinks made err rest)
+  makes_found was old new same law r worlds places works ranks sinks answers moves made err rest = subst (λ (p : Parts F). MakesEvent calls p new r) same (makes old new law r worlds places works ranks sinks answers moves made err rest)

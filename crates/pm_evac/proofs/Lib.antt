@@ -17,3 +17,4 @@ pub mod Places
 pub mod MoveRows
 pub mod Planning
 pub mod Chosen
+pub mod Phases

@@ -1,7 +1,8 @@
 -- What an event answers, and the space after it.
-use Rattle.std.specs.Prelude.{◌≡◌, ◌≢◌, ℕ, ◌+◌, ◌≤◌, ◌==◌, Bool, true, false, not, if◌then◌else◌, is_some, List, length, Option, Some, None, Result, IfOk, OnErr}
+use Rattle.std.specs.Prelude.{◌≡◌, ◌≢◌, ◌↔◌, ℕ, ◌+◌, ◌<◌, ◌≤◌, ◌==◌, Bool, true, false, not, if◌then◌else◌, is_some, List, length, Option, Some, None, Result, IfOk, OnErr}
 use Rattle.std.specs.Borrow.{Bor}
 use Rattle.std.specs.Fn.{Shared}
+use Rattle.std.specs.FinMap.{get}
 use Rattle.std.specs.Option.{unwrap_or}
 use Rattle.pm_types.specs.declared.address.Addr.{Addr}
 use Rattle.pm_types.specs.declared.no_memory.NoMemory.{NoMemory}
@@ -122,6 +123,30 @@ pub record MovesOneAtMost (old new : SpaceView) (picked : ℕ) : Type 0 where
 abbrev pub LowersWork : SpaceView → SpaceView → Type 0
 LowersWork old new = old.phase ≢ phases.Idle → completes old (next_row old) ≡ false → work new + lowers (next_row old) ≤ work old
 
+-- the answer says that a collection of a train began
+abbrev pub IsSelected : Step → Type 0
+IsSelected (Selected train) = Unit {0}
+IsSelected step = ⊥
+
+-- the answer says that a collection was completed
+abbrev pub is_completing : Step → Bool
+is_completing (Freed car completed) = completed
+is_completing step = false
+
+-- no car stands
+abbrev pub HasNoCar : SpaceView → Type 0
+HasNoCar view = (car : ℕ) → get view.cars car ≡ None
+
+-- In which phase an event answers what: `Nothing` exactly in Idle where no car stands, and `Selected` exactly in Idle where
+-- one does. So a collection that is in progress always has a next event.
+pub record AnswersByPhase (old : SpaceView) (step : Step) : Type 0 where
+  pub rests : (step ≡ Nothing) ↔ ((old.phase ≡ phases.Idle) × HasNoCar old)
+  pub selects : IsSelected step ↔ ((old.phase ≡ phases.Idle) × (HasNoCar old → ⊥))
+
+-- where a collection is in progress, and the answer does not say that it was completed, at least one less work is left of it
+abbrev pub MovesOn : SpaceView → SpaceView → Step → Type 0
+MovesOn old new step = old.phase ≢ phases.Idle → is_completing step ≡ false → work new < work old
+
 -- what a space keeps of quiet cars and of the slot that moved holds also once the next event was made
 pub record HoldOnceMade (old : SpaceView) (quiet : ℕ) (moved : Option ℕ) : Type 0 where
   pub still : (new : SpaceView) (step : Step) → IsEvent old new step → IsQuiet new quiet
@@ -147,7 +172,7 @@ module _ {F : Type 0} (calls : Shared F (Bor (List ℕ) × Unit {0}) ℕ) (choos
     pub chosen : IsChosen old event.picked (next_row old)
 
   -- the next event was made, with the chooser's pick, and what follows from that: of places and of work, of what
-  -- fits and the rank, and of sunk sets
+  -- fits and the rank, of sunk sets, and of the phase in which it is answered
   pub record IsMade (old new : SpaceView) (step : Step) : Type 0 where
     pub event : IsEvent old new step
     pub chosen : IsChosen old event.picked (next_row old)
@@ -155,6 +180,8 @@ module _ {F : Type 0} (calls : Shared F (Bor (List ℕ) × Unit {0}) ℕ) (choos
     pub work : LowersWork old new
     pub rank : KeepsRank old new
     pub sunk : KeepsSunk old new
+    pub phase : AnswersByPhase old step
+    pub progress : MovesOn old new step
 
 -- What a call says that makes the next event: it was made, with the chooser's pick, or after want of memory all that is
 -- seen is as it was; in any case each world for which the space stood stays, the frozen cars, and the chooser.

@@ -9,7 +9,7 @@ ghost use Rattle.pm_space.specs.Shown.{view};
 ghost use Rattle.pm_space.specs.Quiet.{IsQuiet};
 ghost use Rattle.pm_bound.specs.Bounded.{KeepsRank, KeepsSunk};
 ghost use Rattle.pm_evac.specs.Seen.{seen_row};
-ghost use Rattle.pm_evac.specs.Steps.{IsEvent, IsApply, IsFix, IsMove, IsFinish, IsSweep, IsFree, IsPicking, HoldOnceMade, KeepsWorlds, MovesOneAtMost, LowersWork, MakesEvent};
+ghost use Rattle.pm_evac.specs.Steps.{IsEvent, IsApply, IsFix, IsMove, IsFinish, IsSweep, IsFree, IsPicking, HoldOnceMade, KeepsWorlds, MovesOneAtMost, LowersWork, AnswersByPhase, MovesOn, MakesEvent};
 
 use crate::next::next_row;
 use crate::on_parts::{apply_at, finish_at, fix_at, free_at, free_doomed_at, make};
@@ -26,7 +26,9 @@ use std::alloc::Global;
 
 /// A law of events that were made: the heap law is kept, and each world for which the space stood; the place of one
 /// object at most is another; less work is left of a collection that is not completed; what fits stays, and the rank
-/// has not risen; and sunk sets stay so. The function does nothing.
+/// has not risen; and sunk sets stay so. It answers `Nothing` exactly in Idle where no car stands, `Selected` exactly in
+/// Idle where one does, and each other event that completes nothing leaves at least one less work. The function does
+/// nothing.
 pub fn an_event_that_was_made_keeps_all()
     ensures law { (old new : SpaceView) (step : Step) → HeapLaw old → IsEvent old new step → HeapLaw new }
     ensures worlds { (old new : SpaceView) (step : Step) → HeapLaw old → IsEvent old new step → KeepsWorlds old new }
@@ -35,6 +37,10 @@ pub fn an_event_that_was_made_keeps_all()
     ensures work { (old new : SpaceView) (step : Step) → HeapLaw old → IsEvent old new step → LowersWork old new }
     ensures rank { (old new : SpaceView) (step : Step) → HeapLaw old → IsEvent old new step → KeepsRank old new }
     ensures sunk { (old new : SpaceView) (step : Step) → HeapLaw old → IsEvent old new step → KeepsSunk old new }
+    ensures phase { (old new : SpaceView) (step : Step) → HeapLaw old → IsEvent old new step
+        → AnswersByPhase old step }
+    ensures progress { (old new : SpaceView) (step : Step) → HeapLaw old → IsEvent old new step
+        → MovesOn old new step }
 {
     an_event_keeps_the_law_and_the_worlds();
     an_event_moves_one_object_at_most();

@@ -29,7 +29,7 @@ use Rattle.pm_law_moves.proofs.MoveRows.{front, home_is}
 
 -- ---- what is found in a list is in it
 
-any_found : {X : Type 0} (p q : X → Bool) (xs : List X) (x : X) → find p xs ≡ Some x → q x ≡ true → list_any q xs ≡ true
+pub any_found : {X : Type 0} (p q : X → Bool) (xs : List X) (x : X) → find p xs ≡ Some x → q x ≡ true → list_any q xs ≡ true
 any_found p q [] x is holds = absurd (none_some x is)
 any_found p q (y ∷ ys) x is holds = by_case (p y) is (λ later. any_found p q ys x later holds)
   where

@@ -1,6 +1,6 @@
 //! The events of the collector. Each function's contract is a law, and the function does nothing.
 
-ghost use Rattle.std.specs.Prelude.{◌≡◌, ◌≢◌, ℕ, ◌<◌, ◌==◌, false, length, Some, IsSome, IsTrue};
+ghost use Rattle.std.specs.Prelude.{◌≡◌, ◌≢◌, ◌⊎◌, ◌↔◌, ℕ, ◌<◌, ◌==◌, false, length, Some, IsSome, IsTrue};
 ghost use Rattle.pm_types.specs.declared.address.Addr.{Addr};
 ghost use Rattle.pm_trains.specs.Trains.{cars_at, is_among, tail, train_of};
 ghost use Rattle.pm_model.specs.World.{World};
@@ -9,6 +9,7 @@ ghost use Rattle.pm_view.specs.View.{SpaceView};
 ghost use Rattle.pm_view.specs.Law.{HeapLaw};
 ghost use Rattle.pm_view.specs.Counts.{IsStanding, IsStandingAt, IsPlaced};
 ghost use Rattle.pm_view.specs.Represents.{IsHeld, Represents};
+ghost use Rattle.pm_law_collect.specs.Ways.{IsNamedFromTrain, IsOpenToHeld, Ascend};
 ghost use Rattle.pm_view.specs.Events.{Row, start, move_out, next_row, after, ways_out, home, MayPick, MayPlace, moving_id, goal_of, ended_by, clears, MovesTo};
 
 /// A law of every event of the collector: whichever comes next, and whatever train is picked where one is, the heap
@@ -56,6 +57,15 @@ pub fn there_is_a_train_to_pick()
     ensures moved_to { (view : SpaceView) (train : ℕ) (a : Addr) → HeapLaw view → next_row view ≡ move_out a
         → IsTrue (is_among train (ways_out view a))
         → IsSome (cars_at view.trains.trains train) × ((train == home view a.car) ≡ false) }
+{}
+
+/// A law of the trains to which an object may go: a train is one of them exactly where a remembered field of an object
+/// of that train, which is another one than the object's, names the object; or where it is the open train, and a
+/// remembered root or register does. They ascend strictly.
+pub fn an_object_may_go_where_it_is_named()
+    ensures among { (view : SpaceView) (a : Addr) (train : ℕ) → HeapLaw view
+        → IsTrue (is_among train (ways_out view a)) ↔ (IsNamedFromTrain view a train ⊎ IsOpenToHeld view a train) }
+    ensures ascend { (view : SpaceView) (a : Addr) → HeapLaw view → Ascend 0 (ways_out view a) }
 {}
 
 /// A law of anchors: one that stands keeps its object and its train, until it moves there or its train is doomed.

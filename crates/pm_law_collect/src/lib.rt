@@ -5,5 +5,6 @@ mod laws;
 
 pub use laws::{
     an_anchor_stands_until_it_moves, an_event_keeps_the_law_and_the_worlds,
-    an_event_moves_one_object_at_most, there_is_a_train_to_pick,
+    an_event_moves_one_object_at_most, an_object_may_go_where_it_is_named,
+    there_is_a_train_to_pick,
 };

@@ -1,5 +1,5 @@
 -- The command that makes an object.
-use Rattle.std.proofs.Common.{◌≡◌, ℕ, ◌+◌, ◌<◌, ◌≤◌, ◌==◌, ◌||◌, nat_lt, if◌then◌else◌, Bool, true, false, refl, ap, sym, subst, ◌∙◌, List, ◌∷◌, length, map, replicate, zero, suc, Some, None, arith, is_some}
+use Rattle.std.proofs.Common.{◌≡◌, ℕ, ◌+◌, ◌<◌, ◌≤◌, ◌==◌, ◌||◌, nat_lt, if◌then◌else◌, Bool, true, false, refl, ap, sym, subst, ◌∙◌, List, ◌∷◌, length, map, replicate, zero, suc, Option, Some, None, arith, is_some}
 use Rattle.std.specs.Option.{IsSome, option_map, option_flatten}
 use Rattle.std.specs.List.{slice_get}
 use Rattle.std.specs.FinMap.{get, insert}
@@ -12,6 +12,7 @@ use Rattle.pm_types.specs.declared.source.RefSource.TheVariants.{Handle}
 use Rattle.pm_types.specs.declared.reply.Reply.{Reply}
 use Rattle.pm_types.specs.declared.reply.Reply.TheVariants.{Ident, TooLarge, IdsSpent}
 use Rattle.pm_cars.specs.Cars.{look_of, object_of}
+use Rattle.pm_model.specs.Heap.{Object}
 use Rattle.pm_model.specs.World.{World, holding, with_object, changing}
 use Rattle.pm_model.specs.Answer.{answer_new}
 use Rattle.pm_model.specs.Answer as answers
@@ -64,6 +65,7 @@ module _ (view : SpaceView) (law : HeapLaw view) (room : view.next ≤ LAST_ID) 
     roots = stands.roots;
     registers = stands.registers;
     next = ap (λ n. n + 1) stands.next;
+    given = λ id known is. let low = stands.given id known is in omega (arith, low);
     objects = stands.objects;
     reached = λ id path. let was = stands.reached id path in (was.0, record { kept = was.1.kept; here = was.1.here });
     leftover = λ a o free is none. let was = stands.leftover a o free is none in record { name = was.name; register = was.register; field = was.field };
@@ -80,7 +82,15 @@ module _ (view : SpaceView) (law : HeapLaw view) (room : view.next ≤ LAST_ID) 
     null = null_fields count;
   }
 
-module _ (view : SpaceView) (world : World) (law : HeapLaw view) (stands : Represents view world) (unused : get world.heap world.next ≡ None) where
+-- no object of the world has the next identity
+unused : (view : SpaceView) (world : World) → Represents view world → get world.heap world.next ≡ None
+unused view world stands = by_case (get world.heap world.next) refl
+  where
+    by_case : (o : Option Object) → get world.heap world.next ≡ o → o ≡ None
+    by_case None is = refl
+    by_case (Some known) is = let low = stands.given world.next known is in absurd (omega (arith, low))
+
+module _ (view : SpaceView) (world : World) (law : HeapLaw view) (stands : Represents view world) where
   -- `new`
   pub new_serves : (client reg count number : ℕ) (bytes : List ℕ) → client < CLIENTS → reg < REGISTERS → IsVacant view.cars number → IsServed (row_new view client reg count bytes number) (answer_new world client reg count bytes)
   new_serves client reg count number bytes c r vacant =
@@ -95,7 +105,7 @@ module _ (view : SpaceView) (world : World) (law : HeapLaw view) (stands : Repre
           let place = birthplace now number new_object in
           let t = born now number new_object in
           let gives = born_gives now number new_object (spent_law view law room) (may_be_born view law room count bytes few short) vacant in
-          let unused_then : get world.heap view.next ≡ None = ap (get world.heap) (sym stands.next) ∙ unused in
+          let unused_then : get world.heap view.next ≡ None = ap (get world.heap) (sym stands.next) ∙ unused view world stands in
           let means : answers.fresh count bytes ≡ meaning now new_object = (λ i. record { fields = sym (null_names now count) i; bytes = bytes }) in
           let world_then = gives.world (record world { next = world.next + 1 }) (answers.fresh count bytes) (spent_stands view law room world stands) unused_then means in
           let live : IsLive (seen t) place = (ap look_of gives.here, gives.free) in

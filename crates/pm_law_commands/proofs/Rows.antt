@@ -1,6 +1,5 @@
 -- The row of each command serves the world's answer.
-use Rattle.std.proofs.Common.{◌≡◌, ℕ, ◌<◌, true, sym, None}
-use Rattle.std.specs.FinMap.{get}
+use Rattle.std.proofs.Common.{◌≡◌, ℕ, ◌<◌, true, sym}
 use Rattle.std.proofs.lemmas.Bool.{true≢false}
 use Rattle.pm_types.specs.declared.limits.TheConstants.{CLIENTS}
 use Rattle.pm_types.specs.declared.command.Cmd.{Cmd}
@@ -19,11 +18,11 @@ use Rattle.pm_law_commands.proofs.Naming.{root_serves, unroot_serves}
 use Rattle.pm_law_commands.proofs.Closing.{close_serves}
 use Rattle.pm_law_commands.proofs.Births.{new_serves}
 
-module _ (view : SpaceView) (world : World) (law : HeapLaw view) (stands : Represents view world) (unused : get world.heap world.next ≡ None) where
+module _ (view : SpaceView) (world : World) (law : HeapLaw view) (stands : Represents view world) where
   -- the row of a command and the world's answer
   pub row_serves : (client : ℕ) (cmd : Cmd) (picks : Picks) → is_act cmd ≡ true → client < CLIENTS → HasRegisters cmd → ArePicked view picks → IsServed (row view client cmd picks) (answer world client cmd)
   unfolding answer
-  row_serves client (New reg count bytes) picks act c regs picked = new_serves view world law stands unused client reg count picks.car bytes c regs picked.car
+  row_serves client (New reg count bytes) picks act c regs picked = new_serves view world law stands client reg count picks.car bytes c regs picked.car
   row_serves client (Load to reg index) picks act c regs picked = load_serves view world law stands client to reg index c regs.0
   row_serves client (Store reg index value) picks act c regs picked = store_serves view world law stands client reg index value
   row_serves client (Clear reg index) picks act c regs picked = clear_serves view world law stands client reg index

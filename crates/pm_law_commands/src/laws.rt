@@ -1,8 +1,7 @@
 //! What the rows of commands keep and answer. Each function's contract is the law, and the function does
 //! nothing.
 
-ghost use Rattle.std.specs.Prelude.{◌≡◌, ◌<◌, ℕ, List, true, false, None};
-ghost use Rattle.std.specs.FinMap.{get};
+ghost use Rattle.std.specs.Prelude.{◌≡◌, ◌<◌, ℕ, List, true, false};
 ghost use Rattle.pm_types.specs.declared.limits.TheConstants.{CLIENTS, REGISTERS};
 ghost use Rattle.pm_types.specs.declared.command.Cmd.{Cmd};
 ghost use Rattle.pm_types.specs.declared.command.Cmd.TheVariants.{New};
@@ -25,11 +24,11 @@ pub fn a_command_keeps_the_heap_law()
         → HeapLaw (row view client cmd picks).1 }
 {}
 
-/// A law of commands: for every world that a space stands for, and in which the next identity is not used, the reply of
-/// the row is the world's answer, and the space after it stands for the world after it.
+/// A law of commands: for every world that a space stands for, the reply of the row is the world's answer, and the space
+/// after it stands for the world after it.
 pub fn a_command_is_answered_as_by_the_world()
     ensures { (view : SpaceView) (world : World) (client : ℕ) (cmd : Cmd) (picks : Picks) → HeapLaw view
-        → Represents view world → get world.heap world.next ≡ None
+        → Represents view world
         → is_act cmd ≡ true → client < CLIENTS → HasRegisters cmd → ArePicked view picks
         → IsServed (row view client cmd picks) (answer world client cmd) }
 {}

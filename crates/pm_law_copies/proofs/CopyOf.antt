@@ -122,7 +122,8 @@ module _ (view : SpaceView) (law : HeapLaw view) where
   root_same name None is = refl
   root_same name (Some bound) is = let leads = root_leads view law name bound is in resolved_is view law bound.1 leads.0 leads.1
 
-  root_answer : (name : List ℕ) → get (roots_of (listed_cars view) (root_entries view)) name ≡ option_and_then (λ (bound : ℕ × Addr). named_by view bound.1) (get view.roots name)
+  -- the roots of a copy are the names of the space
+  pub root_answer : (name : List ℕ) → get (roots_of (listed_cars view) (root_entries view)) name ≡ option_and_then (λ (bound : ℕ × Addr). named_by view bound.1) (get view.roots name)
   root_answer name =
       root_of_copy (listed_cars view) (root_entries view) name (accepted view law).roots
       ∙ ap (λ roots. option_and_then (resolved (listed_cars view)) (find name_cmp name roots)) (roots_listed (entries view.roots))

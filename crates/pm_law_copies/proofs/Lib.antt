@@ -25,3 +25,4 @@ pub mod Pages
 pub mod BuiltLaw
 pub mod OpenedBuilt
 pub mod OpeningBuilds
+pub mod WorldOf

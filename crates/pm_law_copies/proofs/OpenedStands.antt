@@ -147,9 +147,16 @@ module _ (listed : List Listed) (catalog : List CatEntry) (next_id : ℕ) (view 
       field = λ from holds. not_reached a object is none (held_reached from object.id holds);
     }
 
+    -- each object of the copy is one that is listed
+    given : (id : ℕ) (known : Object) → get (copy_listed listed catalog next_id).heap id ≡ Some known → id < next_id
+    given id known is =
+        let there = (copied_kept (heap_of (images listed)) (roots_of (images listed) catalog) next_id id known is).0 in
+        let at = heaps.object_from (images listed) ok.differ (ascend listed catalog next_id view ok opened) id known there in
+        subst (λ n. n < next_id) at.3 (ok.given at.0 at.1 at.2)
+
     -- it stands for the world in which its copy was just opened, under any number
     pub stands : Represents view (begin number (copy_listed listed catalog next_id))
-    stands = stands_for view (begin number (copy_listed listed catalog next_id)) (keeps_law listed catalog next_id view ok opened) means (sym opened.fresh.next) forgotten
+    stands = stands_for view (begin number (copy_listed listed catalog next_id)) (keeps_law listed catalog next_id view ok opened) means (sym opened.fresh.next) given forgotten
 
   -- what it would save is the copy that was opened
   pub saves_again : copy_in view ≡ copy_listed listed catalog next_id

@@ -26,11 +26,18 @@ ghost use Rattle.pm_view.specs.Represents.{Represents};
 ghost use Rattle.pm_copies.specs.Listed.{Listed, images, listed, listed_cars, root_entries, copy_listed, copy_in};
 ghost use Rattle.pm_copies.specs.Accepted.{IsAccepted, HavePages};
 ghost use Rattle.pm_copies.specs.Opened.{IsOpened, listed_graph, IsOpenedStore};
+ghost use Rattle.pm_law_copies.specs.Stood.{HasWhatStands};
 
 /// A law of copies: the copy of every world that a space stands for is the one that its listed cars and its
 /// roots are.
 pub fn a_space_holds_its_worlds_copy()
     ensures { (view : SpaceView) (world : World) → HeapLaw view → Represents view world → copy world ≡ copy_in view }
+{}
+
+/// A law of worlds: a space that keeps the heap law stands for some world, whose heap has the objects that stand in the
+/// space, and no other. So what is said of every world that a space stands for is never said of none.
+pub fn a_space_stands_for_some_world()
+    ensures { (view : SpaceView) → HeapLaw view → (world : World) × HasWhatStands view world }
 {}
 
 /// A law of lists: what is listed of a space is each slot as it stands, Live or Moved, but for those of cars that

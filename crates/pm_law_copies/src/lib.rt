@@ -8,7 +8,7 @@ mod laws;
 pub use building::{a_built_space_keeps_the_law, opening_builds_a_space};
 pub use examples::examples_of_opening;
 pub use laws::{
-    a_copys_cars_are_accepted, a_space_holds_its_worlds_copy, a_store_is_opened_as_its_copy,
-    accepted_cars_have_pages, an_opened_space_keeps_the_law, opening_leaves_objects_in_their_slots,
-    opening_makes_one_space,
+    a_copys_cars_are_accepted, a_space_holds_its_worlds_copy, a_space_stands_for_some_world,
+    a_store_is_opened_as_its_copy, accepted_cars_have_pages, an_opened_space_keeps_the_law,
+    opening_leaves_objects_in_their_slots, opening_makes_one_space,
 };

@@ -469,6 +469,10 @@ module _ (view put : SpaceView) (from : Addr) (c : ℕ) (old car : Car) (object 
 
   -- ---- the places that change
 
+  -- an address is followed to the same place once the fields are followed too
+  go_then : (a : Addr) → go a ≡ resolve t a
+  go_then a = followed_is (slot_at put.cars a) a ∙ ap (λ l. resolved l a) (sym (same.look a)) ∙ sym (followed_is (slot_at t.cars a) a)
+
   moved_once : HasMoved view t from
   moved_once = record {
     to = to;
@@ -476,6 +480,10 @@ module _ (view put : SpaceView) (from : Addr) (c : ℕ) (old car : Car) (object 
     none = nothing_there view put from c old car object law is;
     id = ap (option_map (λ (o : Object). o.id)) (object_then to ∙ cond-true _ _ _ (same_itself to)) ∙ sym id_from;
     bytes = ap (option_map (λ (o : Object). o.bytes)) (object_then to ∙ cond-true _ _ _ (same_itself to)) ∙ sym (ap (option_map (λ (o : Object). o.bytes)) old_object);
+    fields =
+        ap (option_map (λ (o : Object). o.fields)) (object_then to ∙ cond-true _ _ _ (same_itself to))
+        ∙ (λ i. Some (map (option_map (λ a. go_then a i)) object.fields))
+        ∙ sym (ap (λ (o : Option Object). option_map (map (option_map (resolve t))) (option_map (λ (o : Object). o.fields) o)) old_object);
     objects = λ a not_from not_to. other_object a not_from not_to;
     looks = λ a not_from not_to. same.look a ∙ ap look_of (other_slot view put from c old car object law is a not_from not_to);
   }

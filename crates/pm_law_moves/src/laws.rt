@@ -8,7 +8,8 @@ ghost use Rattle.pm_view.specs.Events.{Row, next_row, after, MayPick, MayPlace, 
 ghost use Rattle.pm_law_moves.specs.Moved.{HasMoved};
 
 /// A law of moves: an event that moves an object changes two places, the one that it leaves, which tells where it went,
-/// and the one to which it goes, which held nothing. The object has its identity and its bytes there.
+/// and the one to which it goes, which held nothing. The object has its identity, its bytes and its fields there, each
+/// followed.
 pub fn an_object_moves_to_one_place()
     ensures { (view : SpaceView) (row : Row) (picked number train : ℕ) (a : Addr) → HeapLaw view
         → next_row view ≡ row → MayPick view picked row → MayPlace view number row

@@ -39,6 +39,7 @@ means_same view t law same world stands = stands_for t world law
           stands.objects old.at old.was known old.kept old.there (ap (get world.heap) old.id ∙ found) ∙ sym old.meaning;
     })
     (stands.next ∙ sym same.next)
+    stands.given
     (λ a object free is none.
     let old = same.objects a object free is in
     let was = stands.leftover old.at old.was old.kept old.there (ap (get world.heap) old.id ∙ none) in

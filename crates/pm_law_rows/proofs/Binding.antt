@@ -227,7 +227,7 @@ module _ (view : SpaceView) (name : List ℕ) (n : ℕ) (a : Addr) (law : HeapLa
 
     -- and the world has the name too
     pub name_stands : Represents t_bound (naming world name id)
-    name_stands = stands_for t_bound (naming world name id) name_keeps_law name_means stands.next
+    name_stands = stands_for t_bound (naming world name id) name_keeps_law name_means stands.next stands.given
         (λ b object kept is none.
         let old = stands.leftover b object kept is none in
         record {
@@ -301,7 +301,7 @@ module _ (view : SpaceView) (name : List ℕ) (n : ℕ) (a : Addr) (law : HeapLa
 
     -- and the world does not have the name any more
     pub unbinding_stands : Represents t_unbound (unbinding world name)
-    unbinding_stands = stands_for t_unbound (unbinding world name) unbinding_keeps_law unbinding_means stands.next
+    unbinding_stands = stands_for t_unbound (unbinding world name) unbinding_keeps_law unbinding_means stands.next stands.given
         (λ b object kept is none.
         let old = stands.leftover b object kept is none in
         record {

@@ -385,9 +385,14 @@ module _ (view t : SpaceView) (c : ℕ) (car : Car) (object : stored_objects.Obj
     held_born true o id held = inr held
     held_born false o id held = inl held
 
+    given_born : world.next ≡ view.next → (id : ℕ) (known : Object) (b : Bool) → (object.id == id) ≡ b → cond b (Some it) (get world.heap id) ≡ Some known → id < world.next
+    given_born next id known true same is = subst (λ n. id < n) (sym next) (subst (λ m. m < view.next) (eqb-true object.id id same) may.given)
+    given_born next id known false apart is = stands.given id known is
+
     -- and the world has the object too
     pub birth_stands : world.next ≡ view.next → Represents t w_born
     birth_stands next = stands_for t w_born birth_keeps_law born_means (next ∙ sym birth.next)
+        (λ id known is. given_born next id known (object.id == id) refl (sym (heap_born id) ∙ is))
         (λ a o free is none.
         let gone = was_none o.id (object.id == o.id) (sym (heap_born o.id) ∙ none) in
         ⊎_elim

@@ -99,4 +99,5 @@ new_stands = stands_for new_space empty_world new_keeps_law
       objects = λ a object known free is found. absurd (none_of _ object (no_object a) is);
     })
     refl
+    (λ id known is. absurd (nothing_in nat_cmp id known is))
     (λ a object free is none. absurd (none_of _ object (no_object a) is))

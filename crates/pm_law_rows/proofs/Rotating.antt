@@ -194,4 +194,5 @@ module _ (view : SpaceView) (law : HeapLaw view) (has : HasCar view.trains.train
         objects = λ a object known free is found. stands.objects a object known (sym (aside_opened a.car) ∙ free) is found;
       })
       stands.next
+      stands.given
       (λ a object free is none. stands.leftover a object (sym (aside_opened a.car) ∙ free) is none)

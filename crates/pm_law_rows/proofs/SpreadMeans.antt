@@ -37,12 +37,14 @@ use Rattle.pm_law_rows.proofs.SpreadKept.{reshaped_spread, spread_keeps_law}
 
 -- a space that means what a world has, keeps the heap law, and names no leftover stands for the world
 pub stands_for : (view : SpaceView) (world : World) → HeapLaw view → Means view world → world.next ≡ view.next
+    → ((id : ℕ) (known : Object) → get world.heap id ≡ Some known → id < world.next)
     → ((a : Addr) (object : stored_objects.Object) → is_aside view a.car ≡ false → object_at view.cars a ≡ Some object → get world.heap object.id ≡ None → IsForgotten world object.id)
     → Represents view world
-stands_for view world law means next leftover = record {
+stands_for view world law means next given leftover = record {
   roots = means.roots;
   registers = means.registers;
   next = next;
+  given = given;
   objects = means.objects;
   reached = reached_stands view world law.tied (found_by_number view.roots law.named.numbers) means;
   leftover = leftover;
@@ -125,9 +127,14 @@ module _ (view : SpaceView) (world : World) (c r : ℕ) (to : Option Addr) (law 
         field = λ from holds. old.field from (subst (λ h. Holds h from object.id) (heap_then world c r (names view to)) holds);
       }
 
+  register_given : (id : ℕ) (known : Object) → get w.heap id ≡ Some known → id < w.next
+  register_given id known is =
+      subst (λ n. id < n) (sym (next_then world c r (names view to)))
+      (stands.given id known (sym (ap (λ h. get h id) (heap_then world c r (names view to))) ∙ is))
+
   -- a register that is set
   pub register_stands : Represents t w
-  register_stands = stands_for t w (spread_keeps_law view (Handle c r) to law at tt may) register_means (next_then world c r (names view to) ∙ stands.next) register_leftover
+  register_stands = stands_for t w (spread_keeps_law view (Handle c r) to law at tt may) register_means (next_then world c r (names view to) ∙ stands.next) register_given register_leftover
 
 -- ---- names
 
@@ -193,7 +200,7 @@ module _ (view : SpaceView) (world : World) (name : List ℕ) (n id : ℕ) (old 
 
   -- a name that is bound already is bound anew
   pub root_stands : Represents t_root w_root
-  root_stands = stands_for t_root w_root (spread_keeps_law view (Root n) (Some a) law root_at refl may) root_means stands.next root_leftover
+  root_stands = stands_for t_root w_root (spread_keeps_law view (Root n) (Some a) law root_at refl may) root_means stands.next stands.given root_leftover
 
 -- ---- an object of the world is changed
 
@@ -312,9 +319,16 @@ module _ (view t : SpaceView) (world : World) (a : Addr) (o o_then : stored_obje
             (held_either (o.id == from) it_then (get world.heap from) object.id (subst (λ p. IsSomeAnd p (λ k. Contains k.fields (Some object.id))) (heap_at from) holds));
       }
 
+  given_either : (id : ℕ) (known : Object) (c : Bool) → (o.id == id) ≡ c → cond c (Some it_then) (get world.heap id) ≡ Some known → id < world.next
+  given_either id known true same here_is = subst (λ m. m < world.next) (eqb-true o.id id same) (stands.given o.id it is.has)
+  given_either id known false apart was = stands.given id known was
+
+  changed_given : (id : ℕ) (known : Object) → get w_changed.heap id ≡ Some known → id < w_changed.next
+  changed_given id known found = given_either id known (o.id == id) refl (sym (heap_at id) ∙ found)
+
   -- an object of the world that is changed
   pub changed_stands : t.next ≡ view.next → Represents t w_changed
-  changed_stands next = stands_for t w_changed law_then changed_means (stands.next ∙ sym next) changed_leftover
+  changed_stands next = stands_for t w_changed law_then changed_means (stands.next ∙ sym next) changed_given changed_leftover
 
 -- ---- fields
 

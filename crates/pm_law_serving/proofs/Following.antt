@@ -147,6 +147,7 @@ saved_apart view w v heap roots registers next represents =
       roots = represents.roots;
       registers = represents.registers;
       next = represents.next;
+      given = represents.given;
       objects = represents.objects;
       reached = represents.reached;
       leftover = λ a object aside is none.

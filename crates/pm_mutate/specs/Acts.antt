@@ -1,6 +1,5 @@
 -- What a command does, beyond its row.
-use Rattle.std.specs.Prelude.{◌≡◌, ℕ, ◌+◌, ◌≤◌, true, None}
-use Rattle.std.specs.FinMap.{get}
+use Rattle.std.specs.Prelude.{◌≡◌, ℕ, ◌+◌, ◌≤◌, true}
 use Rattle.pm_types.specs.declared.address.Addr.{Addr}
 use Rattle.pm_types.specs.declared.command.Cmd.{Cmd}
 use Rattle.pm_types.specs.declared.command.Cmd.TheVariants.{New}
@@ -17,10 +16,10 @@ use Rattle.pm_law_work.specs.Raises.{raises}
 use Rattle.pm_bound.specs.Bounded.{KeepsRank, KeepsSunk}
 use Rattle.pm_law_commands.specs.Served.{IsServed}
 
--- for every world that the space stands for, and in which no object has the next identity, the reply is the world's
--- answer, and the space after it keeps the heap law and stands for the next world
+-- for every world that the space stands for the reply is the world's answer, and the space after it keeps the heap law
+-- and stands for the next world
 abbrev pub Serves : SpaceView → ℕ → Cmd → Reply → SpaceView → Type 0
-Serves view client cmd reply after = (world : World) → Represents view world → get world.heap world.next ≡ None → IsServed (reply, after) (answer world client cmd)
+Serves view client cmd reply after = (world : World) → Represents view world → IsServed (reply, after) (answer world client cmd)
 
 -- a command that is refused leaves the space as it is
 abbrev pub IsStill : SpaceView → Cmd → Reply → SpaceView → Type 0

@@ -1,5 +1,5 @@
 -- Which worlds a space stands for.
-use Rattle.std.specs.Prelude.{◌≡◌, ◌⊎◌, ℕ, false, List, map, Option, Some, None, option_and_then}
+use Rattle.std.specs.Prelude.{◌≡◌, ◌⊎◌, ℕ, ◌<◌, false, List, map, Option, Some, None, option_and_then}
 use Rattle.std.specs.FinMap.{get}
 use Rattle.pm_types.specs.declared.address.Addr.{Addr}
 use Rattle.pm_types.specs.declared.object.Object as stored
@@ -28,13 +28,15 @@ pub record IsForgotten (world : World) (id : ℕ) : Type 0 where
   pub register : (place : ℕ × ℕ) → get world.registers place ≡ Some id → ⊥
   pub field : (from : ℕ) → Holds world.heap from id → ⊥
 
--- A space stands for a world: names and registers lead to what the world has there, and so is the next identity; an
--- object that stands and is in the world's heap is the world's; what the world reaches stands; and an object that
--- stands and is not in the world's heap is a leftover, which nothing of the world names.
+-- A space stands for a world: names and registers lead to what the world has there, and so is the next identity, which
+-- is over every identity of the world's heap; an object that stands and is in the world's heap is the world's; what the
+-- world reaches stands; and an object that stands and is not in the world's heap is a leftover, which nothing of the
+-- world names.
 pub record Represents (view : SpaceView) (world : World) : Type 0 where
   pub roots : (name : List ℕ) → get world.roots name ≡ option_and_then (λ (bound : ℕ × Addr). named_by view bound.1) (get view.roots name)
   pub registers : (place : ℕ × ℕ) → get world.registers place ≡ names view (get view.registers place)
   pub next : world.next ≡ view.next
+  pub given : (id : ℕ) (known : Object) → get world.heap id ≡ Some known → id < world.next
   pub objects : (a : Addr) (object : stored.Object) (known : Object) → is_aside view a.car ≡ false → object_at view.cars a ≡ Some object
       → get world.heap object.id ≡ Some known → known ≡ meaning view object
   pub reached : (id : ℕ) → IsReachable world.heap (IsHeld world) id → IsStanding view id

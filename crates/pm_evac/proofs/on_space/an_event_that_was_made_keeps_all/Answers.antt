@@ -6,6 +6,7 @@ use Rattle.pm_view.specs.Work.{work, lowers}
 use Rattle.pm_view.specs.Events.{next_row, after, goal_of, ended_by}
 use Rattle.pm_bound.specs.Bounded.{KeepsRank, KeepsSunk}
 use Rattle.pm_evac.proofs.Counting.{counted_law, counted_stands, counted_placed, placed_counted, counted_standing, counted_ended, counted_work, counted_keeps_rank, counted_keeps_sunk}
+use Rattle.pm_evac.proofs.Phases.{answers_by_phase, moves_on}
 use Rattle.pm_evac.proofs.on_space.an_event_that_was_made_keeps_all.Goals as goal
 
 pub returns-clause-law : goal.returns-clause-law
@@ -54,3 +55,16 @@ pub returns-clause-sunk : goal.returns-clause-sunk
 returns-clause-sunk c = λ old new step law event.
     subst (KeepsSunk old) (sym event.after)
     (counted_keeps_sunk old _ (c.an_event_keeps_sunk_sets.ensures old (next_row old) event.picked event.number law refl event.may_pick event.may_place))
+
+pub returns-clause-phase : goal.returns-clause-phase
+returns-clause-phase c = λ old new step law event.
+    let left = c.an_event_lowers_the_work_left.ensures in
+    answers_by_phase old step event.picked event.answer (left.idle old law) (c.one_event_completes_a_collection.ensures.begun old) (λ car. left.empty old car law) (left.nothing old law)
+
+pub returns-clause-progress : goal.returns-clause-progress
+returns-clause-progress c = λ old new step law event.
+    moves_on old step event.picked event.answer (c.an_event_lowers_the_work_left.ensures.idle old law) (c.one_event_completes_a_collection.ensures.begun old) new (λ going incomplete.
+    let t = after old event.picked event.number (next_row old) in
+    let same = c.one_event_completes_a_collection.ensures.counted old (next_row old) event.picked event.number ∙ ap (λ b. cond b (old.completed + 1) old.completed) incomplete in
+    let left = c.an_event_lowers_the_work_left.ensures.lowers old (next_row old) event.picked event.number law refl event.may_pick event.may_place going same in
+    subst (λ n. n + lowers (next_row old) ≤ work old) (sym (counted_work t) ∙ sym (ap work event.after)) left)

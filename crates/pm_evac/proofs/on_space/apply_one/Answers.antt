@@ -23,4 +23,4 @@ pub returns : goal.returns
 returns g c =
     let all = c.an_event_that_was_made_keeps_all.ensures in
     let space = c.prepared_row.new.space in
-    makes_found g.F.Fn c.args.space.now.parts space.parts c.apply_at.new.parts c.prepared_row.ensures.parts space.kept c.apply_at.result all.worlds all.places all.work all.rank all.sunk c.apply_at.ensures.ok c.apply_at.ensures.err c.apply_at.ensures.rest
+    makes_found g.F.Fn c.args.space.now.parts space.parts c.apply_at.new.parts c.prepared_row.ensures.parts space.kept c.apply_at.result all.worlds all.places all.work all.rank all.sunk all.phase all.progress c.apply_at.ensures.ok c.apply_at.ensures.err c.apply_at.ensures.rest

@@ -23,7 +23,7 @@ pub returns-in-Free : goal.returns-in-Free
 returns-in-Free g c =
     let all = c.an_event_that_was_made_keeps_all.ensures in
     let space = c.prepared_row.new.space in
-    makes_found g.F.Fn c.args.space.now.parts space.parts c.free_at.new.parts c.prepared_row.ensures.parts space.kept c.free_at.result all.worlds all.places all.work all.rank all.sunk c.free_at.ensures.ok c.free_at.ensures.err c.free_at.ensures.rest
+    makes_found g.F.Fn c.args.space.now.parts space.parts c.free_at.new.parts c.prepared_row.ensures.parts space.kept c.free_at.result all.worlds all.places all.work all.rank all.sunk all.phase all.progress c.free_at.ensures.ok c.free_at.ensures.err c.free_at.ensures.rest
 
 pub invariant_of-space-in-FreeDoomed : goal.invariant_of-space-in-FreeDoomed
 invariant_of-space-in-FreeDoomed g c =
@@ -42,4 +42,4 @@ pub returns-in-FreeDoomed : goal.returns-in-FreeDoomed
 returns-in-FreeDoomed g c =
     let all = c.an_event_that_was_made_keeps_all.ensures in
     let space = c.prepared_row.new.space in
-    makes_found g.F.Fn c.args.space.now.parts space.parts c.free_doomed_at.new.parts c.prepared_row.ensures.parts space.kept c.free_doomed_at.result all.worlds all.places all.work all.rank all.sunk c.free_doomed_at.ensures.ok c.free_doomed_at.ensures.err c.free_doomed_at.ensures.rest
+    makes_found g.F.Fn c.args.space.now.parts space.parts c.free_doomed_at.new.parts c.prepared_row.ensures.parts space.kept c.free_doomed_at.result all.worlds all.places all.work all.rank all.sunk all.phase all.progress c.free_doomed_at.ensures.ok c.free_doomed_at.ensures.err c.free_doomed_at.ensures.rest
