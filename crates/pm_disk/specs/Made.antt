@@ -1,5 +1,5 @@
 -- How many syncs, writes and reads past the end were made, whatever they answered, and when the last sync was made.
-use Rattle.std.specs.Prelude.{ℕ, ◌+◌, Bool, true, false, List, [], ◌∷◌, length, map, Option, Some, None, if◌then◌else◌}
+use Rattle.std.specs.Prelude.{◌≡◌, ℕ, ◌+◌, ◌≤◌, Bool, true, false, List, [], ◌∷◌, length, map, Option, Some, None, Result, OnOk, if◌then◌else◌}
 use Rattle.pm_disk.specs.Reads.{reads_past}
 use Rattle.pm_disk.specs.declared.mark.Mark.{Mark}
 use Rattle.pm_disk.specs.declared.mark.CallKind.{CallKind}
@@ -45,6 +45,24 @@ read_kind false = Look
 abbrev pub with_read : Option (List ℕ) → ℕ → ℕ → Made → Made
 with_read None at n made = made
 with_read (Some bytes) at n made = if reads_past at n bytes then with_past made else made
+
+-- so many writes, syncs and reads past the end were made more; the moment of the last sync stays free
+pub record MadeMore (more_writes more_syncs more_past : ℕ) (before after : Made) : Type 0 where
+  pub writes : after.writes ≡ before.writes + more_writes
+  pub syncs : after.syncs ≡ before.syncs + more_syncs
+  pub past : after.past ≡ before.past + more_past
+
+-- so many writes and syncs at most were made more, and no read past the end
+pub record MadeAtMost (most_writes most_syncs : ℕ) (before after : Made) : Type 0 where
+  pub writes : after.writes ≤ before.writes + most_writes
+  pub syncs : after.syncs ≤ before.syncs + most_syncs
+  pub past : after.past ≡ before.past
+
+-- After Ok so many writes and syncs were made more. Whatever is answered, no more than these were made, and no read past
+-- the end.
+pub record MakesCalls {T E : Type 0} (writes syncs : ℕ) (before after : Made) (result : Result T E) : Type 0 where
+  pub done : OnOk result (MadeMore writes syncs 0 before after)
+  pub most : MadeAtMost writes syncs before after
 
 -- the numbers of the marks of a clock
 abbrev pub numbers : List Mark → List ℕ

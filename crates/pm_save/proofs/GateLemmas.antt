@@ -1,5 +1,5 @@
 -- Closing the other gate, and publishing beside the pages.
-use Rattle.std.proofs.Common.{◌≡◌, ◌⊎◌, inl, inr, ⊎_elim, ℕ, ◌+◌, ◌*◌, ◌≤◌, Bool, true, false, List, [], ◌∷◌, length, Option, Some, option_map, refl, sym, ap, ◌∙◌, subst, arith}
+use Rattle.std.proofs.Common.{◌≡◌, ◌⊎◌, inl, inr, ⊎_elim, ℕ, ◌+◌, ◌*◌, ◌≤◌, Bool, true, false, if◌then◌else◌, List, [], ◌∷◌, length, Option, Some, option_map, refl, sym, ap, ◌∙◌, subst, arith}
 use Rattle.pm_types.specs.declared.limits.TheConstants.{PAGE_BYTES}
 use Rattle.pm_layout.specs.declared.header.Header.{Header}
 use Rattle.pm_layout.specs.Headers.{header_spelling}
@@ -8,11 +8,11 @@ use Rattle.pm_disk.specs.Writes.{Torn}
 use Rattle.pm_disk.proofs.WriteLemmas.{torn_written}
 use Rattle.pm_image.specs.Opening.{gate_place, open_gate, page_count, page_of}
 use Rattle.pm_shadow.specs.State.{State, other}
-use Rattle.pm_shadow.specs.Images.{Holds, Renews, place_of, with_gate, with_header}
+use Rattle.pm_shadow.specs.Images.{Holds, Renews, place_of, with_gate, with_header, with_shut_gate}
 use Rattle.pm_shadow.proofs.PageLemmas.{aside, page_stays}
 use Rattle.pm_shadow.proofs.SlotLemmas.{count_le}
 use Rattle.pm_save.specs.Settling.{ClosesFrom, PublishesFrom, StaysBesidePage}
-use Rattle.pm_save.proofs.RunLemmas.{told_before, told_once}
+use Rattle.pm_save.proofs.RunLemmas.{map_none, told_before, told_once}
 
 -- a write within one page leaves the others
 within_page : (page at m : ℕ) (was now : List ℕ) → place_of page ≤ at → at + m ≤ place_of page + PAGE_BYTES → Torn at m was now → StaysBesidePage page was now
@@ -58,6 +58,17 @@ closes_by contents s old new still wrote holds after now =
     let before = told_before (with_gate (other s.slot) 0) (contents old) (contents new) after (wrote open_) now in
     let put : after ≡ with_gate (other s.slot) 0 before.0 = told_once (contents new) after (with_gate (other s.slot) 0 before.0) now (wrote open_ ∙ ap (option_map (with_gate (other s.slot) 0)) before.1) in
     (before.0, before.1, holds before.0 before.1 after now, subst (StaysBesidePage (other s.slot) before.0) (sym put) (gate_beside (other s.slot) 0 before.0)))
+    (either s.closed)
+
+-- the gate is written only where it is open
+pub shut_by : {D : Type 0} (contents : D → Option (List ℕ)) (s : State) (old new : D) → (s.closed ≡ true → new ≡ old) → (s.closed ≡ false → contents new ≡ option_map (with_gate (other s.slot) 0) (contents old))
+    → contents new ≡ option_map (with_shut_gate s) (contents old)
+shut_by contents s old new still wrote =
+    ⊎_elim
+    (λ (closed : s.closed ≡ true).
+    ap contents (still closed) ∙ map_none (contents old) ∙ (λ i. option_map (λ (bytes : List ℕ). if sym closed i then bytes else with_gate (other s.slot) 0 bytes) (contents old)))
+    (λ (open_ : s.closed ≡ false).
+    wrote open_ ∙ (λ i. option_map (λ (bytes : List ℕ). if sym open_ i then bytes else with_gate (other s.slot) 0 bytes) (contents old)))
     (either s.closed)
 
 pub publishes_by : {D : Type 0} (contents : D → Option (List ℕ)) (s : State) (header : Header) (old new : D) → length (header_spelling header) ≡ 96

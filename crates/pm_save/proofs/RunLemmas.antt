@@ -7,12 +7,13 @@ use Rattle.pm_disk.specs.Disk.{LeavesOnly}
 use Rattle.pm_disk.proofs.RunLemmas.{joined}
 use Rattle.pm_disk.specs.Writes.{written}
 use Rattle.pm_model.specs.World.{Copy}
-use Rattle.pm_model.proofs.Members.{at_first, in_none}
+use Rattle.pm_model.proofs.Members.{at_first, in_none, in_rest}
 use Rattle.pm_image.specs.Opening.{page_count, page_of}
 use Rattle.pm_image.specs.Stands.{StandsForCopy}
 use Rattle.pm_layout.specs.declared.header.Header.{Header}
 use Rattle.pm_shadow.specs.declared.page_use.PageUse.TheVariants.{Free, Claimed}
-use Rattle.pm_shadow.specs.Uses.{with_use}
+use Rattle.pm_shadow.specs.declared.page_use.PageUse.{PageUse}
+use Rattle.pm_shadow.specs.Uses.{AreLowestFree, IsLowestFree, all_used, with_use}
 use Rattle.pm_shadow.specs.State.{State, with_kept}
 use Rattle.pm_shadow.specs.Images.{WritesPage, place_of}
 use Rattle.pm_shadow.proofs.PageLemmas.{page_made, torn_page}
@@ -21,9 +22,10 @@ use Rattle.pm_view.specs.View.{Cars}
 use Rattle.pm_law_graphs.specs.Apart.{AreApart, times}
 use Rattle.pm_law_graphs.proofs.Sets.{times_append}
 use Rattle.pm_law_saving.proofs.Members.{is_member, only_member}
-use Rattle.pm_law_saving.proofs.Keeping.{all_kept_in, all_kept_other, same_or_not, use_here, use_other}
+use Rattle.pm_law_saving.proofs.Keeping.{all_kept_in, all_kept_other, free_keeps, same_or_not, use_here, use_other}
+use Rattle.pm_law_saving.proofs.Written.{clean_on}
 use Rattle.pm_saving.specs.Progress.{Progress, Saving, cars_or_none}
-use Rattle.pm_saving.specs.Paging.{NextPage, left, left_of, newly_kept, next_page, text_of, with_next, written_on}
+use Rattle.pm_saving.specs.Paging.{NextPage, clean_pages, left, left_of, newly_kept, next_page, put_next, put_on, text_of, with_next, written_on}
 use Rattle.pm_saving.specs.Paging as paging
 use Rattle.pm_saving.specs.Beginning.{IsInProgress}
 use Rattle.pm_saving.specs.Tied.{GoesOn, HasCopy, IsTied, WritesNext, with_all_kept}
@@ -41,6 +43,39 @@ pub written_more : (cars : Cars) (pages : List ℕ) (progress : Progress) (page 
     → written_on cars (pages ++ page ∷ []) progress ≡ paging.with_page page (written_on cars pages progress) next
 written_more cars [] progress page next is = ap (with_next page progress) is
 written_more cars (first ∷ pages) progress page next is = written_more cars pages (with_next first progress (next_page cars progress)) page next is
+
+put_more : (cars : Cars) (pages : List ℕ) (progress : Progress) (page : ℕ) (next : NextPage) (bytes : List ℕ) → next_page cars (written_on cars pages progress) ≡ Some next
+    → put_on cars (pages ++ page ∷ []) progress bytes ≡ written (place_of page) (text_of (written_on cars pages progress) next) (put_on cars pages progress bytes)
+put_more cars [] progress page next bytes is = ap (λ (next : Option NextPage). put_next page progress next bytes) is
+put_more cars (first ∷ pages) progress page next bytes is = put_more cars pages (with_next first progress (next_page cars progress)) page next (put_next first progress (next_page cars progress) bytes) is
+
+pub map_none : (was : Option (List ℕ)) → was ≡ option_map (λ (bytes : List ℕ). bytes) was
+map_none None = refl
+map_none (Some bytes) = refl
+
+map_more : (f g h : List ℕ → List ℕ) (was : Option (List ℕ)) → ((bytes : List ℕ) → h bytes ≡ f (g bytes)) → option_map f (option_map g was) ≡ option_map h was
+map_more f g h None same = refl
+map_more f g h (Some bytes) same = ap Some (sym (same bytes))
+
+-- ---- pages that are used one after another
+
+used_more : (pages : List ℕ) (uses : ℕ → PageUse) (page : ℕ) → all_used (pages ++ page ∷ []) uses ≡ with_use page Claimed (all_used pages uses)
+used_more [] uses page = refl
+used_more (first ∷ pages) uses page = used_more pages (with_use first Claimed uses) page
+
+used_other : (pages : List ℕ) (uses : ℕ → PageUse) (page : ℕ) → (Contains pages page → ⊥) → all_used pages uses page ≡ uses page
+used_other [] uses page none = refl
+used_other (first ∷ pages) uses page none =
+    used_other pages (with_use first Claimed uses) page (λ there. none (in_rest first page pages there))
+    ∙ use_other first page Claimed uses (λ same. none (subst (Contains (first ∷ pages)) (sym same) (at_first first pages)))
+
+lowest_more : (pages : List ℕ) (uses : ℕ → PageUse) (page : ℕ) → AreLowestFree uses pages → IsLowestFree (all_used pages uses) page → AreLowestFree uses (pages ++ page ∷ [])
+lowest_more [] uses page all low = (low, tt)
+lowest_more (first ∷ pages) uses page all low = (all.0, lowest_more pages (with_use first Claimed uses) page all.1 low)
+
+new_clean : (b : Bool) (pages : List ℕ) (page : ℕ) → Contains (if b then [] else pages) page → Contains pages page
+new_clean true pages page within = absurd (in_none page within)
+new_clean false pages page within = within
 
 all_more : {A : Type 0} (P : A → Type 0) (xs : List A) (x : A) → AllByRecursion P xs → P x → AllByRecursion P (xs ++ x ∷ [])
 all_more P [] x all has = (has, tt)
@@ -96,12 +131,15 @@ run_begins progress frozen cars saving s was is tied = record {
   goes = record { number = refl; roots = refl; next_id = refl; copy = λ cars. refl; left = omega arith };
   free = tt;
   apart = λ number. omega arith;
+  lowest = tt;
+  unused = λ page free. free;
   free_still = λ page free. (free, λ within. in_none page within);
   header = refl;
   slot = refl;
   closed = refl;
   tied = tied;
   has = λ copy bytes told has after now. copy_at s bytes after copy (told_once was bytes after told now) has;
+  contents = map_none was;
   only = λ before told after now. record {
     longer = let same = told_once was before after told now in subst (λ (bytes : List ℕ). page_count before ≤ page_count bytes) same (omega arith);
     same = λ page low out. ap (λ (bytes : List ℕ). page_of bytes page) (sym (told_once was before after told now));
@@ -138,10 +176,13 @@ module _ (progress : Progress) (frozen : Option Cars) (cars : Cars) (old mid new
   ks : List ℕ
   ks = newly_kept writes.progress
 
+  copy : IsInProgress mid.settled cars writes.progress
+  copy =
+      let begun = begun_from mid.settled mid.progress writes.progress frozen m.header.epoch run.tied.begun writes.is_progress in
+      subst (λ (cars : Cars). IsInProgress mid.settled cars writes.progress) (sym cars_are) begun.1
+
   goes_then : GoesOn progress (written_on cars (pages ++ page ∷ []) progress)
   goes_then =
-      let begun = begun_from mid.settled mid.progress writes.progress frozen m.header.epoch run.tied.begun writes.is_progress in
-      let copy : IsInProgress mid.settled cars writes.progress = subst (λ (cars : Cars). IsInProgress mid.settled cars writes.progress) (sym cars_are) begun.1 in
       let step : GoesOn writes.progress (paging.with_page page writes.progress writes.next) = (next_goes mid.settled cars writes.progress writes.next page copy writes.is_next).0 in
       let one : GoesOn (written_on cars pages progress) (written_on cars (pages ++ page ∷ []) progress) =
       subst (λ (p : Progress). GoesOn p (written_on cars (pages ++ page ∷ []) progress)) its (subst (GoesOn writes.progress) (sym more) step) in
@@ -166,6 +207,44 @@ module _ (progress : Progress) (frozen : Option Cars) (cars : Cars) (old mid new
       let out : Contains (newly_kept writes.progress) other → ⊥ = λ within. let kept = all_kept_in (newly_kept writes.progress) m other within in absurd (cc (kept, kept_free)) in
       (apart, sym (all_kept_other (newly_kept writes.progress) m other out) ∙ kept_free)
 
+  -- and a page that was free, and is none of these, is free still
+  unkept : (other : ℕ) → m.uses other ≡ Free → Contains (newly_kept writes.progress) other → ⊥
+  unkept other free within =
+      let clean = new_clean writes.progress.kept (clean_pages writes.progress) other within in
+      let kept = clean_on mid.settled cars m writes.progress run.tied.on_pages copy other clean in
+      let none = free_keeps m other run.tied.known free in
+      absurd (cc (kept, none))
+
+  unused_then : (other : ℕ) → all_used (pages ++ page ∷ []) s.uses other ≡ Free → t.uses other ≡ Free
+  unused_then other free =
+      let kept_uses = (with_all_kept (newly_kept writes.progress) m).uses in
+      let before_uses = all_used pages s.uses in
+      let before : with_use page Claimed before_uses other ≡ Free = sym (ap (λ (uses : ℕ → PageUse). uses other) (used_more pages s.uses page)) ∙ free in
+      let apart : other ≡ page → ⊥ =
+      λ same. let claimed : with_use page Claimed before_uses other ≡ Claimed = subst (λ (n : ℕ). with_use page Claimed before_uses n ≡ Claimed) (sym same) (use_here page Claimed before_uses) in absurd (cc (claimed, before)) in
+      let was_free : m.uses other ≡ Free = run.unused other (sym (use_other page other Claimed before_uses apart) ∙ before) in
+      ap (λ (u : State). u.uses other) writes.state
+      ∙ use_other page other Claimed kept_uses apart
+      ∙ all_kept_other (newly_kept writes.progress) m other (unkept other was_free)
+      ∙ was_free
+
+  lowest_then : IsLowestFree (all_used pages s.uses) page
+  lowest_then =
+      let was = run.free_still page writes.lowest.free in
+      record {
+        from_2 = writes.lowest.from_2;
+        free = used_other pages s.uses page was.1 ∙ was.0;
+        lowest = λ below low free. writes.lowest.lowest below low (run.unused below free);
+      }
+
+  contents_then : now ≡ option_map (put_on cars (pages ++ page ∷ []) progress) was
+  contents_then =
+      let put : List ℕ → List ℕ = written (place_of page) (text_of (written_on cars pages progress) writes.next) in
+      let is_next : next_page cars (written_on cars pages progress) ≡ Some writes.next = subst (λ (p : Progress). next_page cars p ≡ Some writes.next) its writes.is_next in
+      writes.contents
+      ∙ (λ i. option_map (written (place_of page) (text_of (its i) writes.next)) (run.contents i))
+      ∙ map_more put (put_on cars pages progress) (put_on cars (pages ++ page ∷ []) progress) was (λ bytes. put_more cars pages progress page writes.next bytes is_next)
+
   pub run_more : HasRun progress frozen cars old new s t was now (pages ++ page ∷ [])
   run_more = record {
     saving = saving_then;
@@ -173,6 +252,8 @@ module _ (progress : Progress) (frozen : Option Cars) (cars : Cars) (old mid new
     goes = goes_then;
     free = all_more (λ (page : ℕ). s.uses page ≡ Free) pages page run.free (run.free_still page writes.lowest.free).0;
     apart = apart_then;
+    lowest = lowest_more pages s.uses page run.lowest lowest_then;
+    unused = unused_then;
     free_still = λ other free.
         let then_free = free_then other free in
         let first = run.free_still other then_free.1 in
@@ -184,6 +265,7 @@ module _ (progress : Progress) (frozen : Option Cars) (cars : Cars) (old mid new
     has = λ copy bytes told has after now_told.
         let middle = told_before (written (place_of page) (text_of writes.progress writes.next)) is now after writes.contents now_told in
         keeps copy middle.0 middle.1 (run.has copy bytes told has middle.0 middle.1) after now_told;
+    contents = contents_then;
     only = λ before told after now_told.
         let middle = told_before (written (place_of page) (text_of writes.progress writes.next)) is now after writes.contents now_told in
         let first = run.only before told middle.0 middle.1 in

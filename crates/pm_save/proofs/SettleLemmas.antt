@@ -1,28 +1,29 @@
 -- What a settle leaves: all of the copy was written, the other gate is closed, and the header is published.
-use Rattle.std.proofs.Common.{◌≡◌, ◌⊎◌, inl, inr, ⊎_elim, ℕ, ◌<◌, ◌≤◌, ◌^◌, false, List, length, Option, Some, None, option_map, refl, sym, ap, ◌∙◌, subst, arith}
+use Rattle.std.proofs.Common.{◌≡◌, ◌⊎◌, inl, inr, ⊎_elim, ℕ, ◌+◌, ◌<◌, ◌≤◌, ◌^◌, false, if◌then◌else◌, Bool, List, length, Option, Some, None, option_map, refl, sym, ap, ◌∙◌, subst, arith}
 use Rattle.std.specs.Prelude.{IfSome}
 use Rattle.std.specs.List.{AllByRecursion}
 use Rattle.std.proofs.lemmas.Bool.{cases_lt}
 use Rattle.std.proofs.lemmas.List.{get_or_past}
 use Rattle.pm_disk.specs.Disk.{IfTold, LeavesOnly}
 use Rattle.pm_disk.specs.Images.{IsBytes}
+use Rattle.pm_disk.specs.Made.{Made, MadeAtMost, MadeMore}
 use Rattle.pm_disk.specs.declared.disk.Disk.{Ghosts}
 use Rattle.pm_disk.proofs.RunLemmas.{joined, weaker}
 use Rattle.pm_layout.specs.declared.header.Header.{Header}
 use Rattle.pm_image.specs.CarAnswers.{AreBytes}
-use Rattle.pm_image.specs.Opening.{page_count}
+use Rattle.pm_image.specs.Opening.{open_gate, page_count}
 use Rattle.pm_image.specs.Stands.{StandsForCopy}
 use Rattle.pm_image.specs.declared.settled.KeptPage.{KeptPage}
 use Rattle.pm_shadow.specs.State.{State, IsPublishable, other, published, with_closed}
-use Rattle.pm_shadow.specs.Images.{Holds, Renews}
+use Rattle.pm_shadow.specs.Images.{Holds, Renews, shutting, with_gate, with_header, with_shut_gate}
 use Rattle.pm_shadow.specs.Copies.{KeepsSamePages}
 use Rattle.pm_shadow.specs.Pages.{current_kept, disk_of, state}
 use Rattle.pm_shadow.specs.declared.pages.Pages.{Pages}
 use Rattle.pm_view.specs.View.{Cars}
 use Rattle.pm_saving.specs.Progress.{Progress, Saving, car_pages, cars_or_none, copy_of}
-use Rattle.pm_saving.specs.Paging.{header_of, left, left_of, written_on}
+use Rattle.pm_saving.specs.Paging.{header_of, left, left_of, put_on, written_on}
 use Rattle.pm_saving.specs.Beginning.{IsInProgress}
-use Rattle.pm_saving.specs.Tied.{ChangesOnly, HasCopy, IsBegun, IsTied, IsWhole, Settles}
+use Rattle.pm_saving.specs.Tied.{ChangesOnly, HasCopy, IsBegun, IsTied, IsWhole, Settles, settled_on}
 use Rattle.pm_law_saving.proofs.Giving.{gate_closed}
 use Rattle.pm_law_saving.proofs.Members.{of_member}
 use Rattle.pm_shadow.specs.declared.page_use.PageUse.TheVariants.{Free}
@@ -73,6 +74,57 @@ pub bytes_are : (bytes : List ℕ) → IsBytes bytes → AreBytes bytes
 bytes_are bytes each place =
     ⊎_elim (each place) (λ (past : length bytes ≤ place). subst (λ (byte : ℕ). byte < 256) (sym (get_or_past bytes place 0 past)) (omega arith)) (cases_lt place (length bytes))
 
+-- ---- how many calls settle a copy
+
+pub gate_calls : (s m : State) → m.closed ≡ s.closed → shutting m ≡ shutting s
+gate_calls s m closed = ap (λ (b : Bool). if b then 0 else 1) closed
+
+module _ (l n k : ℕ) (same : k ≡ n) (a b c d : Made) (rest : MadeMore l 0 0 a b) where
+  pub gate_most : MadeAtMost k k b c → MadeAtMost (l + (n + 2)) (n + 2) a c
+  gate_most gate = record {
+    writes = let one = rest.writes in let two = gate.writes in omega (arith, one, two, same);
+    syncs = let one = rest.syncs in let two = gate.syncs in omega (arith, one, two, same);
+    past = let one = rest.past in let two = gate.past in omega (arith, one, two);
+  }
+
+  pub publish_most : MadeMore k k 0 b c → MadeAtMost 2 2 c d → MadeAtMost (l + (n + 2)) (n + 2) a d
+  publish_most gate last = record {
+    writes = let one = rest.writes in let two = gate.writes in let three = last.writes in omega (arith, one, two, three, same);
+    syncs = let one = rest.syncs in let two = gate.syncs in let three = last.syncs in omega (arith, one, two, three, same);
+    past = let one = rest.past in let two = gate.past in let three = last.past in omega (arith, one, two, three);
+  }
+
+  pub settle_made : MadeMore k k 0 b c → MadeMore 2 2 0 c d → MadeMore (l + (n + 2)) (n + 2) 0 a d
+  settle_made gate last = record {
+    writes = let one = rest.writes in let two = gate.writes in let three = last.writes in omega (arith, one, two, three, same);
+    syncs = let one = rest.syncs in let two = gate.syncs in let three = last.syncs in omega (arith, one, two, three, same);
+    past = let one = rest.past in let two = gate.past in let three = last.past in omega (arith, one, two, three);
+  }
+
+pub wider : (l n : ℕ) (a b : Made) → MadeAtMost l 0 a b → MadeAtMost (l + (n + 2)) (n + 2) a b
+wider l n a b most = record {
+  writes = let one = most.writes in omega (arith, one);
+  syncs = let one = most.syncs in omega (arith, one);
+  past = most.past;
+}
+
+-- ---- what the disk holds then
+
+map_thrice : (f g h : List ℕ → List ℕ) (was : Option (List ℕ)) → option_map f (option_map g (option_map h was)) ≡ option_map (λ (bytes : List ℕ). f (g (h bytes))) was
+map_thrice f g h None = refl
+map_thrice f g h (Some bytes) = refl
+
+settled_then : (cars : Cars) (pages : List ℕ) (progress : Progress) (s m k : State) (header : Header) (c0 c1 c2 c3 : Option (List ℕ)) → m.slot ≡ s.slot → m.closed ≡ s.closed → k.slot ≡ s.slot → header ≡ header_of (written_on cars pages progress)
+    → c1 ≡ option_map (put_on cars pages progress) c0 → c2 ≡ option_map (with_shut_gate m) c1 → c3 ≡ option_map (λ told. with_gate (other k.slot) open_gate (with_header (other k.slot) header told)) c2
+    → c3 ≡ option_map (settled_on cars pages progress s) c0
+settled_then cars pages progress s m k header c0 c1 c2 c3 slot closed slot_then is one two three =
+    let shut : List ℕ → List ℕ = with_shut_gate s in
+    let write : List ℕ → List ℕ = λ told. with_gate (other s.slot) open_gate (with_header (other s.slot) (header_of (written_on cars pages progress)) told) in
+    let two_is : c2 ≡ option_map shut (option_map (put_on cars pages progress) c0) = two ∙ (λ i. option_map (λ (bytes : List ℕ). if closed i then bytes else with_gate (other (slot i)) 0 bytes) (one i)) in
+    three
+    ∙ (λ i. option_map (λ (told : List ℕ). with_gate (other (slot_then i)) open_gate (with_header (other (slot_then i)) (is i) told)) (two_is i))
+    ∙ map_thrice write shut (put_on cars pages progress) c0
+
 -- ---- one call behind another
 
 -- where the copy that was settled is left, one of the two is
@@ -94,6 +146,7 @@ pub record AllWritten {D : Type 0} (contents : D → Option (List ℕ)) (moment 
 pub record IsShut {D : Type 0} (contents : D → Option (List ℕ)) (moment : D → ℕ) (since : D → ℕ → List ℕ → Type 0) (m k : State) (d1 d2 : D) : Type 0 where
   pub state : k ≡ with_closed m
   pub closes : IfTold (contents d2) (ClosesFrom m (contents d1))
+  pub shuts : contents d2 ≡ option_map (with_shut_gate m) (contents d1)
   pub leaves : IfTold (contents d1) (λ told. LeavesOnly moment since d1 d2 (Holds m told))
   pub told : TellsOn (contents d1) (contents d2)
   pub counted : IfTold (contents d2) (λ bytes. k.count ≤ page_count bytes)
@@ -200,8 +253,8 @@ module _ {D : Type 0} {contents : D → Option (List ℕ)} {moment : D → ℕ} 
           let apart_then : page ≡ other k.slot → ⊥ = λ same. aside (same ∙ ap other slot_shut) in
           last.3.same page (omega (arith, low, longer, longer_then)) apart_then ∙ gate.3.same page (omega (arith, low, longer)) apart ∙ run.same page low out
 
-      pub settles_by : (new : Saving) → IfSome mid.progress (λ (progress : Progress). new ≡ record { settled = car_pages progress; progress = None }) → Settles old new cars s t (contents d0) (contents d3) header.epoch
-      settles_by new finished = record {
+      pub settles_by : (new : Saving) → contents d3 ≡ option_map (λ told. with_gate (other k.slot) open_gate (with_header (other k.slot) header told)) (contents d2) → IfSome mid.progress (λ (progress : Progress). new ≡ record { settled = car_pages progress; progress = None }) → Settles old new cars s t (contents d0) (contents d3) header.epoch
+      settles_by new wrote finished = record {
         progress = before;
         is_progress = all.runs.is_progress;
         number_is = ap (λ (header : Header). header.epoch) is ∙ all.runs.run.goes.number;
@@ -209,9 +262,11 @@ module _ {D : Type 0} {contents : D → Option (List ℕ)} {moment : D → ℕ} 
         count = let count = all.runs.run.left in let none = none_left in omega (arith, count, none);
         free = all.runs.run.free;
         apart = all.runs.run.apart;
+        lowest = all.runs.run.lowest;
         saving = subst (λ (p : Option Progress). IfSome p (λ (progress : Progress). new ≡ record { settled = car_pages progress; progress = None })) is_written finished;
         header = ap (λ (t : State). t.header) state_is;
         slot = ap (λ (t : State). t.slot) state_is ∙ ap other slot_shut;
+        contents = settled_then cars all.runs.pages before s m k header (contents d0) (contents d1) (contents d2) (contents d3) all.runs.run.slot all.runs.run.closed slot_shut is all.runs.run.contents shut.shuts wrote;
         only = only_then;
       }
 
@@ -254,12 +309,13 @@ module _ {D : Type 0} {g : Ghosts D} where
   all_written frozen old mid s d0 it runs none spares told =
       record { runs = runs; none = none; spares = spares; told = told; counted = λ bytes now. (current_kept it runs.run.tied.sound bytes now).counted }
 
-  pub is_shut : (m : State) (d1 : D) (it : Pages D g) → m.failed ≡ false → state it ≡ with_closed m → IfTold (g.contents (disk_of it)) (ClosesFrom m (g.contents d1)) → IfTold (g.contents d1) (λ told. LeavesOnly g.moment g.since d1 (disk_of it) (Holds m told))
+  pub is_shut : (m : State) (d1 : D) (it : Pages D g) → m.failed ≡ false → state it ≡ with_closed m → IfTold (g.contents (disk_of it)) (ClosesFrom m (g.contents d1)) → g.contents (disk_of it) ≡ option_map (with_shut_gate m) (g.contents d1) → IfTold (g.contents d1) (λ told. LeavesOnly g.moment g.since d1 (disk_of it) (Holds m told))
       → TellsOn (g.contents d1) (g.contents (disk_of it)) → ((t : ℕ) (bytes : List ℕ) → g.since (disk_of it) t bytes → IsBytes bytes) → ((t : ℕ) (bytes : List ℕ) → t ≤ g.moment (disk_of it) → g.image (disk_of it) bytes → g.since (disk_of it) t bytes)
       → ((bytes : List ℕ) → g.contents (disk_of it) ≡ Some bytes → g.image (disk_of it) bytes) → IsShut g.contents g.moment g.since m (state it) d1 (disk_of it)
-  is_shut m d1 it sound is closes leaves told leaves_bytes counts stay = record {
+  is_shut m d1 it sound is closes shuts leaves told leaves_bytes counts stay = record {
     state = is;
     closes = closes;
+    shuts = shuts;
     leaves = leaves;
     told = told;
     counted = λ bytes now. (current_kept it (ap (λ (k : State). k.failed) is ∙ sound) bytes now).counted;
@@ -269,10 +325,10 @@ module _ {D : Type 0} {g : Ghosts D} where
 
 -- memory ran out while the copy was written
 module _ {D : Type 0} (contents : D → Option (List ℕ)) (moment : D → ℕ) (since : D → ℕ → List ℕ → Type 0) (frozen : Option Cars) (cars : Cars) (old new : Saving) (s t : State) (before after : D) where
-  pub left_by : (fault : SaveFault) → IfMemory (Runs frozen cars old new s t (contents before) (contents after)) fault → 0 < left_of old.progress → Spares contents moment since s before after
+  pub left_by : (fault : SaveFault) → IfMemory (Runs frozen cars old new s t (contents before) (contents after)) fault → 0 < left_of old.progress → 0 < left_of new.progress → Spares contents moment since s before after
       → IfMemory (IsLeftSo contents moment since old new s t before after) fault
-  left_by Disk runs some spares = tt
-  left_by Memory runs some spares = record {
+  left_by Disk runs some still spares = tt
+  left_by Memory runs some still spares = record {
     stays = record {
       before = runs.progress;
       after = written_on cars runs.pages runs.progress;
@@ -285,11 +341,7 @@ module _ {D : Type 0} (contents : D → Option (List ℕ)) (moment : D → ℕ) 
       closed = runs.run.closed;
       only = λ told is told_now also page there not_free. (runs.run.only told is told_now also).same page there (λ within. not_free (of_member (λ (p : ℕ). s.uses p ≡ Free) runs.pages page runs.run.free within));
     };
+    left = still;
     spares = spares;
     has = runs.run.has;
   }
-
--- what holds whatever the fault is holds where memory ran out
-pub on_memory : (P : Type 0) (fault : SaveFault) → P → IfMemory P fault
-on_memory P Disk holds = tt
-on_memory P Memory holds = holds

@@ -4,7 +4,7 @@ use Rattle.pm_base.specs.Counts.{Rose}
 use Rattle.pm_types.specs.declared.event.Flushed.{Flushed}
 use Rattle.pm_types.specs.declared.event.Flushed.TheVariants.{Wrote, AllFlushed}
 use Rattle.pm_disk.specs.Disk.{IfTold, LeavesOnly}
-use Rattle.pm_disk.specs.Made.{Made, with_write}
+use Rattle.pm_disk.specs.Made.{Made, MadeAtMost, with_write}
 use Rattle.pm_model.specs.World.{Copy}
 use Rattle.pm_image.specs.Stands.{StandsForCopy}
 use Rattle.pm_shadow.specs.State.{State}
@@ -53,10 +53,10 @@ abbrev pub IsMadeBy : Made → Made → Flushed → Type 0
 IsMadeBy before after AllFlushed = after ≡ before
 IsMadeBy before after (Wrote page) = after ≡ with_write before
 
--- the same, and whatever is answered no read reached past the end of what the disk told
+-- the same, and whatever is answered one write was made at most, no sync, and no read past the end of what the disk told
 pub record Makes (before after : Made) (result : Result Flushed SaveFault) : Type 0 where
   pub by : IfOk result (IsMadeBy before after)
-  pub past : after.past ≡ before.past
+  pub most : MadeAtMost 1 0 before after
 
 -- A crash at any moment of a run of calls leaves the copy that was current before it.
 abbrev pub Spares : {D : Type 0} → (D → Option (List ℕ)) → (D → ℕ) → (D → ℕ → List ℕ → Type 0) → State → D → D → Type 0

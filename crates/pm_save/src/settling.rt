@@ -1,9 +1,11 @@
 //! The cars of a copy once it is the settled one.
 
-ghost use Rattle.std.specs.Prelude.{◌≡◌, ◌⊎◌, ◌∷◌, [], ℕ, false, List, length, OnOk};
+ghost use Rattle.std.specs.Prelude.{◌≡◌, ◌⊎◌, ◌∷◌, [], ℕ, false, List, length, option_map, OnOk};
 ghost use Rattle.pm_disk.specs.Disk.{IfTold, LeavesOnly};
-ghost use Rattle.pm_shadow.specs.State.{IsPublishable, published, with_closed};
-ghost use Rattle.pm_shadow.specs.Images.{Holds, Renews};
+ghost use Rattle.pm_disk.specs.Made.{MakesCalls};
+ghost use Rattle.pm_image.specs.Opening.{open_gate};
+ghost use Rattle.pm_shadow.specs.State.{IsPublishable, other, published, with_closed};
+ghost use Rattle.pm_shadow.specs.Images.{Holds, Renews, shutting, with_gate, with_header, with_shut_gate};
 ghost use Rattle.pm_shadow.specs.Pages.{state, disk_of};
 ghost use Rattle.pm_save.specs.Answers.{HasCause, OnMemory, TellsOn};
 ghost use Rattle.pm_save.specs.Settling.{ClosesFrom, PublishesFrom};
@@ -73,6 +75,8 @@ pub(crate) fn settled_list(
 fn close_gate<D: Disk>(pages: &mut Pages<D>) -> Result<(), SaveFault>
     requires sound { (state pages.old).failed ≡ false }
     ensures state { OnOk result (state pages.new ≡ with_closed (state pages.old)) }
+    ensures written { OnOk result (D.contents (disk_of pages.new) ≡ option_map (with_shut_gate (state pages.old))
+        (D.contents (disk_of pages.old))) }
     ensures closes { OnOk result (IfTold (D.contents (disk_of pages.new))
         (ClosesFrom (state pages.old) (D.contents (disk_of pages.old)))) }
     ensures leaves { IfTold (D.contents (disk_of pages.old)) (λ told.
@@ -80,7 +84,8 @@ fn close_gate<D: Disk>(pages: &mut Pages<D>) -> Result<(), SaveFault>
     ensures told { TellsOn (D.contents (disk_of pages.old)) (D.contents (disk_of pages.new)) }
     ensures cause { HasCause (D.count (disk_of pages.old)) (D.count (disk_of pages.new)) result }
     ensures memory { OnMemory result ⊥ }
-    ensures past { (D.made (disk_of pages.new)).past ≡ (D.made (disk_of pages.old)).past }
+    ensures made { MakesCalls (shutting (state pages.old)) (shutting (state pages.old)) (D.made (disk_of pages.old))
+        (D.made (disk_of pages.new)) result }
 {
     pages.close_gate()?;
     Ok(())
@@ -97,6 +102,9 @@ fn known(digest: [u8; 32])
 fn publish<D: Disk>(pages: &mut Pages<D>, header: &Header) -> Result<(), SaveFault>
     requires { IsPublishable (state pages.old) header.now }
     ensures state { OnOk result (state pages.new ≡ published (state pages.old) header.now) }
+    ensures written { OnOk result (D.contents (disk_of pages.new) ≡ option_map
+        (λ told. with_gate (other (state pages.old).slot) open_gate
+        (with_header (other (state pages.old).slot) header.now told)) (D.contents (disk_of pages.old))) }
     ensures publishes { OnOk result (IfTold (D.contents (disk_of pages.new))
         (PublishesFrom (state pages.old) header.now (D.contents (disk_of pages.old)))) }
     ensures only { OnOk result (IfTold (D.contents (disk_of pages.new)) (λ told.
@@ -107,7 +115,7 @@ fn publish<D: Disk>(pages: &mut Pages<D>, header: &Header) -> Result<(), SaveFau
     ensures told { TellsOn (D.contents (disk_of pages.old)) (D.contents (disk_of pages.new)) }
     ensures cause { HasCause (D.count (disk_of pages.old)) (D.count (disk_of pages.new)) result }
     ensures memory { OnMemory result ⊥ }
-    ensures past { (D.made (disk_of pages.new)).past ≡ (D.made (disk_of pages.old)).past }
+    ensures made { MakesCalls 2 2 (D.made (disk_of pages.old)) (D.made (disk_of pages.new)) result }
 {
     known(header.digest);
     pages.publish(header)?;
@@ -135,12 +143,13 @@ impl Saver {
     ghost use Rattle.pm_saving.specs.Progress.{car_pages};
     ghost use Rattle.pm_save.specs.Kept.{IsPlaced};
     ghost use Rattle.pm_save.specs.Taken.{AreOnce};
+    ghost use Rattle.pm_disk.specs.Made.{MakesCalls};
     ghost use Rattle.pm_shadow.specs.Pages.{state, disk_of};
     ghost use Rattle.pm_saving.specs.Paging.{left_of};
-    ghost use Rattle.pm_saving.specs.Tied.{IsTied, Settles};
+    ghost use Rattle.pm_saving.specs.Tied.{IsTied};
     ghost use Rattle.pm_save.specs.Shown.{saving, frozen_of, frozen_cars};
     ghost use Rattle.pm_save.specs.Answers.{HasCause, OnMemory, Spares, TellsOn, UnlessDisk};
-    ghost use Rattle.pm_save.specs.Settling.{IsCausedBy, IsLeftSo, LeavesSpace, SparesEither, StandsThen, StaysOn};
+    ghost use Rattle.pm_save.specs.Settling.{IsCausedBy, IsLeftSo, LeavesSpace, SettlesPages, SparesEither, StaysOn, settling_syncs, settling_writes};
     ghost use Rattle.pm_save.specs.Runs.{Runs};
 
     /// Writes what is left of the copy in progress.
@@ -163,7 +172,8 @@ impl Saver {
         ensures spares { Spares D.contents D.moment D.since (state pages.old) (disk_of pages.old) (disk_of pages.new) }
         ensures told { TellsOn (D.contents (disk_of pages.old)) (D.contents (disk_of pages.new)) }
         ensures cause { HasCause (D.count (disk_of pages.old)) (D.count (disk_of pages.new)) result }
-        ensures past { (D.made (disk_of pages.new)).past ≡ (D.made (disk_of pages.old)).past }
+        ensures made { MakesCalls (left_of (saving self.old).progress) 0 (D.made (disk_of pages.old))
+            (D.made (disk_of pages.new)) result }
     {
         while let Flushed::Wrote(_page) = self.flush_one(alloc, space, pages)? {}
         Ok(())
@@ -199,27 +209,21 @@ impl Saver {
         requires tied { IsTied (saving self.old) (frozen_of space.old.parts) (state pages.old)
             (D.contents (disk_of pages.old)) }
         requires begun { IsSome (saving self.old).progress }
-        ensures settled { IfOk result (Settles (saving self.old) (saving self.new) (frozen_cars space.old.parts)
-            (state pages.old) (state pages.new)
-            (D.contents (disk_of pages.old)) (D.contents (disk_of pages.new))) }
-        // Every image stands for that copy then, and its pages are kept,
-        ensures now { IfOk result (StandsThen D.contents D.image (saving self.old).progress
-            (frozen_cars space.old.parts) (state pages.new) (disk_of pages.old) (disk_of pages.new)) }
-        // and at every moment of the call for the copy that was settled or for this one.
+        // The copy is the settled one then, and every image stands for it;
+        ensures settled { IfOk result (SettlesPages (saving self.old) (saving self.new) (frozen_cars space.old.parts)
+            pages.old pages.new) }
+        // at every moment of the call it stands for the copy that was settled or for this one.
         ensures leaves { SparesEither D.contents D.moment D.since (saving self.old).progress
             (frozen_cars space.old.parts) (state pages.old) (disk_of pages.old) (disk_of pages.new) }
         ensures tied { UnlessDisk result (IsTied (saving self.new) (frozen_of space.new.parts) (state pages.new)
             (D.contents (disk_of pages.new))) }
         ensures memory { OnMemory result (IsLeftSo D.contents D.moment D.since (saving self.old) (saving self.new)
             (state pages.old) (state pages.new) (disk_of pages.old) (disk_of pages.new)) }
-        // Then something of the copy is left to be written, as it was before.
-        ensures left { OnMemory result (0 < left_of (saving self.new).progress) }
         // After a fault the copy is in progress still.
         ensures goes { OnErr result (StaysOn (saving self.old) (saving self.new)) }
         ensures space { LeavesSpace space.old.parts space.new.parts result }
-        ensures told { TellsOn (D.contents (disk_of pages.old)) (D.contents (disk_of pages.new)) }
-        ensures causes { IsCausedBy (D.count (disk_of pages.old)) (D.count (disk_of pages.new))
-            (D.made (disk_of pages.old)) (D.made (disk_of pages.new)) result }
+        ensures causes { IsCausedBy (settling_writes (saving self.old) (state pages.old))
+            (settling_syncs (state pages.old)) pages.old pages.new result }
     {
         self.write_rest(alloc, space, pages)?;
         close_gate(pages)?;

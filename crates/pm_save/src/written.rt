@@ -11,7 +11,7 @@ ghost use Rattle.pm_save.specs.Noted.{HasPlaceFor, with_written};
 ghost use Rattle.std.specs.List.{AllByRecursion};
 ghost use Rattle.pm_types.specs.declared.limits.TheConstants.{PAGE_BYTES};
 ghost use Rattle.pm_disk.specs.Disk.{IfTold, LeavesOnly};
-ghost use Rattle.pm_disk.specs.Made.{with_write};
+ghost use Rattle.pm_disk.specs.Made.{MadeAtMost, with_write};
 ghost use Rattle.pm_shadow.specs.Images.{Holds};
 ghost use Rattle.pm_shadow.specs.Pages.{state, disk_of};
 ghost use Rattle.pm_saving.specs.Tied.{IsOnPage, with_all_kept};
@@ -136,7 +136,7 @@ pub(crate) fn put_page<D: Disk>(
     ensures told { TellsOn (D.contents (disk_of pages.old)) (D.contents (disk_of pages.new)) }
     ensures cause { HasCause (D.count (disk_of pages.old)) (D.count (disk_of pages.new)) result }
     ensures made { IfOk result (λ page. D.made (disk_of pages.new) ≡ with_write (D.made (disk_of pages.old))) }
-    ensures past { (D.made (disk_of pages.new)).past ≡ (D.made (disk_of pages.old)).past }
+    ensures most { MadeAtMost 1 0 (D.made (disk_of pages.old)) (D.made (disk_of pages.new)) }
 {
     let page = pages.claim()?;
     keep_first(settled, it, pages);

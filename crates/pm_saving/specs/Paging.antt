@@ -3,12 +3,14 @@ use Rattle.std.specs.Prelude.{ℕ, zero, suc, ◌+◌, Bool, true, false, List, 
 use Rattle.std.specs.List.{flat_map}
 use Rattle.sha2.specs.Sha256.{sha256}
 use Rattle.pm_types.specs.declared.limits.TheConstants.{VERSION}
+use Rattle.pm_disk.specs.Writes.{written}
 use Rattle.pm_layout.specs.declared.header.Header.{Header}
 use Rattle.pm_image.specs.declared.car.CarImage.{CarImage}
 use Rattle.pm_image.specs.declared.catalog.CatalogPage.{CatalogPage}
 use Rattle.pm_image.specs.declared.settled.KeptPage.{KeptPage}
 use Rattle.pm_image.specs.CarPages.{car_spelling, padded}
 use Rattle.pm_image.specs.CatalogPages.{catalog_spelling}
+use Rattle.pm_shadow.specs.Images.{place_of}
 use Rattle.pm_view.specs.View.{Cars}
 use Rattle.pm_law_layout.specs.Plans.{PlannedPage, chain_of, digest_of, first_of, linked_to}
 use Rattle.pm_law_layout.specs.Cutting.{OnePage}
@@ -103,6 +105,17 @@ with_next page progress (Some next) = with_page page progress next
 abbrev pub written_on : Cars → List ℕ → Progress → Progress
 written_on cars [] progress = progress
 written_on cars (page ∷ pages) progress = written_on cars pages (with_next page progress (next_page cars progress))
+
+-- these bytes once the next page of the copy was written here, if there is one
+abbrev pub put_next : ℕ → Progress → Option NextPage → List ℕ → List ℕ
+put_next page progress None bytes = bytes
+put_next page progress (Some next) bytes = written (place_of page) (text_of progress next) bytes
+
+-- these bytes once the next pages of the copy were written on these pages, one after another
+abbrev pub put_on : Cars → List ℕ → Progress → List ℕ → List ℕ
+put_on cars [] progress bytes = bytes
+put_on cars (page ∷ pages) progress bytes =
+    put_on cars pages (with_next page progress (next_page cars progress)) (put_next page progress (next_page cars progress) bytes)
 
 -- ---- the pages of the copy
 

@@ -9,17 +9,17 @@ use Rattle.pm_model.specs.World.{Copy}
 use Rattle.pm_image.specs.declared.settled.KeptPage.{KeptPage}
 use Rattle.pm_image.specs.Graphs.{Graph, copy_of as copy_of_graph}
 use Rattle.pm_image.specs.CarPages.{HasCarPage, one_car}
-use Rattle.pm_image.specs.Opening.{page_count, page_of}
+use Rattle.pm_image.specs.Opening.{open_gate, page_count, page_of}
 use Rattle.pm_shadow.specs.declared.page_use.PageUse.TheVariants.{Claimed, Free, Kept}
-use Rattle.pm_shadow.specs.Uses.{IsLowestFree}
+use Rattle.pm_shadow.specs.Uses.{AreLowestFree, IsLowestFree}
 use Rattle.pm_shadow.specs.State.{State, keeps, other, with_claimed, with_kept, with_page as with_page_there}
-use Rattle.pm_shadow.specs.Images.{place_of}
+use Rattle.pm_shadow.specs.Images.{place_of, with_gate, with_header, with_shut_gate}
 use Rattle.pm_shadow.specs.Copies.{KeepsGraph, NextGraph}
 use Rattle.pm_view.specs.View.{Cars}
 use Rattle.pm_law_graphs.specs.Apart.{AreApart}
 use Rattle.pm_law_layout.specs.Writing.{MayBeWritten}
 use Rattle.pm_saving.specs.Progress.{Progress, Saving, car_pages, copy_of}
-use Rattle.pm_saving.specs.Paging.{Put, NextPage, CarPage, PartPage, header_of, kept_pages, left, left_of, newly_kept, next_page, puts_of, text_of, with_page, written_on}
+use Rattle.pm_saving.specs.Paging.{Put, NextPage, CarPage, PartPage, header_of, kept_pages, left, left_of, newly_kept, next_page, put_on, puts_of, text_of, with_page, written_on}
 use Rattle.pm_saving.specs.Beginning.{IsInProgress}
 
 -- this copy stands behind the current header, and its pages are kept
@@ -135,9 +135,16 @@ ChangesOnly s pages before after =
     (page : ℕ) → page < page_count before → (page ≡ other s.slot → ⊥) → (Contains pages page → ⊥)
     → page_of after page ≡ page_of before page
 
+-- These bytes once the copy settled: its next pages were written on these pages, one after another; then the gate of the
+-- other slot was closed, where it was open; and then its header was written in that slot, and the gate opened.
+abbrev pub settled_on : Cars → List ℕ → Progress → State → List ℕ → List ℕ
+settled_on cars pages progress s bytes =
+    with_gate (other s.slot) open_gate
+    (with_header (other s.slot) (header_of (written_on cars pages progress)) (with_shut_gate s (put_on cars pages progress bytes)))
+
 -- The copy in progress became the settled one: what was left of it was written on these pages, as many as were left, each
--- of them free before; its header is the current one, in the other slot; its cars are settled and none is in progress. No
--- other page changed.
+-- of them the lowest one that was free at its time; its header is the current one, in the other slot; its cars are settled
+-- and none is in progress. What the disk holds is what it held with these writes, and so no other page changed.
 pub record Settles (old new : Saving) (cars : Cars) (s t : State) (was now : Option (List ℕ)) (number : ℕ) : Type 0 where
   pub progress : Progress
   pub is_progress : old.progress ≡ Some progress
@@ -146,9 +153,11 @@ pub record Settles (old new : Saving) (cars : Cars) (s t : State) (was now : Opt
   pub count : length pages ≡ left progress
   pub free : AllByRecursion (λ (page : ℕ). s.uses page ≡ Free) pages
   pub apart : AreApart pages
+  pub lowest : AreLowestFree s.uses pages
   pub saving : new ≡ record { settled = car_pages (written_on cars pages progress); progress = None }
   pub header : t.header ≡ header_of (written_on cars pages progress)
   pub slot : t.slot ≡ other s.slot
+  pub contents : now ≡ option_map (settled_on cars pages progress s) was
   pub only : IfTold was (λ before. IfTold now (ChangesOnly s pages before))
 
 -- Memory ran out before all of the copy was written: something was left, it is in progress still, no header and no page

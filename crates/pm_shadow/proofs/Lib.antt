@@ -8,3 +8,4 @@ pub mod AttachLemmas
 pub mod BlankLemmas
 pub mod UsedLemmas
 pub mod CopyLemmas
+pub mod OrderLemmas

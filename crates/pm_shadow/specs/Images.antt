@@ -1,5 +1,5 @@
 -- What a crash may leave of a store while the next copy is written beside the current one.
-use Rattle.std.specs.Prelude.{◌≡◌, ℕ, ◌*◌, ◌<◌, ◌≤◌, true, false, List, [], ◌∷◌, length, Some, Ok}
+use Rattle.std.specs.Prelude.{◌≡◌, ℕ, ◌*◌, ◌<◌, ◌≤◌, true, false, if◌then◌else◌, List, [], ◌∷◌, length, Some, Ok}
 use Rattle.pm_types.specs.declared.limits.TheConstants.{PAGE_BYTES}
 use Rattle.pm_layout.specs.declared.header.Header.{Header}
 use Rattle.pm_layout.specs.Headers.{header_at, header_spelling}
@@ -50,3 +50,11 @@ with_header slot header bytes = written (place_of slot) (header_spelling header)
 -- bytes with this gate of the slot
 abbrev pub with_gate : ℕ → ℕ → List ℕ → List ℕ
 with_gate slot gate bytes = written (gate_place slot) (gate ∷ []) bytes
+
+-- Bytes in which the gate of the other slot is closed. It is written only where it is open,
+abbrev pub with_shut_gate : State → List ℕ → List ℕ
+with_shut_gate s bytes = if s.closed then bytes else with_gate (other s.slot) 0 bytes
+
+-- by so many writes, and as many syncs.
+abbrev pub shutting : State → ℕ
+shutting s = if s.closed then 0 else 1

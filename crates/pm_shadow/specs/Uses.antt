@@ -57,6 +57,16 @@ pub record IsLowestFree (uses : ℕ → PageUse) (page : ℕ) : Type 0 where
 abbrev pub with_use : ℕ → PageUse → (ℕ → PageUse) → ℕ → PageUse
 with_use page use_ uses other = if other == page then use_ else uses other
 
+-- each of these pages is used
+abbrev pub all_used : List ℕ → (ℕ → PageUse) → ℕ → PageUse
+all_used [] uses = uses
+all_used (page ∷ pages) uses = all_used pages (with_use page Claimed uses)
+
+-- each of these pages is the lowest one that is free, once those before it are used
+abbrev pub AreLowestFree : (ℕ → PageUse) → List ℕ → Type 0
+AreLowestFree uses [] = Unit {0}
+AreLowestFree uses (page ∷ pages) = IsLowestFree uses page × AreLowestFree (with_use page Claimed uses) pages
+
 -- the claimed and the kept pages are those of the current copy now, and all others from page 2 on are free
 abbrev pub renewed_uses : (ℕ → PageUse) → ℕ → PageUse
 renewed_uses uses page = if nat_lt page 2 then Current else renewed (uses page)

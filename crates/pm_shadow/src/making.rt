@@ -1,13 +1,14 @@
 //! Making a store.
-ghost use Rattle.std.specs.Prelude.{◌≡◌, ◌*◌, ◌-◌, ◌<◌, ◌≤◌, [], List, ℕ, Some, length, IfOk, IfErr, OnOk, OnErr};
+ghost use Rattle.std.specs.Prelude.{◌≡◌, ◌*◌, ◌-◌, ◌<◌, ◌≤◌, [], List, ℕ, Some, length, MatchResult, IfOk, IfErr, OnOk, OnErr};
 ghost use Rattle.pm_disk.specs.Writes.{written};
 ghost use Rattle.pm_disk.specs.Disk.{IfTold, SameImages, LeavesOnly, HasCause};
+ghost use Rattle.pm_disk.specs.Made.{MakesCalls};
 ghost use Rattle.pm_layout.specs.Headers.{header_spelling};
 ghost use Rattle.pm_image.specs.CarPages.{padded};
 ghost use Rattle.pm_image.specs.Opening.{open_gate};
 ghost use Rattle.pm_image.specs.Blank.{blank_header, blank_catalog_page, blank_store};
 ghost use Rattle.pm_shadow.specs.Images.{place_of, with_gate};
-ghost use Rattle.pm_shadow.specs.Init.{IsInitFault, IsInitFaultOf, UnlessFailed, KeepsBytes};
+ghost use Rattle.pm_shadow.specs.Init.{IsInitFault, IsInitFaultOf, KeepsBytes, MakesInOrder, UnlessFailed, shut_store};
 
 use crate::runs::write_and_sync;
 use crate::slots::{OPEN, gate_place};
@@ -71,7 +72,10 @@ fn write_pages<D: Disk>(
     ensures only { OnOk result (IfTold (D.contents disk.new) (λ told. (left : List ℕ) → D.image disk.new left
         → left ≡ told)) }
     ensures cause { HasCause (D.count disk.old) (D.count disk.new) result }
-    ensures past { (D.made disk.new).past ≡ (D.made disk.old).past }
+    ensures made { MakesCalls 4 2 (D.made disk.old) (D.made disk.new) result }
+    ensures order { IfTold (D.contents disk.old) (λ bytes. MakesInOrder D.Disk
+        (written (place_of 2) second.now (written (place_of 1) first.now (written 0 zeroth.now bytes)))
+        disk.old disk.new) }
 {
     disk.write_at(0, zeroth)?;
     disk.write_at(PAGE_BYTES as u64, first)?;
@@ -87,7 +91,9 @@ fn make<D: Disk>(alloc: Global, disk: &mut D) -> Result<Result<(), DiskFailed>, 
     ensures only { IfOk result (λ made. OnOk made (IfTold (D.contents disk.new) (λ told. (left : List ℕ)
         → D.image disk.new left → left ≡ told))) }
     ensures cause { IfOk result (λ made. HasCause (D.count disk.old) (D.count disk.new) made) }
-    ensures past { (D.made disk.new).past ≡ (D.made disk.old).past }
+    ensures made { IfOk result (MakesCalls 4 2 (D.made disk.old) (D.made disk.new)) }
+    ensures order { IfOk result (λ _. IfTold (D.contents disk.old) (λ bytes. length bytes ≡ 0
+        → MakesInOrder D.Disk shut_store disk.old disk.new)) }
     ensures still { OnErr result (disk.new ≡ disk.old) }
 {
     let second = catalog_page(alloc)?;
@@ -109,15 +115,18 @@ pub fn init<D: Disk>(alloc: Global, disk: &mut D) -> Result<(), InitFault>
     ensures empty { OnOk result (IfTold (D.contents disk.old) (λ bytes. length bytes ≡ 0)) }
     ensures only { OnOk result (IfTold (D.contents disk.new) (λ told. (left : List ℕ) → D.image disk.new left
         → left ≡ told)) }
-    ensures count { OnOk result (D.count disk.new ≡ D.count disk.old) }
     ensures fault { IfErr result (λ fault. IfTold (D.contents disk.old) (λ bytes. IsInitFaultOf bytes fault)) }
-    ensures cause { IfErr result (IsInitFault (D.count disk.old) (D.count disk.new)) }
+    ensures cause { MatchResult result (λ _. D.count disk.new ≡ D.count disk.old)
+        (IsInitFault (D.count disk.old) (D.count disk.new)) }
     // Whatever it answers, a disk that told of some byte is as it was.
     ensures kept { KeepsBytes (D.contents disk.old) (D.contents disk.new) (D.image disk.old) (D.image disk.new) }
     // And a crash at any moment of the call leaves then what it might have left before.
     ensures leaves { IfTold (D.contents disk.old) (λ bytes. 0 < length bytes
         → LeavesOnly D.moment D.since disk.old disk.new (D.image disk.old)) }
-    ensures past { (D.made disk.new).past ≡ (D.made disk.old).past }
+    // Four writes are made, and two syncs; the gate is opened only behind the sync of all else.
+    ensures made { MakesCalls 4 2 (D.made disk.old) (D.made disk.new) result }
+    ensures order { IfTold (D.contents disk.old) (λ bytes. length bytes ≡ 0
+        → MakesInOrder D.Disk shut_store disk.old disk.new) }
     ensures still { IfErr result (λ fault. UnlessFailed fault
         ((D.contents disk.new ≡ D.contents disk.old) × SameImages (D.image disk.old) (D.image disk.new))) }
 {

@@ -49,7 +49,7 @@ pub struct Pages<D: Disk> {
 impl<D: Disk> Pages<D> {
     ghost use Rattle.std.specs.Prelude.{◌≡◌, ◌⊎◌, ◌+◌, ◌*◌, ◌-◌, ◌^◌, ◌<◌, ◌≤◌, ℕ, List, All, Contains, Some, true, false, [], length, option_map, not, Ok, MatchResult, IsOk, IfOk, IfErr, OnOk, OnErr};
     ghost use Rattle.pm_disk.specs.Writes.{written, TornIfTold};
-    ghost use Rattle.pm_disk.specs.Made.{with_sync, with_write};
+    ghost use Rattle.pm_disk.specs.Made.{MakesCalls, with_sync, with_write};
     ghost use Rattle.pm_disk.specs.Disk.{IfTold, LeavesOnly, HasCause};
     ghost use Rattle.pm_layout.specs.Headers.{HasHeaderSpelling};
     ghost use Rattle.pm_image.specs.Opening.{current, page_count, page_of, gate_place, open_gate};
@@ -57,7 +57,7 @@ impl<D: Disk> Pages<D> {
     ghost use Rattle.pm_shadow.specs.Uses.{IsLowestFree, IsListed};
     ghost use Rattle.pm_shadow.specs.State.{other, attached, IsListable, IsKeepable, IsWritable, IsPublishable, known_by, with_claimed, with_kept, abandoned_in, with_page, with_closed, with_failed, published};
     ghost use Rattle.pm_shadow.specs.Copies.{AreUsed, KeepsGraph};
-    ghost use Rattle.pm_shadow.specs.Images.{IsSoundState, Holds, Renews, WritesPage, place_of, with_header, with_gate};
+    ghost use Rattle.pm_shadow.specs.Images.{IsSoundState, Holds, Renews, WritesPage, place_of, shutting, with_header, with_gate};
     ghost use Rattle.pm_shadow.specs.Runs.{OnlyLooks};
     ghost use Rattle.pm_shadow.specs.Attaching.{IsFaultOf, IsAttachFault, IsFoundIn, HasFound};
     ghost use Rattle.pm_shadow.specs.Pages.{state, disk_of};
@@ -285,7 +285,9 @@ impl<D: Disk> Pages<D> {
         ensures leaves { IfTold (D.contents (disk_of self.old))
             (λ told. LeavesOnly D.moment D.since (disk_of self.old) (disk_of self.new) (Holds (state self.old) told)) }
         ensures cause { HasCause (D.count (disk_of self.old)) (D.count (disk_of self.new)) result }
-        ensures past { (D.made (disk_of self.new)).past ≡ (D.made (disk_of self.old)).past }
+        // Where it is open one write and one sync are made, and none where it is closed.
+        ensures made { MakesCalls (shutting (state self.old)) (shutting (state self.old)) (D.made (disk_of self.old))
+            (D.made (disk_of self.new)) result }
     {
         if self.closed {
             return Ok(());
@@ -317,7 +319,8 @@ impl<D: Disk> Pages<D> {
             (λ told. LeavesOnly D.moment D.since (disk_of self.old) (disk_of self.new)
             (λ image. Holds (state self.old) told image ⊎ Renews (state self.old) header.now told image)) }
         ensures cause { HasCause (D.count (disk_of self.old)) (D.count (disk_of self.new)) result }
-        ensures past { (D.made (disk_of self.new)).past ≡ (D.made (disk_of self.old)).past }
+        // Two writes are made, and two syncs.
+        ensures made { MakesCalls 2 2 (D.made (disk_of self.old)) (D.made (disk_of self.new)) result }
     {
         let slot = 1 - self.slot;
         self.failed = true;

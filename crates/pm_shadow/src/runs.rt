@@ -2,6 +2,7 @@
 ghost use Rattle.std.specs.Prelude.{◌≡◌, ◌+◌, ◌-◌, ◌^◌, ◌≤◌, ℕ, List, length, option_map, OnOk, OnErr};
 ghost use Rattle.pm_disk.specs.Writes.{written, TornIfTold};
 ghost use Rattle.pm_disk.specs.Disk.{IfTold, OnlyTorn, LeavesOnly, HasCause};
+ghost use Rattle.pm_disk.specs.Made.{MakesCalls};
 ghost use Rattle.pm_disk.specs.Ordered.{IsInOrder};
 ghost use Rattle.pm_shadow.specs.Runs.{IsCut};
 
@@ -17,7 +18,7 @@ pub(crate) fn write_and_sync<D: Disk>(disk: &mut D, at: u64, bytes: &[u8]) -> Re
     ensures images { OnlyTorn at (length bytes.now) (D.image disk.old) (D.image disk.new) }
     ensures leaves { LeavesOnly D.moment D.since disk.old disk.new (IsCut at (length bytes.now) (D.image disk.old)) }
     ensures cause { HasCause (D.count disk.old) (D.count disk.new) result }
-    ensures past { (D.made disk.new).past ≡ (D.made disk.old).past }
+    ensures made { MakesCalls 1 1 (D.made disk.old) (D.made disk.new) result }
 {
     disk.write_at(at, bytes)?;
     disk.sync()
@@ -43,7 +44,7 @@ pub(crate) fn write_one_by_one<D: Disk>(
     ensures in_order { IfTold (D.contents disk.old) (λ bytes. LeavesOnly D.moment D.since disk.old disk.new
         (IsInOrder (D.image disk.old) bytes first_at first.now second_at (length second.now))) }
     ensures cause { HasCause (D.count disk.old) (D.count disk.new) result }
-    ensures past { (D.made disk.new).past ≡ (D.made disk.old).past }
+    ensures made { MakesCalls 2 2 (D.made disk.old) (D.made disk.new) result }
 {
     write_and_sync(disk, first_at, first)?;
     write_and_sync(disk, second_at, second)

@@ -1,7 +1,12 @@
 use Rattle.pm_shadow.specs.Pages.{state, disk_of}
 use Rattle.pm_save.proofs.FlushLemmas.{holds_now}
-use Rattle.pm_save.proofs.GateLemmas.{closes_by}
+use Rattle.pm_save.proofs.GateLemmas.{closes_by, shut_by}
 use Rattle.pm_save.proofs.settling.close_gate.Goals as goal
+
+pub returns-clause-written : goal.returns-clause-written
+returns-clause-written g c =
+    let it = c.args.pages.now in
+    shut_by g.D.Disk.contents (state it) it.disk (disk_of c.close_gate.new.self) c.close_gate.ensures.still c.in_ok-close_gate.ensures.written
 
 pub returns-clause-closes : goal.returns-clause-closes
 returns-clause-closes g c =

@@ -1,10 +1,11 @@
-use Rattle.std.proofs.Common.{rules, refl, sym, ◌∙◌, ◌<◌, subst}
+use Rattle.std.proofs.Common.{rules, arith, ◌≡◌, ◌+◌, refl, ap, sym, ◌∙◌, ◌<◌, subst}
 use Rattle.std.proofs.lemmas.Result.{err_from_is_err_and}
 use Rattle.pm_shadow.specs.Pages.{state, disk_of, current_kept}
 use Rattle.pm_types.specs.declared.event.Flushed.{Flushed}
 use Rattle.pm_saving.specs.Progress.{Saving}
 use Rattle.pm_saving.specs.Paging.{left_of}
-use Rattle.pm_save.specs.Answers.{IsFlushed}
+use Rattle.pm_disk.specs.Made.{Made}
+use Rattle.pm_save.specs.Answers.{IsFlushed, IsMadeBy}
 use Rattle.pm_save.specs.Shown.{saving, frozen_of, frozen_cars}
 use Rattle.pm_save.proofs.FlushLemmas.{spares_by, spares_still}
 use Rattle.pm_save.proofs.RunLemmas.{begin_runs, fault_runs, left_some, more_runs, runs_on, spares_then, tells_then}
@@ -20,6 +21,8 @@ loop-page-init g c =
           (spares_still g.D.Disk.contents g.D.Disk.image g.D.Disk.moment g.D.Disk.since (state it) it.disk (current_kept it c.requires.tied.sound) (g.met.D.Disk.only_now it.disk)) copy_held;
       told = λ bytes told. (bytes, told);
       count = refl;
+      writes = refl;
+      syncs = refl;
       past = refl;
     }
 
@@ -55,8 +58,19 @@ pub returns-in_err-_page-clause-told : goal.returns-in_err-_page-clause-told
 returns-in_err-_page-clause-told g c =
     tells_then (g.D.Disk.contents (disk_of c.args.pages.now)) (g.D.Disk.contents (disk_of c.loop-page.pages)) (g.D.Disk.contents (disk_of c.flush_one.new.pages)) c.loop-page.invariant.told c.flush_one.ensures.told
 
-pub returns-in_err-_page-clause-past : goal.returns-in_err-_page-clause-past
-returns-in_err-_page-clause-past g c = c.flush_one.ensures.made.past ∙ c.loop-page.invariant.past
+pub returns-in_err-_page-clause-made : goal.returns-in_err-_page-clause-made
+returns-in_err-_page-clause-made g c =
+    let p = err_from_is_err_and c.from_residual.result c.from_residual.ensures.1 in
+    let is = c.loop-page.invariant in
+    let most = c.flush_one.ensures.made.most in
+    rw p.1 (record {
+      done = tt;
+      most = record {
+        writes = let so_far = is.writes in let more = most.writes in let some = c.in_err-_page.ensures.fault in omega (arith, so_far, more, some);
+        syncs = let so_far = is.syncs in let more = most.syncs in omega (arith, so_far, more);
+        past = most.past ∙ is.past;
+      };
+    })
 
 pub loop-page-smaller : goal.loop-page-smaller
 loop-page-smaller g c = search rules
@@ -69,13 +83,17 @@ loop-page-preserved g c =
     let new = disk_of c.flush_one.new.pages in
     let wrote = subst (λ (flushed : Flushed). IsFlushed (saving c.loop-page.self) (saving c.flush_one.new.self) (frozen_cars c.args.space.now.parts) (state c.loop-page.pages) (state c.flush_one.new.pages) (g.D.Disk.contents mid) (g.D.Disk.contents new) flushed)
     c.in-Wrote.is c.in_ok-_page.ensures.flushed in
+    let by = subst (λ (flushed : Flushed). IsMadeBy (g.D.Disk.made mid) (g.D.Disk.made new) flushed) c.in-Wrote.is c.in_ok-_page.ensures.made.by in
+    let by_writes : (g.D.Disk.made new).writes ≡ (g.D.Disk.made mid).writes + 1 = ap (λ (it : Made). it.writes) by in
     record {
       run = more_runs (frozen_of c.args.space.now.parts) (frozen_cars c.args.space.now.parts) (saving c.args.self.now) (saving c.loop-page.self) (saving c.flush_one.new.self) (state c.args.pages.now) (state c.loop-page.pages) (state c.flush_one.new.pages)
           (g.D.Disk.contents old) (g.D.Disk.contents mid) (g.D.Disk.contents new) is.run refl c.in-Wrote._page wrote c.in_ok-_page.ensures.tied c.in_ok-_page.ensures.has;
       spares = spares_then g.D.Disk.contents g.D.Disk.moment g.D.Disk.since (state c.args.pages.now) (state c.loop-page.pages) old mid new is.run.run.header is.told is.run.run.has is.spares c.flush_one.ensures.leaves;
       told = tells_then (g.D.Disk.contents old) (g.D.Disk.contents mid) (g.D.Disk.contents new) is.told c.flush_one.ensures.told;
       count = search rules;
-      past = c.flush_one.ensures.made.past ∙ is.past;
+      writes = let so_far = is.writes in let more = wrote.left in let same = by_writes in omega (arith, so_far, more, same);
+      syncs = ap (λ (it : Made). it.syncs) by ∙ is.syncs;
+      past = ap (λ (it : Made). it.past) by ∙ is.past;
     }
 
 pub returns-clause-spares : goal.returns-clause-spares
