@@ -54,7 +54,7 @@ module _ {D : Type 0} {F : Type 0} {g : Ghosts D} (start : Start D F g) (old new
       → Serves client cmd (seen start None old) (seen start None new) reply × IsServed (seen start None new)
   act_served client cmd reply served act acts =
       let w = world (seen start None old) in
-      let is = acts.served w served.represents (law.fresh (seen start None old) served) in
+      let is = acts.served w served.represents in
       let appended = appends start old new client cmd reply (law.sets_none (seen start None old) cmd reply (law.unwatching cmd act)) acts.adds in (
         record { appends = appended; reply_is = is.reply },
         law.acted client cmd (seen start None old) (seen start None new) reply served act appended is.reply is.world acts.frozen acts.saving,
@@ -279,18 +279,18 @@ module _ {D : Type 0} {F : Type 0} {g : Ghosts D} (start : Start D F g) (old new
 
 -- ---- the entry of an answer
 
-save_adds : {D F : Type 0} {g : Ghosts D} (client : ℕ) (old new : Works D F g) (reply : Reply) → Saves client old new reply → Adds client Save reply old new
+pub save_adds : {D F : Type 0} {g : Ghosts D} (client : ℕ) (old new : Works D F g) (reply : Reply) → Saves client old new reply → Adds client Save reply old new
 save_adds client old new (Busy number) is = is.adds
 save_adds client old new SavesSpent is = is.adds
 save_adds client old new (Begun number) is = is.adds
 save_adds client old new reply is = absurd is
 
-unsave_adds : {D F : Type 0} {g : Ghosts D} (client : ℕ) (old new : Works D F g) (reply : Reply) → Unsaves client old new reply → Adds client Unsave reply old new
+pub unsave_adds : {D F : Type 0} {g : Ghosts D} (client : ℕ) (old new : Works D F g) (reply : Reply) → Unsaves client old new reply → Adds client Unsave reply old new
 unsave_adds client old new Idle is = is.adds
 unsave_adds client old new (Dropped number) is = is.adds
 unsave_adds client old new reply is = absurd is
 
-settle_adds : {D F : Type 0} {g : Ghosts D} (client : ℕ) (old new : Works D F g) (reply : Reply) → SettlesIt client old new reply → Adds client Settle reply old new
+pub settle_adds : {D F : Type 0} {g : Ghosts D} (client : ℕ) (old new : Works D F g) (reply : Reply) → SettlesIt client old new reply → Adds client Settle reply old new
 settle_adds client old new Idle is = is.adds
 settle_adds client old new (Saved number) is = is.adds
 settle_adds client old new reply is = absurd is
@@ -319,23 +319,23 @@ room_of client Unsave old new reply is = (unsave_adds client old new reply is).r
 room_of client Watch old new reply is = watch_room client old new reply is
 room_of client cmd old new reply is = is.adds.room
 
-save_view : {D F : Type 0} {g : Ghosts D} (client : ℕ) (old new : Works D F g) (reply : Reply) → Saves client old new reply → view_in new ≡ view_in old
+pub save_view : {D F : Type 0} {g : Ghosts D} (client : ℕ) (old new : Works D F g) (reply : Reply) → Saves client old new reply → view_in new ≡ view_in old
 save_view client old new (Busy number) is = is.keeps.view
 save_view client old new SavesSpent is = is.keeps.view
 save_view client old new (Begun number) is = is.view
 save_view client old new reply is = absurd is
 
-settle_view : {D F : Type 0} {g : Ghosts D} (client : ℕ) (old new : Works D F g) (reply : Reply) → SettlesIt client old new reply → view_in new ≡ view_in old
+pub settle_view : {D F : Type 0} {g : Ghosts D} (client : ℕ) (old new : Works D F g) (reply : Reply) → SettlesIt client old new reply → view_in new ≡ view_in old
 settle_view client old new Idle is = is.keeps.view
 settle_view client old new (Saved number) is = is.view
 settle_view client old new reply is = absurd is
 
-unsave_view : {D F : Type 0} {g : Ghosts D} (client : ℕ) (old new : Works D F g) (reply : Reply) → Unsaves client old new reply → view_in new ≡ view_in old
+pub unsave_view : {D F : Type 0} {g : Ghosts D} (client : ℕ) (old new : Works D F g) (reply : Reply) → Unsaves client old new reply → view_in new ≡ view_in old
 unsave_view client old new Idle is = is.keeps.view
 unsave_view client old new (Dropped number) is = is.view
 unsave_view client old new reply is = absurd is
 
-watch_view : {D F : Type 0} {g : Ghosts D} (client : ℕ) (old new : Works D F g) (reply : Reply) → Watches client old new reply → view_in new ≡ view_in old
+pub watch_view : {D F : Type 0} {g : Ghosts D} (client : ℕ) (old new : Works D F g) (reply : Reply) → Watches client old new reply → view_in new ≡ view_in old
 watch_view client old new TooManyWatches is = is.keeps.view
 watch_view client old new (Watching number) is = is.keeps.view
 watch_view client old new reply is = absurd is

@@ -1,6 +1,7 @@
 -- What holds between calls, where only the journal changes.
-use Rattle.std.proofs.Common.{◌≡◌, ⊎_elim, inl, inr, ℕ, ◌≤◌, false, List, Option, Some, None, refl, sym, ap, subst, arith}
+use Rattle.std.proofs.Common.{◌≡◌, ⊎_elim, inl, inr, ℕ, ◌≤◌, false, List, Option, Some, None, refl, sym, ap, subst, ◌∙◌, arith}
 use Rattle.pm_disk.specs.declared.disk.Disk.{Ghosts}
+use Rattle.pm_disk.specs.Made.{Made, MadeAtMost}
 use Rattle.pm_image.specs.declared.settled.KeptPage.{KeptPage}
 use Rattle.pm_shadow.specs.declared.pages.Pages.{Pages}
 use Rattle.pm_disk.specs.Disk.{LeavesOnly}
@@ -12,7 +13,7 @@ use Rattle.pm_space.specs.declared.space.Space.{Space}
 use Rattle.pm_view.specs.View.{Cars}
 use Rattle.pm_saving.specs.Progress.{Progress, Saving, cars_or_none}
 use Rattle.pm_saving.specs.Tied.{HasCopy, IsBegun, IsTied}
-use Rattle.pm_save.specs.Answers.{KeepsCopy, Spares}
+use Rattle.pm_save.specs.Answers.{KeepsCopy, Spares, TellsOn}
 use Rattle.pm_save.specs.Settling.{SparesEither, StaysOn}
 use Rattle.pm_saving.specs.Beginning.{IsInProgress}
 use Rattle.pm_serving.specs.Events.{StaysBegun}
@@ -27,6 +28,17 @@ module _ {D : Type 0} {F : Type 0} {g : Ghosts D} where
       let P : Space F × Saver × Pages D g → Type 0 = λ it. IsTied (saving it.1) (frozen_of it.0.parts) (state it.2) (g.contents (disk_of it.2)) in
       let same : (old.space, old.saver, old.pages) ≡ (new.space, new.saver, new.pages) = (λ i. (sym keeps.space i, sym keeps.saver i, sym keeps.pages i)) in
       subst P same tied
+
+-- no call was made
+pub none_made : (writes syncs : ℕ) (made : Made) → MadeAtMost writes syncs made made
+none_made writes syncs made = record { writes = omega arith; syncs = omega arith; past = refl }
+
+module _ {D : Type 0} (g : Ghosts D) (writes syncs : ℕ) (old new : D) (same : new ≡ old) where
+  pub still_made : MadeAtMost writes syncs (g.made old) (g.made new)
+  still_made = subst (λ (d : D). MadeAtMost writes syncs (g.made old) (g.made d)) (sym same) (none_made writes syncs (g.made old))
+
+  pub still_told : TellsOn (g.contents old) (g.contents new)
+  still_told bytes told = (bytes, ap g.contents same ∙ told)
 
 -- cars are frozen only for a copy in progress
 pub unfrozen : (settled : List KeptPage) (progress : Option Progress) (frozen : Option Cars) (epoch : ℕ) → IsBegun settled progress frozen epoch → progress ≡ None → frozen ≡ None

@@ -2,9 +2,12 @@ pub mod Kept
 pub mod Going
 pub mod Answering
 pub mod Flushed
+pub mod Bounding
 pub mod Asking
 pub mod Crashing
 pub mod Settled
 pub mod Begun
 pub mod Telling
 pub mod Collected
+pub mod Acting
+pub mod Counts

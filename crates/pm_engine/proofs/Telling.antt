@@ -13,11 +13,15 @@ use Rattle.pm_disk.specs.declared.disk.Disk.{Ghosts}
 use Rattle.pm_model.specs.Frames.{is_settle, saves}
 use Rattle.pm_space.specs.Shown.{view}
 use Rattle.pm_serving.specs.Events.{ServesNothing}
+use Rattle.pm_law_bound.proofs.Many.{kept_still}
 use Rattle.pm_engine.specs.declared.start.Start.{Start}
 use Rattle.pm_engine.specs.declared.works.Works.{Works}
 use Rattle.pm_engine.specs.Working.{Answers, IsLeft, LeavesEither, Rests, Saves, SettlesIt, StaysStill, Unsaves, Watches, disk_at, saving_in}
 use Rattle.pm_engine.specs.Seen.{seen}
 use Rattle.pm_engine.specs.declared.engine.Engine.{Engine}
+use Rattle.pm_save.specs.Settling.{settling_syncs, settling_writes}
+use Rattle.pm_engine.specs.Shown.{disk_in, pages_in, serving}
+use Rattle.pm_engine.proofs.Kept.{none_made}
 use Rattle.pm_engine.specs.Calls.{AnswersClient, AnswersCollect, AnswersFlush, KeepsCopies}
 
 -- ---- a reply shows at most an object's bytes
@@ -126,8 +130,12 @@ module _ {D : Type 0} {F : Type 0} {g : Ghosts D} (it : Engine D F g) (count : â
     copies = Î» _. tt;
     lasts = Î» _. tt;
     idle = Î» _. refl;
+    dropped = tt;
+    made = none_made (settling_writes (serving it).saving (pages_in it)) (settling_syncs (pages_in it)) (g.made (disk_in it));
     past = refl;
+    space = tt;
     work = omega arith;
+    bound = kept_still (serving it).view (serving it).view refl;
     room = omega arith;
   }
 
@@ -135,6 +143,7 @@ module _ {D : Type 0} {F : Type 0} {g : Ghosts D} (it : Engine D F g) (count : â
   flush_reopens = record {
     flushes = tt;
     flushed = tt;
+    view = refl;
     fails = (refl, is, refl);
     running = tt;
     reopen = refl;
@@ -142,6 +151,7 @@ module _ {D : Type 0} {F : Type 0} {g : Ghosts D} (it : Engine D F g) (count : â
     memory = tt;
     fault = tt;
     idle = Î» _. refl;
+    made = none_made 1 0 (g.made (disk_in it));
     past = refl;
     room = omega arith;
   }

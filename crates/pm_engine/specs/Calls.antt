@@ -1,31 +1,36 @@
 -- What the calls of an engine do, beside its journal.
-use Rattle.std.specs.Prelude.{◌≡◌, ◌⊎◌, ℕ, ◌+◌, ◌<◌, ◌≤◌, true, false, List, Option, None, Result, MatchResult, IfOk, IfErr, OnOk}
+use Rattle.std.specs.Prelude.{◌≡◌, ◌⊎◌, ℕ, ◌+◌, ◌<◌, ◌≤◌, true, false, List, None, Result, MatchResult, IfOk, IfErr, OnOk}
 use Rattle.std.specs.Borrow.{Bor}
 use Rattle.std.specs.Fn.{Shared}
 use Rattle.pm_types.specs.declared.command.Cmd.{Cmd}
+use Rattle.pm_types.specs.declared.command.Cmd.TheVariants.{Unsave}
 use Rattle.pm_types.specs.Replies.{IsShortReply}
 use Rattle.pm_types.specs.declared.event.Flushed.{Flushed}
 use Rattle.pm_types.specs.declared.event.Step.{Step}
 use Rattle.pm_types.specs.declared.fault.EngineFault.{EngineFault}
 use Rattle.pm_types.specs.declared.fault.EngineFault.TheVariants.{Memory, Disk, Reopen}
 use Rattle.pm_types.specs.declared.reply.Reply.{Reply}
-use Rattle.pm_types.specs.declared.reply.Reply.TheVariants.{Saved}
+use Rattle.pm_types.specs.declared.reply.Reply.TheVariants.{Dropped, Saved}
 use Rattle.pm_disk.specs.declared.disk.Disk.{Ghosts}
 use Rattle.pm_disk.specs.Disk.{LeavesOnly}
+use Rattle.pm_disk.specs.Made.{MadeAtMost, MadeMore}
 use Rattle.pm_model.specs.Frames.{is_settle, saves}
-use Rattle.pm_shadow.specs.State.{State}
+use Rattle.pm_shadow.specs.State.{abandoned_in}
 use Rattle.pm_view.specs.Work.{work}
+use Rattle.pm_bound.specs.Bounded.{KeepsWatches}
 use Rattle.pm_law_work.specs.Raises.{raises}
 use Rattle.pm_evac.specs.Steps.{IsMade}
 use Rattle.pm_saving.specs.Paging.{left_of}
 use Rattle.pm_saving.specs.Tied.{Settles}
 use Rattle.pm_saving.specs.Progress.{cars_or_none}
 use Rattle.pm_save.specs.Answers.{IsFlushed}
+use Rattle.pm_save.specs.Settling.{settling_syncs, settling_writes}
 use Rattle.pm_serving.specs.Serving.{Serving, world}
 use Rattle.pm_serving.specs.Events.{Collects, FailsAs, Flushes, Serves}
 use Rattle.pm_serving.specs.Images as images
 use Rattle.pm_serving.specs.Images.{IsInProgress, IsTold}
 use Rattle.pm_engine.specs.declared.engine.Engine.{Engine}
+use Rattle.pm_engine.specs.Acting.{ChangesSpace}
 use Rattle.pm_engine.specs.Shown.{chooser, disk_in, opened_disk, pages_in, room, serving}
 
 -- the fault is none of the disk
@@ -63,13 +68,6 @@ abbrev pub MayStand : Cmd → Serving → Result Reply EngineFault → List ℕ 
 MayStand cmd it result image =
     images.IsSettled (world it) image ⊎ ((is_settle cmd ≡ true) × MatchResult result (λ _. Unit {0}) IsOfDisk × IsInProgress (world it) image)
 
--- The copy of this number has settled: each image stands for it, and of the pages only those that were left of it and its
--- header's were written.
-pub record HasSettled {D : Type 0} (contents : D → Option (List ℕ)) (image : D → List ℕ → Type 0) (opened : D) (old new : Serving) (s t : State) (before after : D) (number : ℕ) : Type 0 where
-  pub number_is : (world new).settled ≡ number
-  pub now : IsTold (contents opened) → (left : List ℕ) → image after left → images.IsSettled (world new) left
-  pub settles : Settles old.saving new.saving (cars_or_none old.frozen) s t (contents before) (contents after) number
-
 module _ {D : Type 0} {F : Type 0} {g : Ghosts D} where
   -- no call had answered that the disk failed, and none failed in this one
   pub record IsRunning (old new : Engine D F g) : Type 0 where
@@ -98,9 +96,34 @@ module _ {D : Type 0} {F : Type 0} {g : Ghosts D} where
       (serving old).stopped ≡ None → IsTold (g.contents (opened_disk old))
       → LeavesOnly g.moment g.since (disk_in old) (disk_in new) (images.IsSettled (world (serving old)))
 
-  abbrev pub IsSettled : Engine D F g → Engine D F g → Reply → Type 0
-  IsSettled old new (Saved number) = HasSettled g.contents g.image (opened_disk old) (serving old) (serving new) (pages_in old) (pages_in new) (disk_in old) (disk_in new) number
-  IsSettled old new reply = Unit {0}
+  -- The copy of this number has settled: each image stands for it, and of the pages only those that were left of it and
+  -- its header's were written, each on the lowest one that was free; by so many writes, and so many syncs.
+  pub record HasSettled (old new : Engine D F g) (number : ℕ) : Type 0 where
+    pub number_is : (world (serving new)).settled ≡ number
+    pub now : IsTold (g.contents (opened_disk old)) → (left : List ℕ) → g.image (disk_in new) left → images.IsSettled (world (serving new)) left
+    pub settles : Settles (serving old).saving (serving new).saving (cars_or_none (serving old).frozen) (pages_in old) (pages_in new) (g.contents (disk_in old)) (g.contents (disk_in new)) number
+    pub made : MadeMore (settling_writes (serving old).saving (pages_in old)) (settling_syncs (pages_in old)) 0 (g.made (disk_in old)) (g.made (disk_in new))
+
+  abbrev pub SettlesAs : Engine D F g → Engine D F g → Reply → Type 0
+  SettlesAs old new (Saved number) = HasSettled old new number
+  SettlesAs old new reply = Unit {0}
+
+  -- the copy of this number was given up: the pages that were written for it are free, and the disk was not called
+  pub record HasDropped (old new : Engine D F g) : Type 0 where
+    pub pages : pages_in new ≡ abandoned_in (pages_in old)
+    pub disk : disk_in new ≡ disk_in old
+
+  abbrev pub DropsPages : Engine D F g → Engine D F g → Reply → Type 0
+  DropsPages old new (Dropped number) = HasDropped old new
+  DropsPages old new reply = Unit {0}
+
+  abbrev pub IsDropped : Cmd → Engine D F g → Engine D F g → Reply → Type 0
+  IsDropped Unsave old new reply = DropsPages old new reply
+  IsDropped cmd old new reply = Unit {0}
+
+  -- no more writes and syncs were made than settle a copy
+  abbrev pub CallsFew : Engine D F g → Engine D F g → Type 0
+  CallsFew old new = MadeAtMost (settling_writes (serving old).saving (pages_in old)) (settling_syncs (pages_in old)) (g.made (disk_in old)) (g.made (disk_in new))
 
   -- memory runs out in `settle` only where something of the copy was left to be written, and is, or no entry had room
   abbrev pub MayRunOut : Cmd → Engine D F g → Engine D F g → EngineFault → Type 0
@@ -137,7 +160,11 @@ module _ {D : Type 0} {F : Type 0} {g : Ghosts D} where
     -- a crash at any moment of the call leaves the last acknowledged copy, or, of `settle`, that in progress
     pub leaves : LeavesCopies cmd old new result
     -- once a copy settled each image stands for it, and nothing was written but what was left of it and its header
-    pub settled : IfOk result (IsSettled old new)
+    pub settled : IfOk result (SettlesAs old new)
+    -- once a copy was given up its pages are free
+    pub dropped : IfOk result (IsDropped cmd old new)
+    -- no more writes and syncs are made than settle a copy
+    pub made : CallsFew old new
     -- memory runs out in `settle` only where something of the copy was left to be written, and is, or no entry had room
     pub short : IfErr result (MayRunOut cmd old new)
     -- a reply shows at most an object's bytes
@@ -150,8 +177,12 @@ module _ {D : Type 0} {F : Type 0} {g : Ghosts D} where
     pub idle : IsIdle old new
     -- no read is made past the end of what the disk told
     pub past : ReadsWithin old new
+    -- a command on the space does its row, and every other one leaves the space as it is; none completes a collection
+    pub space : IfOk result (ChangesSpace client cmd (serving old).view (serving new).view)
     -- little is added to the work that is left of a collection
     pub work : work (serving new).view ≤ work (serving old).view + raises cmd
+    -- what fits stays, the rank has not risen, and sunk sets stay so, whatever is answered: each watch keeps its bound
+    pub bound : KeepsWatches (serving old).view (serving new).view
     -- an entry takes the room of one
     pub room : MatchResult result (λ _. room old ≤ room new + 1) (λ _. room old ≤ room new)
 
@@ -161,6 +192,8 @@ module _ {D : Type 0} {F : Type 0} {g : Ghosts D} where
     pub flushes : OnOk result (Flushes (serving old) (serving new))
     -- the next page of the copy was written, and no other changed; or none was left
     pub flushed : IfOk result (IsFlushed (serving old).saving (serving new).saving (cars_or_none (serving old).frozen) (pages_in old) (pages_in new) (g.contents (disk_in old)) (g.contents (disk_in new)))
+    -- whatever is answered the space stays, and with it rank, sunk sets and work
+    pub view : (serving new).view ≡ (serving old).view
     -- why nothing was answered; space and journal stay
     pub fails : IfErr result (FailsAs (serving old) (serving new) (g.count (disk_in old)) (g.count (disk_in new)))
     -- it is answered only while no call has answered that the disk failed
@@ -175,6 +208,8 @@ module _ {D : Type 0} {F : Type 0} {g : Ghosts D} where
     pub fault : IfErr result (UnlessReopen (0 < left_of (serving old).saving.progress))
     -- where no copy is in progress the disk is not called
     pub idle : IsIdle old new
+    -- one write is made at most, and no sync
+    pub made : MadeAtMost 1 0 (g.made (disk_in old)) (g.made (disk_in new))
     -- no read is made past the end of what the disk told
     pub past : ReadsWithin old new
     -- there is room for as many entries

@@ -2,3 +2,4 @@ pub mod Working
 pub mod Seen
 pub mod Shown
 pub mod Calls
+pub mod Acting

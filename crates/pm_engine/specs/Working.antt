@@ -1,5 +1,5 @@
 -- What calls do to what an engine works with.
-use Rattle.std.specs.Prelude.{◌≡◌, ◌⊎◌, ℕ, ◌+◌, ◌-◌, ◌<◌, ◌≤◌, Bool, true, IsSome, List, [], ◌∷◌, ◌++◌, length, Option, Some, None, vec_len, vec_capacity}
+use Rattle.std.specs.Prelude.{◌≡◌, ◌⊎◌, ℕ, ◌+◌, ◌-◌, ◌<◌, ◌≤◌, Bool, true, IsSome, IfErr, OnErr, Result, List, [], ◌∷◌, ◌++◌, length, Option, Some, None, vec_len, vec_capacity}
 use Rattle.pm_types.specs.Replies.{IsShortReply}
 use Rattle.pm_types.specs.declared.limits.TheConstants.{LAST_COPY, WATCHES}
 use Rattle.pm_types.specs.declared.command.Cmd.{Cmd}
@@ -10,24 +10,27 @@ use Rattle.pm_types.specs.declared.event.Watch.{Watch}
 use Rattle.pm_types.specs.declared.reply.Reply.{Reply}
 use Rattle.pm_types.specs.declared.reply.Reply.TheVariants.{Begun, Busy, Dropped, Idle, Saved, SavesSpent, TooManyWatches, Watching}
 use Rattle.pm_disk.specs.declared.disk.Disk.{Ghosts}
-use Rattle.pm_shadow.specs.State.{State}
+use Rattle.pm_disk.specs.Made.{MadeMore}
+use Rattle.pm_shadow.specs.State.{State, abandoned_in}
 use Rattle.pm_shadow.specs.Pages.{state, disk_of}
 use Rattle.pm_view.specs.View.{Cars, SpaceView}
 use Rattle.pm_view.specs.Watches.{watch_in}
 use Rattle.pm_view.specs.Work.{work}
+use Rattle.pm_bound.specs.Bounded.{KeepsWatches}
 use Rattle.pm_space.specs.Shown.{view}
 use Rattle.pm_copies.specs.Listed.{copy_in}
 use Rattle.pm_saving.specs.Progress.{Progress, Saving, cars_or_none, copy_of}
 use Rattle.pm_saving.specs.Paging.{left_of}
 use Rattle.pm_saving.specs.Tied.{IsTied, Settles}
 use Rattle.pm_save.specs.Shown.{frozen_of, saving}
-use Rattle.pm_save.specs.Answers.{IsFlushed, KeepsCopy, Spares}
+use Rattle.pm_save.specs.Answers.{IsFlushed, KeepsCopy, OnMemory, Spares}
 use Rattle.pm_save.specs.declared.fault.SaveFault.{SaveFault}
 use Rattle.pm_save.specs.declared.fault.SaveFault.TheVariants.{Disk, Memory}
-use Rattle.pm_save.specs.Settling.{SparesEither, StandsThen}
+use Rattle.pm_save.specs.Settling.{SparesEither, StandsThen, settling_syncs, settling_writes}
 use Rattle.pm_serving.specs.Events.{StaysBegun}
 use Rattle.pm_mutate.specs.Acts as mutate
 use Rattle.pm_law_work.specs.Raises.{raises}
+use Rattle.pm_engine.specs.Acting.{DoesItsRow}
 use Rattle.pm_engine.specs.declared.works.Works.{Works}
 use Rattle.pm_base.specs.Counts.{raised}
 
@@ -103,8 +106,9 @@ module _ {D : Type 0} {F : Type 0} {g : Ghosts D} where
     pub state : state_in new ≡ state_in old
     pub contents : contents_in new ≡ contents_in old
 
-  -- A command on the space: the entry is at the journal's end, the reply and the space after it are those of every world
-  -- that the space stands for, and the copies stay. A reply shows at most an object's bytes.
+  -- A command on the space: the entry is at the journal's end, the reply and the space after it are those of its row, and
+  -- of every world that the space stands for, and the copies stay. A reply shows at most an object's bytes. Each watch
+  -- keeps its bound.
   pub record Acts (client : ℕ) (cmd : Cmd) (old new : Works D F g) (reply : Reply) : Type 0 where
     pub adds : Adds client cmd reply old new
     pub served : mutate.Serves (view_in old) client cmd reply (view_in new)
@@ -112,6 +116,8 @@ module _ {D : Type 0} {F : Type 0} {g : Ghosts D} where
     pub saving : saving_in new ≡ saving_in old
     pub short : IsShortReply reply
     pub work : work (view_in new) ≤ work (view_in old) + raises cmd
+    pub row : DoesItsRow client cmd (view_in old) (view_in new) reply
+    pub bound : KeepsWatches (view_in old) (view_in new)
 
   -- ---- copies
 
@@ -157,13 +163,16 @@ module _ {D : Type 0} {F : Type 0} {g : Ghosts D} where
     pub is_begun : (saving_in old).progress ≡ Some begun
     pub number_is : number ≡ begun.number
     pub none : (saving_in new).progress ≡ None
+    pub pages : state_in new ≡ abandoned_in (state_in old)
+    pub disk : disk_at new ≡ disk_at old
 
-  -- The copy in progress is the settled one, and each image stands for it.
+  -- The copy in progress is the settled one, each image stands for it, and so many writes and syncs were made.
   pub record SettlesCopy (client : ℕ) (old new : Works D F g) (number : ℕ) : Type 0 where
     pub adds : Adds client Settle (Saved number) old new
     pub view : view_in new ≡ view_in old
     pub settles : Settles (saving_in old) (saving_in new) (cars_or_none (frozen_in old)) (state_in old) (state_in new) (contents_in old) (contents_in new) number
     pub now : StandsThen g.contents g.image (saving_in old).progress (cars_or_none (frozen_in old)) (state_in new) (disk_at old) (disk_at new) number
+    pub made : MadeMore (settling_writes (saving_in old) (state_in old)) (settling_syncs (state_in old)) 0 (g.made (disk_at old)) (g.made (disk_at new))
 
   -- ---- watches
 
@@ -266,6 +275,23 @@ module _ {D : Type 0} {F : Type 0} {g : Ghosts D} where
   -- some of the copy in progress was left to be written, and is, or there was no room for an entry
   abbrev pub IsShort : Works D F g → Works D F g → Type 0
   IsShort old new = ((0 < left_of (saving_in old).progress) × (0 < left_of (saving_in new).progress)) ⊎ (room_in old ≡ 0)
+
+  -- Nothing was answered: why, and what is left then.
+  pub record FailsSo {T : Type 0} (settles : Bool) (old new : Works D F g) (result : Result T SaveFault) : Type 0 where
+    pub rests : OnErr result (Rests old new)
+    pub memory : OnMemory result (LastsSo old new)
+    pub fault : IfErr result (IsFaultFor settles old)
+
+  -- What `settle` may leave, whatever it answers: at each moment of the call the current copy or the one in progress; and
+  -- memory runs out only where something of that copy was left to be written, and is, or no entry had room.
+  pub record MayLeave {T : Type 0} (old new : Works D F g) (result : Result T SaveFault) : Type 0 where
+    pub leaves : LeavesEither old new
+    pub short : OnMemory result (IsShort old new)
+
+  -- What every other command leaves, whatever it answers: no call of the disk was made, and after a fault all is as it was.
+  pub record LeavesDisk {T : Type 0} (old new : Works D F g) (result : Result T SaveFault) : Type 0 where
+    pub still : StaysStill old new
+    pub left : OnErr result (IsLeft old new)
 
   -- An event of the collector was made: all but the space stays, and of that the frozen cars and the chooser.
   pub record CollectsOn (old new : Works D F g) : Type 0 where

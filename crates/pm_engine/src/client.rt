@@ -14,7 +14,8 @@ impl<D: Disk, F: Drop> Engine<D, F> {
     ghost use Rattle.pm_engine.specs.Calls.{AnswersClient};
 
     /// Answers a client's command: the reply and the next world are those of the world at the journal's end, and one entry
-    /// is appended. Only `settle` calls the disk.
+    /// is appended. A command on the space does its row, an accepted `new` adds one object to the open train, and no
+    /// command completes a collection. Only `settle` calls the disk.
     ///
     /// # Errors
     ///

@@ -1,6 +1,9 @@
 //! The engine: what it keeps, how it is opened, and what it tells.
 
-ghost use Rattle.pm_engine.specs.Seen.{IsSound};
+ghost use Rattle.std.specs.Prelude.{◌≤◌};
+ghost use Rattle.pm_serving.specs.Bounds.{KeepsBounds};
+ghost use Rattle.pm_engine.specs.Working.{disk_at};
+ghost use Rattle.pm_engine.specs.Seen.{IsSound, seen};
 
 use crate::Tally;
 use crate::start::Start;
@@ -21,6 +24,8 @@ pub struct Engine<D: Disk, F> {
     /// Where a call has answered that the disk failed: the count of failed calls then.
     pub(crate) stopped: Option<u64>,
     ghost sound: { ∥ IsSound opening stopped works ∥₁ },
+    ghost bounded: { ∥ KeepsBounds (seen opening stopped works) ∥₁ },
+    ghost counted: { opening.count ≤ D.count (disk_at works) },
 }
 
 impl<D: Disk, F: Drop> Engine<D, F> {
@@ -32,10 +37,12 @@ impl<D: Disk, F: Drop> Engine<D, F> {
     ghost use Rattle.pm_model.specs.Journal.{IsLegal};
     ghost use Rattle.pm_serving.specs.Serving.{opening, world};
     ghost use Rattle.pm_serving.specs.Images.{IsSettled, IsTold, KeepsImages};
+    ghost use Rattle.pm_bound.specs.Bounded.{IsHonest};
     ghost use Rattle.pm_view.specs.Counts.{old, standing};
     ghost use Rattle.pm_view.specs.Watches.{lines_from};
     ghost use Rattle.pm_base.specs.Counts.{capped};
-    ghost use Rattle.pm_engine.specs.Shown.{KeepsStart, disk_in, opened_disk, room, serving, tally_in, tally_of};
+    ghost use Rattle.pm_engine.specs.Shown.{KeepsStart, disk_in, opened_count, opened_disk, room, serving};
+    ghost use Rattle.pm_engine.specs.Shown.{tally_in, tally_of};
 
     /// What was asked and answered since the opening, in order.
     pub fn journal(&self) -> &[Entry]
@@ -86,9 +93,11 @@ impl<D: Disk, F: Drop> Engine<D, F> {
         self.works.watches.as_slice()
     }
 
-    /// What is told of the watches now, in order. It takes no memory.
+    /// What is told of the watches now, in order. It takes no memory. Where as many collections were completed since a
+    /// watch was set as its bound says, no object of a train of that time stands.
     pub fn lines(&self) -> ArrayVec<WatchLine, WATCH_ROOM>
-        ensures { result.items ≡ lines_from (serving self.now).view 1 (serving self.now).watches }
+        ensures told { result.items ≡ lines_from (serving self.now).view 1 (serving self.now).watches }
+        ensures honest { AllByRecursion IsHonest result.items }
     {
         tell_watches(&self.works.space, self.works.watches.as_slice())
     }
@@ -109,11 +118,13 @@ impl<D: Disk, F: Drop> Engine<D, F> {
         Ok(())
     }
 
-    /// The disk, the journal, and what the engine came to.
+    /// The disk, the journal, and what the engine came to. Where as many collections were completed since a watch was set
+    /// as its bound says, no object of a train of that time stands.
     pub fn into_parts(self) -> (D, Vec<Entry>, Tally)
         ensures disk { result.0 ≡ disk_in self }
         ensures journal { result.1.items ≡ (serving self).journal }
         ensures tally { tally_of result.2 ≡ tally_in (serving self) }
+        ensures honest { AllByRecursion IsHonest (tally_of result.2).lines }
     {
         let Engine { works, .. } = self;
         let entries = works.journal.len() as u64;
@@ -133,7 +144,10 @@ impl<D: Disk, F: Drop> Engine<D, F> {
     /// A law of the engine at any time: in the world that was opened whatever is named is an object, the journal is legal
     /// from it, and each image since then is one that may be; while no call has answered that the disk failed, each image
     /// now stands for the last acknowledged copy. So many watches are set as in the world at the journal's end, and
-    /// different identities that its names and registers reach are no more than the objects that stand.
+    /// different identities that its names and registers reach are no more than the objects that stand. Each watch keeps
+    /// its bound: once as many collections were completed as it says, nothing that was lost when the watch was set is in
+    /// any car.
+    /// The disk's count of failed calls is the one at the opening or more.
     pub fn keep_their_images(&self)
         ensures closed { IsClosed (opening (serving self.now)) }
         ensures legal { IsLegal (opening (serving self.now)) (serving self.now).journal }
@@ -145,5 +159,7 @@ impl<D: Disk, F: Drop> Engine<D, F> {
         ensures standing { (ids : List ℕ) → IsDistinct nat_eq ids
             → AllByRecursion (IsReachable (world (serving self.now)).heap (IsHeld (world (serving self.now)))) ids
             → length ids ≤ standing (serving self.now).view }
+        ensures bounds { ∥ KeepsBounds (serving self.now) ∥₁ }
+        ensures counted { opened_count self.now ≤ D.count (disk_in self.now) }
     {}
 }

@@ -1,3 +1,4 @@
 pub mod Serving
 pub mod Images
 pub mod Events
+pub mod Bounds

@@ -1,5 +1,6 @@
 -- What a run has done, in the words of its end.
 use Rattle.std.proofs.Common.{◌≡◌, inl, inr, ⊎_elim, ℕ, ◌<◌, List, [], ◌∷◌, Option, Some, None, IsSome, length, refl, sym, ap, subst, ◌∙◌, arith}
+use Rattle.std.specs.List.{AllByRecursion}
 use Rattle.pm_types.specs.declared.entry.Entry.{Entry}
 use Rattle.pm_base.specs.Counts.{Rose, ShowsRise}
 use Rattle.pm_disk.specs.declared.disk.Disk as disk
@@ -15,6 +16,7 @@ use Rattle.pm_model.proofs.ClosedLaws.{empty_closed}
 use Rattle.pm_script.specs.declared.line.Line.{Line}
 use Rattle.pm_view.specs.View.{SpaceView}
 use Rattle.pm_view.specs.Counts.{standing}
+use Rattle.pm_bound.specs.Bounded.{IsHonest}
 use Rattle.pm_copies.specs.Listed.{copy_in}
 use Rattle.pm_saving.specs.Progress.{Saving}
 use Rattle.pm_serving.specs.Serving.{Serving, just_opened, opening, world}
@@ -132,9 +134,10 @@ module _ {D F S K : Type 0} {g : disk.Ghosts D} (k : sink.Ghosts K) where
       → IsClosed (opening (serving new)) → IsLegal (opening (serving new)) (serving new).journal
       → (world (serving new)).watches ≡ length (serving new).watches
       → ReachesAtMost (world (serving new)) (standing (serving new).view) → tally_of tally ≡ tally_in (serving new)
+      → AllByRecursion IsHonest (tally_of tally).lines
       → Wrote k writes sink last (text (serving new).journal) (tail_of (tally_in (serving new))) stop
       → RunsEngine k writes old sink (with_parts it (ended_by stop a b c d) (Some tally) (disk_in new) source last)
-  engine_run writes old new tally source sink last it stop a b c d is_journal on_disk start closed legal watching few is wrote =
+  engine_run writes old new tally source sink last it stop a b c d is_journal on_disk start closed legal watching few is honest wrote =
       let left = subst (Leaves k writes old (disk_in new) tally sink last (ended_by stop a b c d)) (sym is_journal) leaves in
       record {
         late = ended_late stop a b c d;
@@ -161,7 +164,7 @@ module _ {D F S K : Type 0} {g : disk.Ghosts D} (k : sink.Ghosts K) where
                 (λ left it. subst (λ (w : World). IsOfRun detail w journal left) same (of_run (serving new) stop a b c d left on_disk.going it))),
             (λ told left there. subst (λ (w : World). IsLastOf detail (after w journal) left) same (of_last (serving new) stop a b c d left on_disk.going (on_disk.last told left there))),
             on_disk.idle,
-            subst (ComesTo (opening (serving old)) journal) (sym is) (subst (λ (w : World). ComesTo w journal (tally_in (serving new))) same (engine_comes (serving new) watching few)),
+            subst (ComesTo (opening (serving old)) journal) (sym is) (subst (λ (w : World). ComesTo w journal (tally_in (serving new))) same (engine_comes (serving new) (subst (λ (total : Total). AllByRecursion IsHonest total.lines) is honest) watching few)),
             subst (λ (total : Total). Wrote k writes sink last (text journal) (tail_of total) (stop_in detail)) (sym is)
                 (subst (λ (why : Option Stop). Wrote k writes sink last (text journal) (tail_of (tally_in (serving new))) why) (stop_back stop a b c d) wrote),
           )

@@ -9,6 +9,7 @@ use Rattle.pm_model.specs.World.{World}
 use Rattle.pm_view.specs.View.{SpaceView}
 use Rattle.pm_view.specs.Counts.{standing}
 use Rattle.pm_view.specs.Watches.{lines_from}
+use Rattle.pm_bound.specs.Bounded.{IsHonest}
 use Rattle.pm_serving.specs.Serving.{Serving, opening, world}
 use Rattle.pm_engine.specs.Shown.{tally_in}
 use Rattle.pm_top.specs.Tallies.{ComesTo, ReachesAtMost}
@@ -27,11 +28,12 @@ at_most : (world : World) (n : ℕ) → ReachesAtMost world n → ReachesAtMost 
 at_most world n few =
     ⊎_elim (λ over. inr (omega arith)) (λ within. let same : n ≡ min n greatest_count = omega arith in inl (subst (ReachesAtMost world) same few)) (cases_lt greatest_count n)
 
-pub engine_comes : (it : Serving) → (world it).watches ≡ length it.watches → ReachesAtMost (world it) (standing it.view) → ComesTo (opening it) it.journal (tally_in it)
-engine_comes it watching few = record {
+pub engine_comes : (it : Serving) → AllByRecursion IsHonest (tally_in it).lines → (world it).watches ≡ length it.watches → ReachesAtMost (world it) (standing it.view) → ComesTo (opening it) it.journal (tally_in it)
+engine_comes it honest watching few = record {
   journal_is = refl;
   entries = refl;
   watching = length_lines it.view 1 it.watches ∙ sym watching;
   done = lines_done it.view 1 it.watches;
+  honest = honest;
   standing = at_most (world it) (standing it.view) few;
 }

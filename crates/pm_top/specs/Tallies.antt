@@ -7,6 +7,7 @@ use Rattle.pm_model.specs.World.{World}
 use Rattle.pm_model.specs.Journal.{after}
 use Rattle.pm_model.specs.Reachability.{IsReachable}
 use Rattle.pm_view.specs.Represents.{IsHeld}
+use Rattle.pm_bound.specs.Bounded.{IsHonest}
 use Rattle.pm_engine.specs.declared.tally.Tally.{Tally}
 use Rattle.pm_engine.specs.Shown.{Total, tally_of}
 use Rattle.pm_top.specs.declared.ended.Detail.{Detail}
@@ -26,6 +27,9 @@ pub record ComesTo (start : World) (journal : List Entry) (total : Total) : Type
   pub watching : length total.lines ≡ (after start journal).watches
   -- since a watch was set no more collections were completed than in all
   pub done : AllByRecursion (λ line. line.done ≤ total.completed) total.lines
+  -- where as many collections were completed since a watch was set as its bound says, no object of a train of that time
+  -- stands
+  pub honest : AllByRecursion IsHonest total.lines
   -- no more objects are reached in that world than stand; that number ends at the greatest one of 64 bits
   pub standing : ReachesAtMost (after start journal) total.standing ⊎ (total.standing ≡ greatest_count)
 

@@ -1,6 +1,6 @@
 //! The answer to each command of a client: the dispatch of commands.
 
-ghost use Rattle.std.specs.Prelude.{◌≡◌, ◌<◌, IfErr, IfOk, OnErr, true, false};
+ghost use Rattle.std.specs.Prelude.{◌≡◌, ◌<◌, IfOk, OnErr, true, false};
 
 use crate::works::Works;
 use pm_disk::Disk;
@@ -10,10 +10,10 @@ use std::alloc::Global;
 
 impl<D: Disk, F: Drop> Works<D, F> {
     ghost use Rattle.pm_types.specs.declared.limits.TheConstants.{CLIENTS};
-    ghost use Rattle.pm_save.specs.Answers.{OnMemory, TellsOn, UnlessDisk};
-    ghost use Rattle.pm_save.specs.Settling.{IsCausedBy};
+    ghost use Rattle.pm_save.specs.Answers.{UnlessDisk};
+    ghost use Rattle.pm_save.specs.Settling.{IsCausedBy, settling_syncs, settling_writes};
     ghost use Rattle.pm_model.specs.Frames.{is_settle};
-    ghost use Rattle.pm_engine.specs.Working.{Answers, IsFaultFor, IsLeft, IsShort, IsTiedIn, LastsSo, LeavesEither, Rests, StaysStill, contents_in, disk_at, place_in};
+    ghost use Rattle.pm_engine.specs.Working.{Answers, FailsSo, IsLeft, IsTiedIn, LeavesDisk, MayLeave, StaysStill, place_in, saving_in, state_in};
 
     /// Answers a command that calls no disk: every one but `settle`. After want of memory all is as it was.
     fn answer_still(&mut self, alloc: Global, client: u32, cmd: &Cmd) -> Result<Reply, NoMemory>
@@ -49,17 +49,11 @@ impl<D: Disk, F: Drop> Works<D, F> {
         requires tied { IsTiedIn self.old }
         ensures answers { IfOk result (Answers client cmd.now self.old self.new) }
         ensures tied { UnlessDisk result (IsTiedIn self.new) }
-        ensures rests { OnErr result (Rests self.old self.new) }
-        ensures memory { OnMemory result (LastsSo self.old self.new) }
-        ensures left { is_settle cmd.now ≡ false → OnErr result (IsLeft self.old self.new) }
-        ensures short { is_settle cmd.now ≡ true → OnMemory result (IsShort self.old self.new) }
-        ensures still { is_settle cmd.now ≡ false → StaysStill self.old self.new }
-        ensures fault { IfErr result (IsFaultFor (is_settle cmd.now) self.old) }
-        ensures leaves { is_settle cmd.now ≡ true → LeavesEither self.old self.new }
-        ensures told { TellsOn (contents_in self.old) (contents_in self.new) }
-        ensures causes { IsCausedBy (D.count (disk_at self.old)) (D.count (disk_at self.new))
-            (D.made (disk_at self.old))
-            (D.made (disk_at self.new)) result }
+        ensures fails { FailsSo (is_settle cmd.now) self.old self.new result }
+        ensures settle { is_settle cmd.now ≡ true → MayLeave self.old self.new result }
+        ensures other { is_settle cmd.now ≡ false → LeavesDisk self.old self.new result }
+        ensures causes { IsCausedBy (settling_writes (saving_in self.old) (state_in self.old))
+            (settling_syncs (state_in self.old)) self.old.pages self.new.pages result }
         ensures place { place_in self.new ≡ place_in self.old }
     {
         match cmd {

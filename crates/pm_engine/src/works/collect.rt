@@ -1,6 +1,6 @@
 //! Making an event of the collector.
 
-ghost use Rattle.std.specs.Prelude.{◌≡◌, IfOk, OnErr, OnOk};
+ghost use Rattle.std.specs.Prelude.{◌≡◌, ◌<◌, ◌^◌, IfOk, OnErr, OnOk};
 
 use crate::works::Works;
 use pm_disk::Disk;
@@ -18,6 +18,8 @@ impl<D: Disk, F: Fn(&[u64]) -> usize + Drop> Works<D, F> {
         requires chooser { IsChooser F.Fn (place_in self.old) }
         requires tied { IsTiedIn self.old }
         ensures event { IfOk result (IsMade F.Fn (place_in self.old) (view_in self.old) (view_in self.new)) }
+        // The count of completed collections is a number of 64 bits, at which it stands still.
+        ensures counted { (view_in self.old).completed < 2 ^ 64 }
         ensures worlds { KeepsWorlds (view_in self.old) (view_in self.new) }
         ensures collects { OnOk result (CollectsOn self.old self.new) }
         ensures tied { IsTiedIn self.new }
@@ -26,6 +28,7 @@ impl<D: Disk, F: Fn(&[u64]) -> usize + Drop> Works<D, F> {
         ensures place { place_in self.new ≡ place_in self.old }
         ensures room { room_in self.new ≡ room_in self.old }
     {
+        let _completed = self.space.completed();
         let step = collect_one(&mut self.space, alloc)?;
         self.events = self.events.saturating_add(1);
         self.steps = self.steps.saturating_add(1);

@@ -10,9 +10,9 @@ use std::alloc::Global;
 
 impl<D: Disk, F: Drop> Works<D, F> {
     ghost use Rattle.pm_saving.specs.Paging.{left_of};
-    ghost use Rattle.pm_save.specs.Answers.{OnMemory, Spares, TellsOn, UnlessDisk};
+    ghost use Rattle.pm_save.specs.Answers.{OnMemory, Spares, UnlessDisk};
     ghost use Rattle.pm_save.specs.Settling.{IsCausedBy};
-    ghost use Rattle.pm_engine.specs.Working.{FlushesOn, IsAsItWas, IsTiedIn, LastsIn, Rests, contents_in, disk_at, place_in, room_in, saving_in, state_in};
+    ghost use Rattle.pm_engine.specs.Working.{FlushesOn, IsAsItWas, IsTiedIn, LastsIn, Rests, disk_at, place_in, room_in, saving_in, state_in};
 
     /// Writes the next page of the copy in progress, if one is left.
     ///
@@ -26,10 +26,8 @@ impl<D: Disk, F: Drop> Works<D, F> {
         ensures rests { OnErr result (Rests self.old self.new) }
         ensures lasts { UnlessDisk result (LastsIn self.old self.new) }
         ensures spares { Spares D.contents D.moment D.since (state_in self.old) (disk_at self.old) (disk_at self.new) }
-        ensures told { TellsOn (contents_in self.old) (contents_in self.new) }
-        ensures causes { IsCausedBy (D.count (disk_at self.old)) (D.count (disk_at self.new))
-            (D.made (disk_at self.old))
-            (D.made (disk_at self.new)) result }
+        // One write at most is made, and no sync.
+        ensures causes { IsCausedBy 1 0 self.old.pages self.new.pages result }
         ensures memory { OnMemory result (IsAsItWas self.old self.new) }
         ensures fault { OnErr result (0 < left_of (saving_in self.old).progress) }
         ensures idle { (saving_in self.old).progress ≡ None → disk_at self.new ≡ disk_at self.old }

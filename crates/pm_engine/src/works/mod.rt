@@ -5,7 +5,9 @@ ghost use Rattle.pm_types.specs.declared.limits.TheConstants.{CLIENTS};
 ghost use Rattle.pm_types.specs.Replies.{IsShortReply};
 ghost use Rattle.pm_view.specs.Commands.{is_act};
 ghost use Rattle.pm_space.specs.Shown.{view, KeepsRest};
+ghost use Rattle.pm_bound.specs.Bounded.{KeepsWatches};
 ghost use Rattle.pm_mutate.specs.Acts.{KeepsCourse, Serves};
+ghost use Rattle.pm_engine.specs.Acting.{DoesItsRow};
 
 mod answer;
 mod collect;
@@ -49,9 +51,12 @@ fn act_and_copy_reply<F: Drop>(
     requires client { client < CLIENTS }
     requires act { is_act cmd.now ≡ true }
     ensures served { IfOk result (λ told. Serves (view space.old.parts) client cmd.now told.0 (view space.new.parts)) }
+    ensures row { IfOk result (λ told.
+        DoesItsRow client cmd.now (view space.old.parts) (view space.new.parts) told.0) }
     ensures same { IfOk result (λ told. told.1 ≡ told.0) }
     ensures short { IfOk result (λ told. IsShortReply told.0) }
     ensures course { KeepsCourse (view space.old.parts) cmd.now (view space.new.parts) }
+    ensures bound { KeepsWatches (view space.old.parts) (view space.new.parts) }
     ensures err { OnErr result (view space.new.parts ≡ view space.old.parts) }
     ensures rest { KeepsRest space.old.parts space.new.parts }
 {

@@ -1,6 +1,6 @@
 //! `settle`: making the copy in progress the settled one.
 
-ghost use Rattle.std.specs.Prelude.{◌≡◌, IfErr, IfOk, OnErr, true};
+ghost use Rattle.std.specs.Prelude.{◌≡◌, IfOk, true};
 
 use crate::works::Works;
 use pm_disk::Disk;
@@ -9,9 +9,9 @@ use pm_types::{Cmd, Reply};
 use std::alloc::Global;
 
 impl<D: Disk, F: Drop> Works<D, F> {
-    ghost use Rattle.pm_save.specs.Answers.{OnMemory, TellsOn, UnlessDisk};
-    ghost use Rattle.pm_save.specs.Settling.{IsCausedBy};
-    ghost use Rattle.pm_engine.specs.Working.{IsFaultFor, IsShort, IsTiedIn, LastsSo, LeavesEither, Rests, SettlesIt, contents_in, disk_at, place_in};
+    ghost use Rattle.pm_save.specs.Answers.{UnlessDisk};
+    ghost use Rattle.pm_save.specs.Settling.{IsCausedBy, settling_syncs, settling_writes};
+    ghost use Rattle.pm_engine.specs.Working.{FailsSo, IsTiedIn, MayLeave, SettlesIt, place_in, saving_in, state_in};
 
     /// `settle`: the copy in progress is written to its end and published, if there is one. Its entry takes no memory
     /// where there is room for it.
@@ -23,15 +23,10 @@ impl<D: Disk, F: Drop> Works<D, F> {
         requires tied { IsTiedIn self.old }
         ensures settles { IfOk result (SettlesIt client self.old self.new) }
         ensures tied { UnlessDisk result (IsTiedIn self.new) }
-        ensures rests { OnErr result (Rests self.old self.new) }
-        ensures memory { OnMemory result (LastsSo self.old self.new) }
-        ensures short { OnMemory result (IsShort self.old self.new) }
-        ensures fault { IfErr result (IsFaultFor true self.old) }
-        ensures leaves { LeavesEither self.old self.new }
-        ensures told { TellsOn (contents_in self.old) (contents_in self.new) }
-        ensures causes { IsCausedBy (D.count (disk_at self.old)) (D.count (disk_at self.new))
-            (D.made (disk_at self.old))
-            (D.made (disk_at self.new)) result }
+        ensures fails { FailsSo true self.old self.new result }
+        ensures leaves { MayLeave self.old self.new result }
+        ensures causes { IsCausedBy (settling_writes (saving_in self.old) (state_in self.old))
+            (settling_syncs (state_in self.old)) self.old.pages self.new.pages result }
         ensures place { place_in self.new ≡ place_in self.old }
     {
         self.pages.keep_the_current_copy();

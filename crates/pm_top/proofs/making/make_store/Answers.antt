@@ -13,7 +13,7 @@ pub returns-in-Ok-clause-causes : goal.returns-in-Ok-clause-causes
 returns-in-Ok-clause-causes g c =
     let e = c.end_unopened.ensures in
     at_end (λ it. ShowsCauses g.D.Disk g.S.Source g.K.Sink c.args.disk c.args.source c.args.sink it) c.end_unopened.result e.detail e.tally e.disk e.source e.sink
-    (record { reading = refl; writing = refl; device = c.in-Ok.ensures.count; rule = tt; reads = c.init.ensures.past })
+    (record { reading = refl; writing = refl; device = c.in-Ok.ensures.cause; rule = tt; reads = c.init.ensures.made.most.past })
 
 pub returns-in-Ok-clause-makes : goal.returns-in-Ok-clause-makes
 returns-in-Ok-clause-makes g c =
@@ -35,7 +35,7 @@ returns-in-Err-clause-causes g c =
     let it = c.end_unopened-in-Err.result in
     let e = c.end_unopened-in-Err.ensures in
     at_end (λ it. ShowsCauses g.D.Disk g.S.Source g.K.Sink c.args.disk c.args.source c.args.sink it) it (e.detail ∙ c.not_made.ensures) e.tally e.disk e.source e.sink
-    (init_causes g.D.Disk g.S.Source g.K.Sink c.args.disk c.init.new.disk c.args.source c.args.sink it c.in-Err.fault c.in-Err.ensures.cause c.init.ensures.past)
+    (init_causes g.D.Disk g.S.Source g.K.Sink c.args.disk c.init.new.disk c.args.source c.args.sink it c.in-Err.fault c.in-Err.ensures.cause c.init.ensures.made.most.past)
 
 pub returns-in-Err-clause-makes : goal.returns-in-Err-clause-makes
 returns-in-Err-clause-makes g c =

@@ -7,10 +7,14 @@ use Rattle.pm_save.specs.Answers.{IfMemory, IsFaultOf, OnMemory}
 use Rattle.pm_engine.specs.Working.{IsFaultFor, IsLeft, IsShort, LastsSo, disk_at, saving_in, view_in}
 use Rattle.pm_engine.proofs.engine.Engine.ask.Goals as goal
 use Rattle.pm_engine.proofs.Asking.{ask_serves, ask_sound, fail_sound, rest_sound, stored}
+use Rattle.pm_engine.proofs.Counts.{counted_risen, counted_still}
 use Rattle.pm_engine.proofs.Crashing.{leaves_answered, leaves_failed, progress_of, settled_alone}
 use Rattle.pm_law_work.specs.Raises.{raises}
 use Rattle.pm_engine.proofs.Answering.{Told, room_of, still_works, work_of}
-use Rattle.pm_engine.proofs.Settled.{settled_all}
+use Rattle.pm_engine.proofs.Acting.{space_of}
+use Rattle.pm_law_bound.proofs.Many.{kept_still}
+use Rattle.pm_engine.proofs.Bounding.{bounds_asked, bounds_rested, kept_of}
+use Rattle.pm_engine.proofs.Settled.{dropped_all, settled_all}
 use Rattle.pm_engine.proofs.Telling.{copies_of, idle_of, left_alone, nothing_served, short_of, shows_rise}
 
 true_false : true ≡ false → ⊥
@@ -26,28 +30,42 @@ invariant_of-self g c =
     let told : Told c.args.cmd.now self.works new = record {
       heap = self.works.space.kept;
       tied = c.in-Ok.ensures.tied;
-      still = c.answer.ensures.still;
-      leaves = c.answer.ensures.leaves;
-      told = c.answer.ensures.told;
+      still = λ other. (c.answer.ensures.other other).still;
+      leaves = λ settles. (c.answer.ensures.settle settles).leaves;
+      told = c.answer.ensures.causes.told;
       counts = g.met.D.Disk.counts_now (disk_at new);
       only_now = g.met.D.Disk.only_now (disk_at self.works);
     } in
-    record { sound = ask_sound self.opening self.stopped self.works c.requires.running self.sound new c.args.client c.args.cmd.now c.in-Ok.reply told c.in-Ok.ensures.answers }
+    record {
+      sound = ask_sound self.opening self.stopped self.works c.requires.running self.sound new c.args.client c.args.cmd.now c.in-Ok.reply told c.in-Ok.ensures.answers;
+      bounded = bounds_asked self.opening self.stopped self.works new c.requires.running self.works.space.kept self.sound self.bounded c.args.client c.args.cmd.now c.in-Ok.reply c.in-Ok.ensures.answers;
+      counted = counted_still self.opening.count (g.D.Disk.count (disk_at self.works)) (g.D.Disk.count (disk_at new)) self.counted c.in-Ok.ensures.causes.cause;
+    }
 
 pub invariant_of-self-in-Err-Memory : goal.invariant_of-self-in-Err-Memory
 invariant_of-self-in-Err-Memory g c =
     let self = c.args.self.now in
     let new = c.answer.new.self in
-    let so = subst (λ (fault : SaveFault). IfMemory (LastsSo self.works new) fault) c.in-Err-Memory.field-0-is c.in-Err-Memory.ensures.memory in
-    record { sound = rest_sound self.opening self.stopped self.works c.requires.running self.sound new c.in-Err-Memory.ensures.rests so.tied so.lasts c.answer.ensures.told so.spares (g.met.D.Disk.counts_now (disk_at new)) }
+    let so = subst (λ (fault : SaveFault). IfMemory (LastsSo self.works new) fault) c.in-Err-Memory.field-0-is c.in-Err-Memory.ensures.fails.memory in
+    let stands = subst (λ (fault : SaveFault). IsFaultOf (g.D.Disk.count (disk_at self.works)) (g.D.Disk.count (disk_at new)) fault) c.in-Err-Memory.field-0-is c.in-Err-Memory.ensures.causes.cause in
+    record {
+      sound = rest_sound self.opening self.stopped self.works c.requires.running self.sound new c.in-Err-Memory.ensures.fails.rests so.tied so.lasts c.answer.ensures.causes.told so.spares (g.met.D.Disk.counts_now (disk_at new));
+      bounded = bounds_rested self.opening self.stopped self.stopped self.works new c.in-Err-Memory.ensures.fails.rests self.bounded;
+      counted = counted_still self.opening.count (g.D.Disk.count (disk_at self.works)) (g.D.Disk.count (disk_at new)) self.counted stands;
+    }
 
 pub invariant_of-self-in-Err-Disk : goal.invariant_of-self-in-Err-Disk
 invariant_of-self-in-Err-Disk g c =
     let self = c.args.self.now in
     let new = c.answer.new.self in
-    let fault = subst (λ (fault : SaveFault). IsFaultFor (is_settle c.args.cmd.now) self.works fault) c.in-Err-Disk.field-0-is c.in-Err-Disk.ensures.fault in
+    let fault = subst (λ (fault : SaveFault). IsFaultFor (is_settle c.args.cmd.now) self.works fault) c.in-Err-Disk.field-0-is c.in-Err-Disk.ensures.fails.fault in
     let begun = progress_of (saving_in self.works).progress fault.1 in
-    record { sound = fail_sound self.opening self.stopped self.works c.requires.running self.sound new c.faults-after.result c.in-Err-Disk.ensures.rests (c.answer.ensures.leaves fault.0).either begun.0 begun.1 c.answer.ensures.told (g.met.D.Disk.counts_now (disk_at new)) }
+    let rose = subst (λ (fault : SaveFault). IsFaultOf (g.D.Disk.count (disk_at self.works)) (g.D.Disk.count (disk_at new)) fault) c.in-Err-Disk.field-0-is c.in-Err-Disk.ensures.causes.cause in
+    record {
+      sound = fail_sound self.opening self.stopped self.works c.requires.running self.sound new c.faults-after.result c.in-Err-Disk.ensures.fails.rests (c.answer.ensures.settle fault.0).leaves.either begun.0 begun.1 c.answer.ensures.causes.told (g.met.D.Disk.counts_now (disk_at new));
+      bounded = bounds_rested self.opening self.stopped (Some c.faults-after.result) self.works new c.in-Err-Disk.ensures.fails.rests self.bounded;
+      counted = counted_risen self.opening.count (g.D.Disk.count (disk_at self.works)) (g.D.Disk.count (disk_at new)) self.counted rose;
+    }
 
 pub returns-in-Ok-clause-call : goal.returns-in-Ok-clause-call
 returns-in-Ok-clause-call g c =
@@ -56,29 +74,35 @@ returns-in-Ok-clause-call g c =
     let told : Told c.args.cmd.now self.works new = record {
       heap = self.works.space.kept;
       tied = c.in-Ok.ensures.tied;
-      still = c.answer.ensures.still;
-      leaves = c.answer.ensures.leaves;
-      told = c.answer.ensures.told;
+      still = λ other. (c.answer.ensures.other other).still;
+      leaves = λ settles. (c.answer.ensures.settle settles).leaves;
+      told = c.answer.ensures.causes.told;
       counts = g.met.D.Disk.counts_now (disk_at new);
       only_now = g.met.D.Disk.only_now (disk_at self.works);
     } in
-    let sound = ask_sound self.opening self.stopped self.works c.requires.running self.sound new c.args.client c.args.cmd.now c.in-Ok.reply told c.in-Ok.ensures.answers in
+    let sound = c.in-Ok.self-1-own.given.0 in
+    let bounded = c.in-Ok.self-1-own.given.1.0 in
+    let counted = c.in-Ok.self-1-own.given.1.1.0 in
     let serves = ask_serves self.opening self.stopped self.works c.requires.running self.sound new c.args.client c.args.cmd.now c.in-Ok.reply told c.in-Ok.ensures.answers in
     record {
       serves = serves;
       fails = tt;
       running = record { running = c.requires.running; count = c.in-Ok.ensures.causes.cause };
       reopen = tt;
-      still = λ other. record { disk = (c.answer.ensures.still other).disk; none = tt };
-      leaves = λ none. leaves_answered self.opening self.stopped self.works none self.sound new c.args.cmd.now c.in-Ok.reply (g.met.D.Disk.only_now (disk_at self.works)) c.answer.ensures.still c.answer.ensures.leaves;
-      settled = settled_all self new sound c.requires.running c.args.client c.args.cmd.now c.in-Ok.reply serves c.in-Ok.ensures.answers;
+      still = λ other. record { disk = (c.answer.ensures.other other).still.disk; none = tt };
+      leaves = λ none. leaves_answered self.opening self.stopped self.works none self.sound new c.args.cmd.now c.in-Ok.reply (g.met.D.Disk.only_now (disk_at self.works)) (λ other. (c.answer.ensures.other other).still) (λ settles. (c.answer.ensures.settle settles).leaves);
+      settled = settled_all self new sound bounded counted c.requires.running c.args.client c.args.cmd.now c.in-Ok.reply serves c.in-Ok.ensures.answers;
       short = tt;
       shown = short_of c.args.client c.args.cmd.now self.works new c.in-Ok.reply c.in-Ok.ensures.answers;
       copies = λ other. copies_of self.opening self.stopped self.works new c.args.client c.args.cmd.now c.in-Ok.reply other c.in-Ok.ensures.answers;
       lasts = λ _. tt;
-      idle = idle_of self.opening self.stopped self.works new c.args.cmd.now c.answer.ensures.still c.answer.ensures.leaves;
-      past = c.in-Ok.ensures.causes.past;
+      idle = idle_of self.opening self.stopped self.works new c.args.cmd.now (λ other. (c.answer.ensures.other other).still) (λ settles. (c.answer.ensures.settle settles).leaves);
+      dropped = dropped_all self new sound bounded counted c.args.client c.args.cmd.now c.in-Ok.reply c.in-Ok.ensures.answers;
+      made = c.in-Ok.ensures.causes.made;
+      past = c.in-Ok.ensures.causes.made.past;
+      space = space_of c.args.client c.args.cmd.now self.works new c.in-Ok.reply c.in-Ok.ensures.answers;
       work = work_of c.args.client c.args.cmd.now self.works new c.in-Ok.reply c.in-Ok.ensures.answers;
+      bound = kept_of c.args.client c.args.cmd.now self.works new c.in-Ok.reply c.in-Ok.ensures.answers;
       room = room_of c.args.client c.args.cmd.now self.works new c.in-Ok.reply c.in-Ok.ensures.answers;
     }
 
@@ -87,24 +111,28 @@ returns-in-Err-Memory-clause-call g c =
     let self = c.args.self.now in
     let new = c.answer.new.self in
     let arm = c.in-Err-Memory in
-    let so = subst (λ (fault : SaveFault). IfMemory (LastsSo self.works new) fault) arm.field-0-is arm.ensures.memory in
+    let so = subst (λ (fault : SaveFault). IfMemory (LastsSo self.works new) fault) arm.field-0-is arm.ensures.fails.memory in
     let stands = subst (λ (fault : SaveFault). IsFaultOf (g.D.Disk.count (disk_at self.works)) (g.D.Disk.count (disk_at new)) fault) arm.field-0-is arm.ensures.causes.cause in
     record {
       serves = tt;
-      fails = (nothing_served self.opening self.stopped self.works new self.stopped arm.ensures.rests, c.requires.running, c.requires.running, stands);
+      fails = (nothing_served self.opening self.stopped self.works new self.stopped arm.ensures.fails.rests, c.requires.running, c.requires.running, stands);
       running = tt;
       reopen = tt;
-      still = λ other. record { disk = (c.answer.ensures.still other).disk; none = tt };
+      still = λ other. record { disk = (c.answer.ensures.other other).still.disk; none = tt };
       leaves = λ none. settled_alone self.opening self.stopped self.works none self.sound new c.args.cmd.now (Err Memory) so.spares;
       settled = tt;
-      short = λ settles. subst (λ (fault : SaveFault). IfMemory (IsShort self.works new) fault) arm.field-0-is (subst (λ (result : Result Reply SaveFault). OnMemory result (IsShort self.works new)) arm.is (c.answer.ensures.short settles));
+      short = λ settles. subst (λ (fault : SaveFault). IfMemory (IsShort self.works new) fault) arm.field-0-is (subst (λ (result : Result Reply SaveFault). OnMemory result (IsShort self.works new)) arm.is (c.answer.ensures.settle settles).short);
       shown = tt;
       copies = λ _. tt;
-      lasts = λ other. left_alone self.opening self.stopped self.works new (subst (λ (result : Result Reply SaveFault). OnErr result (IsLeft self.works new)) arm.is (c.answer.ensures.left other));
-      idle = idle_of self.opening self.stopped self.works new c.args.cmd.now c.answer.ensures.still c.answer.ensures.leaves;
-      past = arm.ensures.causes.past;
-      work = still_works (view_in self.works) (view_in new) (raises c.args.cmd.now) arm.ensures.rests.view;
-      room = arm.ensures.rests.nothing.room;
+      lasts = λ other. left_alone self.opening self.stopped self.works new (subst (λ (result : Result Reply SaveFault). OnErr result (IsLeft self.works new)) arm.is (c.answer.ensures.other other).left);
+      idle = idle_of self.opening self.stopped self.works new c.args.cmd.now (λ other. (c.answer.ensures.other other).still) (λ settles. (c.answer.ensures.settle settles).leaves);
+      dropped = tt;
+      made = arm.ensures.causes.made;
+      past = arm.ensures.causes.made.past;
+      space = tt;
+      work = still_works (view_in self.works) (view_in new) (raises c.args.cmd.now) arm.ensures.fails.rests.view;
+      bound = kept_still (view_in self.works) (view_in new) arm.ensures.fails.rests.view;
+      room = arm.ensures.fails.rests.nothing.room;
     }
 
 pub returns-in-Err-Disk-clause-call : goal.returns-in-Err-Disk-clause-call
@@ -112,13 +140,13 @@ returns-in-Err-Disk-clause-call g c =
     let self = c.args.self.now in
     let new = c.answer.new.self in
     let arm = c.in-Err-Disk in
-    let fault = subst (λ (fault : SaveFault). IsFaultFor (is_settle c.args.cmd.now) self.works fault) arm.field-0-is arm.ensures.fault in
+    let fault = subst (λ (fault : SaveFault). IsFaultFor (is_settle c.args.cmd.now) self.works fault) arm.field-0-is arm.ensures.fails.fault in
     let rose = subst (λ (fault : SaveFault). IsFaultOf (g.D.Disk.count (disk_at self.works)) (g.D.Disk.count (disk_at new)) fault) arm.field-0-is arm.ensures.causes.cause in
     let begun = progress_of (saving_in self.works).progress fault.1 in
     record {
       serves = tt;
       fails = (
-        nothing_served self.opening self.stopped self.works new (Some c.faults-after.result) arm.ensures.rests,
+        nothing_served self.opening self.stopped self.works new (Some c.faults-after.result) arm.ensures.fails.rests,
         c.requires.running,
         ap (λ (count : ℕ). Some count) c.faults-after.ensures,
         shows_rise c.faults-before.result c.faults-after.result (g.D.Disk.count (disk_at self.works)) (g.D.Disk.count (disk_at new)) c.faults-before.ensures c.faults-after.ensures rose,
@@ -126,14 +154,18 @@ returns-in-Err-Disk-clause-call g c =
       running = tt;
       reopen = tt;
       still = λ other. absurd (true_false (sym fault.0 ∙ other));
-      leaves = λ none. leaves_failed self.opening self.stopped self.works none self.sound new c.args.cmd.now c.faults-before.result c.faults-after.result fault.0 begun.0 begun.1 (c.answer.ensures.leaves fault.0);
+      leaves = λ none. leaves_failed self.opening self.stopped self.works none self.sound new c.args.cmd.now c.faults-before.result c.faults-after.result fault.0 begun.0 begun.1 (c.answer.ensures.settle fault.0).leaves;
       settled = tt;
       short = tt;
       shown = tt;
       copies = λ _. tt;
       lasts = λ _. tt;
-      idle = idle_of self.opening self.stopped self.works new c.args.cmd.now c.answer.ensures.still c.answer.ensures.leaves;
-      past = arm.ensures.causes.past;
-      work = still_works (view_in self.works) (view_in new) (raises c.args.cmd.now) arm.ensures.rests.view;
-      room = arm.ensures.rests.nothing.room;
+      idle = idle_of self.opening self.stopped self.works new c.args.cmd.now (λ other. (c.answer.ensures.other other).still) (λ settles. (c.answer.ensures.settle settles).leaves);
+      dropped = tt;
+      made = arm.ensures.causes.made;
+      past = arm.ensures.causes.made.past;
+      space = tt;
+      work = still_works (view_in self.works) (view_in new) (raises c.args.cmd.now) arm.ensures.fails.rests.view;
+      bound = kept_still (view_in self.works) (view_in new) arm.ensures.fails.rests.view;
+      room = arm.ensures.fails.rests.nothing.room;
     }

@@ -2,7 +2,9 @@ use Rattle.std.proofs.Common.{ap, arith}
 use Rattle.pm_engine.specs.Working.{disk_at}
 use Rattle.pm_engine.proofs.engine.Engine.collect_running.Goals as goal
 use Rattle.pm_engine.proofs.Asking.{stored}
+use Rattle.pm_engine.proofs.Bounding.{bounds_tried}
 use Rattle.pm_engine.proofs.Collected.{collects, left_rests, same_disk, tried_sound}
+use Rattle.pm_engine.proofs.Counts.{counted_still}
 use Rattle.pm_engine.proofs.Telling.{left_alone, nothing_served}
 
 pub collect-requires-clause-tied : goal.collect-requires-clause-tied
@@ -15,6 +17,8 @@ invariant_of-self g c =
     record {
       sound = tried_sound self.opening self.stopped self.works new c.requires.running self.sound c.collect.result c.collect.ensures.collects c.collect.ensures.err c.collect.ensures.worlds c.collect.ensures.pages c.collect.ensures.tied
           (g.met.D.Disk.counts_now (disk_at new)) (g.met.D.Disk.only_now (disk_at self.works));
+      bounded = bounds_tried self.opening self.stopped self.works new g.F.Fn c.collect.result c.collect.ensures.counted c.collect.ensures.event c.collect.ensures.collects c.collect.ensures.err self.bounded;
+      counted = counted_still self.opening.count (g.D.Disk.count (disk_at self.works)) (g.D.Disk.count (disk_at new)) self.counted (ap g.D.Disk.count (same_disk self.works new c.collect.ensures.pages));
     }
 
 pub returns-in-Ok-clause-call : goal.returns-in-Ok-clause-call

@@ -4,6 +4,8 @@ use Rattle.pm_save.specs.Answers.{IfMemory, IsFaultOf}
 use Rattle.pm_engine.specs.Working.{IsAsItWas, IsTiedIn, LastsIn, disk_at}
 use Rattle.pm_engine.proofs.engine.Engine.flush_running.Goals as goal
 use Rattle.pm_engine.proofs.Asking.{flush_failed, flush_kept, leaves_settled, rest_sound, stored}
+use Rattle.pm_engine.proofs.Bounding.{bounds_flushed, bounds_rested, flushed_view}
+use Rattle.pm_engine.proofs.Counts.{counted_risen, counted_still}
 use Rattle.pm_engine.proofs.Flushed.{flush_told}
 use Rattle.pm_engine.proofs.Telling.{left_alone, nothing_served, shows_rise}
 
@@ -14,7 +16,11 @@ pub invariant_of-self : goal.invariant_of-self
 invariant_of-self g c =
     let self = c.args.self.now in
     let new = c.flush.new.self in
-    record { sound = flush_kept self.opening self.stopped self.works c.requires.running self.sound new c.in-Ok.flushed c.in-Ok.ensures.flushes c.in-Ok.ensures.tied c.in-Ok.ensures.lasts c.flush.ensures.told c.flush.ensures.spares (g.met.D.Disk.counts_now (disk_at new)) }
+    record {
+      sound = flush_kept self.opening self.stopped self.works c.requires.running self.sound new c.in-Ok.flushed c.in-Ok.ensures.flushes c.in-Ok.ensures.tied c.in-Ok.ensures.lasts c.flush.ensures.causes.told c.flush.ensures.spares (g.met.D.Disk.counts_now (disk_at new));
+      bounded = bounds_flushed self.opening self.stopped self.works new c.in-Ok.flushed c.in-Ok.ensures.flushes self.bounded;
+      counted = counted_still self.opening.count (g.D.Disk.count (disk_at self.works)) (g.D.Disk.count (disk_at new)) self.counted c.in-Ok.ensures.causes.cause;
+    }
 
 pub invariant_of-self-in-Err-Memory : goal.invariant_of-self-in-Err-Memory
 invariant_of-self-in-Err-Memory g c =
@@ -22,13 +28,23 @@ invariant_of-self-in-Err-Memory g c =
     let new = c.flush.new.self in
     let tied = subst (λ (fault : SaveFault). IfMemory (IsTiedIn new) fault) c.in-Err-Memory.field-0-is c.in-Err-Memory.ensures.tied in
     let last = subst (λ (fault : SaveFault). IfMemory (LastsIn self.works new) fault) c.in-Err-Memory.field-0-is c.in-Err-Memory.ensures.lasts in
-    record { sound = rest_sound self.opening self.stopped self.works c.requires.running self.sound new c.in-Err-Memory.ensures.rests tied last c.flush.ensures.told c.flush.ensures.spares (g.met.D.Disk.counts_now (disk_at new)) }
+    let stands = subst (λ (fault : SaveFault). IsFaultOf (g.D.Disk.count (disk_at self.works)) (g.D.Disk.count (disk_at new)) fault) c.in-Err-Memory.field-0-is c.in-Err-Memory.ensures.causes.cause in
+    record {
+      sound = rest_sound self.opening self.stopped self.works c.requires.running self.sound new c.in-Err-Memory.ensures.rests tied last c.flush.ensures.causes.told c.flush.ensures.spares (g.met.D.Disk.counts_now (disk_at new));
+      bounded = bounds_rested self.opening self.stopped self.stopped self.works new c.in-Err-Memory.ensures.rests self.bounded;
+      counted = counted_still self.opening.count (g.D.Disk.count (disk_at self.works)) (g.D.Disk.count (disk_at new)) self.counted stands;
+    }
 
 pub invariant_of-self-in-Err-Disk : goal.invariant_of-self-in-Err-Disk
 invariant_of-self-in-Err-Disk g c =
     let self = c.args.self.now in
     let new = c.flush.new.self in
-    record { sound = flush_failed self.opening self.stopped self.works c.requires.running self.sound new c.faults-after.result c.in-Err-Disk.ensures.rests c.flush.ensures.told c.flush.ensures.spares (g.met.D.Disk.counts_now (disk_at new)) }
+    let rose = subst (λ (fault : SaveFault). IsFaultOf (g.D.Disk.count (disk_at self.works)) (g.D.Disk.count (disk_at new)) fault) c.in-Err-Disk.field-0-is c.in-Err-Disk.ensures.causes.cause in
+    record {
+      sound = flush_failed self.opening self.stopped self.works c.requires.running self.sound new c.faults-after.result c.in-Err-Disk.ensures.rests c.flush.ensures.causes.told c.flush.ensures.spares (g.met.D.Disk.counts_now (disk_at new));
+      bounded = bounds_rested self.opening self.stopped (Some c.faults-after.result) self.works new c.in-Err-Disk.ensures.rests self.bounded;
+      counted = counted_risen self.opening.count (g.D.Disk.count (disk_at self.works)) (g.D.Disk.count (disk_at new)) self.counted rose;
+    }
 
 pub returns-in-Ok-clause-call : goal.returns-in-Ok-clause-call
 returns-in-Ok-clause-call g c =
@@ -37,6 +53,7 @@ returns-in-Ok-clause-call g c =
     record {
       flushes = flush_told self.opening self.stopped self.works new c.in-Ok.flushed (stored self.opening self.stopped self.works c.requires.running self.sound).tied c.in-Ok.ensures.flushes;
       flushed = c.in-Ok.ensures.flushes.flushed;
+      view = flushed_view self.works new c.in-Ok.flushed c.in-Ok.ensures.flushes;
       fails = tt;
       running = record { running = c.requires.running; count = c.in-Ok.ensures.causes.cause };
       reopen = tt;
@@ -44,7 +61,8 @@ returns-in-Ok-clause-call g c =
       memory = tt;
       fault = tt;
       idle = c.flush.ensures.idle;
-      past = c.in-Ok.ensures.causes.past;
+      made = c.in-Ok.ensures.causes.made;
+      past = c.in-Ok.ensures.causes.made.past;
       room = let same = c.flush.ensures.room in omega (arith, same);
     }
 
@@ -58,6 +76,7 @@ returns-in-Err-Memory-clause-call g c =
     record {
       flushes = tt;
       flushed = tt;
+      view = arm.ensures.rests.view;
       fails = (nothing_served self.opening self.stopped self.works new self.stopped arm.ensures.rests, c.requires.running, c.requires.running, stands);
       running = tt;
       reopen = tt;
@@ -65,7 +84,8 @@ returns-in-Err-Memory-clause-call g c =
       memory = record { serving = left_alone self.opening self.stopped self.works new same.left; pages = same.state; contents = same.contents };
       fault = arm.ensures.fault;
       idle = c.flush.ensures.idle;
-      past = arm.ensures.causes.past;
+      made = arm.ensures.causes.made;
+      past = arm.ensures.causes.made.past;
       room = let same = c.flush.ensures.room in omega (arith, same);
     }
 
@@ -78,6 +98,7 @@ returns-in-Err-Disk-clause-call g c =
     record {
       flushes = tt;
       flushed = tt;
+      view = arm.ensures.rests.view;
       fails = (
         nothing_served self.opening self.stopped self.works new (Some c.faults-after.result) arm.ensures.rests,
         c.requires.running,
@@ -90,6 +111,7 @@ returns-in-Err-Disk-clause-call g c =
       memory = tt;
       fault = arm.ensures.fault;
       idle = c.flush.ensures.idle;
-      past = arm.ensures.causes.past;
+      made = arm.ensures.causes.made;
+      past = arm.ensures.causes.made.past;
       room = let same = c.flush.ensures.room in omega (arith, same);
     }

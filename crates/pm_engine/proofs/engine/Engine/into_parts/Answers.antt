@@ -1,4 +1,13 @@
+use Rattle.std.proofs.Common.{◌∙◌, ap, List}
+use Rattle.pm_types.specs.declared.event.Watch.{Watch}
+use Rattle.pm_view.specs.Watches.{lines_from}
 use Rattle.pm_engine.proofs.engine.Engine.into_parts.Goals as goal
+use Rattle.pm_engine.specs.Working.{view_in}
+use Rattle.pm_engine.proofs.Bounding.{told_honest}
 
 pub invariant_of-works : goal.invariant_of-works
 invariant_of-works g c = record { kept = c.args.self.works.saver.kept }
+
+pub returns-clause-honest : goal.returns-clause-honest
+returns-clause-honest g c = told_honest c.args.self.opening c.args.self.stopped c.args.self.works c.args.self.bounded _
+    (c.tell_watches.ensures ∙ ap (λ (watches : List Watch). lines_from (view_in c.args.self.works) 1 watches) c.as_slice.ensures.value)

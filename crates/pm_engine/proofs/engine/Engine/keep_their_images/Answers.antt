@@ -48,3 +48,9 @@ returns-clause-standing g c = λ ids distinct reached.
     let w = world (serving it) in
     splits_once (at_most_once _ _) (∥∥₁_map it.sound (λ sound. few_stand (view_in it.works) ids it.works.space.kept distinct (λ id among.
     sound.served.represents.reached id (of_each (IsReachable w.heap (IsHeld w)) ids id reached among))))
+
+pub returns-clause-bounds : goal.returns-clause-bounds
+returns-clause-bounds g c = c.args.self.now.bounded
+
+pub returns-clause-counted : goal.returns-clause-counted
+returns-clause-counted g c = c.args.self.now.counted

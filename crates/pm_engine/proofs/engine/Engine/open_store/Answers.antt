@@ -1,4 +1,4 @@
-use Rattle.std.proofs.Common.{ℕ, refl, sym, ap, subst, ◌∙◌, arith}
+use Rattle.std.proofs.Common.{None, ℕ, refl, sym, ap, subst, ◌∙◌, arith}
 use Rattle.std.specs.Prelude.{option_map}
 use Rattle.std.proofs.lemmas.Result.{err_from_is_err_and}
 use Rattle.pm_base.specs.Mapped.{mapped}
@@ -11,7 +11,9 @@ use Rattle.pm_reopen.proofs.Refusals.{graph_refused, header_refused}
 use Rattle.pm_engine.specs.declared.start.Start.{Start}
 use Rattle.pm_engine.specs.declared.works.Works.{Works}
 use Rattle.pm_engine.proofs.engine.Engine.open_store.Goals as goal
+use Rattle.pm_engine.proofs.Bounding.{bounds_begun}
 use Rattle.pm_engine.proofs.Begun.{stands, start_sound}
+use Rattle.pm_engine.proofs.Counts.{counted_first}
 
 pub returns-in_err-pages-clause-fault : goal.returns-in_err-pages-clause-fault
 returns-in_err-pages-clause-fault g c =
@@ -36,6 +38,8 @@ invariant_of-result g c =
           (λ bytes told. g.met.D.Disk.leaves_bytes disk (g.D.Disk.moment disk) bytes (g.met.D.Disk.counts_now disk (g.D.Disk.moment disk) bytes (omega arith) (stay bytes told)))
           (ap (option_map (mapped car_of)) makes.unfrozen.frozen) c.new.ensures c.new-in-Ok.ensures.items c.new-in-Ok-2.ensures refl refl (ap (λ h. h.epoch) c.header.ensures) c.of.ensures c.of-in-Ok.ensures (g.met.D.Disk.only_now disk)
           (λ bytes left told here. c.in_ok-pages.ensures.only bytes (sym c.in_ok-pages.ensures.told ∙ sym c.open_space.ensures.looks.told ∙ told) left (c.open_space.ensures.looks.images.no_more left here)) ∣₁;
+      bounded = bounds_begun start None works c.new-in-Ok-2.ensures;
+      counted = counted_first c.faults.result (g.D.Disk.count (disk_of last)) c.faults.ensures;
     }
 
 pub returns-in-Ok-clause-stands : goal.returns-in-Ok-clause-stands

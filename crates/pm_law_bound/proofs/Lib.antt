@@ -1,0 +1,4 @@
+pub mod Begins
+pub mod Stays
+pub mod Reached
+pub mod Many
