@@ -17,6 +17,8 @@ pub(crate) struct Held<F: StoreFile> {
     pub(crate) file: F,
     /// A crash may lose the name of the file, since no sync of its folder is known.
     pub(crate) may_lose_name: bool,
+    /// A sync of all that the file has has succeeded since it was opened.
+    pub(crate) was_synced: bool,
     ghost apart: { IsApart (F.raw_fd file) },
 }
 
@@ -61,5 +63,6 @@ where
     Ok(Held {
         file,
         may_lose_name,
+        was_synced: false,
     })
 }

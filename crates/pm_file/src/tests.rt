@@ -87,7 +87,13 @@ fn a_new_name_is_synced_with_the_first_sync(rt: HostRuntime) -> Result<(), Fail>
     disk.sync()?;
     heard(&rt, &system, "sync 3;open a r;sync 4;")?;
     disk.sync()?;
-    heard(&rt, &system, "sync 3;")?;
+    heard(&rt, &system, "data 3;")?;
+    system.fail("data 3");
+    failed(&rt, disk.sync());
+    heard(&rt, &system, "data 3;")?;
+    system.fail("");
+    disk.sync()?;
+    heard(&rt, &system, "data 3;")?;
     drop(disk);
 
     // The file now holds bytes.
@@ -95,6 +101,8 @@ fn a_new_name_is_synced_with_the_first_sync(rt: HostRuntime) -> Result<(), Fail>
     again.sync()?;
     let kept = "open /dev/null r;open store rwc;lock 3;len 3;sync 3;";
     heard(&rt, &system, kept)?;
+    again.sync()?;
+    heard(&rt, &system, "data 3;")?;
     assert_eq!(rt; again.len()?, 3);
     Ok(())
 }
