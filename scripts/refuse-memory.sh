@@ -1,0 +1,217 @@
+#!/usr/bin/env bash
+# Refuses the program memory, once in each run and at each place in turn, on real files. It takes its memory by calls of
+# the C library. A shared object of a few lines, which this script compiles, counts those calls and refuses the one whose
+# number it is told. For each number from 1 until nothing is left to refuse the run has to end as the contracts say:
+#
+# - with status 0 or 7, or with 5 where the refusal fell into a call that opens a file;
+# - with a first part of the replies of the run that is refused nothing, and with all of them on status 0;
+# - with the text of its status on standard error, and nothing else there;
+# - with a store that opens again, and is one of those that the same script leaves: the copy before it or after it, whole,
+#   and the one after it wherever `saved` was told.
+#
+# It prints a line for each row: how many numbers, how often each status and each store came. It ends with 0 where all
+# are as they should be. It takes the program that 'scripts/build.sh' left at ./pmos, the one that 'rt ci' built, or the one
+# that PMOS names. Where there is none, or no C compiler, it says so and ends with 0.
+set -uo pipefail
+cd "$(dirname "$0")/.." || exit 1
+
+pmos=${PMOS-}
+for place in "$PWD/pmos" "$PWD/crates/pmos/out/pmos"; do
+    [ -n "$pmos" ] || { [ -x "$place" ] && pmos=$place; }
+done
+[ -n "$pmos" ] && [ -x "$pmos" ] || { echo "Skipped: there is no program; scripts/build.sh builds it."; exit 0; }
+for tool in cc python3; do
+    command -v "$tool" >/dev/null || { echo "Skipped: there is no $tool."; exit 0; }
+done
+work=$(mktemp -d) || exit 1
+trap 'rm -rf "$work"' EXIT
+
+cat >"$work/refuse.c" <<'C'
+#define _GNU_SOURCE
+#include <errno.h>
+#include <fcntl.h>
+#include <stdlib.h>
+#include <stdio.h>
+#include <unistd.h>
+
+extern void *__libc_malloc(size_t), *__libc_calloc(size_t, size_t), *__libc_realloc(void *, size_t), *__libc_memalign(size_t, size_t);
+
+/* Counted from the first line of main's start on: what the loader takes before is no concern of the program. */
+static long calls, refused;
+static int is_counting;
+
+__attribute__((constructor)) static void begin(void) {
+    const char *number = getenv("REFUSED_CALL");
+    refused = number ? atol(number) : 0;
+    is_counting = 1;
+}
+
+__attribute__((destructor)) static void tell(void) {
+    const char *path = getenv("CALLS_FILE");
+    char text[32];
+    is_counting = 0;
+    int length = snprintf(text, sizeof text, "%ld\n", calls);
+    int file = path ? open(path, O_WRONLY | O_CREAT | O_TRUNC, 0600) : -1;
+    if (file >= 0 && write(file, text, length) == length) close(file);
+}
+
+static int is_refused(void) {
+    if (!is_counting || ++calls != refused) return 0;
+    errno = ENOMEM;
+    return 1;
+}
+
+void *malloc(size_t size) { return is_refused() ? NULL : __libc_malloc(size); }
+void *calloc(size_t count, size_t size) { return is_refused() ? NULL : __libc_calloc(count, size); }
+void *realloc(void *old, size_t size) { return is_refused() ? NULL : __libc_realloc(old, size); }
+void *aligned_alloc(size_t align, size_t size) { return is_refused() ? NULL : __libc_memalign(align, size); }
+int posix_memalign(void **to, size_t align, size_t size) {
+    if (is_refused()) return ENOMEM;
+    *to = __libc_memalign(align, size);
+    return *to ? 0 : ENOMEM;
+}
+C
+cc -O2 -shared -fPIC -o "$work/refuse.so" "$work/refuse.c" || { echo "The shared object was not compiled."; exit 1; }
+
+python3 - "$pmos" "$work" <<'PYTHON'
+import collections, os, shutil, subprocess, sys, time
+
+pmos, work = sys.argv[1:]
+store, calls_file = f"{work}/store.pmos", f"{work}/calls"
+MOST = 3000
+TEXTS = {0: "", 5: "pmos: disk fault\n", 7: "pmos: no memory\n"}
+valgrind = shutil.which("valgrind") if "VALGRIND" in os.environ else None
+
+
+def ended(words, text=b"", number=None, under=()):
+    """Runs the program, with this call for memory refused; answers status, output, errors and how many calls it made."""
+    told = dict(os.environ, CALLS_FILE=calls_file)
+    if number is not None:
+        told |= {"LD_PRELOAD": f"{work}/refuse.so", "REFUSED_CALL": str(number)}
+    if os.path.exists(calls_file):
+        os.remove(calls_file)
+    ran = subprocess.run([*under, pmos, *words], input=text, capture_output=True, env=told)
+    calls = int(open(calls_file).read()) if os.path.exists(calls_file) else -1
+    return ran.returncode, ran.stdout, ran.stderr.decode(errors="replace"), calls
+
+
+def held(path):
+    """What a store holds, as the program tells it, or the text of its refusal."""
+    status, out, errors, _ = ended(["inspect", path])
+    return out if status == 0 else errors.encode()
+
+
+def script(text):
+    return "".join(line + "\n" for line in text.split(" / ")).encode()
+
+
+def made():
+    if os.path.exists(store):
+        os.remove(store)
+    if ended(["init", store])[0]:
+        sys.exit("a store could not be made")
+    return open(store, "rb").read()
+
+
+def after(kept, *texts):
+    """The bytes of a store after runs of these scripts."""
+    open(store, "wb").write(kept)
+    for text in texts:
+        if ended(["run", store, "serial"], script(text))[0]:
+            sys.exit(f"a run failed: {text}")
+    return open(store, "rb").read()
+
+
+empty = made()
+first = "0 new 1 2 cafe / 0 root a 1 / 0 save / 0 settle"
+moves = "0 new 1 1 aa / 0 root a 1 / 0 new 2 0 bb / ! gc 6 / 0 store 1 0 2 / ! gc 60 / 0 load 3 1 0"
+beside = "0 new 1 0 00 / 0 root a 1 / 0 save / ! flush 1 / 0 put 1 0 ff / ! flush 9 / 0 settle"
+second = "0 find 1 a / 0 put 1 0 ff / 0 save / 0 settle"
+copied = after(empty, first)
+
+ROWS = [
+    ("a first copy", empty, ["run", store, "serial"], first),
+    ("a collection through an old address", empty, ["run", store, "serial"], moves),
+    ("a copy beside a running client", empty, ["run", store, "serial"], beside),
+    ("opening a copy", copied, ["run", store, "serial"], "0 find 1 a / 0 data 1"),
+    ("a second copy", copied, ["run", store, "serial"], second),
+    ("init", None, ["init", store], ""),
+    ("inspect", copied, ["inspect", store], ""),
+    ("make 7 20", None, ["make", "7", "20"], ""),
+    ("trial of seed 7 and 20 turns", empty, ["trial", store, "7", "20"], ""),
+]
+bad = 0
+
+
+def begin(kept):
+    if os.path.exists(store):
+        os.remove(store)
+    if kept is not None:
+        open(store, "wb").write(kept)
+
+
+def row(name, kept, words, text):
+    global bad
+    lines = script(text) if text else b""
+    begin(kept)
+    before = held(store) if kept is not None else None
+    status, whole, errors, calls = ended(words, lines, 0)
+    if status or errors:
+        sys.exit(f"{name}: status {status} with nothing refused: {errors}")
+    last = held(store) if os.path.exists(store) else None
+    statuses, stores, wrong, begun = collections.Counter(), collections.Counter(), [], time.time()
+    number = 0
+    while number <= MOST:
+        number += 1
+        begin(kept)
+        under = [valgrind, "-q", "--error-exitcode=99", "--log-file=/dev/null"] if valgrind and number % 10 == 0 else []
+        status, out, errors, came = ended(words, lines, number, under)
+        now = held(store) if os.path.exists(store) else None
+        which = "none" if now is None else "after" if now == last else "before" if now == before else "other"
+        statuses[status] += 1
+        stores[which] += 1
+        faults = []
+        if status not in TEXTS:
+            faults.append(f"status {status}")
+        elif errors != TEXTS[status]:
+            faults.append(f"status {status} with the text {errors!r}")
+        if not whole.startswith(out):
+            faults.append("other replies")
+        if status == 0 and out != whole:
+            faults.append("status 0 without all replies")
+        # A file that is being made may hold nothing of a store yet.
+        if which == "other" and words[0] != "init":
+            faults.append("a store of neither copy")
+        if which == "none" and last is not None and words[0] != "init":
+            faults.append("no store")
+        if b" saved " in out and which != "after":
+            faults.append("what was told as saved is not there")
+        # All pages of this copy are written when `settle` comes, so it needs no memory any more.
+        if name.startswith("a copy beside") and status == 7 and out.count(b"\n") >= whole.count(b"\n") - 2:
+            faults.append("want of memory in a settle of a copy that was written whole")
+        if faults:
+            wrong.append(f"{name}: call {number} refused: {'; '.join(faults)}")
+        if came < number:
+            # Nothing was left to refuse.
+            if status != 0:
+                wrong.append(f"{name}: status {status} with nothing left to refuse")
+            break
+    else:
+        wrong.append(f"{name}: over {MOST} calls for memory")
+    if not statuses[7]:
+        wrong.append(f"{name}: no want of memory was told")
+    # A file is opened three times at most: the null device, the file, and its folder.
+    if statuses[5] > 3:
+        wrong.append(f"{name}: {statuses[5]} failures of the device")
+    bad |= bool(wrong)
+    told = ", ".join(f"{status}: {count}" for status, count in sorted(statuses.items()))
+    kinds = ", ".join(f"{which}: {count}" for which, count in sorted(stores.items()))
+    print(f"{'BAD' if wrong else 'ok':3}  {name:38}  {number:5} calls  {told:28}  {kinds:32}  {time.time() - begun:.1f} s")
+    for it in wrong[:8]:
+        print(f"     {it}")
+
+
+for it in ROWS:
+    row(*it)
+sys.exit(bad)
+PYTHON
