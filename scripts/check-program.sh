@@ -371,8 +371,6 @@ elif size == "cars":
     for number in range(10200):
         lines += [f"0 new 1 255 {data}"] + (["0 store 1 0 2"] if number else []) + ["0 copy 2 1"]
     lines += ["0 root last 1", "0 save", "0 put 1 0 ff", "0 settle"]
-elif size == "train":
-    lines = ["0 new 1 0 -", f"0 root n{sys.argv[2]} 1", "0 save", "0 settle"]
 print("\n".join(lines))
 PYTHON
     }
@@ -415,13 +413,18 @@ PYTHON
     row "5,100 cars, changed during a copy" "0 0 saved 1, 0 0 abab, total 11 5100 10200" \
         "$came, $("$pmos" inspect "$work/store" | tail -n 1)"
 
-    # Each opening opens a train, and what is born in it stays there.
-    fresh
-    came=0
-    for number in $(seq 1000); do
-        run_size train "$number" || came=$?
-    done
-    row "1,001 trains" "0 total 1001 1000 1000" "$came $("$pmos" inspect "$work/store" | tail -n 1)"
+    # Each opening opens a train, and what is born in it stays there. So this takes a thousand runs, a minute or more.
+    if [ -z "${LONG-}" ]; then
+        row "1,001 trains" "0 total 1001 1000 1000" "skipped: LONG is not set"
+    else
+        fresh
+        came=0
+        for number in $(seq 1000); do
+            printf '0 new 1 0 -\n0 root n%d 1\n0 save\n0 settle\n' "$number" |
+                "$pmos" run "$work/store" serial >"$work/out" 2>"$work/err" || came=$?
+        done
+        row "1,001 trains" "0 total 1001 1000 1000" "$came $("$pmos" inspect "$work/store" | tail -n 1)"
+    fi
 fi
 
 exit "$failed"

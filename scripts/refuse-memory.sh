@@ -125,7 +125,7 @@ def after(kept, *texts):
 empty = made()
 first = "0 new 1 2 cafe / 0 root a 1 / 0 save / 0 settle"
 moves = "0 new 1 1 aa / 0 root a 1 / 0 new 2 0 bb / ! gc 6 / 0 store 1 0 2 / ! gc 60 / 0 load 3 1 0"
-beside = "0 new 1 0 00 / 0 root a 1 / 0 save / ! flush 1 / 0 put 1 0 ff / ! flush 9 / 0 settle"
+beside = "0 new 1 0 00 / 0 root a 1 / 0 save / ! flush 1 / 0 put 1 0 ff / ! flush 9 / 0 id 1 / 0 settle"
 second = "0 find 1 a / 0 put 1 0 ff / 0 save / 0 settle"
 copied = after(empty, first)
 
@@ -186,7 +186,7 @@ def row(name, kept, words, text):
             faults.append("no store")
         if b" saved " in out and which != "after":
             faults.append("what was told as saved is not there")
-        # All pages of this copy are written when `settle` comes, so it needs no memory any more.
+        # Once `id` was answered all pages of this copy are written, so `settle` needs no memory any more.
         if name.startswith("a copy beside") and status == 7 and out.count(b"\n") >= whole.count(b"\n") - 2:
             faults.append("want of memory in a settle of a copy that was written whole")
         if faults:
