@@ -1,7 +1,7 @@
 #!/usr/bin/env bash
 # Runs the program on real files and streams: closed streams, a full device, files that cannot be had, two runs at
-# once, a pipe that closes early, a script that is too long, little memory, and the report, a script that is made and a
-# trial beside what other programs find. It prints a table of what was wanted and
+# once, a pipe that closes early, a run that is killed behind a settle, a script that is too long, little memory, and the
+# report, a script that is made and a trial beside what other programs find. It prints a table of what was wanted and
 # what came, and ends with 0 where they are the same on every line. What the machine lacks is skipped, and its line says so.
 #
 # It takes the program that 'rt ci' or 'rt run' built, or the one that PMOS names; where there is neither, it builds one
@@ -295,6 +295,26 @@ else
     row "two runs at once, and init" "0, 5 5, settled" "$?, $second, $(is_which "$work/store")"
     started=()
 fi
+
+# What was acknowledged is told: the reply stands in the output while the run still makes its steps, and the store that is
+# left when it is killed there has the copy.
+{
+    cat "$work/settle.script"
+    echo '! gc 4294967295'
+} >"$work/told.script"
+fresh
+"$pmos" run "$work/store" serial <"$work/told.script" >"$work/out" 2>/dev/null &
+first=$!
+started+=("$first")
+for _ in $(seq 300); do
+    grep -q '^0 saved 1$' "$work/out" && break
+    sleep 0.1
+done
+came=$(paste -sd, "$work/out")
+kill -KILL "$first" 2>/dev/null
+wait "$first" 2>/dev/null
+started=()
+row "a settle is told before the run ends" "0 ok 1,0 ok,0 begun 1,0 saved 1 settled" "$came $(is_which "$work/store")"
 
 fresh
 "$pmos" run "$work/store" serial <"$work/long.script" 2>/dev/null | true

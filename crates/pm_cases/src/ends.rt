@@ -13,5 +13,5 @@ pub(crate) fn push_end(alloc: Global, end: &Detail, out: &mut String) -> Result<
 
 /// The line that the program writes where memory ran out.
 pub(crate) fn push_memory_text(alloc: Global, out: &mut String) -> Result<(), Fault> {
-    push_end(alloc, &Detail::Memory, out)
+    push_end(alloc, &Detail::Memory { opened: false }, out)
 }

@@ -100,6 +100,7 @@ module _ {D : Type 0} {F : Type 0} {g : Ghosts D} (start : Start D F g) (stopped
   set_appends number other same is = record {
     opening = record { number = refl; opened = refl };
     journal = is.journal ∙ ap (λ (n : ℕ). old.journal.items ++ entry_of n ∷ []) same;
+    course = is.course;
     watches = is.watches;
     events = is.events;
     steps = is.steps;
@@ -208,7 +209,7 @@ module _ {D : Type 0} {F : Type 0} {g : Ghosts D} (start : Start D F g) (old new
       let saving : (world OS).saving ≡ Some (progress.number, copy_of cars progress) =
       sound.served.saving ∙ ap (option_map (numbered_copy (frozen_in old))) is in
       record {
-        served = serves_on start old new (Some count) sound.served rests.nothing.journal rests.nothing.watches rests.view rests.frozen rests.progress;
+        served = serves_on start old new (Some count) sound.served rests.nothing.journal rests.nothing.course rests.nothing.watches rests.view rests.frozen rests.progress;
         stored = λ none. absurd (cc none);
         images = failed g.contents g.image g.moment g.since (disk_then start) OS (disk_at old) (disk_at new) (λ image. IsSettled (world OS) image ⊎ StandsForCopy image progress.number (copy_of cars progress)) refl sound.images
             (leaves_either start old new (sound.stored refl) sound.images.told progress is spares) tells counts NS refl (ap (after w) rests.nothing.journal) (ap (chain w) rests.nothing.journal) (settled_there OS sound.served)

@@ -33,6 +33,7 @@ use Rattle.pm_save.specs.Shown.{frozen_of, saving}
 use Rattle.pm_law_saving.proofs.Publishing.{copy_held}
 use Rattle.pm_law_serving.proofs.Splitting.{splits_once}
 use Rattle.pm_law_serving.proofs.Stored.{splits_stored}
+use Rattle.pm_engine.specs.Course.{told_before}
 use Rattle.pm_engine.specs.declared.start.Start.{Start}
 use Rattle.pm_engine.specs.declared.works.Works.{Works}
 use Rattle.pm_engine.specs.Working.{Answers, FlushesOn, IsTiedIn, LastsIn, Rests, contents_in, disk_at, frozen_in, saving_in, state_in}
@@ -130,12 +131,12 @@ splits_legal start (entry ∷ rest) known =
     (splits_once (Coded-set reply_type.the_row.coded _ _) (∥∥₁_map known (λ legal. legal.0)), splits_legal (answer start entry.client entry.cmd).1 rest (∥∥₁_map known (λ legal. legal.1)))
 
 -- the journal has more room
-pub kept_journal : {D F : Type 0} {g : Ghosts D} (start : Start D F g) (stopped : Option ℕ) (old new : Works D F g) → new.journal.items ≡ old.journal.items → new.watches ≡ old.watches → new.events ≡ old.events → new.steps ≡ old.steps → new.space ≡ old.space → new.saver ≡ old.saver → new.pages ≡ old.pages
+pub kept_journal : {D F : Type 0} {g : Ghosts D} (start : Start D F g) (stopped : Option ℕ) (old new : Works D F g) → new.journal.items ≡ old.journal.items → new.course ≡ old.course → new.watches ≡ old.watches → new.events ≡ old.events → new.steps ≡ old.steps → new.space ≡ old.space → new.saver ≡ old.saver → new.pages ≡ old.pages
     → ∥ IsSound start stopped old ∥₁ → ∥ IsSound start stopped new ∥₁
-kept_journal {D} {F} {g} start stopped old new journal watches events steps space saver pages known =
+kept_journal {D} {F} {g} start stopped old new journal course watches events steps space saver pages known =
     let it : Serving = seen start stopped old in
     let same : it ≡ seen start stopped new =
-    (λ i. record { number = it.number; opened = it.opened; view = view ((sym space i).parts); frozen = frozen_of ((sym space i).parts); saving = saving (sym saver i); journal = sym journal i; watches = sym (ap (λ (w : ArrayVec Watch). w.items) watches) i; events = sym events i; steps = sym steps i; stopped = stopped }) in
+    (λ i. record { number = it.number; opened = it.opened; view = view ((sym space i).parts); frozen = frozen_of ((sym space i).parts); saving = saving (sym saver i); journal = sym journal i; course = told_before (sym course i); watches = sym (ap (λ (w : ArrayVec Watch). w.items) watches) i; events = sym events i; steps = sym steps i; stopped = stopped }) in
     let P : Serving × Pages D g → Type 0 = λ both.
     IsServed both.0 × (stopped ≡ None → IsStored both.0 (state both.1) (g.contents (disk_then start)) (g.contents (disk_of both.1))) × KeepsImages g.contents g.image g.moment g.since (disk_then start) both.0 (disk_of both.1) in
     let moved : (it, old.pages) ≡ (seen start stopped new, new.pages) = (λ i. (same i, sym pages i)) in

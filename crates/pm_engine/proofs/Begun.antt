@@ -27,7 +27,7 @@ use Rattle.pm_law_serving.proofs.Opening.{begins_served}
 use Rattle.pm_law_serving.proofs.Images.{begins}
 use Rattle.pm_engine.specs.declared.start.Start.{Start}
 use Rattle.pm_engine.specs.declared.works.Works.{Works}
-use Rattle.pm_engine.specs.Working.{contents_in, disk_at, frozen_in, saving_in, state_in, view_in}
+use Rattle.pm_engine.specs.Working.{contents_in, course_in, disk_at, frozen_in, saving_in, state_in, view_in}
 use Rattle.pm_engine.specs.Seen.{IsSound, disk_then, seen}
 use Rattle.pm_engine.proofs.Going.{settled_there}
 
@@ -71,14 +71,14 @@ module _ {D : Type 0} {F : Type 0} {g : Ghosts D} (start : Start D F g) (works :
       subst P same (store_begins cars (state_in works) (contents_in works) fine known within (knows.idle unknown) (on_pages (state_in works) cars known (makes.on_pages unknown))
       (λ bytes told. record { graph = (opens bytes told).store.found.graph; keeps = keeps_it bytes told; cars = sym (opens bytes told).cars_are }))
 
-  pub start_sound : (frozen_in works ≡ None) → saving_in works ≡ record { settled = cars; progress = None } → works.journal.items ≡ [] → works.watches.items ≡ [] → works.events ≡ 0 → works.steps ≡ 0 → start.number ≡ (state_in works).header.epoch
+  pub start_sound : (frozen_in works ≡ None) → saving_in works ≡ record { settled = cars; progress = None } → works.journal.items ≡ [] → course_in works ≡ [] → works.watches.items ≡ [] → works.events ≡ 0 → works.steps ≡ 0 → start.number ≡ (state_in works).header.epoch
       → start.space.value ≡ works.space → start.pages.value ≡ works.pages → ((bytes : List ℕ) → g.since (disk_at works) (g.moment (disk_at works)) bytes → g.image (disk_at works) bytes)
       → ((bytes left : List ℕ) → contents_in works ≡ Some bytes → g.image (disk_at works) left → left ≡ bytes) → IsSound start None works
-  start_sound frozen saved journal watches events steps number space pages only_now only =
+  start_sound frozen saved journal course watches events steps number space pages only_now only =
       let viewed = ap (λ space. view space.parts) space in
       let it : Serving = just_opened start.number (view_in works) (saving_in works) in
       let same : it ≡ seen start None works =
-      (λ i. record { number = start.number; opened = sym viewed i; view = view_in works; frozen = sym frozen i; saving = saving_in works; journal = sym journal i; watches = sym watches i; events = sym events i; steps = sym steps i; stopped = None }) in
+      (λ i. record { number = start.number; opened = sym viewed i; view = view_in works; frozen = sym frozen i; saving = saving_in works; journal = sym journal i; course = sym course i; watches = sym watches i; events = sym events i; steps = sym steps i; stopped = None }) in
       let served = subst IsServed same (begins_served start.number _ makes.entries s0.header.next (view_in works) (saving_in works) makes.accepted makes.opened (ap (λ (s : Saving). s.progress) saved)) in
       let stored : IsStored it (state_in works) (g.contents (disk_then start)) (contents_in works) = record {
         tied = subst (λ (f : Option Cars). IsTied (saving_in works) f (state_in works) (contents_in works)) frozen (tied frozen saved);

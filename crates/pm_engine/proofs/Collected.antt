@@ -28,6 +28,7 @@ module _ {D : Type 0} {F : Type 0} {g : Ghosts D} (start : Start D F g) (stopped
     frozen = is.frozen;
     saving = ap saving is.saver;
     journal = is.journal;
+    course = is.course;
     watches = is.watches;
     events = is.events;
     steps = is.steps;

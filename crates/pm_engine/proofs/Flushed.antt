@@ -62,6 +62,7 @@ module _ {D : Type 0} {F : Type 0} {g : Ghosts D} (start : Start D F g) (stopped
     frozen = same_frozen;
     settled = stays.0;
     journal = is.journal;
+    course = is.course;
     watches = is.watches;
     events = is.events;
     steps = is.steps;
@@ -74,6 +75,6 @@ module _ {D : Type 0} {F : Type 0} {g : Ghosts D} (start : Start D F g) (old new
   flush_sound =
       let w = opening (seen start None old) in
       let tied = (sound.stored refl).tied in
-      lasts start old new sound counts (serves_on start old new None sound.served is.journal is.watches (same_view start None old new flushed tied is) (same_frozen start None old new flushed tied is) (stays start None old new flushed tied is).1)
+      lasts start old new sound counts (serves_on start old new None sound.served is.journal is.course is.watches (same_view start None old new flushed tied is) (same_frozen start None old new flushed tied is) (stays start None old new flushed tied is).1)
       (ap (λ (entries : List Entry). settled_in (after w entries)) is.journal)
       (ap (chain w) is.journal)

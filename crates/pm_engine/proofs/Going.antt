@@ -22,7 +22,7 @@ use Rattle.pm_serving.specs.Images.{IsSettled, IsStored, IsTold}
 use Rattle.pm_law_serving.proofs.Images.{spared}
 use Rattle.pm_engine.specs.declared.start.Start.{Start}
 use Rattle.pm_engine.specs.declared.works.Works.{Works}
-use Rattle.pm_engine.specs.Working.{Adds, IsTiedIn, LastsIn, Rests, contents_in, disk_at, frozen_in, saving_in, state_in, view_in, watches_in}
+use Rattle.pm_engine.specs.Working.{Adds, IsTiedIn, LastsIn, Rests, contents_in, course_in, disk_at, frozen_in, saving_in, state_in, view_in, watches_in}
 use Rattle.pm_engine.specs.Seen.{IsSound, disk_then, seen}
 
 -- ---- the copy that settled last is one of the chain
@@ -74,6 +74,7 @@ module _ {D : Type 0} {F : Type 0} {g : Ghosts D} (start : Start D F g) (old new
   appends_so stopped client cmd reply none adds = record {
     opening = record { number = refl; opened = refl };
     journal = adds.journal;
+    course = adds.course;
     watches = adds.watches ∙ sym none;
     events = adds.events;
     steps = adds.steps;
@@ -84,9 +85,9 @@ module _ {D : Type 0} {F : Type 0} {g : Ghosts D} (start : Start D F g) (old new
   appends = appends_so None
 
   -- the journal stays, and so do the watches, what is seen of the space, and the copies but for their pages
-  pub serves_on : (stopped : Option ℕ) → IsServed (seen start None old) → new.journal.items ≡ old.journal.items → watches_in new ≡ watches_in old → view_in new ≡ view_in old → frozen_in new ≡ frozen_in old
+  pub serves_on : (stopped : Option ℕ) → IsServed (seen start None old) → new.journal.items ≡ old.journal.items → course_in new ≡ course_in old → watches_in new ≡ watches_in old → view_in new ≡ view_in old → frozen_in new ≡ frozen_in old
       → StaysBegun (saving_in old).progress (saving_in new).progress → IsServed (seen start stopped new)
-  serves_on stopped served journal watches view frozen stays =
+  serves_on stopped served journal course watches view frozen stays =
       let w = opening (seen start None old) in
       record {
         closed = served.closed;
@@ -96,6 +97,7 @@ module _ {D : Type 0} {F : Type 0} {g : Ghosts D} (start : Start D F g) (old new
             ∙ stays_begun (frozen_in old) (saving_in old).progress (saving_in new).progress stays
             ∙ ap (λ (f : Option Cars). option_map (numbered_copy f) (saving_in new).progress) (sym frozen);
         watching = ap (λ (entries : List Entry). (after w entries).watches) journal ∙ served.watching ∙ sym (ap length watches);
+        told = ap length course ∙ served.told ∙ sym (ap length journal);
       }
 
   -- at each moment of the call the current copy stood
@@ -137,7 +139,7 @@ module _ {D : Type 0} {F : Type 0} {g : Ghosts D} (start : Start D F g) (old new
     pub rests_sound : Rests old new → IsTiedIn new → LastsIn old new → TellsOn (contents_in old) (contents_in new) → Spares g.contents g.moment g.since (state_in old) (disk_at old) (disk_at new) → IsSound start None new
     rests_sound rests =
         let w = opening (seen start None old) in
-        lasts (serves_on None sound.served rests.nothing.journal rests.nothing.watches rests.view rests.frozen rests.progress)
+        lasts (serves_on None sound.served rests.nothing.journal rests.nothing.course rests.nothing.watches rests.view rests.frozen rests.progress)
         (ap (λ (entries : List Entry). settled_in (after w entries)) rests.nothing.journal)
         (ap (chain w) rests.nothing.journal)
 
@@ -157,7 +159,7 @@ module _ {D : Type 0} {F : Type 0} {g : Ghosts D} (start : Start D F g) (old new
     failed_still count rests told spares =
         let w = opening (seen start None old) in
         record {
-          served = serves_on (Some count) sound.served rests.nothing.journal rests.nothing.watches rests.view rests.frozen rests.progress;
+          served = serves_on (Some count) sound.served rests.nothing.journal rests.nothing.course rests.nothing.watches rests.view rests.frozen rests.progress;
           stored = λ none. absurd (cc none);
           images = spared g.contents g.image g.moment g.since (disk_then start) (seen start None old) (disk_at old) (disk_at new) (IsSettled (world (seen start None old))) refl sound.images (leaves stored sound.images.told spares) (tells told) counts
               (seen start (Some count) new) (ap (λ (entries : List Entry). settled_in (after w entries)) rests.nothing.journal) (ap (chain w) rests.nothing.journal) (settled_there (seen start None old) sound.served) (λ left is. is);

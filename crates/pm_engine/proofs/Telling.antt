@@ -78,6 +78,7 @@ module _ {D : Type 0} {F : Type 0} {g : Ghosts D} (start : Start D F g) (stopped
         frozen = left.keeps.frozen i;
         saving = left.keeps.saving i;
         journal = left.nothing.journal i;
+        course = left.nothing.course i;
         watches = left.nothing.watches i;
         events = left.nothing.events i;
         steps = left.nothing.steps i;
@@ -93,6 +94,7 @@ module _ {D : Type 0} {F : Type 0} {g : Ghosts D} (start : Start D F g) (stopped
     settled = rests.settled;
     progress = rests.progress;
     journal = rests.nothing.journal;
+    course = rests.nothing.course;
     watches = rests.nothing.watches;
     events = rests.nothing.events;
     steps = rests.nothing.steps;

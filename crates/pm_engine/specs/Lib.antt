@@ -1,3 +1,4 @@
+pub mod Course
 pub mod Working
 pub mod Seen
 pub mod Shown

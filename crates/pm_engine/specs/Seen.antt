@@ -7,7 +7,7 @@ use Rattle.pm_serving.specs.Serving.{IsServed, Serving}
 use Rattle.pm_serving.specs.Images.{IsStored, KeepsImages}
 use Rattle.pm_engine.specs.declared.start.Start.{Start}
 use Rattle.pm_engine.specs.declared.works.Works.{Works}
-use Rattle.pm_engine.specs.Working.{contents_in, disk_at, frozen_in, saving_in, state_in, view_in, watches_in}
+use Rattle.pm_engine.specs.Working.{contents_in, course_in, disk_at, frozen_in, saving_in, state_in, view_in, watches_in}
 
 module _ {D : Type 0} {F : Type 0} {g : Ghosts D} where
   -- an engine of these parts
@@ -19,6 +19,7 @@ module _ {D : Type 0} {F : Type 0} {g : Ghosts D} where
     frozen = frozen_in works;
     saving = saving_in works;
     journal = works.journal.items;
+    course = course_in works;
     watches = watches_in works;
     events = works.events;
     steps = works.steps;

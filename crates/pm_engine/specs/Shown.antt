@@ -7,9 +7,12 @@ use Rattle.pm_shadow.specs.State.{State}
 use Rattle.pm_view.specs.Counts.{standing}
 use Rattle.pm_view.specs.Watches.{lines_from}
 use Rattle.pm_base.specs.Counts.{capped}
-use Rattle.pm_serving.specs.Serving.{KeepsOpening, Serving}
+use Rattle.pm_saving.specs.Paging.{left_of}
+use Rattle.pm_save.specs.Shown.{saving}
+use Rattle.pm_serving.specs.Serving.{Before, KeepsOpening, Serving}
 use Rattle.pm_engine.specs.declared.engine.Engine.{Engine}
 use Rattle.pm_engine.specs.declared.tally.Tally.{Tally}
+use Rattle.pm_engine.specs.Course.{told_before}
 use Rattle.pm_engine.specs.Working.{disk_at, place_in, room_in, state_in}
 use Rattle.pm_engine.specs.Seen.{disk_then, seen}
 
@@ -48,7 +51,8 @@ module _ {D : Type 0} {F : Type 0} {g : Ghosts D} where
     pub chooser : chooser new ≡ chooser old
 
 -- What an engine came to: how many entries its journal has, how many events were made, and how many of them by the
--- collector, how many collections were completed, how many objects stand, what is told of the watches, and the journal.
+-- collector, how many collections were completed, how many objects stand, what is told of the watches, the journal, its
+-- course: for each entry what had been made before it, and how many pages of the copy in progress were left to be written.
 pub record Total : Type 0 where
   pub entries : ℕ
   pub events : ℕ
@@ -57,6 +61,8 @@ pub record Total : Type 0 where
   pub standing : ℕ
   pub lines : List WatchLine
   pub journal : List Entry
+  pub course : List Before
+  pub left : ℕ
 
 abbrev pub tally_of : Tally → Total
 tally_of it = record {
@@ -67,6 +73,8 @@ tally_of it = record {
   standing = it.standing;
   lines = it.lines.items;
   journal = it.journal.value.items;
+  course = told_before it.course;
+  left = left_of (saving it.saver.value).progress;
 }
 
 -- what an engine comes to
@@ -79,4 +87,6 @@ tally_in it = record {
   standing = capped (standing it.view);
   lines = lines_from it.view 1 it.watches;
   journal = it.journal;
+  course = it.course;
+  left = left_of it.saving.progress;
 }

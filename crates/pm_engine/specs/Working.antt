@@ -28,9 +28,11 @@ use Rattle.pm_save.specs.declared.fault.SaveFault.{SaveFault}
 use Rattle.pm_save.specs.declared.fault.SaveFault.TheVariants.{Disk, Memory}
 use Rattle.pm_save.specs.Settling.{SparesEither, StandsThen, settling_syncs, settling_writes}
 use Rattle.pm_serving.specs.Events.{StaysBegun}
+use Rattle.pm_serving.specs.Serving.{Before}
 use Rattle.pm_mutate.specs.Acts as mutate
 use Rattle.pm_law_work.specs.Raises.{raises}
 use Rattle.pm_engine.specs.Acting.{DoesItsRow}
+use Rattle.pm_engine.specs.Course.{told_before}
 use Rattle.pm_engine.specs.declared.works.Works.{Works}
 use Rattle.pm_base.specs.Counts.{raised}
 
@@ -62,14 +64,23 @@ module _ {D : Type 0} {F : Type 0} {g : Ghosts D} where
   abbrev pub watches_in : Works D F g → List Watch
   watches_in it = it.watches.items
 
+  -- what had been made before each entry of the journal
+  abbrev pub course_in : Works D F g → List Before
+  course_in it = told_before it.course
+
+  -- what was made until now
+  abbrev pub made_in : Works D F g → Before
+  made_in it = record { steps = it.steps; events = it.events }
+
   -- so many entries more take no memory
   abbrev pub room_in : Works D F g → ℕ
   room_in it = vec_capacity it.journal - vec_len it.journal
 
-  -- The entry of a command is at the journal's end, and one event more was made, which is none of the collector. The
-  -- watches stay, and there is room for one entry less.
+  -- The entry of a command is at the journal's end, and what had been made before it at the end of the course; one event
+  -- more was made, which is none of the collector. The watches stay, and there is room for one entry less.
   pub record Adds (client : ℕ) (cmd : Cmd) (reply : Reply) (old new : Works D F g) : Type 0 where
     pub journal : new.journal.items ≡ old.journal.items ++ record { client = client; cmd = cmd; reply = reply } ∷ []
+    pub course : course_in new ≡ course_in old ++ made_in old ∷ []
     pub watches : watches_in new ≡ watches_in old
     pub events : new.events ≡ raised old.events
     pub steps : new.steps ≡ old.steps
@@ -87,9 +98,10 @@ module _ {D : Type 0} {F : Type 0} {g : Ghosts D} where
     pub frozen : frozen_in new ≡ frozen_in old
     pub saving : saving_in new ≡ saving_in old
 
-  -- the journal stays, and so do the watches, no event was made, and there is room for as many entries
+  -- the journal stays, and so do its course and the watches, no event was made, and there is room for as many entries
   pub record AddsNothing (old new : Works D F g) : Type 0 where
     pub journal : new.journal.items ≡ old.journal.items
+    pub course : course_in new ≡ course_in old
     pub watches : watches_in new ≡ watches_in old
     pub events : new.events ≡ old.events
     pub steps : new.steps ≡ old.steps
@@ -185,6 +197,7 @@ module _ {D : Type 0} {F : Type 0} {g : Ghosts D} where
   -- One more watch is set, with what is to be noted of the space and the journal as they were.
   pub record SetsWatch (client : ℕ) (old new : Works D F g) (number : ℕ) : Type 0 where
     pub journal : new.journal.items ≡ old.journal.items ++ record { client = client; cmd = cmds.Watch; reply = Watching number } ∷ []
+    pub course : course_in new ≡ course_in old ++ made_in old ∷ []
     pub watches : watches_in new ≡ watches_in old ++ watch_in (view_in old) (length old.journal.items) ∷ []
     pub events : new.events ≡ raised old.events
     pub steps : new.steps ≡ old.steps
@@ -266,6 +279,7 @@ module _ {D : Type 0} {F : Type 0} {g : Ghosts D} where
   -- The next page of the copy in progress was written, or none was left; one event more was made.
   pub record FlushesOn (old new : Works D F g) (answer : Flushed) : Type 0 where
     pub journal : new.journal.items ≡ old.journal.items
+    pub course : course_in new ≡ course_in old
     pub watches : watches_in new ≡ watches_in old
     pub events : new.events ≡ raised old.events
     pub steps : new.steps ≡ old.steps
@@ -299,6 +313,7 @@ module _ {D : Type 0} {F : Type 0} {g : Ghosts D} where
     pub saver : new.saver ≡ old.saver
     pub frozen : frozen_in new ≡ frozen_in old
     pub journal : new.journal.items ≡ old.journal.items
+    pub course : course_in new ≡ course_in old
     pub watches : watches_in new ≡ watches_in old
     pub events : new.events ≡ raised old.events
     pub steps : new.steps ≡ raised old.steps

@@ -35,7 +35,7 @@ impl<D: Disk, F: Drop> Engine<D, F> {
     ghost use Rattle.pm_view.specs.Represents.{IsHeld};
     ghost use Rattle.pm_model.specs.Closed.{IsClosed};
     ghost use Rattle.pm_model.specs.Journal.{IsLegal};
-    ghost use Rattle.pm_serving.specs.Serving.{opening, world};
+    ghost use Rattle.pm_serving.specs.Serving.{IsServed, opening, world};
     ghost use Rattle.pm_serving.specs.Images.{IsSettled, IsTold, KeepsImages};
     ghost use Rattle.pm_bound.specs.Bounded.{IsHonest};
     ghost use Rattle.pm_view.specs.Counts.{old, standing};
@@ -137,18 +137,21 @@ impl<D: Disk, F: Drop> Engine<D, F> {
             standing,
             lines: tell_watches(&works.space, works.watches.as_slice()),
             journal: Snapshot::of(&works.journal),
+            course: works.course,
+            saver: Snapshot::of(&works.saver),
         };
         (works.pages.into_disk(), works.journal, tally)
     }
 
-    /// A law of the engine at any time: in the world that was opened whatever is named is an object, the journal is legal
-    /// from it, and each image since then is one that may be; while no call has answered that the disk failed, each image
-    /// now stands for the last acknowledged copy. So many watches are set as in the world at the journal's end, and
-    /// different identities that its names and registers reach are no more than the objects that stand. Each watch keeps
-    /// its bound: once as many collections were completed as it says, nothing that was lost when the watch was set is in
-    /// any car.
+    /// A law of the engine at any time: it serves the world of its journal. So in the world that was opened whatever is
+    /// named is an object, the journal is legal from it, and each image since then is one that may be; while no call has
+    /// answered that the disk failed, each image now stands for the last acknowledged copy. So many watches are set as in
+    /// the world at the journal's end, and of each entry it is told what had been made before it. Different identities
+    /// that the world's names and registers reach are no more than the objects that stand. Each watch keeps its bound:
+    /// once as many collections were completed as it says, nothing that was lost when the watch was set is in any car.
     /// The disk's count of failed calls is the one at the opening or more.
     pub fn keep_their_images(&self)
+        ensures served { ∥ IsServed (serving self.now) ∥₁ }
         ensures closed { IsClosed (opening (serving self.now)) }
         ensures legal { IsLegal (opening (serving self.now)) (serving self.now).journal }
         ensures images { ∥ KeepsImages D.contents D.image D.moment D.since (opened_disk self.now) (serving self.now)
@@ -156,6 +159,7 @@ impl<D: Disk, F: Drop> Engine<D, F> {
         ensures settled { (serving self.now).stopped ≡ None → IsTold (D.contents (opened_disk self.now))
             → (left : List ℕ) → D.image (disk_in self.now) left → IsSettled (world (serving self.now)) left }
         ensures watching { (world (serving self.now)).watches ≡ length (serving self.now).watches }
+        ensures told { length (serving self.now).course ≡ length (serving self.now).journal }
         ensures standing { (ids : List ℕ) → IsDistinct nat_eq ids
             → AllByRecursion (IsReachable (world (serving self.now)).heap (IsHeld (world (serving self.now)))) ids
             → length ids ≤ standing (serving self.now).view }

@@ -4,6 +4,7 @@
 
 mod client;
 mod collect;
+mod course;
 mod engine;
 mod flush;
 mod open;

@@ -1,6 +1,7 @@
 //! How an engine begins.
 
 use crate::Engine;
+use crate::course::Course;
 use crate::start::Start;
 use crate::works::Works;
 use arrayvec::ArrayVec;
@@ -74,6 +75,7 @@ impl<D: Disk, F: Drop> Engine<D, F> {
                     space,
                     saver: Saver::new(settled),
                     journal: Vec::new(alloc),
+                    course: Course::Nothing,
                     watches: ArrayVec::new(),
                     events: 0,
                     steps: 0,

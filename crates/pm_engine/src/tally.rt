@@ -2,8 +2,10 @@
 
 ghost use Rattle.std.specs.Prelude.{◌≡◌};
 
+use crate::course::Course;
 use arrayvec::ArrayVec;
 use pm_reclaim::WATCH_ROOM;
+use pm_save::Saver;
 use pm_types::{Entry, WatchLine};
 use std::snapshot::Snapshot;
 
@@ -18,6 +20,10 @@ pub struct Tally {
     pub(crate) lines: ArrayVec<WatchLine, WATCH_ROOM>,
     /// The journal that it was made with, which tells it from the tally of another engine.
     pub(crate) journal: Snapshot<Vec<Entry>>,
+    /// What had been made before each entry of it.
+    pub(crate) course: Course,
+    /// The saver, with the copy in progress.
+    pub(crate) saver: Snapshot<Saver>,
 }
 
 impl Tally {

@@ -15,7 +15,7 @@ mod std_source;
 pub use failed::Failed;
 pub use mem_sink::MemSink;
 pub use mem_source::MemSource;
-pub use reading::{ReadAll, read_all};
+pub use reading::{ReadAll, pieces_have_their_size, read_all};
 pub use sink::Sink;
 pub use source::Source;
 pub use std_sink::StdSink;

@@ -11,6 +11,11 @@ use std::fmt;
 // How many bytes are asked for at a time.
 const PIECE_BYTES: usize = 32_768;
 
+/// A law of reading: 32,768 bytes are asked for at a time.
+pub fn pieces_have_their_size()
+    ensures { PIECE_BYTES ≡ 32768 }
+{}
+
 /// Why a source was not read to its end.
 #[derive(Clone, Copy, Debug, PartialEq, Eq)]
 pub enum ReadAll {

@@ -27,7 +27,7 @@ use Rattle.pm_view.specs.Watches.{watch_in}
 use Rattle.pm_copies.specs.Listed.{copy_in}
 use Rattle.pm_law_copies.proofs.CopyOf.{worlds_copy}
 use Rattle.pm_saving.specs.Progress.{Progress, cars_or_none, copy_of}
-use Rattle.pm_serving.specs.Serving.{IsServed, Serving, in_progress, numbered_copy, opening, world}
+use Rattle.pm_serving.specs.Serving.{IsServed, Serving, in_progress, made_now, numbered_copy, opening, world}
 use Rattle.pm_serving.specs.Events.{Appends, Collects, Serves, watched}
 
 -- no object of a closed world has the next identity
@@ -60,6 +60,8 @@ module _ (client : ℕ) (cmd : Cmd) (old new : Serving) (reply : Reply) (served 
     represents = subst (Represents new.view) (sym next_world) represents;
     saving = ap (λ (w : World). w.saving) next_world ∙ saving;
     watching = ap (λ (w : World). w.watches) next_world ∙ watches;
+    told = ap length appends.course ∙ length_push old.course (made_now old) ∙ ap (λ (n : ℕ). n + 1) served.told
+        ∙ sym (ap length appends.journal ∙ length_push old.journal (record { client = client; cmd = cmd; reply = reply }));
   }
 
   -- the watches stay where the command sets none
@@ -259,4 +261,5 @@ collected old new served collects keeps =
       represents = subst (Represents new.view) (sym same) (keeps (world old) served.represents);
       saving = ap (λ (w : World). w.saving) same ∙ served.saving ∙ same_progress old new collects.frozen collects.saving;
       watching = ap (λ (w : World). w.watches) same ∙ served.watching ∙ sym (ap length collects.watches);
+      told = ap length collects.course ∙ served.told ∙ sym (ap length collects.journal);
     }

@@ -106,4 +106,5 @@ begins_served number list catalog next view saving ok opened none =
       represents = subst (λ copy. Represents view (begin number copy)) (sym same) (stands list catalog next view ok opened number);
       saving = sym (ap (λ progress. option_map (numbered_copy None) progress) none);
       watching = refl;
+      told = refl;
     }

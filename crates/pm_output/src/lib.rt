@@ -6,5 +6,5 @@ pub mod line;
 mod output;
 mod tail;
 
-pub use output::{BUFFER_BYTES, Output};
+pub use output::{BUFFER_BYTES, Output, the_buffer_has_its_size};
 pub use tail::add_tail;

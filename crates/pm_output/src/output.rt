@@ -15,6 +15,11 @@ use std::alloc::Global;
 /// How many bytes of replies are gathered before they go to the sink.
 pub const BUFFER_BYTES: usize = 65_536;
 
+/// A law of the buffer: it has room for 65,536 bytes.
+pub fn the_buffer_has_its_size()
+    ensures { BUFFER_BYTES ≡ 65536 }
+{}
+
 /// Reply lines that are gathered before they go to a sink. Its room is taken when it is made; no further call takes
 /// memory.
 #[derive(Drop)]
@@ -149,6 +154,7 @@ impl Output {
     /// The sink failed: it has a first part of what was gathered, which may be none or all.
     pub fn finish<K: Sink>(&mut self, sink: &mut K) -> Result<(), Failed>
         ensures all { OnOk result (PutsAll (K.written sink.old) (K.written sink.new) (gathered self.old)) }
+        ensures empty { OnOk result (gathered self.new ≡ []) }
         ensures finished { OnOk result ((bytes : List ℕ) → K.written sink.old ≡ Some bytes
             → K.finished sink.new ≡ length (bytes ++ gathered self.old)) }
         ensures part { OnErr result (PutsPart (K.written sink.old) (K.written sink.new) (gathered self.old)) }

@@ -8,9 +8,10 @@ use Rattle.pm_io.specs.Streams.{AppendsPart}
 use Rattle.pm_model.specs.Text.{text}
 use Rattle.pm_output.specs.Writing.{GoesOn, IsDivided, PutsAll, PutsPart}
 use Rattle.pm_output.proofs.Gathering.{empty_piece, goes_then, part_behind, part_longer, part_then}
-use Rattle.pm_serial.specs.declared.stop.Stop.{Stop}
-use Rattle.pm_serial.specs.declared.stop.Stop.TheVariants.{Memory, Writing, Device}
-use Rattle.pm_serial.specs.Causes.{CountsSink, IsDone, IsElsewhere}
+use Rattle.pm_events.specs.declared.stop.Stop.{Stop}
+use Rattle.pm_events.specs.declared.stop.Stop.TheVariants.{Memory, Writing, Device}
+use Rattle.pm_serial.specs.Causes.{CountsSink, IsElsewhere}
+use Rattle.pm_events.specs.Causes.{IsDone}
 use Rattle.pm_serial.specs.Stepping.{CountsWriting, EndsSink, IsGathered, IsOfSink, SinkGoesOn}
 use Rattle.pm_serial.specs.Writing.{WroteRun}
 
@@ -90,13 +91,13 @@ module _ {K : Type 0} (written : K → Option (List ℕ)) (finished count : K �
   }
 
   -- the sink failed
-  pub sink_lost : (old new : K) (gathered later piece : List ℕ) (before after : List Entry) → text after ≡ text before ++ piece → PutsPart (written old) (written new) gathered → Rose (count old) (count new)
+  pub sink_lost : (old new : K) (gathered later piece : List ℕ) (before after : List Entry) → text after ≡ text before ++ piece → PutsPart (written old) (written new) (gathered ++ piece) → Rose (count old) (count new)
       → SinkGoesOn written count old new gathered later before after (Some Writing)
   sink_lost old new gathered later piece before after is part rose = record {
     piece = piece;
     text_is = is;
     on = λ of. absurd of;
-    part = λ _. part_longer piece (written old) (written new) gathered part;
+    part = λ _. part;
     cause = rose;
   }
 
@@ -128,12 +129,13 @@ module _ {K : Type 0} (written : K → Option (List ℕ)) (finished count : K �
     part_of_gathered = λ elsewhere. absurd elsewhere;
     whole = λ elsewhere. absurd elsewhere;
     cause = λ _. counted;
+    kept = λ elsewhere. absurd elsewhere;
   }
 
   -- what was gathered was put, as far as the sink took it
   pub ends_elsewhere : (old new : K) (gathered tail : List ℕ) (ran : Option Stop) (stop : Stop) → ran ≡ Some stop → IsElsewhere (Some stop) → (¬ (Rose (count old) (count new)) → PutsAll (written old) (written new) gathered)
-      → PutsPart (written old) (written new) gathered → EndsSink written finished count old new gathered tail ran (Some stop)
-  ends_elsewhere old new gathered tail ran stop is elsewhere whole part = record {
+      → PutsPart (written old) (written new) gathered → finished new ≡ finished old → EndsSink written finished count old new gathered tail ran (Some stop)
+  ends_elsewhere old new gathered tail ran stop is elsewhere whole part kept = record {
     why = inl (sym is);
     none = λ of. absurd (elsewhere_not stop elsewhere (subst IsOfSink is of));
     part = λ _. part_longer tail (written old) (written new) gathered part;
@@ -142,6 +144,7 @@ module _ {K : Type 0} (written : K → Option (List ℕ)) (finished count : K �
     part_of_gathered = λ _. part;
     whole = λ _. whole;
     cause = λ _. elsewhere_cause stop (count old) (count new) elsewhere;
+    kept = λ _. kept;
   }
 
   -- ---- the whole run
@@ -241,3 +244,34 @@ module _ {K : Type 0} (written : K → Option (List ℕ)) (finished count : K �
     whole = λ elsewhere stands bytes told. told ∙ ap Some (sym (append-nil bytes) ∙ ap (λ (t : List ℕ). bytes ++ t) (sym none));
     cause = tt;
   }
+
+  -- ---- replies that are written at the end
+
+  -- what went well goes on so where the run had stopped elsewhere
+  pub sink_as : (old new : K) (gathered later : List ℕ) (before after : List Entry) (stop : Option Stop) → IsGathered stop → SinkGoesOn written count old new gathered later before after None → SinkGoesOn written count old new gathered later before after stop
+  sink_as old new gathered later before after stop is run = record {
+    piece = run.piece;
+    text_is = run.text_is;
+    on = λ _. run.on tt;
+    part = λ of. absurd (not_both stop is of);
+    cause = counted_then stop (count old) (count new) (count new) run.cause (counted_still stop (count new) is);
+  }
+
+  -- the sink failed while they were put
+  pub wrote_lost : (old new : K) (gathered later tail : List ℕ) (journal : List Entry) (stop : Stop) → gathered ≡ [] → SinkGoesOn written count old new gathered later [] journal (Some Writing) → WroteRun written finished count old new (text journal) tail (Some stop)
+  wrote_lost old new gathered later tail journal stop none run = record {
+    part = part_longer tail (written old) (written new) (text journal) some;
+    all = λ done. absurd done;
+    all_finished = λ done. absurd done;
+    part_of_text = λ elsewhere. some;
+    whole = λ elsewhere stands. absurd (stands run.cause);
+    cause = lost stop run.cause;
+  }
+    where
+      some : PutsPart (written old) (written new) (text journal)
+      some = subst (PutsPart (written old) (written new)) (ap (λ (g : List ℕ). g ++ run.piece) none ∙ sym run.text_is) (run.part tt)
+
+      lost : (stop : Stop) → Rose (count old) (count new) → CountsSink (Some stop) (count old) (count new)
+      lost Memory rose = tt
+      lost Writing rose = rose
+      lost Device rose = tt

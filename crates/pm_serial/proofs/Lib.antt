@@ -2,4 +2,6 @@ pub mod Journals
 pub mod Answering
 pub mod Cutting
 pub mod Gathering
-pub mod Going
+pub mod Ordering
+pub mod Acknowledging
+pub mod Stopping

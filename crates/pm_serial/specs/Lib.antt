@@ -1,5 +1,6 @@
-pub mod Asked
 pub mod Causes
 pub mod Running
 pub mod Writing
 pub mod Stepping
+pub mod Ordered
+pub mod Acknowledged

@@ -5,14 +5,14 @@ ghost use Rattle.pm_base.specs.Counts.{Rose};
 ghost use Rattle.pm_output.specs.Gathered.{gathered};
 ghost use Rattle.pm_output.specs.Writing.{GoesOn, PutsAll, PutsPart};
 ghost use Rattle.pm_engine.specs.Shown.{serving, tally_in};
-ghost use Rattle.pm_serial.specs.Causes.{why};
+ghost use Rattle.pm_events.specs.Causes.{why};
 ghost use Rattle.pm_serial.specs.Stepping.{EndsSink};
 ghost use Rattle.pm_serial.specs.Writing.{tail_of, text_behind};
 
 use crate::behind::Behind;
-use crate::stop::Stop;
 use pm_disk::Disk;
 use pm_engine::Engine;
+use pm_events::Stop;
 use pm_io::{Failed, Sink};
 use pm_output::{Output, add_tail};
 
@@ -21,6 +21,7 @@ fn put_what_goes<K: Sink>(output: &mut Output, sink: &mut K)
     ensures whole { ¬ (Rose (K.count sink.old) (K.count sink.new))
         → PutsAll (K.written sink.old) (K.written sink.new) (gathered output.old) }
     ensures part { PutsPart (K.written sink.old) (K.written sink.new) (gathered output.old) }
+    ensures kept { K.finished sink.new ≡ K.finished sink.old }
 {
     match output.put(sink) {
         Ok(()) => {}

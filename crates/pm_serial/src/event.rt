@@ -5,31 +5,26 @@ ghost use Rattle.pm_types.specs.declared.limits.TheConstants.{CLIENTS};
 ghost use Rattle.pm_place.specs.Choosers.{IsChooser};
 ghost use Rattle.pm_output.specs.Gathered.{gathered};
 ghost use Rattle.pm_engine.specs.Shown.{chooser, room, serving};
-ghost use Rattle.pm_serial.specs.Causes.{why};
-ghost use Rattle.pm_serial.specs.Stepping.{Adds, AnswersPart, EngineGoesOn, IsCut, IsGathered};
-ghost use Rattle.pm_serial.specs.Stepping.{IsShort, KeepsCounts, SinkGoesOn, steps_made, stop_of};
+ghost use Rattle.pm_script.specs.declared.line.Line.TheVariants as says;
+ghost use Rattle.pm_serving.specs.Serving.{made_now};
+ghost use Rattle.pm_events.specs.Causes.{OnStop, why};
+ghost use Rattle.pm_events.specs.Events.{Adds, AnswersPart, EngineGoesOn, IsShort, KeepsCounts};
+ghost use Rattle.pm_serial.specs.Stepping.{IsCut, IsGathered, SinkGoesOn, StopsLine, steps_made};
+ghost use Rattle.pm_serial.specs.Acknowledged.{KeepsSaved, TellsSaved};
+ghost use Rattle.pm_serial.specs.Ordered.{TellsPart};
 
 use crate::kind::Kind;
-use crate::stop::Stop;
+use crate::telling::tell_reply;
 use pm_disk::Disk;
 use pm_engine::Engine;
+use pm_events::{Stop, ask, collect_once, flush_once, stop_after};
 use pm_io::Sink;
 use pm_output::Output;
-use pm_types::{Cmd, EngineFault};
+use pm_types::Cmd;
 use std::alloc::Global;
 
-// Why the run stops after this fault. An engine that is stopped already is given no command.
-fn stop_of(fault: EngineFault) -> Stop
-    ensures { result ≡ stop_of fault }
-{
-    match fault {
-        EngineFault::Memory => Stop::Memory,
-        EngineFault::Disk { .. } | EngineFault::Reopen { .. } => Stop::Device,
-    }
-}
-
 // Gives a client's command to the engine, which has room for its entry.
-fn ask<D: Disk, F: Drop>(
+fn ask_engine<D: Disk, F: Drop>(
     alloc: Global,
     engine: &mut Engine<D, F>,
     client: u32,
@@ -44,14 +39,11 @@ fn ask<D: Disk, F: Drop>(
     ensures engine { EngineGoesOn engine.old engine.new (why result) }
     ensures unwritten { IsGathered (why result) }
 {
-    engine.keep_their_images();
-    match engine.client(alloc, client, cmd) {
-        Ok(_) => Ok(()),
-        Err(fault) => Err(stop_of(fault)),
-    }
+    stop_after(ask(alloc, engine, client, cmd))
 }
 
-/// Answers a client's command, for whose entry there is room, and gathers its reply.
+/// Answers a client's command, for whose entry there is room, and gathers its reply. One that says that a copy settled is
+/// finished before the next event.
 pub(crate) fn answer_client<D: Disk, F: Drop, K: Sink>(
     alloc: Global,
     engine: &mut Engine<D, F>,
@@ -65,58 +57,29 @@ pub(crate) fn answer_client<D: Disk, F: Drop, K: Sink>(
     requires running { (serving engine.old).stopped ≡ None }
     ensures answers { AnswersPart (record { client = client; cmd = cmd.now } ∷ []) 1 0
         (serving engine.old) (serving engine.new) (why result) }
-    ensures short { IsShort cmd.now (serving engine.old) (serving engine.new) (why result) }
+    ensures course { TellsPart (made_now (serving engine.old) ∷ [])
+        (serving engine.old) (serving engine.new) (why result) }
+    ensures told { OnOk result (TellsSaved K.Sink sink.old sink.new (gathered output.new)
+        (serving engine.new).journal) }
+    ensures saved { KeepsSaved K.Sink sink.old sink.new (gathered output.old)
+        (serving engine.old).journal (serving engine.new).journal (why result) }
+    ensures stops { OnStop (why result)
+        (StopsLine (says.Client client cmd.now) (serving engine.old) (serving engine.new) (why result)) }
     ensures engine { EngineGoesOn engine.old engine.new (why result) }
     ensures sink { SinkGoesOn K.written K.count sink.old sink.new
         (gathered output.old) (gathered output.new)
         (serving engine.old).journal (serving engine.new).journal (why result) }
 {
-    match ask(alloc, engine, client, cmd) {
+    match ask_engine(alloc, engine, client, cmd) {
         Ok(()) => {
             let journal = engine.journal();
             let last = journal.len() - 1;
-            match output.add_reply(sink, &journal[last]) {
+            match tell_reply(&journal[last], output, sink) {
                 Ok(()) => Ok(()),
                 Err(_) => Err(Stop::Writing),
             }
         }
         Err(stop) => Err(stop),
-    }
-}
-
-// Makes an event of the collector.
-fn collect_once<D: Disk, F: Fn(&[u64]) -> usize + Drop>(
-    alloc: Global,
-    engine: &mut Engine<D, F>,
-) -> Result<(), Stop>
-    requires running { (serving engine.old).stopped ≡ None }
-    requires chooser { IsChooser F.Fn (chooser engine.old) }
-    ensures answers { AnswersPart [] 1 1 (serving engine.old) (serving engine.new) (why result) }
-    ensures stays { (serving engine.new).journal ≡ (serving engine.old).journal }
-    ensures counts { OnErr result (KeepsCounts (serving engine.old) (serving engine.new)) }
-    ensures engine { EngineGoesOn engine.old engine.new (why result) }
-    ensures unwritten { IsGathered (why result) }
-{
-    engine.keep_their_images();
-    match engine.collect(alloc) {
-        Ok(_) => Ok(()),
-        Err(fault) => Err(stop_of(fault)),
-    }
-}
-
-// Makes an event that writes a page.
-fn flush_once<D: Disk, F: Drop>(alloc: Global, engine: &mut Engine<D, F>) -> Result<(), Stop>
-    requires running { (serving engine.old).stopped ≡ None }
-    ensures answers { AnswersPart [] 1 0 (serving engine.old) (serving engine.new) (why result) }
-    ensures stays { (serving engine.new).journal ≡ (serving engine.old).journal }
-    ensures counts { OnErr result (KeepsCounts (serving engine.old) (serving engine.new)) }
-    ensures engine { EngineGoesOn engine.old engine.new (why result) }
-    ensures unwritten { IsGathered (why result) }
-{
-    engine.keep_their_images();
-    match engine.flush(alloc) {
-        Ok(_) => Ok(()),
-        Err(fault) => Err(stop_of(fault)),
     }
 }
 
@@ -131,13 +94,14 @@ fn make_once<D: Disk, F: Fn(&[u64]) -> usize + Drop>(
     ensures answers { AnswersPart [] 1 (steps_made kind 1)
         (serving engine.old) (serving engine.new) (why result) }
     ensures stays { (serving engine.new).journal ≡ (serving engine.old).journal }
+    ensures course { (serving engine.new).course ≡ (serving engine.old).course }
     ensures counts { OnErr result (KeepsCounts (serving engine.old) (serving engine.new)) }
     ensures engine { EngineGoesOn engine.old engine.new (why result) }
     ensures unwritten { IsGathered (why result) }
 {
     match kind {
-        Kind::Collect => collect_once(alloc, engine),
-        Kind::Flush => flush_once(alloc, engine),
+        Kind::Collect => stop_after(collect_once(alloc, engine)),
+        Kind::Flush => stop_after(flush_once(alloc, engine)),
     }
 }
 
@@ -153,7 +117,8 @@ pub(crate) fn make_events<D: Disk, F: Fn(&[u64]) -> usize + Drop>(
     ensures answers { AnswersPart [] count (steps_made kind count)
         (serving engine.old) (serving engine.new) (why result) }
     ensures stays { (serving engine.new).journal ≡ (serving engine.old).journal }
-    ensures cut { OnErr result (IsCut count (serving engine.old) (serving engine.new)) }
+    ensures course { (serving engine.new).course ≡ (serving engine.old).course }
+    ensures cut { OnErr result (IsCut kind count (serving engine.old) (serving engine.new)) }
     ensures engine { EngineGoesOn engine.old engine.new (why result) }
     ensures unwritten { IsGathered (why result) }
 {

@@ -5,11 +5,12 @@
 mod behind;
 mod ending;
 mod event;
+mod journal;
 mod kind;
 mod line;
 mod run;
-mod stop;
+mod telling;
 
 pub use ending::finish_with_last_lines;
+pub use journal::write_journal;
 pub use run::{answer_lines, run_lines};
-pub use stop::Stop;

@@ -7,17 +7,19 @@ ghost use Rattle.pm_script.specs.Script.{AreLines, first_of};
 ghost use Rattle.pm_script.specs.Words.{IsFirst};
 ghost use Rattle.pm_output.specs.Gathered.{gathered};
 ghost use Rattle.pm_engine.specs.Shown.{chooser, room, serving};
-ghost use Rattle.pm_serial.specs.Asked.{events_asked, request_of, requests_asked};
-ghost use Rattle.pm_serial.specs.Asked.{steps_asked, steps_of};
-ghost use Rattle.pm_serial.specs.Causes.{why};
-ghost use Rattle.pm_serial.specs.Stepping.{AnswersPart, CutsLine, CutsLines, EngineGoesOn};
-ghost use Rattle.pm_serial.specs.Stepping.{OnMemory, SinkGoesOn, events_of};
+ghost use Rattle.pm_parts.specs.Asked.{events_asked, request_of, requests_asked, steps_asked};
+ghost use Rattle.pm_parts.specs.Asked.{steps_of};
+ghost use Rattle.pm_events.specs.Causes.{OnStop, why};
+ghost use Rattle.pm_events.specs.Events.{AnswersPart, EngineGoesOn};
+ghost use Rattle.pm_serial.specs.Acknowledged.{KeepsSaved};
+ghost use Rattle.pm_serial.specs.Ordered.{TellsLine, TellsLines};
+ghost use Rattle.pm_serial.specs.Stepping.{SinkGoesOn, StopsLine, StopsLines, events_of};
 
 use crate::event::{answer_client, make_events};
 use crate::kind::Kind;
-use crate::stop::Stop;
 use pm_disk::Disk;
 use pm_engine::Engine;
+use pm_events::Stop;
 use pm_io::Sink;
 use pm_output::Output;
 use pm_script::Line;
@@ -51,11 +53,14 @@ fn run_line<D: Disk, F: Fn(&[u64]) -> usize + Drop, K: Sink>(
     requires chooser { IsChooser F.Fn (chooser engine.old) }
     ensures answers { AnswersPart (request_of line.now) (events_of line.now) (steps_of line.now)
         (serving engine.old) (serving engine.new) (why result) }
-    ensures short { OnMemory (why result)
-        (CutsLine line.now (serving engine.old) (serving engine.new)) }
+    ensures course { TellsLine line.now (serving engine.old) (serving engine.new) (why result) }
+    ensures stops { OnStop (why result)
+        (StopsLine line.now (serving engine.old) (serving engine.new) (why result)) }
     ensures engine { EngineGoesOn engine.old engine.new (why result) }
     ensures sink { SinkGoesOn K.written K.count sink.old sink.new
         (gathered output.old) (gathered output.new)
+        (serving engine.old).journal (serving engine.new).journal (why result) }
+    ensures saved { KeepsSaved K.Sink sink.old sink.new (gathered output.old)
         (serving engine.old).journal (serving engine.new).journal (why result) }
 {
     match line {
@@ -80,11 +85,15 @@ pub(crate) fn run_all<D: Disk, F: Fn(&[u64]) -> usize + Drop, K: Sink>(
     requires chooser { IsChooser F.Fn (chooser engine.old) }
     ensures answers { AnswersPart (requests_asked lines.items) (events_asked lines.items)
         (steps_asked lines.items) (serving engine.old) (serving engine.new) (why result) }
-    ensures short { OnMemory (why result)
-        (CutsLines lines.items (serving engine.old) (serving engine.new)) }
+    // The events come in the order of the lines.
+    ensures course { TellsLines lines.items (serving engine.old) (serving engine.new) (why result) }
+    ensures stops { OnStop (why result)
+        (StopsLines lines.items (serving engine.old) (serving engine.new) (why result)) }
     ensures engine { EngineGoesOn engine.old engine.new (why result) }
     ensures sink { SinkGoesOn K.written K.count sink.old sink.new
         (gathered output.old) (gathered output.new)
+        (serving engine.old).journal (serving engine.new).journal (why result) }
+    ensures saved { KeepsSaved K.Sink sink.old sink.new (gathered output.old)
         (serving engine.old).journal (serving engine.new).journal (why result) }
 {
     engine.keep_their_images();

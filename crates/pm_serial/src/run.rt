@@ -6,17 +6,19 @@ ghost use Rattle.pm_model.specs.Text.{text};
 ghost use Rattle.pm_script.specs.Script.{AreLines};
 ghost use Rattle.pm_output.specs.Gathered.{gathered};
 ghost use Rattle.pm_engine.specs.Shown.{KeepsStart, chooser, disk_in, room, serving, tally_in};
-ghost use Rattle.pm_serial.specs.Asked.{requests_asked};
-ghost use Rattle.pm_serial.specs.Causes.{why};
-ghost use Rattle.pm_serial.specs.Running.{AnswersLines, IsFresh, RunsOnDisk};
+ghost use Rattle.pm_parts.specs.Asked.{requests_asked};
+ghost use Rattle.pm_events.specs.Causes.{why};
+ghost use Rattle.pm_serial.specs.Acknowledged.{Acknowledges};
+ghost use Rattle.pm_serial.specs.Running.{AnswersLines};
+ghost use Rattle.pm_events.specs.Running.{IsFresh, RunsOnDisk};
 ghost use Rattle.pm_serial.specs.Writing.{WroteRun, tail_of, text_behind};
 
 use crate::behind::Behind;
 use crate::ending::end;
 use crate::line::run_all;
-use crate::stop::Stop;
 use pm_disk::Disk;
 use pm_engine::Engine;
+use pm_events::Stop;
 use pm_io::Sink;
 use pm_output::Output;
 use pm_script::Line;
@@ -69,6 +71,8 @@ fn run_with<D: Disk, F: Fn(&[u64]) -> usize + Drop, K: Sink>(
     ensures disk { RunsOnDisk engine.old engine.new (why result) }
     ensures sink { WroteRun K.written K.finished K.count sink.old sink.new
         (text (serving engine.new).journal) (text_behind behind (tally_in (serving engine.new))) (why result) }
+    // Unless the sink failed, the text through each `saved` is finished.
+    ensures saved { Acknowledges K.Sink sink.old sink.new (serving engine.new).journal (why result) }
     ensures start { KeepsStart engine.old engine.new }
 {
     engine.keep_their_images();
@@ -102,6 +106,8 @@ pub fn run_lines<D: Disk, F: Fn(&[u64]) -> usize + Drop, K: Sink>(
     ensures disk { RunsOnDisk engine.old engine.new (why result) }
     ensures sink { WroteRun K.written K.finished K.count sink.old sink.new
         (text (serving engine.new).journal) (tail_of (tally_in (serving engine.new))) (why result) }
+    // Unless the sink failed, the text through each `saved` is finished.
+    ensures saved { Acknowledges K.Sink sink.old sink.new (serving engine.new).journal (why result) }
     ensures start { KeepsStart engine.old engine.new }
 {
     run_with(alloc, lines, Behind::LastLines, engine, sink)
@@ -127,6 +133,8 @@ pub fn answer_lines<D: Disk, F: Fn(&[u64]) -> usize + Drop, K: Sink>(
     ensures disk { RunsOnDisk engine.old engine.new (why result) }
     ensures sink { WroteRun K.written K.finished K.count sink.old sink.new
         (text (serving engine.new).journal) [] (why result) }
+    // Unless the sink failed, the text through each `saved` is finished.
+    ensures saved { Acknowledges K.Sink sink.old sink.new (serving engine.new).journal (why result) }
     ensures start { KeepsStart engine.old engine.new }
 {
     run_with(alloc, lines, Behind::Nothing, engine, sink)

@@ -12,18 +12,19 @@ use Rattle.pm_model.specs.Answer.{answer}
 use Rattle.pm_view.specs.Watches.{watch_in}
 use Rattle.pm_saving.specs.Progress.{Progress}
 use Rattle.pm_saving.specs.Tied.{GoesOn}
-use Rattle.pm_serving.specs.Serving.{Serving, KeepsOpening, world}
+use Rattle.pm_serving.specs.Serving.{Serving, KeepsOpening, made_now, world}
 
 -- The watches once a command was answered so: where it is one that sets a watch, that watch is the last.
 abbrev pub watched : Serving → Cmd → Reply → List Watch
 watched it cmds.Watch (Watching number) = it.watches ++ watch_in it.view (length it.journal) ∷ []
 watched it cmd reply = it.watches
 
--- A command's entry, with this reply, was put at the journal's end, and one event more was made, which is none of the
--- collector. The opening stays.
+-- A command's entry, with this reply, was put at the journal's end, and what had been made before it at the end of the
+-- course; one event more was made, which is none of the collector. The opening stays.
 pub record Appends (client : ℕ) (cmd : Cmd) (old new : Serving) (reply : Reply) : Type 0 where
   pub opening : KeepsOpening old new
   pub journal : new.journal ≡ old.journal ++ record { client = client; cmd = cmd; reply = reply } ∷ []
+  pub course : new.course ≡ old.course ++ made_now old ∷ []
   pub watches : new.watches ≡ watched old cmd reply
   pub events : new.events ≡ raised old.events
   pub steps : new.steps ≡ old.steps
@@ -34,24 +35,26 @@ pub record Serves (client : ℕ) (cmd : Cmd) (old new : Serving) (reply : Reply)
   pub appends : Appends client cmd old new reply
   pub reply_is : reply ≡ (answer (world old) client cmd).0
 
--- A page was written or none was left: journal, space and copies stay, and one event more was made.
+-- A page was written or none was left: journal, course, space and copies stay, and one event more was made.
 pub record Flushes (old new : Serving) : Type 0 where
   pub opening : KeepsOpening old new
   pub view : new.view ≡ old.view
   pub frozen : new.frozen ≡ old.frozen
   pub settled : new.saving.settled ≡ old.saving.settled
   pub journal : new.journal ≡ old.journal
+  pub course : new.course ≡ old.course
   pub watches : new.watches ≡ old.watches
   pub events : new.events ≡ raised old.events
   pub steps : new.steps ≡ old.steps
   pub stopped : new.stopped ≡ old.stopped
 
--- An event of the collector was made: journal, watches and copies stay. What it did to the space is said apart.
+-- An event of the collector was made: journal, course, watches and copies stay. What it did to the space is said apart.
 pub record Collects (old new : Serving) : Type 0 where
   pub opening : KeepsOpening old new
   pub frozen : new.frozen ≡ old.frozen
   pub saving : new.saving ≡ old.saving
   pub journal : new.journal ≡ old.journal
+  pub course : new.course ≡ old.course
   pub watches : new.watches ≡ old.watches
   pub events : new.events ≡ raised old.events
   pub steps : new.steps ≡ raised old.steps
@@ -64,8 +67,8 @@ StaysBegun None (Some after) = ⊥
 StaysBegun (Some before) None = ⊥
 StaysBegun (Some before) (Some after) = GoesOn before after
 
--- Nothing was answered: journal, space, watches and copies stay, and no event was made. More pages of the copy in progress
--- may have been written.
+-- Nothing was answered: journal, course, space, watches and copies stay, and no event was made. More pages of the copy in
+-- progress may have been written.
 pub record ServesNothing (old new : Serving) : Type 0 where
   pub opening : KeepsOpening old new
   pub view : new.view ≡ old.view
@@ -73,6 +76,7 @@ pub record ServesNothing (old new : Serving) : Type 0 where
   pub settled : new.saving.settled ≡ old.saving.settled
   pub progress : StaysBegun old.saving.progress new.saving.progress
   pub journal : new.journal ≡ old.journal
+  pub course : new.course ≡ old.course
   pub watches : new.watches ≡ old.watches
   pub events : new.events ≡ old.events
   pub steps : new.steps ≡ old.steps

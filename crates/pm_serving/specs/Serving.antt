@@ -10,9 +10,15 @@ use Rattle.pm_view.specs.Represents.{Represents}
 use Rattle.pm_copies.specs.Listed.{copy_in}
 use Rattle.pm_saving.specs.Progress.{Progress, Saving, cars_or_none, copy_of}
 
+-- What had been made before an entry of the journal: so many events by the collector, and so many events in all.
+pub record Before : Type 0 where
+  pub steps : ℕ
+  pub events : ℕ
+
 -- An engine: the number of the copy that was opened, and the space as it was opened; the space now, and its cars as they
--- were frozen, if they are; the saver; the journal; the watches that are set; how many events were made, and how many of
--- them by the collector; and, where a call answered that the disk failed, the disk's count of failed calls then.
+-- were frozen, if they are; the saver; the journal, and its course: for each entry what had been made before it; the
+-- watches that are set; how many events were made, and how many of them by the collector; and, where a call answered that
+-- the disk failed, the disk's count of failed calls then.
 pub record Serving : Type 0 where
   pub number : ℕ
   pub opened : SpaceView
@@ -20,10 +26,15 @@ pub record Serving : Type 0 where
   pub frozen : Option Cars
   pub saving : Saving
   pub journal : List Entry
+  pub course : List Before
   pub watches : List Watch
   pub events : ℕ
   pub steps : ℕ
   pub stopped : Option ℕ
+
+-- what was made until now
+abbrev pub made_now : Serving → Before
+made_now it = record { steps = it.steps; events = it.events }
 
 -- the world as it was opened
 abbrev pub opening : Serving → World
@@ -42,14 +53,15 @@ abbrev pub in_progress : Serving → Option (ℕ × Copy)
 in_progress it = option_map (numbered_copy it.frozen) it.saving.progress
 
 -- What holds of an engine at every moment: in the world that was opened whatever is named is an object, the journal is
--- legal from it, the space stands for the world at the journal's end, the copy in progress is that of this world, and so
--- many watches are set in it.
+-- legal from it, the space stands for the world at the journal's end, the copy in progress is that of this world, so many
+-- watches are set in it, and the course tells of each entry what had been made before it.
 pub record IsServed (it : Serving) : Type 0 where
   pub closed : IsClosed (opening it)
   pub legal : IsLegal (opening it) it.journal
   pub represents : Represents it.view (world it)
   pub saving : (world it).saving ≡ in_progress it
   pub watching : (world it).watches ≡ length it.watches
+  pub told : length it.course ≡ length it.journal
 
 -- the opening stays
 pub record KeepsOpening (old new : Serving) : Type 0 where
@@ -65,6 +77,7 @@ just_opened number view saving = record {
   frozen = None;
   saving = saving;
   journal = [];
+  course = [];
   watches = [];
   events = 0;
   steps = 0;

@@ -42,25 +42,25 @@ module _ {D : Type 0} (d : disk.Ghosts D) where
   make_ends start end (Script fault) makes empty = makes
   make_ends start end (Reading before after) makes empty = tt
   make_ends start end (Writing before after) makes empty = tt
-  make_ends start end (Device before after) makes empty = tt
+  make_ends start end (Device before after opened) makes empty = tt
   make_ends start end (NotEmpty n) makes empty =
       let some = makes.0 in
       let zero : n ≡ 0 = makes.1 [] empty in
       absurd (omega (arith, some, zero))
   make_ends start end (Refused fault) makes empty = makes
-  make_ends start end Memory makes empty = tt
+  make_ends start end (Memory opened) makes empty = tt
 
 run_ends : (told read : Option (List ℕ)) (store : HoldsStore told) (script : HoldsScript read) (detail : Detail) (journal : List Entry)
-    → IsPast the_words detail journal → IsScriptEnd script.bytes detail → IsRefusedFor store.bytes detail → MayEnd detail
+    → IsPast the_words detail → IsScriptEnd script.bytes detail → IsRefusedFor store.bytes detail → MayEnd detail
 run_ends told read store script Fine journal past bad refused = tt
 run_ends told read store script Usage journal past bad refused = absurd (omega (arith, past))
 run_ends told read store script (Script fault) journal past bad refused = no_fault script.bytes fault script.lines bad script.script
 run_ends told read store script (Reading before after) journal past bad refused = tt
 run_ends told read store script (Writing before after) journal past bad refused = tt
-run_ends told read store script (Device before after) journal past bad refused = tt
+run_ends told read store script (Device before after opened) journal past bad refused = tt
 run_ends told read store script (NotEmpty bytes) journal past bad refused = absurd (omega (arith, past))
 run_ends told read store script (Refused fault) journal past bad refused = never_shut store.bytes store.number store.copy fault store.stands refused
-run_ends told read store script Memory journal past bad refused = tt
+run_ends told read store script (Memory opened) journal past bad refused = tt
 
 inspect_ends : (told : Option (List ℕ)) (store : HoldsStore told) (detail : Detail) → EndsInspecting detail → IsRefusedFor store.bytes detail → MayEnd detail
 inspect_ends told store Fine ends refused = tt
@@ -68,10 +68,10 @@ inspect_ends told store Usage ends refused = ends
 inspect_ends told store (Script fault) ends refused = ends
 inspect_ends told store (Reading before after) ends refused = tt
 inspect_ends told store (Writing before after) ends refused = tt
-inspect_ends told store (Device before after) ends refused = tt
+inspect_ends told store (Device before after opened) ends refused = tt
 inspect_ends told store (NotEmpty bytes) ends refused = ends
 inspect_ends told store (Refused fault) ends refused = never_shut store.bytes store.number store.copy fault store.stands refused
-inspect_ends told store Memory ends refused = tt
+inspect_ends told store (Memory opened) ends refused = tt
 
 make_script_ends : (detail : Detail) → EndsMaking detail → MayEnd detail
 make_script_ends Fine ends = tt
@@ -79,10 +79,10 @@ make_script_ends Usage ends = ends
 make_script_ends (Script fault) ends = ends
 make_script_ends (Reading before after) ends = tt
 make_script_ends (Writing before after) ends = tt
-make_script_ends (Device before after) ends = tt
+make_script_ends (Device before after opened) ends = tt
 make_script_ends (NotEmpty bytes) ends = ends
 make_script_ends (Refused fault) ends = ends
-make_script_ends Memory ends = tt
+make_script_ends (Memory opened) ends = tt
 
 -- a trial ends as an inspection may
 trial_ends : (detail : Detail) → EndsTrying detail → EndsInspecting detail
@@ -91,10 +91,10 @@ trial_ends Usage ends = ends
 trial_ends (Script fault) ends = ends
 trial_ends (Reading before after) ends = ends
 trial_ends (Writing before after) ends = tt
-trial_ends (Device before after) ends = tt
+trial_ends (Device before after opened) ends = tt
 trial_ends (NotEmpty bytes) ends = ends
 trial_ends (Refused fault) ends = tt
-trial_ends Memory ends = tt
+trial_ends (Memory opened) ends = tt
 
 -- where nothing failed, no end of those is left but two
 stands_done : (detail : Detail) (source_was source_now sink_was sink_now disk_was disk_now : ℕ) → MayEnd detail
@@ -105,10 +105,10 @@ stands_done Usage a b c d e f may reading writing device source sink disk = absu
 stands_done (Script fault) a b c d e f may reading writing device source sink disk = absurd may
 stands_done (Reading before after) a b c d e f may reading writing device source sink disk = absurd (source (rises before after a b reading))
 stands_done (Writing before after) a b c d e f may reading writing device source sink disk = absurd (sink (rises before after c d writing))
-stands_done (Device before after) a b c d e f may reading writing device source sink disk = absurd (disk (rises before after e f device))
+stands_done (Device before after opened) a b c d e f may reading writing device source sink disk = absurd (disk (rises before after e f device))
 stands_done (NotEmpty bytes) a b c d e f may reading writing device source sink disk = absurd may
 stands_done (Refused fault) a b c d e f may reading writing device source sink disk = absurd may
-stands_done Memory a b c d e f may reading writing device source sink disk = inr refl
+stands_done (Memory opened) a b c d e f may reading writing device source sink disk = inr refl
 
 module _ {D S K : Type 0} (d : disk.Ghosts D) (s : source.Ghosts S) (k : sink.Ghosts K) where
   may_end : (command : Command) (disk : D) (source : S) (sink : K) (it : Ended D S K)

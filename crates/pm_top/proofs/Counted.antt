@@ -1,18 +1,16 @@
 -- How many events the lines of a script ask for: so few that no count comes to its end.
 use Rattle.std.proofs.Common.{◌≡◌, ℕ, ◌+◌, ◌*◌, ◌<◌, ◌≤◌, min, List, [], ◌∷◌, length, sym, ap, ◌∙◌, arith}
 use Rattle.std.proofs.Math.Nat.{min-eq_left}
-use Rattle.std.proofs.lemmas.List.{length-map}
 use Rattle.std.proofs.lemmas.List.Sums.{sum_by-cons}
 use Rattle.pm_base.specs.Counts.{greatest_count}
 use Rattle.pm_types.specs.declared.entry.Entry.{Entry}
-use Rattle.pm_model.specs.Journal.{requests_of}
 use Rattle.pm_script.specs.declared.line.Line.{Line}
 use Rattle.pm_script.specs.declared.line.Line.TheVariants.{Client, Gc, Flush}
 use Rattle.pm_script.specs.Words.{AreSpelled}
 use Rattle.pm_script.specs.Script.{AreBodies, IsScript, said}
 use Rattle.pm_script.proofs.ScriptLaws.{lines_of_script}
 use Rattle.pm_engine.specs.Shown.{Total}
-use Rattle.pm_serial.specs.Asked.{events_asked, flushes_asked, flushes_of, requests_asked, steps_asked, steps_of}
+use Rattle.pm_parts.specs.Asked.{events_asked, flushes_asked, flushes_of, requests_asked, steps_asked, steps_of}
 use Rattle.pm_top.specs.Journals.{MakesAll}
 
 -- what a line asks for is below 2^32
@@ -58,14 +56,19 @@ summed n r s f few is_r is_s is_f = omega arith
 summed_steps : (n s : ℕ) → n ≤ 65536 → s ≤ n * 4294967295 → s ≤ 18446744073709551615
 summed_steps n s few is_s = omega arith
 
+-- no count comes to its end over the lines of a script
+pub few_events : (bytes : List ℕ) (lines : List Line) → IsScript bytes lines → events_asked lines ≤ greatest_count
+few_events bytes lines script =
+    summed (length lines) (length (requests_asked lines)) (steps_asked lines) (flushes_asked lines) (lines_of_script bytes lines script).few (few_requests lines) (few_steps _ lines script.each) (few_flushes _ lines script.each)
+
 -- every event was made for which the lines ask
-pub made_all : (bytes : List ℕ) (lines : List Line) (journal : List Entry) (total : Total) → IsScript bytes lines → requests_of journal ≡ requests_asked lines
+pub made_all : (bytes : List ℕ) (lines : List Line) (journal : List Entry) (total : Total) → IsScript bytes lines → length journal ≡ length (requests_asked lines)
     → total.steps ≡ min (steps_asked lines) greatest_count → total.events ≡ min (events_asked lines) greatest_count → MakesAll lines journal total
-made_all bytes lines journal total script served steps events =
+made_all bytes lines journal total script long steps events =
     let few = (lines_of_script bytes lines script).few in
     let on_steps = few_steps _ lines script.each in
     let on_flushes = few_flushes _ lines script.each in
-    let all : length (requests_asked lines) ≡ length journal = sym (ap length served) ∙ length-map journal _ in
+    let all : length (requests_asked lines) ≡ length journal = sym long in
     record {
       steps = steps ∙ min-eq_left (summed_steps (length lines) (steps_asked lines) few on_steps);
       events =

@@ -1,6 +1,5 @@
 -- The causes of ends in which no line was run.
-use Rattle.std.proofs.Common.{◌≡◌, ℕ, ◌<◌, List, [], ◌∷◌, None, refl, subst, ◌∙◌, arith}
-use Rattle.pm_types.specs.declared.entry.Entry.{Entry}
+use Rattle.std.proofs.Common.{◌≡◌, ℕ, ◌<◌, true, false, None, refl, subst, ◌∙◌, arith}
 use Rattle.pm_types.specs.declared.fault.OpenFault.{OpenFault}
 use Rattle.pm_types.specs.declared.fault.OpenFault.TheVariants.{NotAStore, Version, Damaged, Malformed, Disk, Memory as NoRoom}
 use Rattle.pm_types.specs.declared.fault.InitFault.{InitFault}
@@ -19,7 +18,7 @@ use Rattle.pm_top.specs.Commands.{ShowsCauses}
 use Rattle.pm_top.proofs.Parts.{with_parts}
 
 -- a store that is not opened: its end is one of a run, and nothing is done
-pub ends_open : (fault : OpenFault) → IsPast the_words (not_opened fault) []
+pub ends_open : (fault : OpenFault) → IsPast the_words (not_opened fault)
 ends_open NotAStore = omega arith
 ends_open (Version version) = omega arith
 ends_open (Damaged page kept found) = omega arith
@@ -27,7 +26,7 @@ ends_open (Malformed page at) = omega arith
 ends_open (Disk before after) = omega arith
 ends_open NoRoom = omega arith
 
-pub undone_open : (fault : OpenFault) → IsPast the_output (not_opened fault) [] → ⊥
+pub undone_open : (fault : OpenFault) → IsPast the_output (not_opened fault) → ⊥
 undone_open NotAStore past = absurd (omega arith)
 undone_open (Version version) past = absurd (omega arith)
 undone_open (Damaged page kept found) past = absurd (omega arith)
@@ -36,38 +35,38 @@ undone_open (Disk before after) past = absurd (omega arith)
 undone_open NoRoom past = absurd (omega arith)
 
 -- an end after the events is one of a run
-pub late_past : (detail : Detail) (journal : List Entry) → the_events < unreached detail → IsPast the_words detail journal
-late_past Fine journal late = omega arith
-late_past Usage journal late = absurd (omega arith)
-late_past (Script fault) journal late = absurd (omega arith)
-late_past (Reading before after) journal late = absurd (omega arith)
-late_past (Writing before after) journal late = omega arith
-late_past (Device before after) [] late = omega arith
-late_past (Device before after) (entry ∷ journal) late = omega arith
-late_past (NotEmpty bytes) journal late = absurd (omega arith)
-late_past (Refused fault) journal late = absurd (omega arith)
-late_past Memory [] late = omega arith
-late_past Memory (entry ∷ journal) late = omega arith
+pub late_past : (detail : Detail) → the_events < unreached detail → IsPast the_words detail
+late_past Fine late = omega arith
+late_past Usage late = absurd (omega arith)
+late_past (Script fault) late = absurd (omega arith)
+late_past (Reading before after) late = absurd (omega arith)
+late_past (Writing before after) late = omega arith
+late_past (Device before after false) late = absurd (omega arith)
+late_past (Device before after true) late = omega arith
+late_past (NotEmpty bytes) late = absurd (omega arith)
+late_past (Refused fault) late = absurd (omega arith)
+late_past (Memory false) late = absurd (omega arith)
+late_past (Memory true) late = omega arith
 
 module _ {D S K : Type 0} (d : disk.Ghosts D) (s : source.Ghosts S) (k : sink.Ghosts K) where
   -- no store was opened
   pub open_causes : (disk end : D) (source : S) (sink : K) (it : Ended D S K) (fault : OpenFault)
       → IsOpenFault (d.count disk) (d.count end) fault → (d.made end).past ≡ (d.made disk).past
       → ShowsCauses d s k disk source sink (with_parts it (not_opened fault) None end source sink)
-  open_causes disk end source sink it NotAStore cause reads = record { reading = refl; writing = refl; device = cause; rule = tt; reads = reads }
-  open_causes disk end source sink it (Version version) cause reads = record { reading = refl; writing = refl; device = cause; rule = tt; reads = reads }
-  open_causes disk end source sink it (Damaged page kept found) cause reads = record { reading = refl; writing = refl; device = cause; rule = tt; reads = reads }
-  open_causes disk end source sink it (Malformed page at) cause reads = record { reading = refl; writing = refl; device = cause; rule = tt; reads = reads }
-  open_causes disk end source sink it (Disk before after) cause reads = record { reading = refl; writing = tt; device = cause; rule = tt; reads = reads }
-  open_causes disk end source sink it NoRoom cause reads = record { reading = refl; writing = tt; device = cause; rule = tt; reads = reads }
+  open_causes disk end source sink it NotAStore cause reads = record { reading = refl; writing = refl; device = cause; rule = tt; opened = tt; reads = reads }
+  open_causes disk end source sink it (Version version) cause reads = record { reading = refl; writing = refl; device = cause; rule = tt; opened = tt; reads = reads }
+  open_causes disk end source sink it (Damaged page kept found) cause reads = record { reading = refl; writing = refl; device = cause; rule = tt; opened = tt; reads = reads }
+  open_causes disk end source sink it (Malformed page at) cause reads = record { reading = refl; writing = refl; device = cause; rule = tt; opened = tt; reads = reads }
+  open_causes disk end source sink it (Disk before after) cause reads = record { reading = refl; writing = tt; device = cause; rule = tt; opened = refl; reads = reads }
+  open_causes disk end source sink it NoRoom cause reads = record { reading = refl; writing = tt; device = cause; rule = tt; opened = refl; reads = reads }
 
   -- no store was made
   pub init_causes : (disk end : D) (source : S) (sink : K) (it : Ended D S K) (fault : InitFault)
       → IsInitFault (d.count disk) (d.count end) fault → (d.made end).past ≡ (d.made disk).past
       → ShowsCauses d s k disk source sink (with_parts it (not_made fault) None end source sink)
-  init_causes disk end source sink it (NotEmptied bytes) cause reads = record { reading = refl; writing = refl; device = cause.1; rule = tt; reads = reads }
-  init_causes disk end source sink it (InitDisk before after) cause reads = record { reading = refl; writing = tt; device = cause; rule = tt; reads = reads }
-  init_causes disk end source sink it InitMemory cause reads = record { reading = refl; writing = tt; device = cause; rule = tt; reads = reads }
+  init_causes disk end source sink it (NotEmptied bytes) cause reads = record { reading = refl; writing = refl; device = cause.1; rule = tt; opened = tt; reads = reads }
+  init_causes disk end source sink it (InitDisk before after) cause reads = record { reading = refl; writing = tt; device = cause; rule = tt; opened = refl; reads = reads }
+  init_causes disk end source sink it InitMemory cause reads = record { reading = refl; writing = tt; device = cause; rule = tt; opened = refl; reads = reads }
 
   -- the disk was looked at before
   pub causes_after : (first disk : D) (source : S) (sink : K) (it : Ended D S K) → d.count disk ≡ d.count first → (d.made disk).past ≡ (d.made first).past
@@ -77,6 +76,7 @@ module _ {D S K : Type 0} (d : disk.Ghosts D) (s : source.Ghosts S) (k : sink.Gh
     writing = causes.writing;
     device = subst (λ (n : ℕ). ShowsDevice it.detail n (d.count it.disk)) counted causes.device;
     rule = causes.rule;
+    opened = causes.opened;
     reads = causes.reads ∙ read;
   }
 
@@ -88,5 +88,6 @@ module _ {D S K : Type 0} (d : disk.Ghosts D) (s : source.Ghosts S) (k : sink.Gh
     writing = causes.writing;
     device = causes.device;
     rule = causes.rule;
+    opened = causes.opened;
     reads = causes.reads;
   }

@@ -5,6 +5,7 @@ use Rattle.pm_types.specs.declared.fault.OpenFault.{OpenFault}
 use Rattle.pm_types.specs.declared.fault.OpenFault.TheVariants.{NotAStore, Version, Damaged, Malformed, Disk, Memory as NoRoom}
 use Rattle.pm_disk.specs.declared.disk.Disk as disk
 use Rattle.pm_disk.specs.Disk.{LeavesOnly}
+use Rattle.pm_disk.specs.Made.{with_sync}
 use Rattle.pm_disk.proofs.RunLemmas.{started, weaker, joined}
 use Rattle.pm_model.specs.World.{World, Copy, begin}
 use Rattle.pm_model.specs.Journal.{IsLegal, after}
@@ -27,13 +28,13 @@ stopped_for bytes Usage is = tt
 stopped_for bytes (Script fault) is = tt
 stopped_for bytes (Reading before after) is = tt
 stopped_for bytes (Writing before after) is = tt
-stopped_for bytes (Device before after) is = tt
+stopped_for bytes (Device before after opened) is = tt
 stopped_for bytes (NotEmpty n) is = tt
 stopped_for bytes (Refused fault) is = absurd (omega arith)
-stopped_for bytes Memory is = tt
+stopped_for bytes (Memory opened) is = tt
 
 -- a store that is not opened is not run
-pub none_opened : (fault : OpenFault) → IsPast the_store (not_opened fault) [] → ⊥
+pub none_opened : (fault : OpenFault) → IsPast the_store (not_opened fault) → ⊥
 none_opened NotAStore past = absurd (omega arith)
 none_opened (Version version) past = absurd (omega arith)
 none_opened (Damaged page kept found) past = absurd (omega arith)
@@ -80,9 +81,10 @@ module _ {D : Type 0} (d : disk.Ghosts D) where
       → IsLegal (begin number copy) journal
       → (IsTold (d.contents start) → LeavesOnly d.moment d.since mid end (IsOfRun detail (begin number copy) journal))
       → (IsTold (d.contents start) → (left : List ℕ) → d.image end left → IsLastOf detail (after (begin number copy) journal) left)
-      → (journal ≡ [] → end ≡ mid) → the_events < unreached detail
+      → (journal ≡ [] → end ≡ mid) → d.made mid ≡ with_sync (d.moment start) (d.made start) → the_events < unreached detail
       → LeavesDisk d start end detail journal
-  opened_run start mid end number copy detail journal same_told leaves stands legal images last still late = record {
+  opened_run start mid end number copy detail journal same_told leaves stands legal images last still made late = record {
+    synced = inr (record { opened = mid; made = made; idle = still });
     legal = λ bytes told number_ copy_ there. subst (λ (w : World). IsLegal w journal) (same bytes told number_ copy_ there) legal;
     images = λ bytes told number_ copy_ there.
         let P : List ℕ → Type 0 = λ left. d.image start left ⊎ IsOfRun detail (begin number_ copy_) journal left in
@@ -110,10 +112,11 @@ module _ {D : Type 0} (d : disk.Ghosts D) where
           λ i. begin (one.0 i) (one.1 i)
 
   -- a store that was not opened
-  pub refused_run : (start end : D) (detail : Detail) → (IsPast the_store detail [] → ⊥) → the_store < unreached detail
-      → d.contents end ≡ d.contents start → LeavesOnly d.moment d.since start end (d.image start)
+  pub refused_run : (start end : D) (detail : Detail) → (IsPast the_store detail → ⊥) → the_store < unreached detail
+      → d.contents end ≡ d.contents start → LeavesOnly d.moment d.since start end (d.image start) → d.made end ≡ with_sync (d.moment start) (d.made start)
       → ((bytes : List ℕ) → d.contents start ≡ Some bytes → IsRefusedFor bytes detail) → LeavesDisk d start end detail []
-  refused_run start end detail none tried told leaves refused = record {
+  refused_run start end detail none tried told leaves made refused = record {
+    synced = inr (record { opened = end; made = made; idle = λ empty. refl });
     legal = λ bytes is number copy stands. tt;
     images = λ bytes is number copy stands.
         weaker d.moment d.since start end (d.image start) (λ left. d.image start left ⊎ IsOfRun detail (begin number copy) [] left)
@@ -128,7 +131,7 @@ module _ {D : Type 0} (d : disk.Ghosts D) where
 
   -- a disk that was not called
   pub uncalled_run : (disk : D) (detail : Detail) → ((left : List ℕ) → d.since disk (d.moment disk) left → d.image disk left)
-      → (IsPast the_store detail [] → ⊥) → ((bytes : List ℕ) → IsRefusedFor bytes detail) → LeavesDisk d disk disk detail []
+      → (IsPast the_store detail → ⊥) → ((bytes : List ℕ) → IsRefusedFor bytes detail) → LeavesDisk d disk disk detail []
   uncalled_run disk detail now none refused =
       let leaves = started d.moment d.since disk (d.image disk) now in
       record {
@@ -141,5 +144,6 @@ module _ {D : Type 0} (d : disk.Ghosts D) where
         refused = λ bytes is. refused bytes;
         shut = λ bytes is fault shut. none;
         quiet = λ empty. (refl, leaves);
+        synced = inl refl;
         uncalled = λ before. refl;
       }

@@ -1,5 +1,5 @@
 -- What each command does, where nothing was called, and where it writes one text.
-use Rattle.std.proofs.Common.{◌≡◌, ℕ, ◌<◌, List, [], ◌∷◌, None, refl, subst, arith}
+use Rattle.std.proofs.Common.{false, ◌≡◌, ℕ, ◌<◌, List, [], None, refl, subst, arith}
 use Rattle.pm_types.specs.declared.entry.Entry.{Entry}
 use Rattle.pm_disk.specs.declared.disk.Disk as disk
 use Rattle.pm_disk.specs.Disk.{SameImages}
@@ -18,47 +18,40 @@ use Rattle.pm_top.specs.declared.ended.Ended.{Ended}
 use Rattle.pm_top.specs.declared.writes.Writes.{Writes}
 use Rattle.pm_top.specs.declared.writes.Writes.TheVariants.{Replies, Digest}
 use Rattle.pm_top.specs.Stages.{IsPast, unreached, the_words, the_script}
-use Rattle.pm_top.specs.Journals.{IsScriptEnd, ReadsScript}
+use Rattle.pm_top.specs.Journals.{IsScriptEnd, KeepsOrder, ReadsScript}
 use Rattle.pm_top.specs.Wrote.{WroteText}
 use Rattle.pm_top.specs.Commands.{ShowsCauses, RunsStore, EndsTrying, TriesScript, Does}
 use Rattle.pm_top.proofs.Parts.{with_parts}
 use Rattle.pm_top.proofs.Opened.{uncalled_run}
 use Rattle.pm_top.proofs.Stores.{store_unrun}
-use Rattle.pm_top.proofs.Scripts.{script_unknown, unserved}
+use Rattle.pm_top.proofs.Scripts.{script_unknown, unordered, unserved}
 
 module _ {K : Type 0} (k : sink.Ghosts K) where
   -- no text was written
-  untouched_text : (sink : K) (text : List ℕ) → WroteText k sink sink text Memory
+  untouched_text : (sink : K) (text : List ℕ) → WroteText k sink sink text (Memory false)
   untouched_text sink text = record { all = λ never. absurd never; all_finished = λ never. absurd never; part = λ never. absurd never; none = λ not. refl }
 
--- an end for want of memory is one of a run, which did not come to the script where it served nothing
-pub memory_ends : (journal : List Entry) → IsPast the_words Memory journal
-memory_ends [] = omega arith
-memory_ends (entry ∷ journal) = omega arith
-
-pub memory_early : (journal : List Entry) → journal ≡ [] → IsPast the_script Memory journal → ⊥
-memory_early journal empty past = let early : IsPast the_script Memory [] = subst (IsPast the_script Memory) empty past in absurd (omega (arith, early))
-
 -- no byte was read
-pub unread : (bytes : List ℕ) (journal : List Entry) → journal ≡ [] → ReadsScript bytes Memory journal None
-unread bytes journal empty = unserved bytes Memory journal empty (script_unknown bytes Memory tt (λ fault. tt) (λ past. absurd (omega arith)))
+pub unread : (bytes : List ℕ) (journal : List Entry) → journal ≡ [] → ReadsScript bytes (Memory false) journal None
+unread bytes journal empty = unserved bytes (Memory false) journal empty (script_unknown bytes (Memory false) tt (λ fault. tt) (λ past. absurd (omega arith)))
 
 module _ {D S K : Type 0} (d : disk.Ghosts D) (k : sink.Ghosts K) where
   -- ---- nothing was called
 
   untouched_store : (writes : Writes) (disk : D) (source : S) (sink : K) (it : Ended D S K) → it.journal.items ≡ []
       → ((at : List ℕ) → d.since disk (d.moment disk) at → d.image disk at)
-      → RunsStore d k writes disk sink (with_parts it Memory None disk source sink)
+      → RunsStore d k writes disk sink (with_parts it (Memory false) None disk source sink)
   untouched_store writes disk source sink it empty now =
-      store_unrun d k writes disk disk source sink it Memory empty (λ past. absurd (omega arith))
-      (uncalled_run d disk Memory now (λ past. absurd (omega arith)) (λ bytes. tt))
+      store_unrun d k writes disk disk source sink it (Memory false) empty (λ past. absurd (omega arith))
+      (uncalled_run d disk (Memory false) now (λ past. absurd (omega arith)) (λ bytes. tt))
 
   pub untouched_trial : (seed turns : ℕ) (disk : D) (source : S) (sink : K) (it : Ended D S K) → it.journal.items ≡ []
       → ((at : List ℕ) → d.since disk (d.moment disk) at → d.image disk at)
-      → TriesScript d k seed turns disk source sink (with_parts it Memory None disk source sink)
+      → TriesScript d k seed turns disk source sink (with_parts it (Memory false) None disk source sink)
   untouched_trial seed turns disk source sink it empty now = record {
     ends = tt;
     script = unread (made_text seed turns) it.journal.items empty;
+    order = unordered (made_text seed turns) (Memory false) it.journal.items empty (λ past. absurd (omega (arith, past)));
     store = untouched_store Digest disk source sink it empty now;
     source_stays = refl;
   }
@@ -66,32 +59,33 @@ module _ {D S K : Type 0} (d : disk.Ghosts D) (k : sink.Ghosts K) where
   -- ---- a trial, from the run of its script
 
   pub tried : (seed turns : ℕ) (bytes : List ℕ) (lines : List Line) (disk : D) (source : S) (sink : K) (it : Ended D S K)
-      → bytes ≡ made_text seed turns → IsScript bytes lines → IsPast the_words it.detail it.journal.items
-      → the_script < unreached it.detail → ReadsScript bytes it.detail it.journal.items it.tally
+      → bytes ≡ made_text seed turns → IsScript bytes lines → IsPast the_words it.detail
+      → the_script < unreached it.detail → ReadsScript bytes it.detail it.journal.items it.tally → KeepsOrder bytes it.detail it.journal.items it.tally
       → RunsStore d k Digest disk sink it → it.source ≡ source
       → TriesScript d k seed turns disk source sink it
-  tried seed turns bytes lines disk source sink it is script past reached reads store stays = record {
+  tried seed turns bytes lines disk source sink it is script past reached reads order store stays = record {
     ends = by it.detail it.journal.items past reached reads.refused;
     script = subst (λ (b : List ℕ). ReadsScript b it.detail it.journal.items it.tally) is reads;
+    order = subst (λ (b : List ℕ). KeepsOrder b it.detail it.journal.items it.tally) is order;
     store = store;
     source_stays = stays;
   }
     where
-      by : (detail : Detail) (journal : List Entry) → IsPast the_words detail journal → the_script < unreached detail → IsScriptEnd bytes detail → EndsTrying detail
+      by : (detail : Detail) (journal : List Entry) → IsPast the_words detail → the_script < unreached detail → IsScriptEnd bytes detail → EndsTrying detail
       by Fine journal past reached refused = tt
       by Usage journal past reached refused = absurd (omega (arith, past))
       by (Script fault) journal past reached refused = absurd (no_fault bytes fault lines refused script)
       by (Reading before after) journal past reached refused = absurd (omega (arith, reached))
       by (Writing before after) journal past reached refused = tt
-      by (Device before after) journal past reached refused = tt
+      by (Device before after opened) journal past reached refused = tt
       by (NotEmpty n) journal past reached refused = absurd (omega (arith, past))
       by (Refused fault) journal past reached refused = tt
-      by Memory journal past reached refused = tt
+      by (Memory opened) journal past reached refused = tt
 
 module _ {D S K : Type 0} (d : disk.Ghosts D) (s : source.Ghosts S) (k : sink.Ghosts K) where
   pub untouched_does : (command : Command) (disk : D) (source : S) (sink : K) (it : Ended D S K) → it.journal.items ≡ []
       → ((at : List ℕ) → d.since disk (d.moment disk) at → d.image disk at) → SameImages (d.image disk) (d.image disk)
-      → Does d s k command disk source sink (with_parts it Memory None disk source sink)
+      → Does d s k command disk source sink (with_parts it (Memory false) None disk source sink)
   untouched_does Init disk source sink it empty now same = record {
     makes = (refl, same);
     leaves = λ bytes told some. started d.moment d.since disk (d.image disk) now;
@@ -101,9 +95,10 @@ module _ {D S K : Type 0} (d : disk.Ghosts D) (s : source.Ghosts S) (k : sink.Gh
     no_tally = refl;
   }
   untouched_does Run disk source sink it empty now same = record {
-    ends = memory_ends it.journal.items;
-    read = λ past. absurd (memory_early it.journal.items empty past);
+    ends = omega arith;
+    read = λ past. absurd (omega (arith, past));
     script = λ bytes told. unread bytes it.journal.items empty;
+    order = λ bytes told. unordered bytes (Memory false) it.journal.items empty (λ past. absurd (omega (arith, past)));
     store = untouched_store d k Replies disk source sink it empty now;
   }
   untouched_does Inspect disk source sink it empty now same = record {
@@ -131,5 +126,5 @@ module _ {D S K : Type 0} (d : disk.Ghosts D) (s : source.Ghosts S) (k : sink.Gh
   untouched_does (Trial seed turns) disk source sink it empty now same = untouched_trial d k seed turns disk source sink it empty now
 
   -- nothing was called
-  pub memory_causes : (disk : D) (source : S) (sink : K) (it : Ended D S K) → ShowsCauses d s k disk source sink (with_parts it Memory None disk source sink)
-  memory_causes disk source sink it = record { reading = refl; writing = tt; device = refl; rule = tt; reads = refl }
+  pub memory_causes : (disk : D) (source : S) (sink : K) (it : Ended D S K) → ShowsCauses d s k disk source sink (with_parts it (Memory false) None disk source sink)
+  memory_causes disk source sink it = record { reading = refl; writing = tt; device = refl; rule = tt; opened = refl; reads = refl }

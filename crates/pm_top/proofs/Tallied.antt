@@ -10,7 +10,7 @@ use Rattle.pm_view.specs.View.{SpaceView}
 use Rattle.pm_view.specs.Counts.{standing}
 use Rattle.pm_view.specs.Watches.{lines_from}
 use Rattle.pm_bound.specs.Bounded.{IsHonest}
-use Rattle.pm_serving.specs.Serving.{Serving, opening, world}
+use Rattle.pm_serving.specs.Serving.{IsServed, Serving, opening, world}
 use Rattle.pm_engine.specs.Shown.{tally_in}
 use Rattle.pm_top.specs.Tallies.{ComesTo, ReachesAtMost}
 
@@ -28,8 +28,10 @@ at_most : (world : World) (n : ℕ) → ReachesAtMost world n → ReachesAtMost 
 at_most world n few =
     ⊎_elim (λ over. inr (omega arith)) (λ within. let same : n ≡ min n greatest_count = omega arith in inl (subst (ReachesAtMost world) same few)) (cases_lt greatest_count n)
 
-pub engine_comes : (it : Serving) → AllByRecursion IsHonest (tally_in it).lines → (world it).watches ≡ length it.watches → ReachesAtMost (world it) (standing it.view) → ComesTo (opening it) it.journal (tally_in it)
-engine_comes it honest watching few = record {
+pub engine_comes : (it : Serving) → ∥ IsServed it ∥₁ → length it.course ≡ length it.journal → AllByRecursion IsHonest (tally_in it).lines → (world it).watches ≡ length it.watches → ReachesAtMost (world it) (standing it.view) → ComesTo (opening it) it.journal (tally_in it)
+engine_comes it served told honest watching few = record {
+  of_engine = record { engine = it; began = refl; has = refl; served = served; is_tally = refl };
+  told = told;
   journal_is = refl;
   entries = refl;
   watching = length_lines it.view 1 it.watches ∙ sym watching;

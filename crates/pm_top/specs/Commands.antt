@@ -19,12 +19,12 @@ use Rattle.pm_top.specs.declared.ended.Detail.TheVariants.{Fine, Writing, Device
 use Rattle.pm_top.specs.declared.ended.Ended.{Ended}
 use Rattle.pm_top.specs.declared.writes.Writes.{Writes}
 use Rattle.pm_top.specs.declared.writes.Writes.TheVariants.{Replies, Digest}
-use Rattle.pm_top.specs.Ends.{ShowsReading, ShowsWriting, ShowsDevice, NamesRule, stop_in}
+use Rattle.pm_top.specs.Ends.{ShowsReading, ShowsWriting, ShowsDevice, ShowsOpened, NamesRule, stop_in}
 use Rattle.pm_top.specs.Stages.{IsPast, the_words, the_script}
-use Rattle.pm_top.specs.Journals.{IsBegun, ReadsScript}
+use Rattle.pm_top.specs.Journals.{IsBegun, KeepsOrder, ReadsScript}
 use Rattle.pm_top.specs.Disks.{IsRefusedFor, LeavesDisk, LeavesMade}
 use Rattle.pm_top.specs.Tallies.{TalliesRun}
-use Rattle.pm_top.specs.Wrote.{IsWriting, Wrote, WroteText}
+use Rattle.pm_top.specs.Wrote.{AcknowledgesFor, IsWriting, Wrote, WroteText}
 
 -- All is as it was.
 pub record IsUntouched {D S K : Type 0} (disk : D) (source : S) (sink : K) (ended : Ended D S K) : Type 0 where
@@ -40,25 +40,25 @@ pub record IsUntouched {D S K : Type 0} (disk : D) (source : S) (sink : K) (ende
 abbrev pub EndsInspecting : Detail → Type 0
 EndsInspecting Fine = Unit {0}
 EndsInspecting (Writing before after) = Unit {0}
-EndsInspecting (Device before after) = Unit {0}
+EndsInspecting (Device before after opened) = Unit {0}
 EndsInspecting (Refused fault) = Unit {0}
-EndsInspecting Memory = Unit {0}
+EndsInspecting (Memory opened) = Unit {0}
 EndsInspecting detail = ⊥
 
 -- how `make SEED N` may end
 abbrev pub EndsMaking : Detail → Type 0
 EndsMaking Fine = Unit {0}
 EndsMaking (Writing before after) = Unit {0}
-EndsMaking Memory = Unit {0}
+EndsMaking (Memory opened) = Unit {0}
 EndsMaking detail = ⊥
 
 -- how `trial FILE SEED N` may end
 abbrev pub EndsTrying : Detail → Type 0
 EndsTrying Fine = Unit {0}
 EndsTrying (Writing before after) = Unit {0}
-EndsTrying (Device before after) = Unit {0}
+EndsTrying (Device before after opened) = Unit {0}
 EndsTrying (Refused fault) = Unit {0}
-EndsTrying Memory = Unit {0}
+EndsTrying (Memory opened) = Unit {0}
 EndsTrying detail = ⊥
 
 -- no more turns are made than that
@@ -75,6 +75,8 @@ module _ {D S K : Type 0} (d : disk.Ghosts D) (s : source.Ghosts S) (k : sink.Gh
     pub device : ShowsDevice ended.detail (d.count disk) (d.count ended.disk)
     -- a script and a store are refused by a rule of their bytes alone
     pub rule : NamesRule ended.detail
+    -- whether a store was opened for a run: there is a tally just where it says so
+    pub opened : ShowsOpened ended.detail ended.tally
     -- nobody asked for a read past the end of what the disk tells
     pub reads : (d.made ended.disk).past ≡ (d.made disk).past
 
@@ -108,6 +110,9 @@ module _ {D S K : Type 0} (d : disk.Ghosts D) (k : sink.Ghosts K) where
     -- and where one was, it is what this run writes for the journal's text and for the lines behind it, by how it ended
     pub replies : IfSome ended.tally
         (λ it. Wrote k writes sink ended.sink (text ended.journal.items) (tail_of (tally_of it)) (stop_in ended.detail))
+    -- acknowledged is told: unless the sink failed, the text through each reply `saved` is finished, where replies are written
+    pub saved : IfSome ended.tally
+        (λ it. AcknowledgesFor k writes sink ended.sink ended.journal.items (stop_in ended.detail))
 
   -- What `inspect FILE` does: the store is opened and its report is written.
   pub record InspectsStore (disk : D) (source : S) (sink : K) (ended : Ended D S K) : Type 0 where
@@ -134,6 +139,8 @@ module _ {D S K : Type 0} (d : disk.Ghosts D) (k : sink.Ghosts K) where
   pub record TriesScript (seed turns : ℕ) (disk : D) (source : S) (sink : K) (ended : Ended D S K) : Type 0 where
     pub ends : EndsTrying ended.detail
     pub script : ReadsScript (made_text seed turns) ended.detail ended.journal.items ended.tally
+    -- in the order of its lines
+    pub order : KeepsOrder (made_text seed turns) ended.detail ended.journal.items ended.tally
     pub store : RunsStore Digest disk sink ended
     pub source_stays : ended.source ≡ source
 
@@ -153,13 +160,16 @@ module _ {D S K : Type 0} (d : disk.Ghosts D) (s : source.Ghosts S) (k : sink.Gh
   -- are run in their order.
   pub record RunsScript (disk : D) (source : S) (sink : K) (ended : Ended D S K) : Type 0 where
     -- the words were read, so it ends as no other command does
-    pub ends : IsPast the_words ended.detail ended.journal.items
+    pub ends : IsPast the_words ended.detail
     -- past the script the source was read to its end
-    pub read : IsPast the_script ended.detail ended.journal.items
+    pub read : IsPast the_script ended.detail
         → (bytes : List ℕ) → s.left source ≡ Some bytes → s.left ended.source ≡ Some []
     -- what it answers of the bytes that the source told
     pub script : (bytes : List ℕ) → s.left source ≡ Some bytes
         → ReadsScript bytes ended.detail ended.journal.items ended.tally
+    -- in the order of its lines
+    pub order : (bytes : List ℕ) → s.left source ≡ Some bytes
+        → KeepsOrder bytes ended.detail ended.journal.items ended.tally
     -- what it does to disk and sink
     pub store : RunsStore d k Replies disk sink ended
 

@@ -4,6 +4,7 @@ use Rattle.pm_types.specs.declared.entry.Entry.{Entry}
 use Rattle.pm_types.specs.declared.fault.OpenFault.{OpenFault}
 use Rattle.pm_disk.specs.declared.disk.Disk as disk
 use Rattle.pm_disk.specs.Disk.{LeavesOnly, SameImages}
+use Rattle.pm_disk.specs.Made.{with_sync}
 use Rattle.pm_model.specs.World.{World, Copy, begin, empty_copy}
 use Rattle.pm_model.specs.Journal.{IsLegal, after}
 use Rattle.pm_image.specs.Stands.{StandsForCopy, opened}
@@ -16,7 +17,7 @@ use Rattle.pm_top.specs.Stages.{IsPast, IsBefore, the_store}
 
 -- the disk failed
 abbrev pub IsOfDisk : Detail → Type 0
-IsOfDisk (Device before after) = Unit {0}
+IsOfDisk (Device before after opened) = Unit {0}
 IsOfDisk detail = ⊥
 
 -- What a crash may leave of a run from this world, with this journal: a member of the chain of copies that settled; where
@@ -39,6 +40,13 @@ IsRefusedFor bytes (Refused fault) = Breaks bytes fault
 IsRefusedFor bytes detail = Unit {0}
 
 module _ {D : Type 0} (d : disk.Ghosts D) where
+  -- The store is opened by one sync of the disk, which comes before any other call, and no write: then the disk was this one.
+  -- Where no command was answered it is not called any more.
+  pub record SyncsFirst (start end : D) (journal : List Entry) : Type 0 where
+    pub opened : D
+    pub made : d.made opened ≡ with_sync (d.moment start) (d.made start)
+    pub idle : journal ≡ [] → end ≡ opened
+
   -- How a run leaves the disk, from its start to its end, by what the disk told at the start.
   pub record LeavesDisk (start end : D) (detail : Detail) (journal : List Entry) : Type 0 where
     -- the journal is legal from the world of the copy that the bytes stand for
@@ -49,17 +57,19 @@ module _ {D : Type 0} (d : disk.Ghosts D) where
         → LeavesOnly d.moment d.since start end (λ left. d.image start left ⊎ IsOfRun detail (begin number copy) journal left)
     -- each image at the end is the last one
     pub last : (bytes : List ℕ) → d.contents start ≡ Some bytes → (number : ℕ) (copy : Copy) → StandsForCopy bytes number copy
-        → IsPast the_store detail journal
+        → IsPast the_store detail
         → (left : List ℕ) → d.image end left → IsLastOf detail (after (begin number copy) journal) left
     -- only bytes that stand for a copy are opened
-    pub opened : (bytes : List ℕ) → d.contents start ≡ Some bytes → IsPast the_store detail journal
+    pub opened : (bytes : List ℕ) → d.contents start ≡ Some bytes → IsPast the_store detail
         → (number : ℕ) × (copy : Copy) × StandsForCopy bytes number copy
     -- bytes are refused for no rule but the first that they break, and where they break one they are not opened
     pub refused : (bytes : List ℕ) → d.contents start ≡ Some bytes → IsRefusedFor bytes detail
     pub shut : (bytes : List ℕ) → d.contents start ≡ Some bytes → (fault : OpenFault) → Breaks bytes fault
-        → IsPast the_store detail journal → ⊥
+        → IsPast the_store detail → ⊥
     -- where no command was answered, nothing was written
     pub quiet : journal ≡ [] → (d.contents end ≡ d.contents start) × LeavesOnly d.moment d.since start end (d.image start)
+    -- it is not called, or synced first
+    pub synced : (end ≡ start) ⊎ SyncsFirst start end journal
     -- before the store it is not called
     pub uncalled : IsBefore the_store detail → end ≡ start
 
@@ -75,8 +85,8 @@ module _ {D : Type 0} (d : disk.Ghosts D) where
       (0 < n) × ((bytes : List ℕ) → d.contents start ≡ Some bytes → n ≡ length bytes)
       × (d.contents end ≡ d.contents start) × SameImages (d.image start) (d.image end)
   -- nothing was written to a disk that is empty
-  LeavesMade start end Memory = (d.contents end ≡ d.contents start) × SameImages (d.image start) (d.image end)
+  LeavesMade start end (Memory opened) = (d.contents end ≡ d.contents start) × SameImages (d.image start) (d.image end)
   -- the disk failed: where it told of some byte, nothing was written
-  LeavesMade start end (Device before after) =
+  LeavesMade start end (Device before after opened) =
       KeepsBytes (d.contents start) (d.contents end) (d.image start) (d.image end)
   LeavesMade start end detail = ⊥

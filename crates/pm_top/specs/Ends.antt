@@ -1,5 +1,6 @@
 -- How the program ends.
-use Rattle.std.specs.Prelude.{◌≡◌, ℕ, codes, decimal, List, [], ◌++◌, Option, Some, None}
+use Rattle.std.specs.Prelude.{◌≡◌, ℕ, true, false, codes, decimal, List, [], ◌++◌, Option, Some, None}
+use Rattle.std.specs.Option.{is_some}
 use Rattle.hex.specs.Hex.{encode_lower}
 use Rattle.pm_base.specs.Counts.{ShowsRise}
 use Rattle.pm_types.specs.declared.fault.OpenFault.{OpenFault}
@@ -10,8 +11,9 @@ use Rattle.pm_script.specs.declared.fault.Cause.{Cause}
 use Rattle.pm_script.specs.declared.fault.Cause.TheVariants as cause
 use Rattle.pm_script.specs.declared.fault.ScriptFault.{ScriptFault}
 use Rattle.pm_script.specs.declared.fault.ScriptFault.TheVariants.{Line as BadLine, TooManyLines, TooLong, Memory as ScriptMemory}
-use Rattle.pm_serial.specs.declared.stop.Stop.{Stop}
-use Rattle.pm_serial.specs.declared.stop.Stop.TheVariants.{Memory as StopMemory, Writing as StopWriting, Device as StopDevice}
+use Rattle.pm_events.specs.declared.stop.Stop.{Stop}
+use Rattle.pm_events.specs.declared.stop.Stop.TheVariants.{Memory as StopMemory, Writing as StopWriting, Device as StopDevice}
+use Rattle.pm_engine.specs.declared.tally.Tally.{Tally}
 use Rattle.pm_top.specs.declared.ended.Detail.{Detail}
 use Rattle.pm_top.specs.declared.ended.Detail.TheVariants.{Fine, Usage, Script, Reading, Writing, Device, NotEmpty, Refused, Memory}
 
@@ -22,10 +24,10 @@ status_of Usage = 1
 status_of (Script fault) = 2
 status_of (Reading before after) = 3
 status_of (Writing before after) = 4
-status_of (Device before after) = 5
+status_of (Device before after opened) = 5
 status_of (NotEmpty bytes) = 6
 status_of (Refused fault) = 6
-status_of Memory = 7
+status_of (Memory opened) = 7
 
 -- the text of a refusal, on standard error
 abbrev pub refusal_line : OpenFault → List ℕ
@@ -61,10 +63,10 @@ detail_line Usage = codes "pmos: usage\n"
 detail_line (Script fault) = script_line fault
 detail_line (Reading before after) = codes "pmos: read fault\n"
 detail_line (Writing before after) = codes "pmos: write fault\n"
-detail_line (Device before after) = codes "pmos: disk fault\n"
+detail_line (Device before after opened) = codes "pmos: disk fault\n"
 detail_line (NotEmpty bytes) = codes "pmos: not empty " ++ decimal bytes ++ codes "\n"
 detail_line (Refused fault) = refusal_line fault
-detail_line Memory = codes "pmos: no memory\n"
+detail_line (Memory opened) = codes "pmos: no memory\n"
 
 -- the source's count of faults rose where the source failed, and else stands still
 abbrev pub ShowsReading : Detail → ℕ → ℕ → Type 0
@@ -75,13 +77,13 @@ ShowsReading detail count_before count_after = count_after ≡ count_before
 -- want of memory or of the disk leaves; else it stands still
 abbrev pub ShowsWriting : Detail → ℕ → ℕ → Type 0
 ShowsWriting (Writing before after) count_before count_after = ShowsRise before after count_before count_after
-ShowsWriting Memory count_before count_after = Unit {0}
-ShowsWriting (Device before after) count_before count_after = Unit {0}
+ShowsWriting (Memory opened) count_before count_after = Unit {0}
+ShowsWriting (Device before after opened) count_before count_after = Unit {0}
 ShowsWriting detail count_before count_after = count_after ≡ count_before
 
 -- the disk's rose where the disk failed, and else stands still
 abbrev pub ShowsDevice : Detail → ℕ → ℕ → Type 0
-ShowsDevice (Device before after) count_before count_after = ShowsRise before after count_before count_after
+ShowsDevice (Device before after opened) count_before count_after = ShowsRise before after count_before count_after
 ShowsDevice detail count_before count_after = count_after ≡ count_before
 
 -- a store is refused by a rule of its bytes: a disk that fails and want of memory are ends of their own, and there is no
@@ -101,26 +103,37 @@ NamesRule (Refused fault) = IsOfStore fault
 NamesRule (Script fault) = IsOfScript fault
 NamesRule detail = Unit {0}
 
+-- whether a store was opened for a run is told where memory ran out or the disk failed
+abbrev pub ShowsOpened : Detail → Option Tally → Type 0
+ShowsOpened (Device before after opened) tally = opened ≡ is_some tally
+ShowsOpened (Memory opened) tally = opened ≡ is_some tally
+ShowsOpened detail tally = Unit {0}
+
+-- memory ran out
+abbrev pub RanShort : Detail → Type 0
+RanShort (Memory opened) = Unit {0}
+RanShort detail = ⊥
+
 -- why a run of lines stopped that ended so, if it did
 abbrev pub stop_in : Detail → Option Stop
 stop_in (Writing before after) = Some StopWriting
-stop_in (Device before after) = Some StopDevice
-stop_in Memory = Some StopMemory
+stop_in (Device before after opened) = Some StopDevice
+stop_in (Memory opened) = Some StopMemory
 stop_in detail = None
 
 -- how the program ends after a run of lines, by the counts of the disk and of the sink before and after it
 abbrev pub ended_by : Option Stop → ℕ → ℕ → ℕ → ℕ → Detail
 ended_by None disk_before disk_after sink_before sink_after = Fine
-ended_by (Some StopMemory) disk_before disk_after sink_before sink_after = Memory
+ended_by (Some StopMemory) disk_before disk_after sink_before sink_after = Memory true
 ended_by (Some StopWriting) disk_before disk_after sink_before sink_after = Writing sink_before sink_after
-ended_by (Some StopDevice) disk_before disk_after sink_before sink_after = Device disk_before disk_after
+ended_by (Some StopDevice) disk_before disk_after sink_before sink_after = Device disk_before disk_after true
 
 -- how the program ends where a script is not read
 abbrev pub not_read : ScriptFault → Detail
 not_read (BadLine number cause) = Script (BadLine number cause)
 not_read TooManyLines = Script TooManyLines
 not_read TooLong = Script TooLong
-not_read ScriptMemory = Memory
+not_read ScriptMemory = Memory false
 
 -- how the program ends where a store is not opened
 abbrev pub not_opened : OpenFault → Detail
@@ -128,11 +141,11 @@ not_opened NotAStore = Refused NotAStore
 not_opened (Version version) = Refused (Version version)
 not_opened (Damaged page kept found) = Refused (Damaged page kept found)
 not_opened (Malformed page at) = Refused (Malformed page at)
-not_opened (Disk before after) = Device before after
-not_opened NoRoom = Memory
+not_opened (Disk before after) = Device before after false
+not_opened NoRoom = Memory false
 
 -- how the program ends where no store is made
 abbrev pub not_made : InitFault → Detail
 not_made (NotEmptied bytes) = NotEmpty bytes
-not_made (InitDisk before after) = Device before after
-not_made InitMemory = Memory
+not_made (InitDisk before after) = Device before after false
+not_made InitMemory = Memory false

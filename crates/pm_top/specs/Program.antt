@@ -1,5 +1,5 @@
 -- What the whole program does, down to its status and to standard error.
-use Rattle.std.specs.Prelude.{◌≡◌, ◌⊎◌, ℕ, List}
+use Rattle.std.specs.Prelude.{false, ◌≡◌, ◌⊎◌, ℕ, List}
 use Rattle.pm_base.specs.Counts.{Rose}
 use Rattle.pm_disk.specs.declared.disk.Disk as disk
 use Rattle.pm_io.specs.declared.source.Source as source
@@ -32,7 +32,7 @@ module _ {D S K : Type 0} (d : disk.Ghosts D) (s : source.Ghosts S) (k : sink.Gh
   pub record Performs (words : List (List ℕ)) (disk : D) (source : S) (sink : K) (ended : Ended D S K) : Type 0 where
     pub is_status : ended.status ≡ status_of ended.detail
     pub usage : ended.detail ≡ Usage → SpellsNothing words
-    pub refused : SpellsNothing words → (ended.detail ≡ Usage) ⊎ (ended.detail ≡ Memory)
+    pub refused : SpellsNothing words → (ended.detail ≡ Usage) ⊎ (ended.detail ≡ Memory false)
     pub untouched : SpellsNothing words → IsUntouched disk source sink ended
     pub causes : ShowsCauses d s k disk source sink ended
     pub does : (command : Command) → Spells words command → Does d s k command disk source sink ended

@@ -1,6 +1,5 @@
 -- The stages that a run passes, in their order, and what each end says of them.
-use Rattle.std.specs.Prelude.{ℕ, ◌≤◌, List, [], ◌∷◌}
-use Rattle.pm_types.specs.declared.entry.Entry.{Entry}
+use Rattle.std.specs.Prelude.{ℕ, ◌≤◌, true, false}
 use Rattle.pm_top.specs.declared.ended.Detail.{Detail}
 use Rattle.pm_top.specs.declared.ended.Detail.TheVariants.{Fine, Usage, Script, Reading, Writing, Device, NotEmpty, Refused, Memory}
 
@@ -36,19 +35,19 @@ the_output = 6
 abbrev pub at_end : ℕ
 at_end = 7
 
--- The last stage that a run which ended so surely did. Where it made an event, it had opened the store.
-abbrev pub behind : Detail → List Entry → ℕ
-behind Fine journal = the_output
-behind Usage journal = at_start
-behind (Script fault) journal = the_words
-behind (Reading before after) journal = the_words
-behind (Writing before after) journal = the_store
-behind (Device before after) [] = the_script
-behind (Device before after) (entry ∷ journal) = the_store
-behind (NotEmpty bytes) journal = at_start
-behind (Refused fault) journal = the_script
-behind Memory [] = the_words
-behind Memory (entry ∷ journal) = the_store
+-- the last stage that a run which ended so surely did
+abbrev pub behind : Detail → ℕ
+behind Fine = the_output
+behind Usage = at_start
+behind (Script fault) = the_words
+behind (Reading before after) = the_words
+behind (Writing before after) = the_store
+behind (Device before after false) = the_script
+behind (Device before after true) = the_store
+behind (NotEmpty bytes) = at_start
+behind (Refused fault) = the_script
+behind (Memory false) = the_words
+behind (Memory true) = the_store
 
 -- the first stage that it surely did not begin
 abbrev pub unreached : Detail → ℕ
@@ -57,14 +56,16 @@ unreached Usage = the_source
 unreached (Script fault) = the_store
 unreached (Reading before after) = the_script
 unreached (Writing before after) = at_end
-unreached (Device before after) = the_output
+unreached (Device before after false) = the_events
+unreached (Device before after true) = the_output
 unreached (NotEmpty bytes) = the_events
 unreached (Refused fault) = the_events
-unreached Memory = the_output
+unreached (Memory false) = the_events
+unreached (Memory true) = the_output
 
 -- a run that ended so surely did this stage
-abbrev pub IsPast : ℕ → Detail → List Entry → Type 0
-IsPast stage detail journal = stage ≤ behind detail journal
+abbrev pub IsPast : ℕ → Detail → Type 0
+IsPast stage detail = stage ≤ behind detail
 
 -- it surely did not begin this stage
 abbrev pub IsBefore : ℕ → Detail → Type 0

@@ -8,8 +8,9 @@ use Rattle.pm_model.specs.Journal.{after}
 use Rattle.pm_model.specs.Reachability.{IsReachable}
 use Rattle.pm_view.specs.Represents.{IsHeld}
 use Rattle.pm_bound.specs.Bounded.{IsHonest}
+use Rattle.pm_serving.specs.Serving.{IsServed, Serving, opening}
 use Rattle.pm_engine.specs.declared.tally.Tally.{Tally}
-use Rattle.pm_engine.specs.Shown.{Total, tally_of}
+use Rattle.pm_engine.specs.Shown.{Total, tally_in, tally_of}
 use Rattle.pm_top.specs.declared.ended.Detail.{Detail}
 use Rattle.pm_top.specs.Stages.{IsPast, IsBefore, the_store, the_events}
 
@@ -18,11 +19,24 @@ abbrev pub ReachesAtMost : World → ℕ → Type 0
 ReachesAtMost world count =
     (ids : List ℕ) → IsDistinct nat_eq ids → AllByRecursion (IsReachable world.heap (IsHeld world)) ids → length ids ≤ count
 
+-- It is what an engine came to that began in this world, has this journal, and serves the world at its end: so what is told
+-- of each watch is told of one space, which stands for that world.
+pub record IsOfEngine (start : World) (journal : List Entry) (total : Total) : Type 0 where
+  pub engine : Serving
+  pub began : opening engine ≡ start
+  pub has : engine.journal ≡ journal
+  pub served : ∥ IsServed engine ∥₁
+  pub is_tally : total ≡ tally_in engine
+
 -- What an engine came to that was opened in this world, and has this journal.
 pub record ComesTo (start : World) (journal : List Entry) (total : Total) : Type 0 where
+  -- it is that of the engine
+  pub of_engine : IsOfEngine start journal total
   -- it is told of this journal, with its length
   pub journal_is : total.journal ≡ journal
   pub entries : total.entries ≡ length journal
+  -- of each entry it tells what had been made before it
+  pub told : length total.course ≡ length journal
   -- there is a line for each watch that is set in the world at the journal's end
   pub watching : length total.lines ≡ (after start journal).watches
   -- since a watch was set no more collections were completed than in all
@@ -36,7 +50,7 @@ pub record ComesTo (start : World) (journal : List Entry) (total : Total) : Type
 -- The tally of a run, from the world that was opened, by how it ended.
 pub record TalliesRun (start : World) (detail : Detail) (journal : List Entry) (tally : Option Tally) : Type 0 where
   -- past the store it is there
-  pub opened : IsPast the_store detail journal → IsSome tally
+  pub opened : IsPast the_store detail → IsSome tally
   -- before the events it is not
   pub unopened : IsBefore the_events detail → tally ≡ None
   -- it is that of the engine

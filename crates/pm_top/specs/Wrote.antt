@@ -1,8 +1,10 @@
 -- What a command wrote.
 use Rattle.std.specs.Prelude.{◌≡◌, ℕ, List, ◌++◌, Option, Some, length}
+use Rattle.pm_types.specs.declared.entry.Entry.{Entry}
 use Rattle.pm_io.specs.declared.sink.Sink as sink
 use Rattle.pm_output.specs.Writing.{PutsAll, PutsPart}
-use Rattle.pm_serial.specs.declared.stop.Stop.{Stop}
+use Rattle.pm_events.specs.declared.stop.Stop.{Stop}
+use Rattle.pm_serial.specs.Acknowledged.{Acknowledges}
 use Rattle.pm_serial.specs.Writing.{WroteRun}
 use Rattle.pm_trial.specs.Trials.{WroteTrial}
 use Rattle.pm_top.specs.declared.ended.Detail.{Detail}
@@ -32,6 +34,11 @@ module _ {K : Type 0} (k : sink.Ghosts K) where
   abbrev pub Wrote : Writes → K → K → List ℕ → List ℕ → Option Stop → Type 0
   Wrote Replies old new text tail stop = WroteRun k.written k.finished k.count old new text tail stop
   Wrote Digest old new text tail stop = WroteTrial k.written k.finished k.count old new text tail stop
+
+  -- what is finished of the replies which say that a copy settled, in a run of lines that writes them
+  abbrev pub AcknowledgesFor : Writes → K → K → List Entry → Option Stop → Type 0
+  AcknowledgesFor Replies old new journal stop = Acknowledges k old new journal stop
+  AcknowledgesFor Digest old new journal stop = Unit {0}
 
   -- What a command that writes one text put into the sink, by how it ended.
   pub record WroteText (old new : K) (text : List ℕ) (detail : Detail) : Type 0 where

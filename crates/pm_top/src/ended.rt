@@ -1,12 +1,12 @@
 ghost use Rattle.std.specs.Prelude.{◌≡◌, [], None};
-ghost use Rattle.pm_serial.specs.Causes.{why};
+ghost use Rattle.pm_events.specs.Causes.{why};
 ghost use Rattle.pm_top.specs.Ends.{status_of, ended_by, not_opened};
 
 use pm_disk::Disk;
 use pm_engine::Tally;
+use pm_events::Stop;
 use pm_io::{Sink, Source};
 use pm_script::ScriptFault;
-use pm_serial::Stop;
 use pm_types::{Entry, OpenFault};
 use std::alloc::Global;
 
@@ -21,17 +21,30 @@ pub enum Detail {
     /// What was read is no script, by this fault, which is the first that applies. Status 2.
     Script(ScriptFault),
     /// The source failed: its count of faults rose, from `before` to `after`. Status 3.
-    Reading { before: u64, after: u64 },
+    Reading {
+        before: u64,
+        after: u64,
+    },
     /// The sink failed: its count of faults rose, from `before` to `after`. Status 4.
-    Writing { before: u64, after: u64 },
-    /// The disk failed: its count of faults rose, from `before` to `after`. Status 5.
-    Device { before: u64, after: u64 },
+    Writing {
+        before: u64,
+        after: u64,
+    },
+    /// The disk failed: its count of faults rose, from `before` to `after`. Status 5. `opened` tells whether a store had
+    /// been opened for a run: then there is a tally.
+    Device {
+        before: u64,
+        after: u64,
+        opened: bool,
+    },
     /// No store was made, since the file holds this number of bytes, which is over 0. Status 6.
     NotEmpty(u64),
     /// The store was not opened, by the rule that its bytes fail. Status 6.
     Refused(OpenFault),
-    /// Memory ran out. Status 7.
-    Memory,
+    /// Memory ran out. Status 7. `opened` tells whether a store had been opened for a run: then there is a tally.
+    Memory {
+        opened: bool,
+    },
 }
 
 /// What the program leaves: its status, how it ended, the journal of its commands, what the engine came to, and the
@@ -64,7 +77,7 @@ impl Detail {
             Detail::Writing { .. } => 4,
             Detail::Device { .. } => 5,
             Detail::NotEmpty(_) | Detail::Refused(_) => 6,
-            Detail::Memory => 7,
+            Detail::Memory { .. } => 7,
         }
     }
 }
@@ -81,7 +94,7 @@ pub(crate) fn ended_by(
 {
     match outcome {
         Ok(()) => Detail::Fine,
-        Err(Stop::Memory) => Detail::Memory,
+        Err(Stop::Memory) => Detail::Memory { opened: true },
         Err(Stop::Writing) => Detail::Writing {
             before: sink_before,
             after: sink_after,
@@ -89,6 +102,7 @@ pub(crate) fn ended_by(
         Err(Stop::Device) => Detail::Device {
             before: disk_before,
             after: disk_after,
+            opened: true,
         },
     }
 }
@@ -98,8 +112,12 @@ pub(crate) fn not_opened(fault: OpenFault) -> Detail
     ensures { result ≡ not_opened fault }
 {
     match fault {
-        OpenFault::Disk { before, after } => Detail::Device { before, after },
-        OpenFault::Memory => Detail::Memory,
+        OpenFault::Disk { before, after } => Detail::Device {
+            before,
+            after,
+            opened: false,
+        },
+        OpenFault::Memory => Detail::Memory { opened: false },
         fault => Detail::Refused(fault),
     }
 }

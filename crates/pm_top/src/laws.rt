@@ -11,7 +11,7 @@ ghost use Rattle.pm_top.specs.Journals.{IsBegun};
 
 /// A law of stages: what an end has behind comes before what it did not reach.
 pub fn ends_lie_between_stages()
-    ensures { (detail : End) (journal : List Entry) → behind detail journal < unreached detail }
+    ensures { (detail : End) → behind detail < unreached detail }
 {}
 
 /// A law of runs, also over a disk that tells nothing: wherever a run stands, whatever a root, a register or a field

@@ -44,7 +44,7 @@ pub(crate) fn make_script<D: Disk, S: Source, K: Sink>(
 {
     let detail = match script(alloc, seed, turns) {
         Ok(text) => write_text(&mut sink, text.as_slice()),
-        Err(_) => Detail::Memory,
+        Err(_) => Detail::Memory { opened: false },
     };
     end_unopened(alloc, detail, disk, source, sink)
 }
@@ -67,6 +67,6 @@ pub(crate) fn try_script<D: Disk, F: Fn(&[u64]) -> usize + Drop, S: Source, K: S
 {
     match script(alloc, seed, turns) {
         Ok(bytes) => run_bytes(alloc, Writes::Digest, bytes, disk, place, source, sink),
-        Err(_) => end_unopened(alloc, Detail::Memory, disk, source, sink),
+        Err(_) => end_unopened(alloc, Detail::Memory { opened: false }, disk, source, sink),
     }
 }

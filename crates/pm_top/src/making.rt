@@ -17,8 +17,12 @@ fn not_made(fault: InitFault) -> Detail
 {
     match fault {
         InitFault::NotEmpty(bytes) => Detail::NotEmpty(bytes),
-        InitFault::Disk { before, after } => Detail::Device { before, after },
-        InitFault::Memory => Detail::Memory,
+        InitFault::Disk { before, after } => Detail::Device {
+            before,
+            after,
+            opened: false,
+        },
+        InitFault::Memory => Detail::Memory { opened: false },
     }
 }
 

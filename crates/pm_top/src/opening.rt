@@ -3,9 +3,9 @@ ghost use Rattle.std.specs.Prelude.{◌≡◌};
 ghost use Rattle.pm_script.specs.Script.{AreLines};
 ghost use Rattle.pm_place.specs.Choosers.{IsChooser};
 ghost use Rattle.pm_engine.specs.Shown.{chooser, disk_in, serving};
-ghost use Rattle.pm_serial.specs.Running.{IsFresh};
+ghost use Rattle.pm_events.specs.Running.{IsFresh};
 ghost use Rattle.pm_top.specs.Ends.{status_of};
-ghost use Rattle.pm_top.specs.Journals.{ServesLines};
+ghost use Rattle.pm_top.specs.Journals.{ServesInOrder, ServesLines};
 ghost use Rattle.pm_top.specs.Commands.{ShowsCauses, RunsStore};
 ghost use Rattle.pm_top.specs.Engines.{RunsEngine};
 
@@ -36,6 +36,7 @@ fn run_engine<D: Disk, F: Fn(&[u64]) -> usize + Drop, S: Source, K: Sink>(
     ensures status { result.status ≡ status_of result.detail }
     ensures source { result.source ≡ source }
     ensures serves { ServesLines lines.items result.detail result.journal.items result.tally }
+    ensures order { ServesInOrder lines.items result.detail result.journal.items result.tally }
     ensures runs { RunsEngine K.Sink writes engine sink result }
     ensures causes { ShowsCauses D.Disk S.Source K.Sink (disk_in engine) source sink result }
 {
@@ -63,6 +64,7 @@ pub(crate) fn open_and_run<D: Disk, F: Fn(&[u64]) -> usize + Drop, S: Source, K:
     ensures status { result.status ≡ status_of result.detail }
     ensures source { result.source ≡ source }
     ensures serves { ServesLines lines.items result.detail result.journal.items result.tally }
+    ensures order { ServesInOrder lines.items result.detail result.journal.items result.tally }
     ensures store { RunsStore D.Disk K.Sink writes disk sink result }
     ensures causes { ShowsCauses D.Disk S.Source K.Sink disk source sink result }
 {

@@ -9,7 +9,7 @@ ghost use Rattle.pm_script.specs.Script.{IsScript};
 ghost use Rattle.pm_place.specs.Choosers.{IsChooser};
 ghost use Rattle.pm_top.specs.Ends.{status_of, not_read};
 ghost use Rattle.pm_top.specs.Stages.{IsPast, unreached, the_words, the_script};
-ghost use Rattle.pm_top.specs.Journals.{ReadsScript};
+ghost use Rattle.pm_top.specs.Journals.{KeepsOrder, ReadsScript};
 ghost use Rattle.pm_top.specs.Commands.{ShowsCauses, RunsStore, RunsScript};
 
 use crate::ended::end_unopened;
@@ -28,7 +28,7 @@ fn not_read(fault: ScriptFault) -> Detail
     ensures { result ≡ not_read fault }
 {
     match fault {
-        ScriptFault::Memory => Detail::Memory,
+        ScriptFault::Memory => Detail::Memory { opened: false },
         fault => Detail::Script(fault),
     }
 }
@@ -58,9 +58,10 @@ pub(crate) fn run_bytes<D: Disk, F: Fn(&[u64]) -> usize + Drop, S: Source, K: Si
     requires chooser { IsChooser F.Fn place }
     ensures status { result.status ≡ status_of result.detail }
     ensures source { result.source ≡ source }
-    ensures ends { IsPast the_words result.detail result.journal.items }
+    ensures ends { IsPast the_words result.detail }
     ensures past { the_script < unreached result.detail }
     ensures script { ReadsScript bytes.items result.detail result.journal.items result.tally }
+    ensures order { KeepsOrder bytes.items result.detail result.journal.items result.tally }
     ensures store { RunsStore D.Disk K.Sink writes disk sink result }
     ensures causes { ShowsCauses D.Disk S.Source K.Sink disk source sink result }
 {
@@ -98,7 +99,13 @@ pub(crate) fn run_source<D: Disk, F: Fn(&[u64]) -> usize + Drop, S: Source, K: S
             let detail = Detail::Script(ScriptFault::TooLong);
             end_unopened(alloc, detail, disk, source, sink)
         }
-        Err(ReadAll::Memory) => end_unopened(alloc, Detail::Memory, disk, source, sink),
+        Err(ReadAll::Memory) => end_unopened(
+            alloc,
+            Detail::Memory { opened: false },
+            disk,
+            source,
+            sink,
+        ),
         Err(ReadAll::Failed) => {
             let after = source.faults();
             let detail = Detail::Reading { before, after };

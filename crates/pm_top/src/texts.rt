@@ -113,7 +113,7 @@ pub(crate) fn line_of(detail: &Detail) -> Line
         Detail::Device { .. } => line_with(b"pmos: disk fault\n"),
         Detail::NotEmpty(bytes) => numbered_line(b"pmos: not empty ", *bytes),
         Detail::Refused(fault) => refusal_of(fault),
-        Detail::Memory => line_with(b"pmos: no memory\n"),
+        Detail::Memory { .. } => line_with(b"pmos: no memory\n"),
     }
 }
 

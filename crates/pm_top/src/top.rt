@@ -1,5 +1,5 @@
 //! All that the program does but for its shell.
-ghost use Rattle.std.specs.Prelude.{◌≡◌, ◌⊎◌, map};
+ghost use Rattle.std.specs.Prelude.{◌≡◌, ◌⊎◌, false, map};
 ghost use Rattle.pm_words.specs.declared.command.Command.{Command as Asked};
 ghost use Rattle.pm_words.specs.Words.{Spells, SpellsNothing};
 ghost use Rattle.pm_place.specs.Choosers.{IsChooser};
@@ -83,7 +83,7 @@ pub fn pmos<R: AllocGlobal, D: Disk, S: Source, K: Sink, F: Fn(&[u64]) -> usize 
     // Words that are no command's are refused, and no others, and all is as it was.
     ensures usage { result.detail ≡ Detail.Usage → SpellsNothing (map (λ word. word.now) words.now) }
     ensures refused { SpellsNothing (map (λ word. word.now) words.now)
-        → (result.detail ≡ Detail.Usage) ⊎ (result.detail ≡ Detail.Memory) }
+        → (result.detail ≡ Detail.Usage) ⊎ (result.detail ≡ Detail.Memory false) }
     ensures untouched { SpellsNothing (map (λ word. word.now) words.now)
         → IsUntouched disk source sink result }
 
@@ -102,6 +102,6 @@ pub fn pmos<R: AllocGlobal, D: Disk, S: Source, K: Sink, F: Fn(&[u64]) -> usize 
     match read_words(alloc, words) {
         Ok(Some(command)) => perform(alloc, command, disk, source, sink, place),
         Ok(None) => end_unopened(alloc, Detail::Usage, disk, source, sink),
-        Err(_) => end_unopened(alloc, Detail::Memory, disk, source, sink),
+        Err(_) => end_unopened(alloc, Detail::Memory { opened: false }, disk, source, sink),
     }
 }

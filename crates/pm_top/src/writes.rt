@@ -3,16 +3,19 @@ ghost use Rattle.pm_model.specs.Text.{text};
 ghost use Rattle.pm_script.specs.Script.{AreLines};
 ghost use Rattle.pm_place.specs.Choosers.{IsChooser};
 ghost use Rattle.pm_engine.specs.Shown.{KeepsStart, chooser, serving, tally_in};
-ghost use Rattle.pm_serial.specs.Causes.{CountsSink, why};
-ghost use Rattle.pm_serial.specs.Running.{AnswersLines, IsFresh, RunsOnDisk};
+ghost use Rattle.pm_serial.specs.Causes.{CountsSink};
+ghost use Rattle.pm_events.specs.Causes.{why};
+ghost use Rattle.pm_serial.specs.Running.{AnswersLines};
+ghost use Rattle.pm_events.specs.Running.{IsFresh, RunsOnDisk};
 ghost use Rattle.pm_serial.specs.Writing.{tail_of};
-ghost use Rattle.pm_top.specs.Wrote.{Wrote};
+ghost use Rattle.pm_top.specs.Wrote.{AcknowledgesFor, Wrote};
 
 use pm_disk::Disk;
 use pm_engine::Engine;
+use pm_events::Stop;
 use pm_io::Sink;
 use pm_script::Line;
-use pm_serial::{Stop, run_lines};
+use pm_serial::run_lines;
 use pm_trial::run_trial;
 use std::alloc::Global;
 
@@ -40,6 +43,7 @@ pub(crate) fn write_lines<D: Disk, F: Fn(&[u64]) -> usize + Drop, K: Sink>(
     ensures disk { RunsOnDisk engine.old engine.new (why result) }
     ensures wrote { Wrote K.Sink writes sink.old sink.new
         (text (serving engine.new).journal) (tail_of (tally_in (serving engine.new))) (why result) }
+    ensures saved { AcknowledgesFor K.Sink writes sink.old sink.new (serving engine.new).journal (why result) }
     ensures cause { CountsSink (why result) (K.count sink.old) (K.count sink.new) }
     ensures start { KeepsStart engine.old engine.new }
 {

@@ -144,7 +144,7 @@ where
     match run_all(rt, reader, writer, errors) {
         Ok(status) => status,
         Err(_) => {
-            tell(errors, &Detail::Memory);
+            tell(errors, &Detail::Memory { opened: false });
             7
         }
     }

@@ -16,6 +16,7 @@ mod save;
 mod settle;
 mod watch;
 
+use crate::course::{Course, tell_before};
 use arrayvec::ArrayVec;
 use pm_disk::Disk;
 use pm_mutate::act;
@@ -27,13 +28,14 @@ use pm_types::{Cmd, Entry, NoMemory, Reply, Watch};
 use std::alloc::Global;
 
 /// A space, the pages of its store on a disk, the saver between them, the journal of what was asked and answered, in
-/// order, the watches that are set, and how many events were made.
+/// order, with what had been made before each entry, the watches that are set, and how many events were made.
 #[derive(Drop)]
 pub(crate) struct Works<D: Disk, F> {
     pub(crate) pages: Pages<D>,
     pub(crate) space: Space<F>,
     pub(crate) saver: Saver,
     pub(crate) journal: Vec<Entry>,
+    pub(crate) course: Course,
     pub(crate) watches: ArrayVec<Watch, WATCH_ROOM>,
     pub(crate) events: u64,
     /// How many of the events were the collector's.
@@ -74,6 +76,7 @@ impl<D: Disk, F: Drop> Works<D, F> {
         ensures adds { Adds client cmd reply self.old self.new }
         ensures store { KeepsStore self.old self.new }
     {
+        tell_before(&mut self.course, self.steps, self.events);
         self.journal.push_reserved(Entry { client, cmd, reply });
         self.events = self.events.saturating_add(1);
     }

@@ -1,7 +1,8 @@
 use Rattle.std.proofs.Common.{Some, ap, rules}
 use Rattle.pm_engine.specs.Shown.{serving, tally_in}
 use Rattle.pm_output.specs.Gathered.{gathered}
-use Rattle.pm_serial.specs.Causes.{IsElsewhere, why}
+use Rattle.pm_serial.specs.Causes.{IsElsewhere}
+use Rattle.pm_events.specs.Causes.{why}
 use Rattle.pm_serial.specs.Writing.{text_behind}
 use Rattle.pm_serial.proofs.Gathering.{ends_elsewhere, ends_well}
 use Rattle.pm_serial.proofs.ending.end.Goals as goal
@@ -17,4 +18,4 @@ returns-in-Err g c =
     let elsewhere : IsElsewhere (Some c.in-Err.stop) = search rules in
     let step = c.put_what_goes.ensures in
     ends_elsewhere g.K.Sink.written g.K.Sink.finished g.K.Sink.count c.args.sink.now c.put_what_goes.new.sink (gathered c.args.output.now) (text_behind c.args.behind (tally_in (serving c.args.engine.now))) (why c.args.ran) c.in-Err.stop
-    (ap why c.in-Err.is) elsewhere step.whole step.part
+    (ap why c.in-Err.is) elsewhere step.whole step.part step.kept

@@ -1,34 +1,62 @@
-use Rattle.std.proofs.Common.{arith, subst, sym}
+use Rattle.std.proofs.Common.{arith, refl, subst, sym}
 use Rattle.pm_script.specs.declared.line.Line.{Line}
 use Rattle.pm_script.specs.declared.line.Line.TheVariants.{Gc, Flush}
 use Rattle.pm_engine.specs.Shown.{serving}
 use Rattle.pm_output.specs.Gathered.{gathered}
-use Rattle.pm_serial.specs.Causes.{why}
-use Rattle.pm_serial.specs.Stepping.{CutsLine, OnMemory}
-use Rattle.pm_serial.proofs.Cutting.{cuts_client, cuts_events}
+use Rattle.pm_events.specs.Causes.{OnStop, why}
+use Rattle.pm_serial.specs.Stepping.{StopsLine}
+use Rattle.pm_serial.specs.Ordered.{TellsLine}
+use Rattle.pm_serial.specs.declared.kind.Kind.TheVariants.{Collect}
+use Rattle.pm_serial.specs.declared.kind.Kind.TheVariants as kinds
+use Rattle.pm_serial.proofs.Acknowledging.{keeps_still}
+use Rattle.pm_serial.proofs.Cutting.{stops_events}
+use Rattle.pm_serial.proofs.Ordering.{tells_same}
 use Rattle.pm_serial.proofs.Gathering.{sink_still}
 use Rattle.pm_serial.proofs.line.run_line.Goals as goal
 
-pub returns-in-Client-clause-short : goal.returns-in-Client-clause-short
-returns-in-Client-clause-short g c =
+pub returns-in-Client-clause-course : goal.returns-in-Client-clause-course
+returns-in-Client-clause-course g c =
     let old = serving c.args.engine.now in
     let new = serving c.answer_client.new.engine in
     let stop = why c.answer_client.result in
-    subst (λ (line : Line). OnMemory stop (CutsLine line old new)) (sym c.in-Client.is) (cuts_client c.in-Client.client c.in-Client.cmd old new stop c.answer_client.ensures.short)
+    subst (λ (line : Line). TellsLine line old new stop) (sym c.in-Client.is) c.answer_client.ensures.course
 
-pub returns-in-Gc-clause-short : goal.returns-in-Gc-clause-short
-returns-in-Gc-clause-short g c =
+pub returns-in-Client-clause-stops : goal.returns-in-Client-clause-stops
+returns-in-Client-clause-stops g c =
+    let old = serving c.args.engine.now in
+    let new = serving c.answer_client.new.engine in
+    let stop = why c.answer_client.result in
+    subst (λ (line : Line). OnStop stop (StopsLine line old new stop)) (sym c.in-Client.is) c.answer_client.ensures.stops
+
+pub returns-in-Gc-clause-course : goal.returns-in-Gc-clause-course
+returns-in-Gc-clause-course g c =
+    let old = serving c.args.engine.now in
+    let new = serving c.make_events.new.engine in
+    let stop = why c.make_events.result in
+    subst (λ (line : Line). TellsLine line old new stop) (sym c.in-Gc.is) (tells_same old new stop c.make_events.ensures.course)
+
+pub returns-in-Gc-clause-stops : goal.returns-in-Gc-clause-stops
+returns-in-Gc-clause-stops g c =
     let old = serving c.args.engine.now in
     let new = serving c.make_events.new.engine in
     let result = c.make_events.result in
-    subst (λ (line : Line). OnMemory (why result) (CutsLine line old new)) (sym c.in-Gc.is) (cuts_events (Gc c.in-Gc.count) c.in-Gc.count old new result (omega arith) (λ never. never) c.make_events.ensures.cut)
+    subst (λ (line : Line). OnStop (why result) (StopsLine line old new (why result))) (sym c.in-Gc.is)
+    (stops_events (Gc c.in-Gc.count) Collect c.in-Gc.count old new result (omega arith) refl (λ made. refl) (λ never. never) c.make_events.ensures.stays c.make_events.ensures.cut)
 
-pub returns-in-Flush-clause-short : goal.returns-in-Flush-clause-short
-returns-in-Flush-clause-short g c =
+pub returns-in-Flush-clause-course : goal.returns-in-Flush-clause-course
+returns-in-Flush-clause-course g c =
+    let old = serving c.args.engine.now in
+    let new = serving c.make_events-in-Flush.new.engine in
+    let stop = why c.make_events-in-Flush.result in
+    subst (λ (line : Line). TellsLine line old new stop) (sym c.in-Flush.is) (tells_same old new stop c.make_events-in-Flush.ensures.course)
+
+pub returns-in-Flush-clause-stops : goal.returns-in-Flush-clause-stops
+returns-in-Flush-clause-stops g c =
     let old = serving c.args.engine.now in
     let new = serving c.make_events-in-Flush.new.engine in
     let result = c.make_events-in-Flush.result in
-    subst (λ (line : Line). OnMemory (why result) (CutsLine line old new)) (sym c.in-Flush.is) (cuts_events (Flush c.in-Flush.count) c.in-Flush.count old new result (omega arith) (λ never. never) c.make_events-in-Flush.ensures.cut)
+    subst (λ (line : Line). OnStop (why result) (StopsLine line old new (why result))) (sym c.in-Flush.is)
+    (stops_events (Flush c.in-Flush.count) kinds.Flush c.in-Flush.count old new result (omega arith) refl (λ made. refl) (λ never. never) c.make_events-in-Flush.ensures.stays c.make_events-in-Flush.ensures.cut)
 
 pub returns-in-Gc-clause-sink : goal.returns-in-Gc-clause-sink
 returns-in-Gc-clause-sink g c =
@@ -39,3 +67,11 @@ pub returns-in-Flush-clause-sink : goal.returns-in-Flush-clause-sink
 returns-in-Flush-clause-sink g c =
     sink_still g.K.Sink.written g.K.Sink.finished g.K.Sink.count c.args.sink.now (gathered c.args.output.now) (serving c.args.engine.now).journal (serving c.make_events-in-Flush.new.engine).journal (why c.make_events-in-Flush.result)
     c.make_events-in-Flush.ensures.unwritten c.make_events-in-Flush.ensures.stays
+
+pub returns-in-Gc-clause-saved : goal.returns-in-Gc-clause-saved
+returns-in-Gc-clause-saved g c =
+    keeps_still g.K.Sink c.args.sink.now (gathered c.args.output.now) (serving c.args.engine.now).journal (serving c.make_events.new.engine).journal (why c.make_events.result) c.make_events.ensures.stays
+
+pub returns-in-Flush-clause-saved : goal.returns-in-Flush-clause-saved
+returns-in-Flush-clause-saved g c =
+    keeps_still g.K.Sink c.args.sink.now (gathered c.args.output.now) (serving c.args.engine.now).journal (serving c.make_events-in-Flush.new.engine).journal (why c.make_events-in-Flush.result) c.make_events-in-Flush.ensures.stays

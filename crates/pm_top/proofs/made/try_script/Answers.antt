@@ -8,7 +8,7 @@ pub returns-in-Ok-clause-tries : goal.returns-in-Ok-clause-tries
 returns-in-Ok-clause-tries g c =
     let ran = c.run_bytes.ensures in
     tried g.D.Disk g.K.Sink c.args.seed c.args.turns c.in-Ok.bytes.items (made_lines c.args.seed c.args.turns) c.args.disk c.args.source c.args.sink c.run_bytes.result
-    c.in-Ok.ensures.made c.in-Ok.ensures.script ran.ends ran.past ran.script ran.store ran.source
+    c.in-Ok.ensures.made c.in-Ok.ensures.script ran.ends ran.past ran.script ran.order ran.store ran.source
 
 pub returns-in-Err-clause-causes : goal.returns-in-Err-clause-causes
 returns-in-Err-clause-causes g c =

@@ -13,7 +13,7 @@ pub returns-in-Ok-clause-causes : goal.returns-in-Ok-clause-causes
 returns-in-Ok-clause-causes g c =
     let e = c.end_unopened.ensures in
     at_end (λ it. ShowsCauses g.D.Disk g.S.Source g.K.Sink c.args.disk c.args.source c.args.sink it) c.end_unopened.result e.detail e.tally e.disk e.source e.sink
-    (record { reading = refl; writing = refl; device = c.in-Ok.ensures.cause; rule = tt; reads = c.init.ensures.made.most.past })
+    (record { reading = refl; writing = refl; device = c.in-Ok.ensures.cause; rule = tt; opened = tt; reads = c.init.ensures.made.most.past })
 
 pub returns-in-Ok-clause-makes : goal.returns-in-Ok-clause-makes
 returns-in-Ok-clause-makes g c =

@@ -6,13 +6,13 @@ use Rattle.pm_serving.specs.Images.{IsTold}
 use Rattle.pm_place.specs.Choosers.{IsChooser}
 use Rattle.pm_engine.specs.Shown.{disk_in, opened_disk, serving}
 use Rattle.pm_top.specs.Ends.{not_opened}
-use Rattle.pm_top.specs.Journals.{ServesLines}
+use Rattle.pm_top.specs.Journals.{ServesInOrder, ServesLines}
 use Rattle.pm_top.specs.Commands.{ShowsCauses, RunsStore}
 use Rattle.pm_top.proofs.Parts.{at_end}
 use Rattle.pm_top.proofs.Ran.{fresh_engine}
 use Rattle.pm_top.proofs.Faults.{ends_open, undone_open, open_causes, causes_after}
 use Rattle.pm_top.proofs.Opened.{opened_run, refused_run, refused_for, none_opened, tried_open}
-use Rattle.pm_top.proofs.Stores.{store_run, store_unrun, serves_none}
+use Rattle.pm_top.proofs.Stores.{orders_none, store_run, store_unrun, serves_none}
 use Rattle.pm_top.proofs.opening.open_and_run.Goals as goal
 
 pub run_engine-requires-clause-fresh : goal.run_engine-requires-clause-fresh
@@ -36,8 +36,8 @@ returns-in-Ok-clause-store g c =
     (record { number = (serving engine).number; copy = copy_in (serving engine).opened; closed = ran.closed; legal = ran.legal })
     ran.late ran.there opens.stands ran.comes_to
     (opened_run g.D.Disk c.args.disk (disk_in engine) it.disk (serving engine).number (copy_in (serving engine).opened) it.detail it.journal.items
-    opens.told opens.leaves opens.stands ran.legal (λ told. ran.images (told_then told)) (λ told. ran.last (told_then told)) ran.idle ran.late)
-    ran.replies
+    opens.told opens.leaves opens.stands ran.legal (λ told. ran.images (told_then told)) (λ told. ran.last (told_then told)) ran.idle opens.made ran.late)
+    ran.replies ran.saved
 
 pub returns-in-Ok-clause-causes : goal.returns-in-Ok-clause-causes
 returns-in-Ok-clause-causes g c =
@@ -52,6 +52,13 @@ returns-in-Err-clause-serves g c =
     (subst (λ (j : List Entry). ServesLines c.args.lines.items (not_opened fault) j None) (sym e.journal)
     (serves_none c.args.lines.items (not_opened fault) (ends_open fault) (tried_open fault) (undone_open fault)))
 
+pub returns-in-Err-clause-order : goal.returns-in-Err-clause-order
+returns-in-Err-clause-order g c =
+    let e = c.end_unopened.ensures in
+    let fault = c.in-Err.fault in
+    at_end (λ it. ServesInOrder c.args.lines.items it.detail it.journal.items it.tally) c.end_unopened.result (e.detail ∙ c.not_opened.ensures) e.tally e.disk e.source e.sink
+    (subst (λ (j : List Entry). ServesInOrder c.args.lines.items (not_opened fault) j None) (sym e.journal) (orders_none c.args.lines.items (not_opened fault) (undone_open fault)))
+
 pub returns-in-Err-clause-store : goal.returns-in-Err-clause-store
 returns-in-Err-clause-store g c =
     let it = c.end_unopened.result in
@@ -59,7 +66,7 @@ returns-in-Err-clause-store g c =
     let f = c.in-Err in
     at_end (λ it. RunsStore g.D.Disk g.K.Sink c.args.writes c.args.disk c.args.sink it) it (e.detail ∙ c.not_opened.ensures) e.tally e.disk e.source e.sink
     (store_unrun g.D.Disk g.K.Sink c.args.writes c.args.disk f.disk c.args.source c.args.sink it (not_opened f.fault) e.journal (none_opened f.fault)
-    (refused_run g.D.Disk c.args.disk f.disk (not_opened f.fault) (none_opened f.fault) (tried_open f.fault) f.ensures.told f.ensures.leaves
+    (refused_run g.D.Disk c.args.disk f.disk (not_opened f.fault) (none_opened f.fault) (tried_open f.fault) f.ensures.told f.ensures.leaves f.ensures.made
     (λ bytes told. refused_for bytes f.fault (f.ensures.fault bytes told))))
 
 pub returns-in-Err-clause-causes : goal.returns-in-Err-clause-causes

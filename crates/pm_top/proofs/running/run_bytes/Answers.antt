@@ -2,12 +2,12 @@ use Rattle.std.proofs.Common.{◌∙◌, ◌<◌, sym, subst, arith}
 use Rattle.pm_script.specs.Script.{IsScript}
 use Rattle.pm_top.specs.Ends.{not_read}
 use Rattle.pm_top.specs.Stages.{IsPast, unreached, the_words, the_script}
-use Rattle.pm_top.specs.Journals.{ReadsScript}
+use Rattle.pm_top.specs.Journals.{KeepsOrder, ReadsScript}
 use Rattle.pm_top.specs.Commands.{ShowsCauses, RunsStore}
 use Rattle.pm_top.proofs.Parts.{at_end}
 use Rattle.pm_top.proofs.Opened.{uncalled_run, read_for}
 use Rattle.pm_top.proofs.Stores.{store_unrun}
-use Rattle.pm_top.proofs.Scripts.{script_read, script_not_read, ends_read, past_read, unopened_read, unserved, read_causes}
+use Rattle.pm_top.proofs.Scripts.{script_read, script_not_read, order_read, order_not_read, ends_read, past_read, unopened_read, unordered, unserved, read_causes}
 use Rattle.pm_top.proofs.running.run_bytes.Goals as goal
 
 pub returns-in-Ok-clause-ends : goal.returns-in-Ok-clause-ends
@@ -22,11 +22,17 @@ returns-in-Ok-clause-script g c =
     script_read c.args.bytes.items c.into_lines.result.items it.detail it.journal.items it.tally
     (subst (IsScript c.args.bytes.items) (sym c.into_lines.ensures.lines) c.in-Ok.ensures.found) c.open_and_run.ensures.serves
 
+pub returns-in-Ok-clause-order : goal.returns-in-Ok-clause-order
+returns-in-Ok-clause-order g c =
+    let it = c.open_and_run.result in
+    order_read c.args.bytes.items c.into_lines.result.items it.detail it.journal.items it.tally
+    (subst (IsScript c.args.bytes.items) (sym c.into_lines.ensures.lines) c.in-Ok.ensures.found) c.open_and_run.ensures.order
+
 pub returns-in-Err-clause-ends : goal.returns-in-Err-clause-ends
 returns-in-Err-clause-ends g c =
     let e = c.end_unopened.ensures in
-    at_end (λ it. IsPast the_words it.detail it.journal.items) c.end_unopened.result (e.detail ∙ c.not_read.ensures) e.tally e.disk e.source e.sink
-    (subst (IsPast the_words (not_read c.in-Err.fault)) (sym e.journal) (ends_read c.in-Err.fault))
+    at_end (λ it. IsPast the_words it.detail) c.end_unopened.result (e.detail ∙ c.not_read.ensures) e.tally e.disk e.source e.sink
+    (ends_read c.in-Err.fault)
 
 pub returns-in-Err-clause-past : goal.returns-in-Err-clause-past
 returns-in-Err-clause-past g c =
@@ -41,6 +47,14 @@ returns-in-Err-clause-script g c =
     let fault = c.in-Err.fault in
     at_end (λ it. ReadsScript c.args.bytes.items it.detail it.journal.items it.tally) it (e.detail ∙ c.not_read.ensures) e.tally e.disk e.source e.sink
     (unserved c.args.bytes.items (not_read fault) it.journal.items e.journal (script_not_read c.args.bytes.items fault c.in-Err.ensures.bad))
+
+pub returns-in-Err-clause-order : goal.returns-in-Err-clause-order
+returns-in-Err-clause-order g c =
+    let it = c.end_unopened.result in
+    let e = c.end_unopened.ensures in
+    let fault = c.in-Err.fault in
+    at_end (λ it. KeepsOrder c.args.bytes.items it.detail it.journal.items it.tally) it (e.detail ∙ c.not_read.ensures) e.tally e.disk e.source e.sink
+    (unordered c.args.bytes.items (not_read fault) it.journal.items e.journal (order_not_read fault))
 
 pub returns-in-Err-clause-store : goal.returns-in-Err-clause-store
 returns-in-Err-clause-store g c =

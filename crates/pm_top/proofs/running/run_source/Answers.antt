@@ -1,18 +1,18 @@
-use Rattle.std.proofs.Common.{◌∙◌, ap, subst, refl, List, ℕ, Err, arith}
+use Rattle.std.proofs.Common.{false, ◌∙◌, ap, subst, refl, List, ℕ, Err, arith}
 use Rattle.pm_script.specs.declared.fault.ScriptFault.TheVariants.{TooLong as ScriptTooLong}
 use Rattle.pm_io.specs.declared.reading.ReadAll.{ReadAll}
 use Rattle.pm_io.specs.Reading.{CountsAs}
 use Rattle.pm_top.specs.declared.ended.Detail.TheVariants.{Script, Reading, Memory}
 use Rattle.pm_top.specs.declared.writes.Writes.TheVariants.{Replies}
-use Rattle.pm_top.specs.Journals.{ReadsScript}
+use Rattle.pm_top.specs.Journals.{KeepsOrder, ReadsScript}
 use Rattle.pm_top.specs.Commands.{ShowsCauses, RunsScript}
 use Rattle.pm_top.proofs.Parts.{at_end}
 use Rattle.pm_top.proofs.Ran.{shows_rise}
 use Rattle.pm_top.proofs.Faults.{causes_read}
 use Rattle.pm_top.proofs.Opened.{uncalled_run}
-use Rattle.pm_top.proofs.Performing.{memory_ends, memory_early, unread}
+use Rattle.pm_top.proofs.Performing.{unread}
 use Rattle.pm_top.proofs.Stores.{store_unrun}
-use Rattle.pm_top.proofs.Scripts.{script_refused, script_unknown, unserved}
+use Rattle.pm_top.proofs.Scripts.{script_refused, script_unknown, unordered, unserved}
 use Rattle.pm_top.proofs.running.run_source.Goals as goal
 
 pub returns-in-Ok-clause-runs : goal.returns-in-Ok-clause-runs
@@ -23,6 +23,7 @@ returns-in-Ok-clause-runs g c =
       ends = ran.ends;
       read = λ past bytes told. ap g.S.Source.left ran.source ∙ c.in-Ok.ensures.emptied bytes told;
       script = λ bytes told. subst (λ (b : List ℕ). ReadsScript b it.detail it.journal.items it.tally) (c.in-Ok.ensures.all bytes told) ran.script;
+      order = λ bytes told. subst (λ (b : List ℕ). KeepsOrder b it.detail it.journal.items it.tally) (c.in-Ok.ensures.all bytes told) ran.order;
       store = ran.store;
     }
 
@@ -41,6 +42,7 @@ returns-in-Err-TooLong-clause-runs g c =
       script = λ bytes told.
           unserved bytes (Script ScriptTooLong) it.journal.items e.journal
           (script_refused bytes ScriptTooLong (c.in-Err-TooLong.ensures.too_long (ap Err c.in-Err-TooLong.field-0-is) bytes told));
+      order = λ bytes told. unordered bytes (Script ScriptTooLong) it.journal.items e.journal (λ past. absurd (omega (arith, past)));
       store =
           store_unrun g.D.Disk g.K.Sink Replies c.args.disk c.args.disk c.read_all.new.source c.args.sink it (Script ScriptTooLong) e.journal (λ past. absurd (omega arith))
           (uncalled_run g.D.Disk c.args.disk (Script ScriptTooLong) (g.met.D.Disk.only_now c.args.disk) (λ past. absurd (omega arith)) (λ bytes. tt));
@@ -56,6 +58,7 @@ returns-in-Err-TooLong-clause-causes g c =
       writing = refl;
       device = refl;
       rule = tt;
+      opened = tt;
       reads = refl;
     })
 
@@ -65,12 +68,13 @@ returns-in-Err-Memory-clause-runs g c =
     let e = c.end_unopened-in-Err-Memory.ensures in
     at_end (λ it. RunsScript g.D.Disk g.S.Source g.K.Sink c.args.disk c.args.source c.args.sink it) it e.detail e.tally e.disk e.source e.sink
     (record {
-      ends = memory_ends it.journal.items;
-      read = λ past. absurd (memory_early it.journal.items e.journal past);
+      ends = omega arith;
+      read = λ past. absurd (omega (arith, past));
       script = λ bytes told. unread bytes it.journal.items e.journal;
+      order = λ bytes told. unordered bytes (Memory false) it.journal.items e.journal (λ past. absurd (omega (arith, past)));
       store =
-          store_unrun g.D.Disk g.K.Sink Replies c.args.disk c.args.disk c.read_all.new.source c.args.sink it Memory e.journal (λ past. absurd (omega arith))
-          (uncalled_run g.D.Disk c.args.disk Memory (g.met.D.Disk.only_now c.args.disk) (λ past. absurd (omega arith)) (λ bytes. tt));
+          store_unrun g.D.Disk g.K.Sink Replies c.args.disk c.args.disk c.read_all.new.source c.args.sink it (Memory false) e.journal (λ past. absurd (omega arith))
+          (uncalled_run g.D.Disk c.args.disk (Memory false) (g.met.D.Disk.only_now c.args.disk) (λ past. absurd (omega arith)) (λ bytes. tt));
     })
 
 pub returns-in-Err-Memory-clause-causes : goal.returns-in-Err-Memory-clause-causes
@@ -83,6 +87,7 @@ returns-in-Err-Memory-clause-causes g c =
       writing = tt;
       device = refl;
       rule = tt;
+      opened = refl;
       reads = refl;
     })
 
@@ -96,6 +101,7 @@ returns-clause-runs g c =
       ends = omega arith;
       read = λ past. absurd (omega arith);
       script = λ bytes told. unserved bytes detail it.journal.items e.journal (script_unknown bytes detail tt (λ fault. tt) (λ past. absurd (omega arith)));
+      order = λ bytes told. unordered bytes detail it.journal.items e.journal (λ past. absurd (omega (arith, past)));
       store =
           store_unrun g.D.Disk g.K.Sink Replies c.args.disk c.args.disk c.read_all.new.source c.args.sink it detail e.journal (λ past. absurd (omega arith))
           (uncalled_run g.D.Disk c.args.disk detail (g.met.D.Disk.only_now c.args.disk) (λ past. absurd (omega arith)) (λ bytes. tt));
@@ -115,5 +121,6 @@ returns-clause-causes g c =
       writing = refl;
       device = refl;
       rule = tt;
+      opened = tt;
       reads = refl;
     })

@@ -1,11 +1,15 @@
-use Rattle.std.proofs.Common.{Some, inl, refl, ap}
+use Rattle.std.proofs.Common.{List, ◌++◌, Some, inl, refl, ap}
 use Rattle.pm_model.specs.Text.{text}
 use Rattle.pm_engine.specs.Shown.{disk_in, serving, tally_in}
-use Rattle.pm_serial.specs.declared.stop.Stop.TheVariants.{Memory}
-use Rattle.pm_serial.specs.Asked.{events_asked, requests_asked, steps_asked}
+use Rattle.pm_events.specs.declared.stop.Stop.TheVariants.{Memory}
+use Rattle.pm_parts.specs.Asked.{events_asked, requests_asked, steps_asked}
 use Rattle.pm_serial.specs.Writing.{tail_of}
-use Rattle.pm_serial.proofs.Answering.{answers_lines, answers_nothing}
-use Rattle.pm_serial.proofs.Going.{goes_first, goes_short, runs}
+use Rattle.pm_serving.specs.Serving.{Before}
+use Rattle.pm_serial.specs.Ordered.{course_of}
+use Rattle.pm_serial.proofs.Answering.{answers_lines}
+use Rattle.pm_serial.proofs.Cutting.{answers_unwritten, stopped_first}
+use Rattle.pm_events.proofs.Answering.{answers_nothing}
+use Rattle.pm_events.proofs.Going.{goes_first, goes_short, runs}
 use Rattle.pm_trial.specs.Digested.{DigestState}
 use Rattle.pm_trial.specs.Trials.{shown_digest}
 use Rattle.pm_trial.proofs.Trying.{digest_is, tried_badly, tried_well}
@@ -15,7 +19,8 @@ pub returns-in_default-clause-answers : goal.returns-in_default-clause-answers
 returns-in_default-clause-answers g c =
     let lines = c.args.lines.items in
     let old = serving c.args.engine.now in
-    answers_lines lines old old (Some Memory) c.requires.fresh (answers_nothing (requests_asked lines) (events_asked lines) (steps_asked lines) old old Memory refl) (λ is done more client parted made few. inl c.requires.fresh.events)
+    answers_lines lines old old (Some Memory) c.requires.fresh (answers_nothing (requests_asked lines) (events_asked lines) (steps_asked lines) old old Memory refl)
+    (λ few. (course_of 0 0 lines, ap (λ (course : List Before). course ++ course_of 0 0 lines) c.requires.fresh.course)) (λ done. absurd done) (λ few. stopped_first lines old c.requires.fresh) (λ is done more client parted made few. inl c.requires.fresh.events)
 
 pub returns-in_default-clause-disk : goal.returns-in_default-clause-disk
 returns-in_default-clause-disk g c =
@@ -30,6 +35,9 @@ returns-in-Ok-finish_trial-clause-sink g c =
     let step = c.in-Ok-finish_trial.ensures in
     let is = digest_is c.new-replies.result c.answer_lines.new.sink (text new.journal) c.digest.result (ap (λ (s : DigestState). s.written) c.new-replies.ensures) (c.in-Ok-answer_lines.ensures.sink.all tt) c.digest.ensures in
     tried_well g.K.Sink.written g.K.Sink.finished g.K.Sink.count c.args.sink.now c.finish_trial.new.sink (text new.journal) (tail_of (tally_in new)) (shown_digest c.digest.result) (ap shown_digest is) step.all step.finished step.counted
+
+pub returns-in-Ok-answer_lines-clause-answers : goal.returns-in-Ok-answer_lines-clause-answers
+returns-in-Ok-answer_lines-clause-answers g c = answers_unwritten c.args.lines.items (serving c.answer_lines.new.engine) c.in-Ok-answer_lines.ensures.answers
 
 pub returns-in-Ok-answer_lines-clause-sink : goal.returns-in-Ok-answer_lines-clause-sink
 returns-in-Ok-answer_lines-clause-sink g c =

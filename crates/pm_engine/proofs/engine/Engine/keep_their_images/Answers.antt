@@ -15,6 +15,9 @@ use Rattle.pm_engine.specs.Shown.{serving}
 use Rattle.pm_engine.proofs.engine.Engine.keep_their_images.Goals as goal
 use Rattle.pm_engine.proofs.Asking.{settled_now, splits_closed, splits_legal}
 
+pub returns-clause-served : goal.returns-clause-served
+returns-clause-served g c = ∥∥₁_map c.args.self.now.sound (λ sound. sound.served)
+
 pub returns-clause-closed : goal.returns-clause-closed
 returns-clause-closed g c = splits_closed (serving c.args.self.now) (∥∥₁_map c.args.self.now.sound (λ sound. sound.served.closed))
 
@@ -26,6 +29,9 @@ returns-clause-images g c = ∥∥₁_map c.args.self.now.sound (λ sound. sound
 
 pub returns-clause-watching : goal.returns-clause-watching
 returns-clause-watching g c = splits_once (Coded-set coded_ℕ _ _) (∥∥₁_map c.args.self.now.sound (λ sound. sound.served.watching))
+
+pub returns-clause-told : goal.returns-clause-told
+returns-clause-told g c = splits_once (Coded-set coded_ℕ _ _) (∥∥₁_map c.args.self.now.sound (λ sound. sound.served.told))
 
 pub returns-clause-settled : goal.returns-clause-settled
 returns-clause-settled g c = λ none. settled_now c.args.self.now.opening c.args.self.now.stopped c.args.self.now.works none c.args.self.now.sound

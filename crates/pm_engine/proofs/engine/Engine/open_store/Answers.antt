@@ -8,6 +8,7 @@ use Rattle.pm_shadow.specs.Pages.{state, disk_of}
 use Rattle.pm_space.specs.Shown.{car_of, view}
 use Rattle.pm_copies.specs.Listed.{copy_in}
 use Rattle.pm_reopen.proofs.Refusals.{graph_refused, header_refused}
+use Rattle.pm_engine.specs.declared.course.Course.TheVariants.{Nothing}
 use Rattle.pm_engine.specs.declared.start.Start.{Start}
 use Rattle.pm_engine.specs.declared.works.Works.{Works}
 use Rattle.pm_engine.proofs.engine.Engine.open_store.Goals as goal
@@ -24,7 +25,7 @@ pub invariant_of-result : goal.invariant_of-result
 invariant_of-result g c =
     let first = c.in_ok-pages.pages in
     let last = c.open_space.new.pages in
-    let works : Works g.row.D.Denot g.row.F.Denot g.D.Disk = record { pages = last; space = c.in-Ok.space; saver = c.new.result; journal = c.new-in-Ok.result; watches = c.new-in-Ok-2.result; events = 0; steps = 0 } in
+    let works : Works g.row.D.Denot g.row.F.Denot g.D.Disk = record { pages = last; space = c.in-Ok.space; saver = c.new.result; journal = c.new-in-Ok.result; course = Nothing; watches = c.new-in-Ok-2.result; events = 0; steps = 0 } in
     let start : Start g.row.D.Denot g.row.F.Denot g.D.Disk = record { number = c.header.result.now.epoch; space = c.of.result; pages = c.of-in-Ok.result; count = c.faults.result } in
     let attached_is = c.in_ok-pages.ensures.state in
     let unknown = ap (λ (s : State). s.known) attached_is in
@@ -36,7 +37,7 @@ invariant_of-result g c =
     record {
       sound = ∣ start_sound start works (state first) c.args.place c.in-Ok.settled unknown knows makes fine last.within c.in-Ok.ensures.opened stay
           (λ bytes told. g.met.D.Disk.leaves_bytes disk (g.D.Disk.moment disk) bytes (g.met.D.Disk.counts_now disk (g.D.Disk.moment disk) bytes (omega arith) (stay bytes told)))
-          (ap (option_map (mapped car_of)) makes.unfrozen.frozen) c.new.ensures c.new-in-Ok.ensures.items c.new-in-Ok-2.ensures refl refl (ap (λ h. h.epoch) c.header.ensures) c.of.ensures c.of-in-Ok.ensures (g.met.D.Disk.only_now disk)
+          (ap (option_map (mapped car_of)) makes.unfrozen.frozen) c.new.ensures c.new-in-Ok.ensures.items refl c.new-in-Ok-2.ensures refl refl (ap (λ h. h.epoch) c.header.ensures) c.of.ensures c.of-in-Ok.ensures (g.met.D.Disk.only_now disk)
           (λ bytes left told here. c.in_ok-pages.ensures.only bytes (sym c.in_ok-pages.ensures.told ∙ sym c.open_space.ensures.looks.told ∙ told) left (c.open_space.ensures.looks.images.no_more left here)) ∣₁;
       bounded = bounds_begun start None works c.new-in-Ok-2.ensures;
       counted = counted_first c.faults.result (g.D.Disk.count (disk_of last)) c.faults.ensures;
@@ -46,7 +47,7 @@ pub returns-in-Ok-clause-stands : goal.returns-in-Ok-clause-stands
 returns-in-Ok-clause-stands g c =
     let first = c.in_ok-pages.pages in
     let last = c.open_space.new.pages in
-    let works : Works g.row.D.Denot g.row.F.Denot g.D.Disk = record { pages = last; space = c.in-Ok.space; saver = c.new.result; journal = c.new-in-Ok.result; watches = c.new-in-Ok-2.result; events = 0; steps = 0 } in
+    let works : Works g.row.D.Denot g.row.F.Denot g.D.Disk = record { pages = last; space = c.in-Ok.space; saver = c.new.result; journal = c.new-in-Ok.result; course = Nothing; watches = c.new-in-Ok-2.result; events = 0; steps = 0 } in
     let start : Start g.row.D.Denot g.row.F.Denot g.D.Disk = record { number = c.header.result.now.epoch; space = c.of.result; pages = c.of-in-Ok.result; count = c.faults.result } in
     let attached_is = c.in_ok-pages.ensures.state in
     let unknown = ap (λ (s : State). s.known) attached_is in

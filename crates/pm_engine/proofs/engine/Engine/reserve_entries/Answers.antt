@@ -7,7 +7,7 @@ pub invariant_of-self : goal.invariant_of-self
 invariant_of-self g c =
     let old = c.args.self.now.works in
     record {
-      sound = kept_journal c.args.self.now.opening c.args.self.now.stopped old (record old { journal = c.reserve.new.self }) c.reserve.ensures.items refl refl refl refl refl refl c.args.self.now.sound;
+      sound = kept_journal c.args.self.now.opening c.args.self.now.stopped old (record old { journal = c.reserve.new.self }) c.reserve.ensures.items refl refl refl refl refl refl refl c.args.self.now.sound;
       bounded = bounds_kept c.args.self.now.opening c.args.self.now.stopped c.args.self.now.stopped old (record old { journal = c.reserve.new.self }) c.reserve.ensures.items refl refl c.args.self.now.bounded;
       counted = c.args.self.now.counted;
     }

@@ -29,12 +29,12 @@ use Rattle.pm_serving.specs.Events.{Collects, FailsAs, Flushes, Serves, ServesNo
 use Rattle.pm_engine.specs.declared.engine.Engine.{Engine}
 use Rattle.pm_engine.specs.Shown.{KeepsStart, disk_in, opened_disk, room, serving}
 use Rattle.pm_engine.specs.Calls.{IsOfDisk as IsDiskFault, IsRunning, LeavesCopies, LeavesCopy, MayRunOut, MayStand}
-use Rattle.pm_serial.specs.declared.stop.Stop.{Stop}
-use Rattle.pm_serial.specs.declared.stop.Stop.TheVariants.{Memory, Writing, Device}
-use Rattle.pm_serial.specs.Causes.{CountsDisk}
-use Rattle.pm_serial.specs.Running.{IsFresh, RunsOnDisk}
-use Rattle.pm_serial.specs.Stepping.{EngineGoesOn, IsShort, KeepsCounts, WasIdle, stop_of}
-use Rattle.pm_serial.proofs.Journals.{chain_longer, end_in_chain, no_end, settled_next}
+use Rattle.pm_events.specs.declared.stop.Stop.{Stop}
+use Rattle.pm_events.specs.declared.stop.Stop.TheVariants.{Memory, Writing, Device}
+use Rattle.pm_events.specs.Causes.{CountsDisk, stop_of}
+use Rattle.pm_events.specs.Running.{IsFresh, RunsOnDisk}
+use Rattle.pm_events.specs.Events.{EngineGoesOn, IsShort, KeepsCounts, WasIdle}
+use Rattle.pm_events.proofs.Journals.{chain_longer, end_in_chain, no_end, settled_next}
 
 -- ---- what is served
 
@@ -243,9 +243,14 @@ module _ {D : Type 0} {F : Type 0} {g : Ghosts D} (old new : Engine D F g) (star
 
 -- a call that failed leaves journal and counts
 pub counts_stay : (old new : Serving) (before after : ℕ) (fault : EngineFault) → FailsAs old new before after fault → KeepsCounts old new
-counts_stay old new before after NoRoom fails = record { journal = fails.0.journal; events = fails.0.events }
-counts_stay old new before after (Disk b a) fails = record { journal = fails.0.journal; events = fails.0.events }
-counts_stay old new before after (Reopen count) fails = record { journal = ap (λ (it : Serving). it.journal) fails.0; events = ap (λ (it : Serving). it.events) fails.0 }
+counts_stay old new before after NoRoom fails = record { journal = fails.0.journal; course = fails.0.course; events = fails.0.events; steps = fails.0.steps }
+counts_stay old new before after (Disk b a) fails = record { journal = fails.0.journal; course = fails.0.course; events = fails.0.events; steps = fails.0.steps }
+counts_stay old new before after (Reopen count) fails = record {
+  journal = ap (λ (it : Serving). it.journal) fails.0;
+  course = ap (λ (it : Serving). it.course) fails.0;
+  events = ap (λ (it : Serving). it.events) fails.0;
+  steps = ap (λ (it : Serving). it.steps) fails.0;
+}
 
 module _ {D : Type 0} {F : Type 0} {g : Ghosts D} (old new : Engine D F g) where
   -- where there was room for the entry, and memory ran out in `settle`

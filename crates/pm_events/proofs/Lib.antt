@@ -1,0 +1,4 @@
+pub mod Journals
+pub mod Answering
+pub mod Going
+pub mod Made

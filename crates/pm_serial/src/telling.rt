@@ -1,0 +1,45 @@
+//! A reply on its way to the sink.
+
+ghost use Rattle.std.specs.Prelude.{◌≡◌, ◌<◌, ◌++◌, true, false, OnOk, OnErr};
+ghost use Rattle.pm_base.specs.Counts.{Rose};
+ghost use Rattle.pm_types.specs.declared.limits.TheConstants.{CLIENTS};
+ghost use Rattle.pm_types.specs.Replies.{IsShortReply};
+ghost use Rattle.pm_model.specs.Journal.{says_saved};
+ghost use Rattle.pm_model.specs.Text.{reply_line};
+ghost use Rattle.pm_output.specs.Gathered.{gathered};
+ghost use Rattle.pm_output.specs.Writing.{GoesOn, PutsPart};
+ghost use Rattle.pm_serial.specs.Acknowledged.{TellsAll};
+
+use pm_io::{Failed, Sink};
+use pm_output::Output;
+use pm_types::{Entry, Reply};
+
+/// Gathers the reply line of an entry. Where it says that a copy settled, all that is gathered is put and finished, so
+/// that whoever waits for it sees it before the next event.
+///
+/// # Errors
+///
+/// The sink failed: it has a first part of what was gathered and of this line.
+pub(crate) fn tell_reply<K: Sink>(
+    entry: &Entry,
+    output: &mut Output,
+    sink: &mut K,
+) -> Result<(), Failed>
+    requires client { entry.now.client < CLIENTS }
+    requires short { IsShortReply entry.now.reply }
+    ensures adds { OnOk result (GoesOn (reply_line entry.now) (K.written sink.old) (K.written sink.new)
+        (gathered output.old) (gathered output.new)) }
+    ensures part { OnErr result (PutsPart (K.written sink.old) (K.written sink.new)
+        (gathered output.old ++ reply_line entry.now)) }
+    ensures saved { says_saved entry.now.reply ≡ true
+        → OnOk result (TellsAll K.Sink sink.old sink.new (gathered output.new)) }
+    ensures other { says_saved entry.now.reply ≡ false → K.finished sink.new ≡ K.finished sink.old }
+    ensures counted { OnOk result (K.count sink.new ≡ K.count sink.old) }
+    ensures cause { OnErr result (Rose (K.count sink.old) (K.count sink.new)) }
+{
+    output.add_reply(sink, entry)?;
+    match entry.reply {
+        Reply::Saved(_) => output.finish(sink),
+        _ => Ok(()),
+    }
+}
