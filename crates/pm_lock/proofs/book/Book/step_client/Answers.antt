@@ -1,0 +1,46 @@
+use Rattle.std.proofs.Common.{arith}
+use Rattle.pm_parts.specs.Left.{lists_in}
+use Rattle.pm_parts.specs.Lists.{count_left, list_of}
+use Rattle.pm_engine.specs.Shown.{serving}
+use Rattle.pm_lock.proofs.Engines.{book_answered, book_failed, left_client, one_left, popped_fewer, popped_next}
+use Rattle.pm_lock.proofs.Turning.{not_collector, not_flusher, steps_finished}
+use Rattle.pm_lock.proofs.book.Book.step_client.Goals as goal
+
+pub returns-in_default : goal.returns-in_default
+returns-in_default g c =
+    steps_finished c.args.self.now _ g.F.Fn c.args.client c.requires.running (record {
+      client = λ _. c.in_default.ensures.none;
+      collector = λ is. absurd (not_collector c.args.client c.requires.client is);
+      flusher = λ is. absurd (not_flusher c.args.client c.requires.client is);
+    })
+
+pub ask-requires-clause-room : goal.ask-requires-clause-room
+ask-requires-clause-room g c =
+    let some = c.in-Some.ensures.some in
+    let within = c.keep_its_engine.ensures.room in
+    let left = one_left (lists_in c.args.self.now.parts) c.args.client c.in-Some.cmd.now some.0 some.1 in
+    omega (arith, within, left)
+
+pub invariant_of-self-in-Ok : goal.invariant_of-self-in-Ok
+invariant_of-self-in-Ok g c =
+    let self = c.args.self.now in
+    let some = c.in-Some.ensures.some in
+    let cmd = c.in-Some.cmd.now in
+    let popped = c.pop.ensures in
+    let later = lists_in c.pop.new.self in
+    record {
+      kept =
+          book_answered self.script.value self.first.value self.engine c.ask.new.engine (lists_in self.parts) self.collects self.flushes self.fault c.requires.running self.kept later c.args.client cmd c.in-Ok.ensures.adds c.in-Ok.ensures.engine c.requires.client
+          (popped_next c.pop.result (list_of (lists_in self.parts) c.args.client) (list_of later c.args.client) some.0 cmd popped.none popped.some some.1) popped.others
+          (popped_fewer c.pop.result (list_of (lists_in self.parts) c.args.client) some.0 cmd (count_left later) (count_left (lists_in self.parts)) popped.none some.1 popped.fewer);
+    }
+
+pub invariant_of-self-in-Err : goal.invariant_of-self-in-Err
+invariant_of-self-in-Err g c =
+    let self = c.args.self.now in
+    let some = c.in-Some.ensures.some in
+    record {
+      kept =
+          book_failed self.script.value self.first.value self.engine c.ask.new.engine (lists_in self.parts) self.collects self.flushes self.fault c.requires.running self.kept c.in-Err.fault c.in-Err.ensures.call.fails c.keep_their_images.ensures.counted c.in-Err.ensures.engine
+          (left_client (serving self.engine) (serving c.ask.new.engine) (lists_in self.parts) self.collects self.flushes c.args.client c.in-Some.cmd.now some.0 c.in-Err.fault some.1 c.in-Err.ensures.short);
+    }

@@ -1,0 +1,111 @@
+//! New stores on a disk in memory, and books over them.
+
+ghost use Rattle.std.specs.Prelude.{◌≡◌, IfOk};
+ghost use Rattle.pm_place.specs.Choosers.{IsChooser};
+ghost use Rattle.pm_engine.specs.Shown.{chooser, serving};
+ghost use Rattle.pm_events.specs.Running.{IsFresh};
+ghost use Rattle.pm_lock.specs.Shown.{engine_in};
+
+use crate::fault::Fault;
+use crate::turned::{push_counts, push_turns};
+use pm_disk::{Disk, MemDisk};
+use pm_engine::Engine;
+use pm_lock::Book;
+use pm_place::Placement;
+use pm_script::Script;
+use pm_shadow::init;
+use std::alloc::Global;
+
+/// A disk in memory with a new store, which fails the calls of these numbers.
+pub(crate) fn new_disk(alloc: Global, fails: Vec<u64>) -> Result<MemDisk, Fault> {
+    let mut disk = MemDisk::new(Vec::new(alloc), Vec::new(alloc));
+    match init(alloc, &mut disk) {
+        Ok(()) => Ok(MemDisk::new(disk.contents().to_vec(alloc)?, fails)),
+        Err(_) => Err(Fault::Memory),
+    }
+}
+
+/// Opens the store of a disk.
+pub(crate) fn open<D: Disk + Drop, F: Fn(&[u64]) -> usize + Drop>(
+    alloc: Global,
+    disk: D,
+    place: Placement<F>,
+) -> Result<Engine<D, F>, Fault>
+    ensures fresh { IfOk result (λ engine. IsFresh (serving engine)) }
+    ensures chooser { IfOk result (λ engine. chooser engine ≡ place) }
+{
+    match Engine::open_store(alloc, disk, place) {
+        Ok(engine) => Ok(engine),
+        Err(_) => Err(Fault::Store),
+    }
+}
+
+/// Lets an engine go, and hands its disk back.
+pub(crate) fn disk_of<D: Disk + Drop, F: Drop>(engine: Engine<D, F>) -> D {
+    let (disk, _journal, _tally) = engine.into_parts();
+    disk
+}
+
+// Makes the turns of these workers, and adds what came of them and what the book has come to.
+fn push_told<D: Disk, F: Fn(&[u64]) -> usize + Drop>(
+    alloc: Global,
+    book: &mut Book<D, F>,
+    workers: &[u32],
+    out: &mut String,
+) -> Result<(), Fault>
+    requires { IsChooser F.Fn (chooser (engine_in book.old)) }
+{
+    push_turns(alloc, book, workers, out)?;
+    push_counts(book, out)
+}
+
+// Makes the turns at a book, lets it go, and hands the disk back, with what there was to say.
+fn push_booked<D: Disk + Drop, F: Fn(&[u64]) -> usize + Drop>(
+    alloc: Global,
+    mut book: Book<D, F>,
+    workers: &[u32],
+    out: &mut String,
+) -> (D, Result<(), Fault>)
+    requires { IsChooser F.Fn (chooser (engine_in book)) }
+{
+    let said = push_told(alloc, &mut book, workers, out);
+    (disk_of(book.into_engine()), said)
+}
+
+// Makes the turns of these workers at a book of this engine, and adds what came of them. The disk is handed back.
+fn push_served<D: Disk + Drop, F: Fn(&[u64]) -> usize + Drop>(
+    alloc: Global,
+    engine: Engine<D, F>,
+    script: Script,
+    workers: &[u32],
+    out: &mut String,
+) -> (D, Result<(), Fault>)
+    requires fresh { IsFresh (serving engine) }
+    requires chooser { IsChooser F.Fn (chooser engine) }
+{
+    match Book::new(alloc, engine, script) {
+        Ok(book) => push_booked(alloc, book, workers, out),
+        Err((engine, _)) => (disk_of(engine), Err(Fault::Memory)),
+    }
+}
+
+// How many calls were made of a disk, where all was said.
+fn calls_of(disk: &MemDisk, said: Result<(), Fault>) -> Result<usize, Fault> {
+    said?;
+    Ok(disk.calls().len())
+}
+
+/// Opens a new store whose disk fails the calls of these numbers, makes the turns of these workers at the book of this
+/// script, and adds what came of them. It answers how many calls of the disk were made.
+pub(crate) fn push_opened(
+    alloc: Global,
+    fails: Vec<u64>,
+    script: Script,
+    workers: &[u32],
+    out: &mut String,
+) -> Result<usize, Fault> {
+    let disk = new_disk(alloc, fails)?;
+    let engine = open(alloc, disk, Placement::new(|_: &[u64]| 0))?;
+    let (disk, said) = push_served(alloc, engine, script, workers, out);
+    calls_of(&disk, said)
+}

@@ -1,0 +1,211 @@
+//! Runs in threads.
+
+ghost use Rattle.pm_place.specs.Choosers.{IsChooser};
+ghost use Rattle.pm_engine.specs.Shown.{chooser, serving};
+ghost use Rattle.pm_events.specs.Running.{IsFresh};
+
+use crate::fault::Fault;
+use crate::opened::{disk_of, new_disk, open};
+use crate::served::{count_parts, push_legal};
+use crate::spelling::script;
+use pm_disk::Disk;
+use pm_engine::Engine;
+use pm_lock::{Book, run_all};
+use pm_place::Placement;
+use pm_script::{Script, journal_text};
+use pm_turns::{Gate, OpenGate};
+use pm_types::Entry;
+use std::alloc::Global;
+use std::fmt::Write;
+use std::sync::Wait;
+use std::sync::atomic::{AtomicBool, Ordering};
+use std::thread::{self, Threads};
+
+/// Holds the first event of client 1 until the first of client 0 was made, and the second of client 0 until the first of
+/// client 1 was.
+#[derive(Drop)]
+pub(crate) struct Between {
+    zero: AtomicBool,
+    one: AtomicBool,
+}
+
+impl Between {
+    pub(crate) fn new() -> Between {
+        Between {
+            zero: AtomicBool::new(false),
+            one: AtomicBool::new(false),
+        }
+    }
+}
+
+// Waits until this is so, and for no more than 1,000,000 yields.
+fn hold(is_so: &AtomicBool) {
+    for _ in 0..1_000_000 {
+        if is_so.load(Ordering::SeqCst) {
+            return;
+        }
+        thread::yield_now();
+    }
+}
+
+impl Gate for Between {
+    fn before(&self, who: u32, index: u64) {
+        match (who, index) {
+            (0, 1) => hold(&self.one),
+            (1, 0) => hold(&self.zero),
+            _ => {}
+        }
+    }
+
+    fn after(&self, who: u32, index: u64) {
+        match (who, index) {
+            (0, 0) => self.zero.store(true, Ordering::SeqCst),
+            (1, 0) => self.one.store(true, Ordering::SeqCst),
+            _ => {}
+        }
+    }
+}
+
+// Of how many clients the journal has a first part of their commands in this script, and of how many all of them.
+fn parts_of(alloc: Global, text: &str, journal: &[Entry]) -> Result<(u32, u32), Fault> {
+    let lines = script(alloc, text)?;
+    count_parts(alloc, lines.as_slice(), journal)
+}
+
+// Adds what a book came to: where a fault is kept, what does not rest on how far the workers came.
+fn push_reached<D: Disk, F: Drop>(
+    book: &Book<D, F>,
+    first: u32,
+    whole: u32,
+    out: &mut String,
+) -> Result<(), Fault> {
+    match book.fault() {
+        Some(fault) => write!(out, "{fault:?} / first parts {first}")?,
+        None => {
+            let events = book.engine().events();
+            let steps = book.engine().steps();
+            write!(out, "{events} events, {steps} steps / whole parts {whole}")?;
+        }
+    }
+    Ok(())
+}
+
+// Adds the replies of a journal.
+fn push_replies(alloc: Global, journal: &[Entry], out: &mut String) -> Result<(), Fault> {
+    let text = journal_text(alloc, journal)?;
+    match str::from_utf8(&text) {
+        Ok(text) => out.push_str(text)?,
+        Err(_) => return Err(Fault::Script),
+    }
+    Ok(())
+}
+
+// Adds what a journal is, and all its replies, where they are asked for.
+fn push_journal(
+    alloc: Global,
+    journal: &[Entry],
+    replies: bool,
+    out: &mut String,
+) -> Result<(), Fault> {
+    push_legal(alloc, journal, out)?;
+    out.push('\n')?;
+    if replies {
+        return push_replies(alloc, journal, out);
+    }
+    Ok(())
+}
+
+// Adds what the book of this script came to.
+fn push_ended<D: Disk, F: Drop>(
+    alloc: Global,
+    book: &Book<D, F>,
+    text: &str,
+    replies: bool,
+    out: &mut String,
+) -> Result<(), Fault> {
+    let (first, whole) = parts_of(alloc, text, book.engine().journal())?;
+    push_reached(book, first, whole, out)?;
+    push_journal(alloc, book.engine().journal(), replies, out)
+}
+
+// Adds what the book of this script came to, and lets it go.
+fn push_made<D: Disk + Drop, F: Drop>(
+    alloc: Global,
+    book: Book<D, F>,
+    text: &str,
+    replies: bool,
+    out: &mut String,
+) -> Result<(), Fault> {
+    let said = push_ended(alloc, &book, text, replies, out);
+    drop(disk_of(book.into_engine()));
+    said
+}
+
+// Makes all of a book in threads, and adds what that came to.
+fn push_run<
+    D: Disk + Drop + Send,
+    F: Fn(&[u64]) -> usize + Drop + Send,
+    G: Gate + Sync,
+    R: Threads + Wait + Sync,
+>(
+    rt: &R,
+    alloc: Global,
+    engine: Engine<D, F>,
+    asked: Script,
+    gate: &G,
+    text: &str,
+    replies: bool,
+    out: &mut String,
+) -> Result<(), Fault>
+    requires fresh { IsFresh (serving engine) }
+    requires chooser { IsChooser F.Fn (chooser engine) }
+{
+    match Book::new(alloc, engine, asked) {
+        Ok(book) => push_made(alloc, run_all(rt, alloc, book, gate), text, replies, out),
+        Err((engine, _)) => {
+            drop(disk_of(engine));
+            Err(Fault::Memory)
+        }
+    }
+}
+
+// Opens a new store whose disk fails the calls of these numbers, makes all of the script in threads, by this gate, and
+// adds what that came to.
+fn push_gated<G: Gate + Sync, R: Threads + Wait + Sync>(
+    rt: &R,
+    alloc: Global,
+    fails: Vec<u64>,
+    gate: &G,
+    text: &str,
+    replies: bool,
+    out: &mut String,
+) -> Result<(), Fault> {
+    let asked = script(alloc, text)?;
+    let disk = new_disk(alloc, fails)?;
+    let engine = open(alloc, disk, Placement::new(|_: &[u64]| 0))?;
+    push_run(rt, alloc, engine, asked, gate, text, replies, out)
+}
+
+/// Opens a new store whose disk fails the calls of these numbers, makes all of the script in threads, and adds what that
+/// came to.
+pub(crate) fn push_threads<R: Threads + Wait + Sync>(
+    rt: &R,
+    alloc: Global,
+    fails: Vec<u64>,
+    text: &str,
+    out: &mut String,
+) -> Result<(), Fault> {
+    push_gated(rt, alloc, fails, &OpenGate, text, false, out)
+}
+
+/// Makes all of the script in threads over a new store, with client 1 held between two events of client 0, and adds what
+/// that came to, and the replies.
+pub(crate) fn push_between<R: Threads + Wait + Sync>(
+    rt: &R,
+    alloc: Global,
+    text: &str,
+    out: &mut String,
+) -> Result<(), Fault> {
+    let gate = Between::new();
+    push_gated(rt, alloc, Vec::new(alloc), &gate, text, true, out)
+}
