@@ -22,3 +22,4 @@ pub use limits::LINE_BYTES;
 pub use line::Line;
 pub use reply::{REPLY_BYTES, journal_text, reply_into, reply_text};
 pub use script::{Script, read_script};
+pub use value::{is_numeral, read_hex};

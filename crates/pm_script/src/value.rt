@@ -1,4 +1,4 @@
-ghost use Rattle.std.specs.Prelude.{◌≡◌, ◌==◌, true};
+ghost use Rattle.std.specs.Prelude.{◌≡◌, ◌==◌, true, IfOk};
 ghost use Rattle.std.specs.List.{list_all};
 ghost use Rattle.std.specs.Cmp.Lexicographic.{pointwise};
 ghost use Rattle.hex.specs.Hex.{decode_of};
@@ -11,7 +11,7 @@ ghost use Rattle.pm_script.specs.Words.{kind_cause};
 use crate::fault::{Cause, LineFault};
 use crate::verb::{First, Kind};
 use hex::FromHexError;
-use pm_types::{Bytes, CLIENTS, Name, NameFault, Reg};
+use pm_types::{Bytes, CLIENTS, Name, NameFault, NoMemory, Reg};
 use std::alloc::Global;
 
 /// What a word after the one that names a command stands for.
@@ -35,7 +35,8 @@ fn all_digits(word: &[u8]) -> bool
     word.iter().all(|byte| matches!(byte, b'0'..=b'9'))
 }
 
-fn is_numeral(word: &[u8]) -> bool
+/// Whether a word is a numeral: decimal digits, at least one, with no leading zero.
+pub fn is_numeral(word: &[u8]) -> bool
     ensures { result ≡ is_numeral word.now }
 {
     all_digits(word) && !word.is_empty() && (word[0] != b'0' || word.len() == 1)
@@ -120,6 +121,19 @@ fn hex_word(alloc: Global, word: &[u8]) -> Result<Bytes, LineFault>
         Ok(Bytes::from_vec(Vec::new(alloc)))
     } else {
         pairs(alloc, word)
+    }
+}
+
+/// The bytes that a word spells: none for a dash, or those of pairs of hexadecimal digits, in either case. `None` where it
+/// spells none.
+#[tactic(auto, using(crate::proofs::ResultSteps::some_ok, crate::proofs::ResultSteps::none_err))]
+pub fn read_hex(alloc: Global, word: &[u8]) -> Result<Option<Bytes>, NoMemory>
+    ensures { IfOk result (λ found. found ≡ hex_of word.now) }
+{
+    match hex_word(alloc, word) {
+        Ok(bytes) => Ok(Some(bytes)),
+        Err(LineFault::Bad(_)) => Ok(None),
+        Err(LineFault::Memory) => Err(NoMemory),
     }
 }
 
