@@ -31,7 +31,7 @@ use Rattle.pm_save.specs.Answers.{TellsOn}
 use Rattle.pm_save.specs.Settling.{SparesEither}
 use Rattle.pm_serving.specs.Serving.{IsServed, numbered_copy, opening, world}
 use Rattle.pm_serving.specs.Events.{Appends, Serves}
-use Rattle.pm_serving.specs.Images.{IsSettled, IsStored, IsTold}
+use Rattle.pm_serving.specs.Images.{IsSettledCopy, IsStored, IsTold}
 use Rattle.pm_law_serving.proofs.Following as law
 use Rattle.pm_law_serving.proofs.Images.{acknowledged, failed}
 use Rattle.pm_engine.specs.declared.start.Start.{Start}
@@ -142,7 +142,7 @@ module _ {D : Type 0} {F : Type 0} {g : Ghosts D} (start : Start D F g) (old new
   pub leaves_either : IsStored (seen start None old) (state_in old) (g.contents (disk_then start)) (contents_in old) → (IsTold (g.contents (disk_then start)) → IsTold (contents_in old))
       → (progress : Progress) → (saving_in old).progress ≡ Some progress
       → SparesEither g.contents g.moment g.since (saving_in old).progress (cars_or_none (frozen_in old)) (state_in old) (disk_at old) (disk_at new) → IsTold (g.contents (disk_then start))
-      → LeavesOnly g.moment g.since (disk_at old) (disk_at new) (λ image. IsSettled (world (seen start None old)) image ⊎ StandsForCopy image progress.number (copy_of (cars_or_none (frozen_in old)) progress))
+      → LeavesOnly g.moment g.since (disk_at old) (disk_at new) (λ image. IsSettledCopy (world (seen start None old)) image ⊎ StandsForCopy image progress.number (copy_of (cars_or_none (frozen_in old)) progress))
   leaves_either stored tells progress is spares first =
       let was = tells first in
       let w = world (seen start None old) in
@@ -173,7 +173,7 @@ module _ {D : Type 0} {F : Type 0} {g : Ghosts D} (start : Start D F g) (old new
       let longer = chain w old.journal.items ++ settled_in (world NS) ∷ [] in
       let now = subst (λ (o : Option Progress). IfSome o (λ (p : Progress). (was : List ℕ) → contents_in old ≡ Some was
       → ((left : List ℕ) → g.image (disk_at new) left → StandsForCopy left number (copy_of cars p)) × IfTold (contents_in new) (λ after. HasCopy (state_in new) after (copy_of cars p)))) is.settles.is_progress is.now in
-      let stands : (left : List ℕ) → StandsForCopy left progress.number (copy_of cars progress) → IsSettled (world NS) left =
+      let stands : (left : List ℕ) → StandsForCopy left progress.number (copy_of cars progress) → IsSettledCopy (world NS) left =
       λ left it. subst (StandsForCopy left (world NS).settled) (sym copied) (subst (λ (n : ℕ). StandsForCopy left n (copy_of cars progress)) (sym all.2) it) in (
         subst (λ (n : ℕ). Serves client Settle OS NS (Saved n)) (sym is.settles.number_is) all.0,
         record {
@@ -185,7 +185,7 @@ module _ {D : Type 0} {F : Type 0} {g : Ghosts D} (start : Start D F g) (old new
                 let was = sound.images.told first in
                 subst (HasCopy (state_in new) bytes) (sym copied) ((now was.0 was.1).1 bytes told);
           };
-          images = acknowledged g.contents g.image g.moment g.since (disk_then start) OS (disk_at old) (disk_at new) (λ image. IsSettled (world OS) image ⊎ StandsForCopy image progress.number (copy_of cars progress)) refl sound.images
+          images = acknowledged g.contents g.image g.moment g.since (disk_then start) OS (disk_at old) (disk_at new) (λ image. IsSettledCopy (world OS) image ⊎ StandsForCopy image progress.number (copy_of cars progress)) refl sound.images
               (leaves_either start old new (sound.stored refl) sound.images.told progress is.settles.is_progress spares) tells counts NS longer
               (ap (chain w) all.0.appends.journal ∙ chain_more w old.journal.items entry ∙ ap (λ (last : World). chain w old.journal.items ++ settled_in last ∷ []) (ap (after w) (sym all.0.appends.journal)))
               (λ kept there. Contains-append_left (chain w old.journal.items) (settled_in (world NS) ∷ []) kept there)
@@ -211,7 +211,7 @@ module _ {D : Type 0} {F : Type 0} {g : Ghosts D} (start : Start D F g) (old new
       record {
         served = serves_on start old new (Some count) sound.served rests.nothing.journal rests.nothing.course rests.nothing.watches rests.view rests.frozen rests.progress;
         stored = λ none. absurd (cc none);
-        images = failed g.contents g.image g.moment g.since (disk_then start) OS (disk_at old) (disk_at new) (λ image. IsSettled (world OS) image ⊎ StandsForCopy image progress.number (copy_of cars progress)) refl sound.images
+        images = failed g.contents g.image g.moment g.since (disk_then start) OS (disk_at old) (disk_at new) (λ image. IsSettledCopy (world OS) image ⊎ StandsForCopy image progress.number (copy_of cars progress)) refl sound.images
             (leaves_either start old new (sound.stored refl) sound.images.told progress is spares) tells counts NS refl (ap (after w) rests.nothing.journal) (ap (chain w) rests.nothing.journal) (settled_there OS sound.served)
             (λ left it. ⊎_elim (λ settled. inl settled) (λ begun. inr ((progress.number, copy_of cars progress), saving, begun)) it);
       }

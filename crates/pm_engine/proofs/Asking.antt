@@ -20,7 +20,7 @@ use Rattle.pm_save.specs.Answers.{Spares, TellsOn}
 use Rattle.pm_save.specs.Settling.{SparesEither}
 use Rattle.pm_serving.specs.Serving.{IsServed, Serving, numbered_copy, opening, world}
 use Rattle.pm_serving.specs.Events.{Serves}
-use Rattle.pm_serving.specs.Images.{IsInProgress, IsSettled, IsStored, IsTold, KeepsImages}
+use Rattle.pm_serving.specs.Images.{IsCopyInProgress, IsSettledCopy, IsStored, IsTold, KeepsImages}
 use Rattle.pm_model.specs.Journal.{IsLegal}
 use Rattle.pm_types.specs.declared.entry.Entry.{Entry}
 use Rattle.pm_types.specs.declared.event.Flushed.{Flushed}
@@ -87,16 +87,16 @@ module _ {D : Type 0} {F : Type 0} {g : Ghosts D} (start : Start D F g) (stopped
 
     -- a crash at each moment of the call
     pub leaves_settled : Spares g.contents g.moment g.since (state_in old) (disk_at old) (disk_at new) → IsTold (g.contents (disk_then start))
-        → LeavesOnly g.moment g.since (disk_at old) (disk_at new) (IsSettled (world (seen start None old)))
+        → LeavesOnly g.moment g.since (disk_at old) (disk_at new) (IsSettledCopy (world (seen start None old)))
     leaves_settled = leaves start old new stored tells
 
     pub leaves_begun : (progress : Progress) → (saving_in old).progress ≡ Some progress
         → SparesEither g.contents g.moment g.since (saving_in old).progress (cars_or_none (frozen_in old)) (state_in old) (disk_at old) (disk_at new) → IsTold (g.contents (disk_then start))
-        → LeavesOnly g.moment g.since (disk_at old) (disk_at new) (λ image. IsSettled (world (seen start None old)) image ⊎ IsInProgress (world (seen start None old)) image)
+        → LeavesOnly g.moment g.since (disk_at old) (disk_at new) (λ image. IsSettledCopy (world (seen start None old)) image ⊎ IsCopyInProgress (world (seen start None old)) image)
     leaves_begun progress is either first =
         let cars = cars_or_none (frozen_in old) in
-        weaker g.moment g.since (disk_at old) (disk_at new) (λ image. IsSettled (world (seen start None old)) image ⊎ StandsForCopy image progress.number (copy_of cars progress))
-        (λ image. IsSettled (world (seen start None old)) image ⊎ IsInProgress (world (seen start None old)) image)
+        weaker g.moment g.since (disk_at old) (disk_at new) (λ image. IsSettledCopy (world (seen start None old)) image ⊎ StandsForCopy image progress.number (copy_of cars progress))
+        (λ image. IsSettledCopy (world (seen start None old)) image ⊎ IsCopyInProgress (world (seen start None old)) image)
         (leaves_either start old new stored tells progress is either first)
         (λ image it. ⊎_elim (λ settled. inl settled) (λ begun. inr ((progress.number, copy_of cars progress), saving_is progress is, begun)) it)
 
@@ -111,7 +111,7 @@ module _ {D : Type 0} {F : Type 0} {g : Ghosts D} (start : Start D F g) (stopped
     flush_failed count rests told spares counts = ∥∥₁_map at_none (λ sound. failed_still start old new sound counts count rests told spares)
 
   -- each image now stands for the last acknowledged copy
-  pub settled_now : IsTold (g.contents (disk_then start)) → (left : List ℕ) → g.image (disk_at old) left → IsSettled (world (seen start None old)) left
+  pub settled_now : IsTold (g.contents (disk_then start)) → (left : List ℕ) → g.image (disk_at old) left → IsSettledCopy (world (seen start None old)) left
   settled_now first left here =
       let was = tells first in
       subst (λ (n : ℕ). StandsForCopy left n (world (seen start None old)).settled_copy) stored.numbered

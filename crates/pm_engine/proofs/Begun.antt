@@ -20,7 +20,7 @@ use Rattle.pm_law_saving.proofs.Giving.{store_begins}
 use Rattle.pm_reopen.specs.Opening.{KnowsPages, MakesSpace, OpensStore}
 use Rattle.pm_reopen.proofs.StoodLaws.{copy_kept, bytes_stand, graph_kept}
 use Rattle.pm_serving.specs.Serving.{IsServed, Serving, just_opened, world}
-use Rattle.pm_serving.specs.Images.{IsSettled, IsStored, KeepsImages}
+use Rattle.pm_serving.specs.Images.{IsSettledCopy, IsStored, KeepsImages}
 use Rattle.pm_space.specs.Shown.{view}
 use Rattle.pm_shadow.specs.Pages.{disk_of}
 use Rattle.pm_law_serving.proofs.Opening.{begins_served}
@@ -90,6 +90,6 @@ module _ {D : Type 0} {F : Type 0} {g : Ghosts D} (start : Start D F g) (works :
         stored = λ _. subst (λ (one : Serving). IsStored one (state_in works) (g.contents (disk_then start)) (contents_in works)) same stored;
         images = subst (λ (d : D). KeepsImages g.contents g.image g.moment g.since d (seen start None works) (disk_at works)) (sym (ap disk_of pages))
             (begins g.contents g.image g.moment g.since (disk_at works) (seen start None works) (settled_there (seen start None works) served) only_now
-            (λ first left here. subst (λ (one : Serving). IsSettled (world one) left) same
+            (λ first left here. subst (λ (one : Serving). IsSettledCopy (world one) left) same
             (subst (λ (n : ℕ). StandsForCopy left n (copy_in (view_in works))) (sym number) (subst (λ (b : List ℕ). StandsForCopy b (state_in works).header.epoch (copy_in (view_in works))) (sym (only first.0 left first.1 here)) (stands first.0 first.1)))));
       }

@@ -22,7 +22,7 @@ use Rattle.pm_saving.specs.Tied.{HasCopy}
 use Rattle.pm_save.specs.Answers.{Spares}
 use Rattle.pm_serving.specs.Serving.{opening, world}
 use Rattle.pm_serving.specs.Events.{Serves}
-use Rattle.pm_serving.specs.Images.{IsInProgress, IsSettled, IsTold}
+use Rattle.pm_serving.specs.Images.{IsCopyInProgress, IsSettledCopy, IsTold}
 use Rattle.pm_law_serving.proofs.Following as law
 use Rattle.pm_engine.specs.declared.start.Start.{Start}
 use Rattle.pm_engine.specs.declared.works.Works.{Works}
@@ -42,7 +42,7 @@ module _ {D : Type 0} {F : Type 0} {g : Ghosts D} (start : Start D F g) (stopped
   pub settled_alone : (cmd : Cmd) (result : Result Reply EngineFault) → Spares g.contents g.moment g.since (state_in old) (disk_at old) (disk_at new) → IsTold (g.contents (disk_then start))
       → LeavesOnly g.moment g.since (disk_at old) (disk_at new) (MayStand cmd (seen start stopped old) result)
   settled_alone cmd result spares first =
-      weaker g.moment g.since (disk_at old) (disk_at new) (IsSettled (world (seen start stopped old))) (MayStand cmd (seen start stopped old) result)
+      weaker g.moment g.since (disk_at old) (disk_at new) (IsSettledCopy (world (seen start stopped old))) (MayStand cmd (seen start stopped old) result)
       (leaves_settled start stopped old none known new spares first) (λ image is. inl is)
 
   -- a command was answered
@@ -57,7 +57,7 @@ module _ {D : Type 0} {F : Type 0} {g : Ghosts D} (start : Start D F g) (stopped
       by false quiet progress is = settled_alone cmd (Ok reply) (spares_still old new only_now (still quiet).disk fine) first
       by true settles None is = settled_alone cmd (Ok reply) (spares_still old new only_now ((either settles).none is) fine) first
       by true settles (Some progress) is =
-          weaker g.moment g.since (disk_at old) (disk_at new) (λ image. IsSettled (world (seen start stopped old)) image ⊎ IsInProgress (world (seen start stopped old)) image) (MayStand cmd (seen start stopped old) (Ok reply))
+          weaker g.moment g.since (disk_at old) (disk_at new) (λ image. IsSettledCopy (world (seen start stopped old)) image ⊎ IsCopyInProgress (world (seen start stopped old)) image) (MayStand cmd (seen start stopped old) (Ok reply))
           (leaves_begun start stopped old none known new progress is (either settles).either first)
           (λ image it. ⊎_elim (λ settled. inl settled) (λ begun. inr (settles, tt, begun)) it)
 
@@ -65,7 +65,7 @@ module _ {D : Type 0} {F : Type 0} {g : Ghosts D} (start : Start D F g) (stopped
   pub leaves_failed : (cmd : Cmd) (before after : ℕ) → is_settle cmd ≡ true → (progress : Progress) → (saving_in old).progress ≡ Some progress → LeavesEither old new
       → IsTold (g.contents (disk_then start)) → LeavesOnly g.moment g.since (disk_at old) (disk_at new) (MayStand cmd (seen start stopped old) (Err (Disk before after)))
   leaves_failed cmd before after settles progress is either first =
-      weaker g.moment g.since (disk_at old) (disk_at new) (λ image. IsSettled (world (seen start stopped old)) image ⊎ IsInProgress (world (seen start stopped old)) image) (MayStand cmd (seen start stopped old) (Err (Disk before after)))
+      weaker g.moment g.since (disk_at old) (disk_at new) (λ image. IsSettledCopy (world (seen start stopped old)) image ⊎ IsCopyInProgress (world (seen start stopped old)) image) (MayStand cmd (seen start stopped old) (Err (Disk before after)))
       (leaves_begun start stopped old none known new progress is either.either first)
       (λ image it. ⊎_elim (λ settled. inl settled) (λ begun. inr (settles, tt, begun)) it)
 
@@ -99,7 +99,7 @@ module _ {D : Type 0} {F : Type 0} {g : Ghosts D} (start : Start D F g) (stopped
           cc (was.0, saving_is start stopped old none known is.settles.progress is.settles.is_progress) in
           ap (λ (w : World). w.settled_copy) world_is ∙ ap (λ (kept : ℕ × Copied). kept.1) same
 
-      pub settled_images : IsTold (g.contents (disk_then start)) → (left : List ℕ) → g.image (disk_at new) left → IsSettled (world (seen start None new)) left
+      pub settled_images : IsTold (g.contents (disk_then start)) → (left : List ℕ) → g.image (disk_at new) left → IsSettledCopy (world (seen start None new)) left
       settled_images first left here =
           let told = tells start stopped old none known first in
           let cars = cars_or_none (frozen_in old) in

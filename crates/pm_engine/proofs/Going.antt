@@ -18,7 +18,7 @@ use Rattle.pm_saving.specs.Tied.{GoesOn, HasCopy}
 use Rattle.pm_save.specs.Answers.{Spares, TellsOn}
 use Rattle.pm_serving.specs.Serving.{IsServed, Serving, numbered_copy, opening, world}
 use Rattle.pm_serving.specs.Events.{Appends, Serves, StaysBegun, watched}
-use Rattle.pm_serving.specs.Images.{IsSettled, IsStored, IsTold}
+use Rattle.pm_serving.specs.Images.{IsSettledCopy, IsStored, IsTold}
 use Rattle.pm_law_serving.proofs.Images.{spared}
 use Rattle.pm_engine.specs.declared.start.Start.{Start}
 use Rattle.pm_engine.specs.declared.works.Works.{Works}
@@ -103,7 +103,7 @@ module _ {D : Type 0} {F : Type 0} {g : Ghosts D} (start : Start D F g) (old new
   -- at each moment of the call the current copy stood
   pub leaves : IsStored (seen start None old) (state_in old) (g.contents (disk_then start)) (contents_in old) → (IsTold (g.contents (disk_then start)) → IsTold (contents_in old))
       → Spares g.contents g.moment g.since (state_in old) (disk_at old) (disk_at new) → IsTold (g.contents (disk_then start))
-      → LeavesOnly g.moment g.since (disk_at old) (disk_at new) (IsSettled (world (seen start None old)))
+      → LeavesOnly g.moment g.since (disk_at old) (disk_at new) (IsSettledCopy (world (seen start None old)))
   leaves stored tells spares first =
       let was = tells first in
       let w = world (seen start None old) in
@@ -131,7 +131,7 @@ module _ {D : Type 0} {F : Type 0} {g : Ghosts D} (start : Start D F g) (old new
             subst (HasCopy (state_in new) bytes) (sym (ap (λ (kept : ℕ × Copy). kept.1) settled))
             (last.has (world (seen start None old)).settled_copy was.0 was.1 (stored.has first was.0 was.1) bytes is);
       };
-      images = spared g.contents g.image g.moment g.since (disk_then start) (seen start None old) (disk_at old) (disk_at new) (IsSettled (world (seen start None old))) refl sound.images (leaves stored sound.images.told spares) (tells told) counts
+      images = spared g.contents g.image g.moment g.since (disk_then start) (seen start None old) (disk_at old) (disk_at new) (IsSettledCopy (world (seen start None old))) refl sound.images (leaves stored sound.images.told spares) (tells told) counts
           (seen start None new) settled same (settled_there (seen start None old) sound.served) (λ left is. is);
     }
 
@@ -161,6 +161,6 @@ module _ {D : Type 0} {F : Type 0} {g : Ghosts D} (start : Start D F g) (old new
         record {
           served = serves_on (Some count) sound.served rests.nothing.journal rests.nothing.course rests.nothing.watches rests.view rests.frozen rests.progress;
           stored = λ none. absurd (cc none);
-          images = spared g.contents g.image g.moment g.since (disk_then start) (seen start None old) (disk_at old) (disk_at new) (IsSettled (world (seen start None old))) refl sound.images (leaves stored sound.images.told spares) (tells told) counts
+          images = spared g.contents g.image g.moment g.since (disk_then start) (seen start None old) (disk_at old) (disk_at new) (IsSettledCopy (world (seen start None old))) refl sound.images (leaves stored sound.images.told spares) (tells told) counts
               (seen start (Some count) new) (ap (λ (entries : List Entry). settled_in (after w entries)) rests.nothing.journal) (ap (chain w) rests.nothing.journal) (settled_there (seen start None old) sound.served) (λ left is. is);
         }

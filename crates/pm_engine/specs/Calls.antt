@@ -28,7 +28,7 @@ use Rattle.pm_save.specs.Settling.{settling_syncs, settling_writes}
 use Rattle.pm_serving.specs.Serving.{Serving, world}
 use Rattle.pm_serving.specs.Events.{Collects, FailsAs, Flushes, Serves}
 use Rattle.pm_serving.specs.Images as images
-use Rattle.pm_serving.specs.Images.{IsInProgress, IsTold}
+use Rattle.pm_serving.specs.Images.{IsCopyInProgress, IsTold}
 use Rattle.pm_engine.specs.declared.engine.Engine.{Engine}
 use Rattle.pm_engine.specs.Acting.{ChangesSpace}
 use Rattle.pm_engine.specs.Shown.{chooser, disk_in, opened_disk, pages_in, room, serving}
@@ -66,7 +66,7 @@ pub record KeepsCopies (old new : Serving) : Type 0 where
 -- it, the one that was in progress.
 abbrev pub MayStand : Cmd → Serving → Result Reply EngineFault → List ℕ → Type 0
 MayStand cmd it result image =
-    images.IsSettled (world it) image ⊎ ((is_settle cmd ≡ true) × MatchResult result (λ _. Unit {0}) IsOfDisk × IsInProgress (world it) image)
+    images.IsSettledCopy (world it) image ⊎ ((is_settle cmd ≡ true) × MatchResult result (λ _. Unit {0}) IsOfDisk × IsCopyInProgress (world it) image)
 
 module _ {D : Type 0} {F : Type 0} {g : Ghosts D} where
   -- no call had answered that the disk failed, and none failed in this one
@@ -94,13 +94,13 @@ module _ {D : Type 0} {F : Type 0} {g : Ghosts D} where
   abbrev pub LeavesCopy : Engine D F g → Engine D F g → Type 0
   LeavesCopy old new =
       (serving old).stopped ≡ None → IsTold (g.contents (opened_disk old))
-      → LeavesOnly g.moment g.since (disk_in old) (disk_in new) (images.IsSettled (world (serving old)))
+      → LeavesOnly g.moment g.since (disk_in old) (disk_in new) (images.IsSettledCopy (world (serving old)))
 
   -- The copy of this number has settled: each image stands for it, and of the pages only those that were left of it and
   -- its header's were written, each on the lowest one that was free; by so many writes, and so many syncs.
   pub record HasSettled (old new : Engine D F g) (number : ℕ) : Type 0 where
     pub number_is : (world (serving new)).settled ≡ number
-    pub now : IsTold (g.contents (opened_disk old)) → (left : List ℕ) → g.image (disk_in new) left → images.IsSettled (world (serving new)) left
+    pub now : IsTold (g.contents (opened_disk old)) → (left : List ℕ) → g.image (disk_in new) left → images.IsSettledCopy (world (serving new)) left
     pub settles : Settles (serving old).saving (serving new).saving (cars_or_none (serving old).frozen) (pages_in old) (pages_in new) (g.contents (disk_in old)) (g.contents (disk_in new)) number
     pub made : MadeMore (settling_writes (serving old).saving (pages_in old)) (settling_syncs (pages_in old)) 0 (g.made (disk_in old)) (g.made (disk_in new))
 

@@ -36,7 +36,7 @@ impl<D: Disk, F: Drop> Engine<D, F> {
     ghost use Rattle.pm_model.specs.Closed.{IsClosed};
     ghost use Rattle.pm_model.specs.Journal.{IsLegal};
     ghost use Rattle.pm_serving.specs.Serving.{IsServed, opening, world};
-    ghost use Rattle.pm_serving.specs.Images.{IsSettled, IsTold, KeepsImages};
+    ghost use Rattle.pm_serving.specs.Images.{IsSettledCopy, IsTold, KeepsImages};
     ghost use Rattle.pm_bound.specs.Bounded.{IsHonest};
     ghost use Rattle.pm_view.specs.Counts.{old, standing};
     ghost use Rattle.pm_view.specs.Watches.{lines_from};
@@ -157,7 +157,7 @@ impl<D: Disk, F: Drop> Engine<D, F> {
         ensures images { ∥ KeepsImages D.contents D.image D.moment D.since (opened_disk self.now) (serving self.now)
             (disk_in self.now) ∥₁ }
         ensures settled { (serving self.now).stopped ≡ None → IsTold (D.contents (opened_disk self.now))
-            → (left : List ℕ) → D.image (disk_in self.now) left → IsSettled (world (serving self.now)) left }
+            → (left : List ℕ) → D.image (disk_in self.now) left → IsSettledCopy (world (serving self.now)) left }
         ensures watching { (world (serving self.now)).watches ≡ length (serving self.now).watches }
         ensures told { length (serving self.now).course ≡ length (serving self.now).journal }
         ensures standing { (ids : List ℕ) → IsDistinct nat_eq ids

@@ -24,7 +24,7 @@ use Rattle.pm_shadow.specs.State.{State}
 use Rattle.pm_saving.specs.Progress.{Progress, Saving}
 use Rattle.pm_save.specs.Answers.{IsFlushed}
 use Rattle.pm_serving.specs.Serving.{KeepsOpening, Serving, opening, world}
-use Rattle.pm_serving.specs.Images.{IsInProgress, IsLast, IsOfChain, IsOfRun, IsSettled, IsTold}
+use Rattle.pm_serving.specs.Images.{IsCopyInProgress, IsLast, IsOfChain, IsOfRun, IsSettledCopy, IsTold}
 use Rattle.pm_serving.specs.Events.{Collects, FailsAs, Flushes, Serves, ServesNothing, StaysBegun}
 use Rattle.pm_engine.specs.declared.engine.Engine.{Engine}
 use Rattle.pm_engine.specs.Shown.{KeepsStart, disk_in, opened_disk, room, serving}
@@ -52,7 +52,7 @@ stays_of_run : (old new : Serving) → old.stopped ≡ None → ((kept : ℕ × 
 stays_of_run old new none grows left of = ⊎_elim (λ (kept : IsOfChain (opening old) old.journal left). inl (kept.0, grows kept.0 kept.1, kept.2)) (λ begun. absurd (not_stopped old none begun.0)) of
 
 -- what has settled is of the chain
-settled_of_run : (old new : Serving) → IsLegal (opening old) old.journal → ((kept : ℕ × Copy) → Contains (chain (opening old) old.journal) kept → Contains (chain (opening new) new.journal) kept) → (left : List ℕ) → IsSettled (world old) left → IsOfRun new left
+settled_of_run : (old new : Serving) → IsLegal (opening old) old.journal → ((kept : ℕ × Copy) → Contains (chain (opening old) old.journal) kept → Contains (chain (opening new) new.journal) kept) → (left : List ℕ) → IsSettledCopy (world old) left → IsOfRun new left
 settled_of_run old new legal grows left is = inl (settled_in (world old), grows (settled_in (world old)) (end_in_chain (opening old) old.journal legal), is)
 
 -- a journal that stays
@@ -81,7 +81,7 @@ module _ (client : ℕ) (cmd : Cmd) (old new : Serving) (reply : Reply) (legal :
   next_world = sym (ap (λ (both : World × List Entry). after both.0 both.1) longer) ∙ after_more (opening old) old.journal entry_of
 
   -- the copy that was in progress has settled
-  begun_settled : is_settle cmd ≡ true → (left : List ℕ) → IsInProgress (world old) left → IsOfRun new left
+  begun_settled : is_settle cmd ≡ true → (left : List ℕ) → IsCopyInProgress (world old) left → IsOfRun new left
   begun_settled settles left begun =
       let same : settled_in (world new) ≡ begun.0 = ap settled_in next_world ∙ settled_next (world old) client cmd begun.0 settles begun.1 in
       inl (settled_in (world new), end_in_chain (opening new) new.journal legal_then, subst (λ (kept : ℕ × Copy). StandsForCopy left kept.0 kept.1) (sym same) begun.2)
@@ -110,7 +110,7 @@ rose_of b a before later shows = subst (λ (both : ℕ × ℕ). Rose both.0 both
 
 -- what may stand at a moment of a call that failed
 abbrev MayStandAt : EngineFault → Serving → List ℕ → Type 0
-MayStandAt fault it left = IsSettled (world it) left ⊎ (IsDiskFault fault × IsInProgress (world it) left)
+MayStandAt fault it left = IsSettledCopy (world it) left ⊎ (IsDiskFault fault × IsCopyInProgress (world it) left)
 
 -- an entry took the room of one
 room_of_one : (room_old room_new : ℕ) (old new : List Entry) (entry : Entry) → new ≡ old ++ entry ∷ [] → room_old ≤ room_new + 1 → room_old + length old ≤ room_new + length new
@@ -149,7 +149,7 @@ module _ {D : Type 0} {F : Type 0} {g : Ghosts D} (old new : Engine D F g) (star
           start = start;
           room = room_of_none (room old) (room new) (serving old).journal (serving new).journal journal within;
           grows = same;
-          leaves = λ told. weaker g.moment g.since (disk_in old) (disk_in new) (IsSettled (world (serving old))) (IsOfRun (serving new)) (leaves runs.running told) (settled_of_run (serving old) (serving new) legal same);
+          leaves = λ told. weaker g.moment g.since (disk_in old) (disk_in new) (IsSettledCopy (world (serving old))) (IsOfRun (serving new)) (leaves runs.running told) (settled_of_run (serving old) (serving new) legal same);
           last = λ of. absurd of;
           going = λ _. stopped ∙ runs.running;
           cause = runs.count;
@@ -171,8 +171,8 @@ module _ {D : Type 0} {F : Type 0} {g : Ghosts D} (old new : Engine D F g) (star
       same_members : (kept : ℕ × Copy) → Contains (chain (opening (serving old)) (serving old).journal) kept → Contains (chain (opening (serving new)) (serving new).journal) kept
       same_members = same_chain (serving old) (serving new) nothing.opening nothing.journal
 
-      in_world : (left : List ℕ) → IsInProgress (world (serving old)) left → IsInProgress (world (serving new)) left
-      in_world left begun = subst (λ (w : World). IsInProgress w left) (sym (same_world (serving old) (serving new) nothing.opening nothing.journal)) begun
+      in_world : (left : List ℕ) → IsCopyInProgress (world (serving old)) left → IsCopyInProgress (world (serving new)) left
+      in_world left begun = subst (λ (w : World). IsCopyInProgress w left) (sym (same_world (serving old) (serving new) nothing.opening nothing.journal)) begun
 
       was_idle : (serving new).journal ≡ [] → WasIdle (serving old) (serving new) (disk_in old) (disk_in new)
       was_idle none = record { none = sym nothing.journal ∙ none; still = none_begun (serving old).saving.progress (serving new).saving.progress nothing.progress; disk = idle }
@@ -208,7 +208,7 @@ module _ {D : Type 0} {F : Type 0} {g : Ghosts D} (old new : Engine D F g) (star
             last = λ of told left here.
                 let each = leaves told in
                 ⊎_elim
-                (λ (settled : IsSettled (world (serving old)) left). inl (subst (λ (w : World). IsSettled w left) (sym (same_world (serving old) (serving new) nothing.opening nothing.journal)) settled))
+                (λ (settled : IsSettledCopy (world (serving old)) left). inl (subst (λ (w : World). IsSettledCopy w left) (sym (same_world (serving old) (serving new) nothing.opening nothing.journal)) settled))
                 (λ begun. inr (some, in_world left begun.1))
                 (each.each left (counts left here each.later));
             going = λ not. absurd (not tt);
@@ -239,7 +239,7 @@ module _ {D : Type 0} {F : Type 0} {g : Ghosts D} (old new : Engine D F g) (star
         → LeavesCopy old new → EngineGoesOn old new (Some (stop_of fault))
     event_failed fault fails none counts leaves =
         failed fault fails none counts
-        (λ told. weaker g.moment g.since (disk_in old) (disk_in new) (IsSettled (world (serving old))) (MayStandAt fault (serving old)) (leaves none told) (λ left settled. inl settled))
+        (λ told. weaker g.moment g.since (disk_in old) (disk_in new) (IsSettledCopy (world (serving old))) (MayStandAt fault (serving old)) (leaves none told) (λ left settled. inl settled))
 
 -- a call that failed leaves journal and counts
 pub counts_stay : (old new : Serving) (before after : ℕ) (fault : EngineFault) → FailsAs old new before after fault → KeepsCounts old new
@@ -262,11 +262,11 @@ module _ {D : Type 0} {F : Type 0} {g : Ghosts D} (old new : Engine D F g) where
 
   -- where the disk was not called what stood may stand
   pub leaves_still : disk_in new ≡ disk_in old
-      → ((serving old).stopped ≡ None → IsTold (g.contents (opened_disk old)) → (left : List ℕ) → g.image (disk_in old) left → IsSettled (world (serving old)) left)
+      → ((serving old).stopped ≡ None → IsTold (g.contents (opened_disk old)) → (left : List ℕ) → g.image (disk_in old) left → IsSettledCopy (world (serving old)) left)
       → ((left : List ℕ) → g.since (disk_in old) (g.moment (disk_in old)) left → g.image (disk_in old) left) → LeavesCopy old new
   leaves_still same settled now none told =
-      subst (λ (d : D). LeavesOnly g.moment g.since (disk_in old) d (IsSettled (world (serving old)))) (sym same)
-      (started g.moment g.since (disk_in old) (IsSettled (world (serving old))) (λ left there. settled none told left (now left there)))
+      subst (λ (d : D). LeavesOnly g.moment g.since (disk_in old) d (IsSettledCopy (world (serving old)))) (sym same)
+      (started g.moment g.since (disk_in old) (IsSettledCopy (world (serving old))) (λ left there. settled none told left (now left there)))
 
 -- ---- one part behind another
 
@@ -287,7 +287,7 @@ module _ {D : Type 0} {F : Type 0} {g : Ghosts D} where
 
   -- nothing was done yet
   pub goes_first : (old : Engine D F g) → (serving old).stopped ≡ None → IsLegal (opening (serving old)) (serving old).journal
-      → (IsTold (g.contents (opened_disk old)) → (left : List ℕ) → g.image (disk_in old) left → IsSettled (world (serving old)) left)
+      → (IsTold (g.contents (opened_disk old)) → (left : List ℕ) → g.image (disk_in old) left → IsSettledCopy (world (serving old)) left)
       → ((left : List ℕ) → g.since (disk_in old) (g.moment (disk_in old)) left → g.image (disk_in old) left) → EngineGoesOn old old None
   goes_first old none legal settled now = record {
     start = record { opening = record { number = refl; opened = refl }; disk = refl; count = refl; chooser = refl };
@@ -303,7 +303,7 @@ module _ {D : Type 0} {F : Type 0} {g : Ghosts D} where
 
   -- nothing was done but that room was made
   pub goes_still : (old new : Engine D F g) → KeepsStart old new → room old ≤ room new → serving new ≡ serving old → disk_in new ≡ disk_in old → (serving old).stopped ≡ None → IsLegal (opening (serving old)) (serving old).journal
-      → (IsTold (g.contents (opened_disk old)) → (left : List ℕ) → g.image (disk_in old) left → IsSettled (world (serving old)) left)
+      → (IsTold (g.contents (opened_disk old)) → (left : List ℕ) → g.image (disk_in old) left → IsSettledCopy (world (serving old)) left)
       → ((left : List ℕ) → g.since (disk_in old) (g.moment (disk_in old)) left → g.image (disk_in old) left) → EngineGoesOn old new None
   goes_still old new start within same disk none legal settled now =
       let first = goes_first old none legal settled now in
@@ -356,7 +356,7 @@ module _ {D : Type 0} {F : Type 0} {g : Ghosts D} where
   -- ---- the whole run
 
   last_of : (old new : Engine D F g) (stop : Option Stop) → EngineGoesOn old new stop
-      → ((serving new).stopped ≡ None → IsTold (g.contents (opened_disk new)) → (left : List ℕ) → g.image (disk_in new) left → IsSettled (world (serving new)) left)
+      → ((serving new).stopped ≡ None → IsTold (g.contents (opened_disk new)) → (left : List ℕ) → g.image (disk_in new) left → IsSettledCopy (world (serving new)) left)
       → IsTold (g.contents (opened_disk old)) → (left : List ℕ) → g.image (disk_in new) left → IsLast (serving new) left
   last_of old new None goes law told left here = inl (law (goes.going (λ of. of)) (told_then old new goes.start told) left here)
   last_of old new (Some Memory) goes law told left here = inl (law (goes.going (λ of. of)) (told_then old new goes.start told) left here)
@@ -364,7 +364,7 @@ module _ {D : Type 0} {F : Type 0} {g : Ghosts D} where
   last_of old new (Some Device) goes law told left here = goes.last tt told left here
 
   pub runs : (old new : Engine D F g) (stop : Option Stop) → IsFresh (serving old) → EngineGoesOn old new stop
-      → ((serving new).stopped ≡ None → IsTold (g.contents (opened_disk new)) → (left : List ℕ) → g.image (disk_in new) left → IsSettled (world (serving new)) left)
+      → ((serving new).stopped ≡ None → IsTold (g.contents (opened_disk new)) → (left : List ℕ) → g.image (disk_in new) left → IsSettledCopy (world (serving new)) left)
       → RunsOnDisk old new stop
   runs old new stop fresh goes law = record {
     leaves = goes.leaves;

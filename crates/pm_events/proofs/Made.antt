@@ -12,7 +12,7 @@ use Rattle.pm_disk.specs.declared.disk.Disk.{Ghosts}
 use Rattle.pm_model.specs.Journal.{IsLegal}
 use Rattle.pm_saving.specs.Progress.{cars_or_none}
 use Rattle.pm_serving.specs.Serving.{opening, world}
-use Rattle.pm_serving.specs.Images.{IsSettled, IsTold}
+use Rattle.pm_serving.specs.Images.{IsSettledCopy, IsTold}
 use Rattle.pm_engine.specs.declared.engine.Engine.{Engine}
 use Rattle.pm_engine.specs.Calls.{AnswersClient, AnswersCollect, AnswersFlush}
 use Rattle.pm_engine.specs.Shown.{KeepsStart, disk_in, opened_disk, pages_in, room, serving}
@@ -62,7 +62,7 @@ module _ {D : Type 0} {F : Type 0} {g : Ghosts D} (old new : Engine D F g) where
     flush_goes (Err fault) call = event_failed old new start legal call.past call.idle call.room fault call.fails running counts call.leaves
 
     pub collect_goes : (calls : Shared F (Bor (List ℕ) × Unit {0}) ℕ) (result : Result Step EngineFault) → AnswersCollect calls old new result
-        → ((serving old).stopped ≡ None → IsTold (g.contents (opened_disk old)) → (left : List ℕ) → g.image (disk_in old) left → IsSettled (world (serving old)) left)
+        → ((serving old).stopped ≡ None → IsTold (g.contents (opened_disk old)) → (left : List ℕ) → g.image (disk_in old) left → IsSettledCopy (world (serving old)) left)
         → ((left : List ℕ) → g.since (disk_in old) (g.moment (disk_in old)) left → g.image (disk_in old) left) → EngineGoesOn old new (stop_after result)
     collect_goes calls (Ok step) call settled now =
         let same = call.still.disk in

@@ -22,7 +22,7 @@ use Rattle.pm_image.proofs.Results.{both_true}
 use Rattle.pm_base.proofs.Fronts.{with_front, regroup}
 use Rattle.pm_base.proofs.Results.{bind_ok, bound, err_same}
 use Rattle.pm_graphs.specs.declared.fault.ReadFault.{ReadFault}
-use Rattle.pm_graphs.specs.Reading.{Fails, link_at, IsThere, IsEntryThere, IsEntryNamed, root_count, page_numbers, IsSound, Follow, AreRead, LeadsOn, car_list, with_car}
+use Rattle.pm_graphs.specs.Reading.{Fails, link_at, IsThere, IsEntryThere, IsEntryNamed, root_count, page_numbers, IsSound, MayFollow, AreRead, LeadsOn, car_list, with_car}
 use Rattle.pm_graphs.proofs.Faults.{fails_too}
 use Rattle.pm_graphs.proofs.Lists.{all_both}
 
@@ -187,22 +187,22 @@ begun_on catalog page first read begun = subst (λ (pages : List ℕ). Contains 
 
 -- ---- each entry follows those before it
 
-follows : (count : ℕ) (met : Met) (entries more : List CatEntry) → AreNext (Some count) met entries → Follow (meeting_all met entries).cars (meeting_all met entries).train (meeting_all met entries).name more → Follow met.cars met.train met.name (entries ++ more)
+follows : (count : ℕ) (met : Met) (entries more : List CatEntry) → AreNext (Some count) met entries → MayFollow (meeting_all met entries).cars (meeting_all met entries).train (meeting_all met entries).name more → MayFollow met.cars met.train met.name (entries ++ more)
 follows count met [] more next is = is
 follows count met (Car car train page digest ∷ entries) more next is = (next.0.numbered, next.0.other, next.0.in_order, follows count (meeting met (Car car train page digest)) entries more next.1 is)
 follows count met (Root name at ∷ entries) more next is = (next.0.in_order, follows count (meeting met (Root name at)) entries more next.1 is)
 
 -- which page comes next does not matter
-whatever_next : (met : Met) (next : ℕ) (entries : List CatEntry) → Follow (meeting_next met next).cars (meeting_next met next).train (meeting_next met next).name entries → Follow met.cars met.train met.name entries
+whatever_next : (met : Met) (next : ℕ) (entries : List CatEntry) → MayFollow (meeting_next met next).cars (meeting_next met next).train (meeting_next met next).name entries → MayFollow met.cars met.train met.name entries
 whatever_next met zero entries is = is
 whatever_next met (suc next) entries is = is
 
 -- once a page was read its entries follow those before it, and so does what follows them
 pub follow_more : (count : ℕ) (met : Met) (front : Catalog) (page : ℕ) (read : CatalogPage) (more : List CatEntry) → HasCatalogPage (Some count) met read
-    → ((more : List CatEntry) → Follow met.cars met.train met.name more → Follow set.empty 0 None (entries_of front ++ more))
-    → Follow (meeting_page met read).cars (meeting_page met read).train (meeting_page met read).name more → Follow set.empty 0 None (entries_of (front ++ (page, read) ∷ []) ++ more)
+    → ((more : List CatEntry) → MayFollow met.cars met.train met.name more → MayFollow set.empty 0 None (entries_of front ++ more))
+    → MayFollow (meeting_page met read).cars (meeting_page met read).train (meeting_page met read).name more → MayFollow set.empty 0 None (entries_of (front ++ (page, read) ∷ []) ++ more)
 follow_more count met front page read more has so_far is =
-    subst (Follow set.empty 0 None) (sym (append_assoc (entries_of front) read.entries more) ∙ ap (λ (es : List CatEntry). es ++ more) (sym (one_more front page read)))
+    subst (MayFollow set.empty 0 None) (sym (append_assoc (entries_of front) read.entries more) ∙ ap (λ (es : List CatEntry). es ++ more) (sym (one_more front page read)))
     (so_far (read.entries ++ more) (whatever_next met read.next (read.entries ++ more) (follows count (meeting_next met read.next) read.entries more has.entries is)))
 
 -- ---- the cars that are listed

@@ -155,10 +155,10 @@ as_graph (Ok read) = Ok (record { catalog = read.0; cars = read.1 })
 as_graph (Err fault) = Err fault
 
 -- Each entry may come after those before it, by the numbers of cars that were met, the last train and the last name.
-abbrev pub Follow : Numbers → ℕ → Option (List ℕ) → List CatEntry → Type 0
-Follow cars train name [] = Unit {0}
-Follow cars train name (Car car now page digest ∷ entries) = (0 < car) × (set.contains cars car ≡ false) × (train ≤ now) × Follow (set.insert cars car) now name entries
-Follow cars train name (Root found at ∷ entries) = (is_next_name name found ≡ true) × Follow cars train (Some found) entries
+abbrev pub MayFollow : Numbers → ℕ → Option (List ℕ) → List CatEntry → Type 0
+MayFollow cars train name [] = Unit {0}
+MayFollow cars train name (Car car now page digest ∷ entries) = (0 < car) × (set.contains cars car ≡ false) × (train ≤ now) × MayFollow (set.insert cars car) now name entries
+MayFollow cars train name (Root found at ∷ entries) = (is_next_name name found ≡ true) × MayFollow cars train (Some found) entries
 
 -- These are the cars that entries list, in order, each with the number that is listed and with a page after the identities that were met before it.
 abbrev pub AreRead : ℕ → ℕ → Numbers → List CatEntry → List KeptPage → Type 0
@@ -174,11 +174,11 @@ LeadsOn most next begun done cars met = (entries : List CatEntry) (more : List K
 
 -- What was read of a catalog and of its cars: their pages are pages of the store, each entry follows those before it, the
 -- cars are those that it lists, and each address leads where it may.
-pub record IsWhole (count next : ℕ) (catalog : Catalog) (cars : List KeptPage) : Type 0 where
+pub record IsReadWhole (count next : ℕ) (catalog : Catalog) (cars : List KeptPage) : Type 0 where
   pub sound : IsSound count catalog
   pub cars_are : AllByRecursion (IsCar count next) cars
   pub links : linked (images_of cars) (sites_of catalog cars) ≡ Ok tt
-  pub follow : Follow set.empty 0 None (entries_of catalog)
+  pub follow : MayFollow set.empty 0 None (entries_of catalog)
   pub most : ℕ
   pub few : most ≤ FIELDS
   pub reads : AreRead most next set.empty (entries_of catalog) cars

@@ -13,7 +13,7 @@ ghost use Rattle.pm_image.specs.CatalogPages.{HasCatalogPage, meeting_page};
 ghost use Rattle.pm_image.specs.Opening.{page_of};
 ghost use Rattle.pm_image.specs.Graphs.{undamaged, catalog_of, cars_from, entries_of};
 ghost use Rattle.pm_shadow.specs.Pages.{state, disk_of};
-ghost use Rattle.pm_graphs.specs.Reading.{Gives, GoesOn, behind, of_page, Counts, Looked, store_of, link_at, car_on, entry_car, with_car, car_list, IsThere, IsEntryThere, IsSound, IsCar, page_numbers, Follow, AreRead, LeadsOn};
+ghost use Rattle.pm_graphs.specs.Reading.{Gives, GoesOn, behind, of_page, Counts, Looked, store_of, link_at, car_on, entry_car, with_car, car_list, IsThere, IsEntryThere, IsSound, IsCar, page_numbers, MayFollow, AreRead, LeadsOn};
 
 use crate::chain::Chain;
 use crate::fault::ReadFault;
@@ -245,7 +245,7 @@ pub(crate) fn read_chain<D: Disk>(
     ensures gives { IfTold (D.contents (disk_of pages.old)) (λ bytes. Gives result
         (catalog_of (store_of (state pages.old).count bytes) (state pages.old).header)) }
     ensures sound { IfOk result (IsSound (state pages.old).count) }
-    ensures follow { IfOk result (λ chain. Follow set.empty 0 None (entries_of chain)) }
+    ensures follow { IfOk result (λ chain. MayFollow set.empty 0 None (entries_of chain)) }
     ensures begins { IfOk result (λ chain. Contains (page_numbers chain) (state pages.old).header.first) }
     ensures looked { Looked pages.old pages.new }
     ensures counts { Counts (D.count (disk_of pages.old)) (D.count (disk_of pages.new)) result }

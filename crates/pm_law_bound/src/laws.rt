@@ -40,8 +40,8 @@ pub fn watches_keep_their_bounds()
         → AllByRecursion (KeepsBound start journal old) watches
         → KeepsRank old new → KeepsSunk old new → CountsOne old new
         → AllByRecursion (KeepsBound start (journal ++ more) new) watches }
-    ensures one_more { (start : World) (journal more : List Entry) (view : SpaceView) (watches : List Watch) → HeapLaw view
-        → Represents view (after start journal) → AllByRecursion (KeepsBound start journal view) watches
+    ensures one_more { (start : World) (journal more : List Entry) (view : SpaceView) (watches : List Watch)
+        → HeapLaw view → Represents view (after start journal) → AllByRecursion (KeepsBound start journal view) watches
         → AllByRecursion (KeepsBound start (journal ++ more) view) (watches ++ watch_in view (length journal) ∷ []) }
     ensures honest { (start : World) (journal : List Entry) (view : SpaceView) (number : ℕ) (watches : List Watch)
         → HeapLaw view → AllByRecursion (KeepsBound start journal view) watches

@@ -1,5 +1,5 @@
 -- A space that keeps the heap law stands for the world that has what stands in it.
-use Rattle.std.proofs.Common.{◌≡◌, ◌↔◌, ℕ, ◌<◌, ◌≤◌, true, false, not, refl, ap, sym, subst, ◌∙◌, List, Option, Some, None, arith, is_some}
+use Rattle.std.proofs.Common.{◌≡◌, ℕ, ◌<◌, ◌≤◌, true, false, not, refl, ap, sym, subst, ◌∙◌, List, Option, Some, None, arith, is_some}
 use Rattle.std.specs.Option.{IsSome, option_and_then, option_map, option_flatten, unwrap_or}
 use Rattle.std.specs.List.{slice_get, AllByRecursion}
 use Rattle.std.specs.FinMap.{get}

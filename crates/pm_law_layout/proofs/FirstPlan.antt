@@ -11,7 +11,7 @@ use Rattle.pm_image.specs.Graphs.{Pages, slot_named}
 use Rattle.pm_copies.specs.Accepted.{IsAccepted}
 use Rattle.pm_law_graphs.specs.Apart.{AreApart}
 use Rattle.pm_law_layout.specs.Plans.{planned_list, planned_roots}
-use Rattle.pm_law_layout.specs.Laid.{HoldPlan, IsPlanHeader, IsPlanInRange, IsLaidBehind, IsListed}
+use Rattle.pm_law_layout.specs.Laid.{HoldPlan, IsPlanHeader, IsPlanInRange, IsLaidBehind, IsCatalogFilled}
 use Rattle.pm_law_layout.specs.Examples.{first_plan}
 
 -- the object, and its address
@@ -71,7 +71,7 @@ first_range = record {
   trains = (lit≤ tt, tt);
 }
 
-first_cut : IsListed first_plan
+first_cut : IsCatalogFilled first_plan
 first_cut = record { whole = refl; fit = (omega arith, tt); filled = tt; some = omega arith }
 
 first_held : (pages : Pages) → 4 < pages.count → pages.page 3 ≡ first_car_page → pages.page 4 ≡ first_catalog_page → HoldPlan pages first_plan

@@ -12,7 +12,7 @@ use Rattle.pm_copies.specs.Listed.{Listed, copy_listed, images}
 use Rattle.pm_copies.specs.Opened.{listed_graph, listed_in}
 use Rattle.pm_law_layout.specs.Plans.{CarInTrain, CarPlan, PlannedPage, car_entry, cars_in, chain_of, graph_of_plan, in_list, planned_cars, planned_entries, planned_list, planned_pages, planned_roots, root_entry}
 use Rattle.pm_law_layout.specs.Cutting.{OnePage, joined}
-use Rattle.pm_law_layout.specs.Laid.{IsListed}
+use Rattle.pm_law_layout.specs.Laid.{IsCatalogFilled}
 
 -- the entries of each page of a catalog
 abbrev pub parts_of : List PlannedPage → List OnePage
@@ -32,7 +32,7 @@ chain_places : (catalog : List PlannedPage) → map (λ (page : ℕ × CatalogPa
 chain_places [] = refl
 chain_places (first ∷ catalog) = ap (λ (rest : List ℕ). first.page ∷ rest) (chain_places catalog)
 
-pub plan_entries : (plan : CarPlan) → IsListed plan → entries_of (graph_of_plan plan).catalog ≡ planned_entries plan
+pub plan_entries : (plan : CarPlan) → IsCatalogFilled plan → entries_of (graph_of_plan plan).catalog ≡ planned_entries plan
 plan_entries plan listed = chain_entries plan.catalog ∙ listed.whole
 
 pub plan_pages : (plan : CarPlan) → used_pages (graph_of_plan plan) ≡ planned_pages plan
@@ -56,7 +56,7 @@ cars_in_list : (cars : List CarInTrain) (roots : List (List ℕ × Addr)) → li
 cars_in_list [] roots = roots_list_none roots
 cars_in_list (car ∷ cars) roots = ap (λ (rest : List Listed). in_list car ∷ rest) (cars_in_list cars roots)
 
-pub plan_listed : (plan : CarPlan) → IsListed plan → listed_graph (graph_of_plan plan) ≡ planned_list plan
+pub plan_listed : (plan : CarPlan) → IsCatalogFilled plan → listed_graph (graph_of_plan plan) ≡ planned_list plan
 plan_listed plan listed =
     ap (λ (entries : List CatEntry). listed_in entries (images_of (planned_cars plan))) (plan_entries plan listed) ∙ cars_in_list (cars_in plan) plan.roots
 
@@ -64,7 +64,7 @@ roots_alone : (images : List CarImage) (cars : List CarInTrain) (roots : List Ca
 roots_alone images [] roots = refl
 roots_alone images (car ∷ cars) roots = roots_alone images cars roots
 
-pub plan_copy : (plan : CarPlan) (next : ℕ) → IsListed plan → copy_of next (graph_of_plan plan) ≡ copy_listed (planned_list plan) (planned_roots plan) next
+pub plan_copy : (plan : CarPlan) (next : ℕ) → IsCatalogFilled plan → copy_of next (graph_of_plan plan) ≡ copy_listed (planned_list plan) (planned_roots plan) next
 plan_copy plan next listed =
     ap (λ (entries : List CatEntry). copied (heap_of (images_of (planned_cars plan))) (roots_of (images_of (planned_cars plan)) entries) next) (plan_entries plan listed)
     ∙ ap (λ (roots : Roots). copied (heap_of (images_of (planned_cars plan))) roots next) (roots_alone (images_of (planned_cars plan)) (cars_in plan) (planned_roots plan))

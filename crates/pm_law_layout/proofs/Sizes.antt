@@ -11,7 +11,7 @@ use Rattle.pm_image.specs.CatalogPages.{entry_size}
 use Rattle.pm_law_graphs.proofs.Lists.{all_both}
 use Rattle.pm_law_layout.specs.Plans.{CarInTrain, CarPlan, PlannedPage, car_entry, cars_in, planned_entries, root_entry}
 use Rattle.pm_law_layout.specs.Cutting.{FitsAlone, IsCutInto, OnePage, cut, cut_from, onto_first}
-use Rattle.pm_law_layout.specs.Laid.{IsListed, IsStorePlan}
+use Rattle.pm_law_layout.specs.Laid.{IsCatalogFilled, IsStorePlan}
 use Rattle.pm_law_layout.proofs.Cutting.{is_cut, one_cut}
 
 -- how many entries each page has
@@ -84,10 +84,10 @@ same_sizes first second cars names =
     ∙ sym (planned_sizes second)
 
 -- the pages of a catalog are as many as those that its entries are cut into
-catalog_count : (plan : CarPlan) → IsListed plan → length plan.catalog ≡ length (cut (planned_entries plan))
+catalog_count : (plan : CarPlan) → IsCatalogFilled plan → length plan.catalog ≡ length (cut (planned_entries plan))
 catalog_count plan is = sym (length-map plan.catalog (λ (listed : PlannedPage). listed.entries)) ∙ ap length (one_cut (planned_entries plan) (map (λ (listed : PlannedPage). listed.entries) plan.catalog) is)
 
-pub same_count : (first second : CarPlan) → IsListed first → IsListed second → length (cars_in first) ≡ length (cars_in second) → map (λ (root : List ℕ × Addr). length root.0) first.roots ≡ map (λ (root : List ℕ × Addr). length root.0) second.roots
+pub same_count : (first second : CarPlan) → IsCatalogFilled first → IsCatalogFilled second → length (cars_in first) ≡ length (cars_in second) → map (λ (root : List ℕ × Addr). length root.0) first.roots ≡ map (λ (root : List ℕ × Addr). length root.0) second.roots
     → length first.catalog ≡ length second.catalog
 same_count first second one two cars names =
     catalog_count first one ∙ count_by_sizes (planned_entries first) (planned_entries second) (same_sizes first second cars names) ∙ sym (catalog_count second two)

@@ -23,7 +23,7 @@ use Rattle.pm_copies.specs.Accepted.{Differ, IsAcceptedCar, NamesAscend, NeverFa
 use Rattle.pm_law_copies.proofs.Pages.{are_written}
 use Rattle.pm_law_layout.specs.Plans.{CarInTrain, CarPlan, PlannedPage, car_entry, cars_in, chain_of, digest_of, first_of, in_list, planned_cars, planned_entries, planned_list, planned_roots, root_entry}
 use Rattle.pm_law_layout.specs.Cutting.{Fit, OnePage, cut, joined}
-use Rattle.pm_law_layout.specs.Laid.{IsPlanHeader, IsListed, IsStorePlan}
+use Rattle.pm_law_layout.specs.Laid.{IsPlanHeader, IsCatalogFilled, IsStorePlan}
 use Rattle.pm_law_layout.specs.Writing.{MayBeWritten}
 use Rattle.pm_law_layout.proofs.Planned.{kept_of, parts_of, places_of}
 use Rattle.pm_law_layout.proofs.Cutting.{one_cut}
@@ -152,7 +152,7 @@ chain_written : (catalog : List PlannedPage) → AllByRecursion MayBeWritten (pa
 chain_written [] may some = tt
 chain_written (first ∷ catalog) may some = (may.0 (first_of (chain_of catalog)) (digest_of (chain_of catalog)) (link_found catalog some.1), chain_written catalog may.1 some.1)
 
-pub plan_catalog : (next most : ℕ) (plan : CarPlan) → IsStorePlan next most plan → IsListed plan → AllByRecursion (λ (page : ℕ). 0 < page) (places_of plan.catalog)
+pub plan_catalog : (next most : ℕ) (plan : CarPlan) → IsStorePlan next most plan → IsCatalogFilled plan → AllByRecursion (λ (page : ℕ). 0 < page) (places_of plan.catalog)
     → AllByRecursion (λ (page : ℕ × CatalogPage). HasCatalogPage None nothing_met page.1) (chain_of plan.catalog)
 plan_catalog next most plan is listed some =
     chain_written plan.catalog (subst (AllByRecursion MayBeWritten) (sym (one_cut (planned_entries plan) (parts_of plan.catalog) listed)) (plan_parts next most plan is)) some

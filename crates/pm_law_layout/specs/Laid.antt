@@ -39,8 +39,8 @@ pub record IsStorePlan (next_id most : ℕ) (plan : CarPlan) : Type 0 where
   pub in_range : IsPlanInRange plan
 
 -- the catalog of a plan lists its cars and roots, each page filled before the next
-abbrev pub IsListed : CarPlan → Type 0
-IsListed plan = IsCutInto (planned_entries plan) (map (λ (listed : PlannedPage). listed.entries) plan.catalog)
+abbrev pub IsCatalogFilled : CarPlan → Type 0
+IsCatalogFilled plan = IsCutInto (planned_entries plan) (map (λ (listed : PlannedPage). listed.entries) plan.catalog)
 
 -- the page of a car has the bytes of the car's spelling, with zeros to its end, and the digest that is kept of it
 pub record IsCarHeld (pages : Pages) (kept : KeptPage) : Type 0 where
@@ -68,7 +68,7 @@ pub record IsPlanHeader (plan : CarPlan) (header : Header) : Type 0 where
 -- and as many fields as the version allows, its catalog lists it, the pages hold it, and the header names it.
 pub record IsLaidBehind (pages : Pages) (header : Header) (plan : CarPlan) : Type 0 where
   pub of_store : IsStorePlan header.next (most_fields header.version) plan
-  pub listed : IsListed plan
+  pub listed : IsCatalogFilled plan
   pub held : HoldPlan pages plan
   pub header_of : IsPlanHeader plan header
 

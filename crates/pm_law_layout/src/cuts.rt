@@ -8,7 +8,7 @@ ghost use Rattle.pm_image.specs.declared.catalog.CatEntry.{CatEntry};
 ghost use Rattle.pm_image.specs.CatalogPages.{catalog_used, entry_size};
 ghost use Rattle.pm_law_layout.specs.Plans.{CarPlan, cars_in, planned_entries};
 ghost use Rattle.pm_law_layout.specs.Cutting.{FitsAlone, IsCutInto, OnePage, cut};
-ghost use Rattle.pm_law_layout.specs.Laid.{IsListed, IsStorePlan};
+ghost use Rattle.pm_law_layout.specs.Laid.{IsCatalogFilled, IsStorePlan};
 ghost use Rattle.pm_image.specs.declared.catalog_kind.TheConstants.{CAR_ENTRY_BYTES, ROOT_ENTRY_BYTES};
 
 /// A law of catalogs: entries of which each fits a page are cut into pages, each filled before the next, in one way
@@ -46,7 +46,7 @@ pub fn pages_are_cut_by_sizes()
     ensures planned { (plan : CarPlan) → map entry_size (planned_entries plan)
         ≡ replicate (length (cars_in plan)) CAR_ENTRY_BYTES ++ map
         (λ (root : List ℕ × Addr). ROOT_ENTRY_BYTES + length root.0) plan.roots }
-    ensures plans { (first second : CarPlan) → IsListed first → IsListed second
+    ensures plans { (first second : CarPlan) → IsCatalogFilled first → IsCatalogFilled second
         → length (cars_in first) ≡ length (cars_in second)
         → map (λ (root : List ℕ × Addr). length root.0) first.roots
         ≡ map (λ (root : List ℕ × Addr). length root.0) second.roots

@@ -19,7 +19,7 @@ ghost use Rattle.pm_law_graphs.specs.Spelled.{Spells};
 ghost use Rattle.pm_law_layout.specs.Plans.{CarPlan, PlannedPage, chain_of, graph_of_plan};
 ghost use Rattle.pm_law_layout.specs.Plans.{planned_cars, planned_entries, planned_list, planned_pages, planned_roots};
 ghost use Rattle.pm_law_layout.specs.Cutting.{cut};
-ghost use Rattle.pm_law_layout.specs.Laid.{IsCarHeld, IsPlanHeader, IsLaidBehind, IsListed, IsStorePlan};
+ghost use Rattle.pm_law_layout.specs.Laid.{IsCarHeld, IsPlanHeader, IsLaidBehind, IsCatalogFilled, IsStorePlan};
 ghost use Rattle.pm_law_layout.specs.Writing.{MayBeWritten};
 
 /// A law of layout: what a plan of cars and roots lays on the pages of a store is read again as that plan: its cars,
@@ -38,11 +38,11 @@ pub fn what_a_plan_lays_is_read_again()
     // The graph stands on the pages of the plan,
     ensures used { (plan : CarPlan) → used_pages (graph_of_plan plan) ≡ planned_pages plan }
     // it lists the plan's entries, and its cars in their trains,
-    ensures entries { (plan : CarPlan) → IsListed plan
+    ensures entries { (plan : CarPlan) → IsCatalogFilled plan
         → entries_of (graph_of_plan plan).catalog ≡ planned_entries plan }
-    ensures listed { (plan : CarPlan) → IsListed plan → listed_graph (graph_of_plan plan) ≡ planned_list plan }
+    ensures listed { (plan : CarPlan) → IsCatalogFilled plan → listed_graph (graph_of_plan plan) ≡ planned_list plan }
     // and is the copy that the plan's cars and roots are.
-    ensures copy { (plan : CarPlan) (next : ℕ) → IsListed plan → copy_of next (graph_of_plan plan)
+    ensures copy { (plan : CarPlan) (next : ℕ) → IsCatalogFilled plan → copy_of next (graph_of_plan plan)
         ≡ copy_listed (planned_list plan) (planned_roots plan) next }
 {}
 
@@ -55,7 +55,7 @@ pub fn a_plans_pages_may_be_written()
     ensures parts { (next most : ℕ) (plan : CarPlan) → IsStorePlan next most plan
         → AllByRecursion MayBeWritten (cut (planned_entries plan)) }
     // and with them each page, which names the next one with its digest, may be.
-    ensures catalog { (next most : ℕ) (plan : CarPlan) → IsStorePlan next most plan → IsListed plan
+    ensures catalog { (next most : ℕ) (plan : CarPlan) → IsStorePlan next most plan → IsCatalogFilled plan
         → AllByRecursion (λ (page : ℕ). 0 < page) (map (λ (listed : PlannedPage). listed.page) plan.catalog)
         → AllByRecursion (λ (page : ℕ × CatalogPage). HasCatalogPage None nothing_met page.1)
         (chain_of plan.catalog) }

@@ -28,7 +28,7 @@ use Rattle.pm_law_graphs.proofs.Lists.{all_back}
 use Rattle.pm_law_graphs.proofs.Sets.{once, times_append}
 use Rattle.pm_law_layout.specs.Plans.{PlannedPage, chain_of, graph_of_plan, planned_cars, planned_entries, planned_list, planned_pages}
 use Rattle.pm_law_layout.specs.Cutting.{IsCutInto, OnePage}
-use Rattle.pm_law_layout.specs.Laid.{IsCarHeld, IsLaidBehind, IsListed, IsPageHeld, IsStorePlan}
+use Rattle.pm_law_layout.specs.Laid.{IsCarHeld, IsLaidBehind, IsCatalogFilled, IsPageHeld, IsStorePlan}
 use Rattle.pm_law_layout.proofs.Again.{laid_found}
 use Rattle.pm_law_layout.proofs.Keeping.{cars_held}
 use Rattle.pm_law_layout.proofs.Planned.{plan_copy, plan_pages}
@@ -287,7 +287,7 @@ module _ (saving : Saving) (cars : Cars) (s : State) (bytes : List ℕ) (progres
       ap (λ (n : ℕ). map (λ (listed : PlannedPage). listed.entries) (paired progress.parts (drop n (parts_of progress)))) all.catalog
       ∙ paired_parts progress.parts (parts_of progress) (written ∙ sym count)
 
-  plan_listed : IsListed (plan_of progress)
+  plan_listed : IsCatalogFilled (plan_of progress)
   plan_listed = subst (IsCutInto (planned_entries (plan_of progress))) (sym catalog_parts) (planned_cut progress.next_id FIELDS (plan_of progress) plan_store)
 
   -- It is laid on the pages that are counted: all that the copy stands on are among them.

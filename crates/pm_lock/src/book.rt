@@ -37,7 +37,7 @@ impl<D: Disk, F: Drop> Book<D, F> {
     ghost use Rattle.pm_parts.specs.Lists.{count_left, list_of};
     ghost use Rattle.pm_script.specs.Script.{AreLines};
     ghost use Rattle.pm_serving.specs.Serving.{opening, world};
-    ghost use Rattle.pm_serving.specs.Images.{IsSettled, IsTold};
+    ghost use Rattle.pm_serving.specs.Images.{IsSettledCopy, IsTold};
     ghost use Rattle.pm_engine.specs.Shown.{KeepsStart, disk_in, opened_count, opened_disk, room, serving};
     ghost use Rattle.pm_events.specs.Running.{IsFresh};
     ghost use Rattle.pm_events.specs.Events.{EngineGoesOn};
@@ -113,7 +113,7 @@ impl<D: Disk, F: Drop> Book<D, F> {
         ensures legal { IsLegal (opening (serving (engine_in self.now))) (serving (engine_in self.now)).journal }
         ensures settled { stopped_by (fault_in self.now) ≡ None → IsTold (D.contents (opened_disk (engine_in self.now)))
             → (left : List ℕ) → D.image (disk_in (engine_in self.now)) left
-            → IsSettled (world (serving (engine_in self.now))) left }
+            → IsSettledCopy (world (serving (engine_in self.now))) left }
         ensures lines { AreLines (lines_in self.now) }
         ensures parts { (client : ℕ)
             → part client (serving (engine_in self.now)).journal ++ list_of (left_in self.now) client

@@ -23,7 +23,7 @@ use Rattle.pm_copies.specs.Opened.{listed_in}
 use Rattle.pm_law_copies.proofs.Lists.{all_weaker}
 use Rattle.pm_law_copies.proofs.FoundCars.{CarsRead}
 use Rattle.pm_law_copies.proofs.Identities.{not_old, free_named, apart_named}
-use Rattle.pm_graphs.specs.Reading.{Follow, AreRead, IsWhole, root_count}
+use Rattle.pm_graphs.specs.Reading.{MayFollow, AreRead, IsReadWhole, root_count}
 use Rattle.pm_image.proofs.LeadLaws.{linked_leads}
 
 -- as many cars were read as are listed
@@ -40,7 +40,7 @@ wider most (Live object) few has = record { within = (let fields = has.within.0 
 wider most (Moved to) few has = record { within = tt; numbered = has.numbered }
 
 -- the cars that were read differ, and so do their identities
-cars_read : (most next : ℕ) → most ≤ FIELDS → (met numbers : Numbers) (train : ℕ) (name : Option (List ℕ)) (entries : List CatEntry) (cars : List KeptPage) → Follow numbers train name entries → AreRead most next met entries cars → CarsRead next met numbers train entries cars
+cars_read : (most next : ℕ) → most ≤ FIELDS → (met numbers : Numbers) (train : ℕ) (name : Option (List ℕ)) (entries : List CatEntry) (cars : List KeptPage) → MayFollow numbers train name entries → AreRead most next met entries cars → CarsRead next met numbers train entries cars
 cars_read most next few met numbers train name [] [] follow reads = record { fall = tt; cars = tt; fresh = tt; differ = tt; free = tt }
 cars_read most next few met numbers train name [] (kept ∷ cars) follow reads = absurd reads
 cars_read most next few met numbers train name (Root found at ∷ entries) cars follow reads =
@@ -71,7 +71,7 @@ cars_read most next few met numbers train name (Car car now page digest ∷ entr
       free = (has.free, rest.free);
     }
 
-names_ascend : (numbers : Numbers) (train : ℕ) (name : Option (List ℕ)) (entries : List CatEntry) → Follow numbers train name entries → NamesAscend name entries
+names_ascend : (numbers : Numbers) (train : ℕ) (name : Option (List ℕ)) (entries : List CatEntry) → MayFollow numbers train name entries → NamesAscend name entries
 names_ascend numbers train name [] follow = tt
 names_ascend numbers train name (Car car now page digest ∷ entries) follow = names_ascend (set.insert numbers car) now name entries follow.3
 names_ascend numbers train name (Root found at ∷ entries) follow = (follow.0, names_ascend numbers train (Some found) entries follow.1)
@@ -82,7 +82,7 @@ as_many (Car car train page digest ∷ entries) = as_many entries
 as_many (Root name at ∷ entries) = let rest = as_many entries in omega (arith, rest)
 
 -- what was read is accepted
-pub whole_accepted : (count next : ℕ) (catalog : Catalog) (cars : List KeptPage) → 0 < next → next ≤ 4294967296 → IsWhole count next catalog cars → IsAccepted (listed_in (entries_of catalog) (images_of cars)) (entries_of catalog) next
+pub whole_accepted : (count next : ℕ) (catalog : Catalog) (cars : List KeptPage) → 0 < next → next ≤ 4294967296 → IsReadWhole count next catalog cars → IsAccepted (listed_in (entries_of catalog) (images_of cars)) (entries_of catalog) next
 whole_accepted count next catalog cars some last whole =
     let read = cars_read whole.most next whole.few set.empty set.empty 0 None (entries_of catalog) cars whole.follow whole.reads in
     let same = sym (reads_paired whole.most next set.empty (entries_of catalog) cars whole.reads) in
@@ -100,5 +100,5 @@ whole_accepted count next catalog cars some last whole =
       few = let many = as_many (entries_of catalog) in let few = whole.sound.roots in omega (arith, many, few);
     }
 
-pub whole_paired : (count next : ℕ) (catalog : Catalog) (cars : List KeptPage) → IsWhole count next catalog cars → images (listed_in (entries_of catalog) (images_of cars)) ≡ images_of cars
+pub whole_paired : (count next : ℕ) (catalog : Catalog) (cars : List KeptPage) → IsReadWhole count next catalog cars → images (listed_in (entries_of catalog) (images_of cars)) ≡ images_of cars
 whole_paired count next catalog cars whole = reads_paired whole.most next set.empty (entries_of catalog) cars whole.reads

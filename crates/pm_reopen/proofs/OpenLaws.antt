@@ -18,12 +18,12 @@ use Rattle.pm_shadow.specs.declared.page_use.PageUse.TheVariants.{Current as Cur
 use Rattle.pm_shadow.specs.State.{State, IsListable, known_by}
 use Rattle.pm_shadow.specs.Images.{Heads, IsSoundState}
 use Rattle.pm_shadow.specs.Copies.{AreUsed, KeepsGraph}
-use Rattle.pm_shadow.specs.Uses.{IsListed}
+use Rattle.pm_shadow.specs.Uses.{UsesOnlyListed}
 use Rattle.pm_shadow.proofs.AttachLemmas.{heads_current, current_long}
 use Rattle.pm_shadow.proofs.CopyLemmas.{listed_graph}
 use Rattle.pm_view.specs.View.{SpaceView}
 use Rattle.pm_copies.specs.Opened.{IsOpened, listed_in}
-use Rattle.pm_graphs.specs.Reading.{IsThere, IsCar, IsWhole, store_of, page_numbers}
+use Rattle.pm_graphs.specs.Reading.{IsThere, IsCar, IsReadWhole, store_of, page_numbers}
 use Rattle.pm_graphs.specs.Reopening.{IsGraph}
 use Rattle.pm_graphs.proofs.Lists.{all_both}
 use Rattle.pm_reopen.specs.Opening.{AreKnownRight, OpensStore, KnowsPages, IsRefusedBy, IsNoRefusal, IsUnopened}
@@ -40,11 +40,11 @@ each_of P (page ∷ pages) there = All-cons P page pages there.0 (each_of P page
 
 module _ (count next : ℕ) (catalog : Catalog) (cars : List KeptPage) (used : List ℕ) (is : used ≡ used_pages (record { catalog = catalog; cars = cars })) where
   -- they are pages of the store
-  pub used_there : IsWhole count next catalog cars → All (IsThere count) used
+  pub used_there : IsReadWhole count next catalog cars → All (IsThere count) used
   used_there whole = subst (All (IsThere count)) (sym is) (each_of (IsThere count) (used_pages (record { catalog = catalog; cars = cars })) (all_both (IsThere count) (page_numbers catalog) (map (λ (kept : KeptPage). kept.page) cars) whole.sound.pages (cars_there count next cars whole.cars_are)))
 
   -- and may be listed, where no page has come since
-  pub used_listable : (s : State) → s.settled ≡ count → IsWhole count next catalog cars → All (IsListable s) used
+  pub used_listable : (s : State) → s.settled ≡ count → IsReadWhole count next catalog cars → All (IsListable s) used
   used_listable s begun whole k d lt = let there = used_there whole k d lt in record { from_2 = there.from_2; there = (let below = there.there in omega (arith, below, begun)) }
 
   pub used_first : (first : ℕ) → Contains (page_numbers catalog) first → Contains used first
@@ -93,7 +93,7 @@ module _ (s : State) (bytes : List ℕ) (images : List ℕ → Type 0) (sound : 
 
   -- ---- what was read
 
-  module _ (catalog : Catalog) (cars : List KeptPage) (used : List ℕ) (is : used ≡ used_pages (record { catalog = catalog; cars = cars })) (whole : IsWhole s.count s.header.next catalog cars)
+  module _ (catalog : Catalog) (cars : List KeptPage) (used : List ℕ) (is : used ≡ used_pages (record { catalog = catalog; cars = cars })) (whole : IsReadWhole s.count s.header.next catalog cars)
       (read : IsGraph (Ok (catalog, cars)) (graph_of (store_of s.count bytes) s.header)) where
     -- the graph stands in the whole store
     graph_found : graph_of (pages_of bytes) s.header ≡ Ok (record { catalog = catalog; cars = cars })
@@ -122,13 +122,13 @@ module _ (s : State) (bytes : List ℕ) (images : List ℕ → Type 0) (sound : 
         ok_is : {a b : Graph} → ◌≡◌ {A = Result Graph OpenFault} (Ok a) (Ok b) → a ≡ b
         ok_is same = cc
 
-    keeps_first : (new : State) → s.settled ≡ s.count → new ≡ known_by s new.uses → IsListed used new.uses → KeepsGraph new bytes (record { catalog = catalog; cars = cars })
+    keeps_first : (new : State) → s.settled ≡ s.count → new ≡ known_by s new.uses → UsesOnlyListed used new.uses → KeepsGraph new bytes (record { catalog = catalog; cars = cars })
     unfolding used_are
     keeps_first new begun known listed =
         subst (λ (t : State). KeepsGraph t bytes (record { catalog = catalog; cars = cars })) (sym known)
         (listed_graph s new.uses bytes used used_are (used_listable s.count s.header.next catalog cars used is s begun whole) listed)
 
-    pub store_opened : (new : State) → IsThere s.count s.header.first → (s.known ≡ false → s.settled ≡ s.count) → KnowsPages s new → (s.known ≡ false → IsListed used new.uses) → (view : SpaceView)
+    pub store_opened : (new : State) → IsThere s.count s.header.first → (s.known ≡ false → s.settled ≡ s.count) → KnowsPages s new → (s.known ≡ false → UsesOnlyListed used new.uses) → (view : SpaceView)
         → IsOpened (listed_in (entries_of catalog) (images_of cars)) (entries_of catalog) s.header.next view → OpensStore s new bytes view cars
     store_opened new there begun knows listed view made = record {
       store = record {
@@ -200,7 +200,7 @@ on_each P (kept ∷ cars) at = (
 )
 
 -- each car stands on a page that is the current copy's, once the pages were listed
-pub cars_known : (catalog : Catalog) (cars : List KeptPage) (used : List ℕ) → used ≡ used_pages (record { catalog = catalog; cars = cars }) → (s : State) (uses : ℕ → PageUse) → All (IsListable s) used → IsListed used uses
+pub cars_known : (catalog : Catalog) (cars : List KeptPage) (used : List ℕ) → used ≡ used_pages (record { catalog = catalog; cars = cars }) → (s : State) (uses : ℕ → PageUse) → All (IsListable s) used → UsesOnlyListed used uses
     → AllByRecursion (λ (kept : KeptPage). (2 ≤ kept.page) × (uses kept.page ≡ CurrentPage)) cars
 cars_known catalog cars used is s uses all listed =
     on_each (λ (page : ℕ). (2 ≤ page) × (uses page ≡ CurrentPage)) cars (λ page within.

@@ -15,7 +15,7 @@ use Rattle.pm_law_copies.proofs.Lists.{all_append, all_mapped}
 use Rattle.pm_cars.specs.Cars.{CarAndSpare}
 use Rattle.pm_copies.specs.Built.{Placed, place_of, CarsDiffer}
 use Rattle.pm_reopen.specs.Lists.{placed_of}
-use Rattle.pm_reopen.specs.Trains.{goes_on, with_kept, closed, with_all_kept, AreApart, AreNew}
+use Rattle.pm_reopen.specs.Trains.{goes_on, with_kept, closed, with_all_kept, HaveOwnNumbers, AreNew}
 
 -- ---- the trains of a list of cars, seen from a train that stands before them
 
@@ -143,7 +143,7 @@ opened_has t car =
 abbrev pub places : List (ℕ × CarAndSpare) → List (ℕ × ℕ)
 places cars = map place_of (map placed_of cars)
 
-pub places_apart : (placed : List Placed) → CarsDiffer placed → AreApart (map place_of placed)
+pub places_apart : (placed : List Placed) → CarsDiffer placed → HaveOwnNumbers (map place_of placed)
 places_apart [] differ = tt
 places_apart (one ∷ placed) differ = (all_mapped (λ (other : ℕ × ℕ). (other.1 == one.1.number) ≡ false) place_of placed differ.0, places_apart placed differ.1)
 

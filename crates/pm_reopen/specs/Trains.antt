@@ -26,9 +26,9 @@ with_all_kept last [] t = closed last t
 with_all_kept last (kept ∷ others) t = with_all_kept (Some kept.0) others (with_kept last kept t)
 
 -- no two of the cars have one number
-abbrev pub AreApart : List (ℕ × ℕ) → Type 0
-AreApart [] = Unit {0}
-AreApart (kept ∷ others) = AllByRecursion (λ (other : ℕ × ℕ). (other.1 == kept.1) ≡ false) others × AreApart others
+abbrev pub HaveOwnNumbers : List (ℕ × ℕ) → Type 0
+HaveOwnNumbers [] = Unit {0}
+HaveOwnNumbers (kept ∷ others) = AllByRecursion (λ (other : ℕ × ℕ). (other.1 == kept.1) ≡ false) others × HaveOwnNumbers others
 
 -- none of the cars is in a train
 abbrev pub AreNew : List Train → List (ℕ × ℕ) → Type 0

@@ -7,7 +7,7 @@ ghost use Rattle.pm_copies.specs.Listed.{images};
 ghost use Rattle.pm_copies.specs.Accepted.{IsAccepted};
 ghost use Rattle.pm_copies.specs.Opened.{IsOpened, listed_in};
 ghost use Rattle.pm_shadow.specs.State.{IsListable};
-ghost use Rattle.pm_shadow.specs.Uses.{IsListed};
+ghost use Rattle.pm_shadow.specs.Uses.{UsesOnlyListed};
 ghost use Rattle.pm_shadow.specs.Copies.{AreUsed};
 ghost use Rattle.pm_shadow.specs.Runs.{OnlyLooks};
 ghost use Rattle.pm_shadow.specs.Pages.{state, disk_of};
@@ -64,7 +64,7 @@ fn know_pages<D: Disk>(alloc: Global, pages: &mut Pages<D>, used: &[u64]) -> Res
     requires first { Contains used.now (state pages.old).header.first }
     requires used { IfTold (D.contents (disk_of pages.old)) (λ bytes. AreUsed (state pages.old) bytes used.now) }
     ensures state { OnOk result (KnowsPages (state pages.old) (state pages.new)) }
-    ensures listed { OnOk result ((state pages.old).known ≡ false → IsListed used.now (state pages.new).uses) }
+    ensures listed { OnOk result ((state pages.old).known ≡ false → UsesOnlyListed used.now (state pages.new).uses) }
     ensures state_err { OnErr result (state pages.new ≡ state pages.old) }
     ensures still { disk_of pages.new ≡ disk_of pages.old }
 {

@@ -18,7 +18,7 @@ use Rattle.pm_save.specs.declared.place.PlacedCar.{PlacedCar}
 use Rattle.pm_save.specs.declared.place.InProgress.{InProgress}
 use Rattle.pm_save.specs.Seen.{car_seen, clean_at, place_seen, progress_seen}
 use Rattle.pm_save.specs.Kept.{IsKept, IsPlaced, IsWithin}
-use Rattle.pm_save.specs.Taken.{AreApart, AreOnce, IsNotAt}
+use Rattle.pm_save.specs.Taken.{ArePlacesApart, AreOnce, IsNotAt}
 use Rattle.pm_save.proofs.Placed.{Within, same_open}
 
 -- ---- each stands on a page
@@ -65,13 +65,13 @@ module _ (settled : List KeptPage) (cars : Cars) where
   apart_at index one other is within stands there stands_too differ Unwritten at_is = tt
   apart_at index one other is within stands there stands_too differ (Written kept) at_is = tt
 
-  apart_from : (one other : PlacedCar) → IsWithin settled one.place → Stands one → IsWithin settled other.place → Stands other → (other.number == one.number) ≡ false → (place : Place) → one.place ≡ place → AreApart place other.place
+  apart_from : (one other : PlacedCar) → IsWithin settled one.place → Stands one → IsWithin settled other.place → Stands other → (other.number == one.number) ≡ false → (place : Place) → one.place ≡ place → ArePlacesApart place other.place
   apart_from one other within stands there stands_too differ (Clean index) is = apart_at index one other is within stands there stands_too differ other.place refl
   apart_from one other within stands there stands_too differ Unwritten is = tt
   apart_from one other within stands there stands_too differ (Written kept) is = tt
 
   apart_all : (one : PlacedCar) (others : List PlacedCar) → IsWithin settled one.place → Stands one → Within settled others → AllByRecursion (λ (one : seen.PlacedCar). StandsAs settled (image_of cars one) one.place) (map (car_seen settled) others)
-      → AllByRecursion (λ (other : CarImage). (other.number == one.number) ≡ false) (images (map (in_list cars) (map (car_seen settled) others))) → AllByRecursion (λ (other : PlacedCar). AreApart one.place other.place) others
+      → AllByRecursion (λ (other : CarImage). (other.number == one.number) ≡ false) (images (map (in_list cars) (map (car_seen settled) others))) → AllByRecursion (λ (other : PlacedCar). ArePlacesApart one.place other.place) others
   apart_all one [] within stands there all differ = tt
   apart_all one (other ∷ others) within stands there all differ =
       (apart_from one other within stands there.0 all.0 differ.0 one.place refl, apart_all one others within stands there.1 all.1 differ.1)

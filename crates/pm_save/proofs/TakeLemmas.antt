@@ -10,7 +10,7 @@ use Rattle.pm_save.specs.declared.place.Place.TheVariants.{Clean, Unwritten, Wri
 use Rattle.pm_save.specs.declared.place.PlacedCar.{PlacedCar}
 use Rattle.pm_save.specs.Seen.{car_seen, clean_at, place_seen}
 use Rattle.pm_save.specs.Kept.{IsWithin}
-use Rattle.pm_save.specs.Taken.{AreApart, StaysBut, StaysFor, pages_of}
+use Rattle.pm_save.specs.Taken.{ArePlacesApart, StaysBut, StaysFor, pages_of}
 
 -- lists one behind another
 pub flat_more : {A B : Type 0} (f : A → List B) (xs ys : List A) → flat_map f (xs ++ ys) ≡ flat_map f xs ++ flat_map f ys
@@ -39,7 +39,7 @@ same_at xs ys i d same low there =
     (cc, cc)
 
 -- another car's page stays
-stays_by : (settled now new : List KeptPage) (place other : Place) → AreApart place other → StaysBut place now new → length new ≡ length now → place_seen now other ≡ place_seen settled other → IsWithin now other
+stays_by : (settled now new : List KeptPage) (place other : Place) → ArePlacesApart place other → StaysBut place now new → length new ≡ length now → place_seen now other ≡ place_seen settled other → IsWithin now other
     → (place_seen new other ≡ place_seen settled other) × IsWithin new other
 stays_by settled now new (Clean index) (Clean other) apart but len same within = (ap clean_at (but other apart) ∙ same, omega (arith, len, within))
 stays_by settled now new (Clean index) Unwritten apart but len same within = (same, tt)
@@ -47,7 +47,7 @@ stays_by settled now new (Clean index) (Written kept) apart but len same within 
 stays_by settled now new Unwritten other apart but len same within = (ap (λ (now : List KeptPage). place_seen now other) but ∙ same, subst (λ (now : List KeptPage). IsWithin now other) (sym but) within)
 stays_by settled now new (Written kept) other apart but len same within = (ap (λ (now : List KeptPage). place_seen now other) but ∙ same, subst (λ (now : List KeptPage). IsWithin now other) (sym but) within)
 
-pub all_stay : (settled now new : List KeptPage) (place : Place) (others : List PlacedCar) → AllByRecursion (λ (other : PlacedCar). AreApart place other.place) others → StaysBut place now new → length new ≡ length now
+pub all_stay : (settled now new : List KeptPage) (place : Place) (others : List PlacedCar) → AllByRecursion (λ (other : PlacedCar). ArePlacesApart place other.place) others → StaysBut place now new → length new ≡ length now
     → AllByRecursion (StaysFor settled now) others → AllByRecursion (StaysFor settled new) others
 all_stay settled now new place [] apart but len stays = tt
 all_stay settled now new place (other ∷ others) apart but len stays =

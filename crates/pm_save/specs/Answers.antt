@@ -21,8 +21,8 @@ IsFaultOf before after Disk = Rose before after
 IsFaultOf before after Memory = after ≡ before
 
 -- the count stands still at Ok, and otherwise as the fault says
-abbrev pub HasCause : {T : Type 0} → ℕ → ℕ → Result T SaveFault → Type 0
-HasCause before after result = MatchResult result (λ _. after ≡ before) (IsFaultOf before after)
+abbrev pub HasSaveCause : {T : Type 0} → ℕ → ℕ → Result T SaveFault → Type 0
+HasSaveCause before after result = MatchResult result (λ _. after ≡ before) (IsFaultOf before after)
 
 -- P holds, unless the disk failed
 abbrev pub IfMemory : Type 0 → SaveFault → Type 0

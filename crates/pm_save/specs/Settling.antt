@@ -19,7 +19,7 @@ use Rattle.pm_saving.specs.Paging.{left_of}
 use Rattle.pm_saving.specs.Tied.{GoesOn, HasCopy, Settles, StaysInProgress}
 use Rattle.pm_save.specs.declared.fault.SaveFault.{SaveFault}
 use Rattle.pm_save.specs.Shown.{frozen_of}
-use Rattle.pm_save.specs.Answers.{HasCause, KeepsCopy, Spares, TellsOn}
+use Rattle.pm_save.specs.Answers.{HasSaveCause, KeepsCopy, Spares, TellsOn}
 
 -- no page but this one is another, among those that there were
 pub record StaysBesidePage (page : ℕ) (before after : List ℕ) : Type 0 where
@@ -59,7 +59,7 @@ module _ {D : Type 0} {g : Ghosts D} where
   -- A disk that failed has raised its count. Whatever is answered so many writes and syncs were made at most, and no read
   -- past the end of what the disk told; and it tells its contents still.
   pub record IsCausedBy {T : Type 0} (writes syncs : ℕ) (before after : Pages D g) (result : Result T SaveFault) : Type 0 where
-    pub cause : HasCause (g.count (disk_of before)) (g.count (disk_of after)) result
+    pub cause : HasSaveCause (g.count (disk_of before)) (g.count (disk_of after)) result
     pub made : MadeAtMost writes syncs (g.made (disk_of before)) (g.made (disk_of after))
     pub told : TellsOn (g.contents (disk_of before)) (g.contents (disk_of after))
 

@@ -17,15 +17,15 @@ IsNotAt index Unwritten = Unit {0}
 IsNotAt index (Written kept) = Unit {0}
 
 -- two places are not those of one settled car
-abbrev pub AreApart : Place → Place → Type 0
-AreApart (Clean index) other = IsNotAt index other
-AreApart Unwritten other = Unit {0}
-AreApart (Written kept) other = Unit {0}
+abbrev pub ArePlacesApart : Place → Place → Type 0
+ArePlacesApart (Clean index) other = IsNotAt index other
+ArePlacesApart Unwritten other = Unit {0}
+ArePlacesApart (Written kept) other = Unit {0}
 
 -- no settled car is that of two cars
 abbrev pub AreOnce : List PlacedCar → Type 0
 AreOnce [] = Unit {0}
-AreOnce (one ∷ others) = AllByRecursion (λ (other : PlacedCar). AreApart one.place other.place) others × AreOnce others
+AreOnce (one ∷ others) = AllByRecursion (λ (other : PlacedCar). ArePlacesApart one.place other.place) others × AreOnce others
 
 -- the settled cars are those from before, but for that of this place
 abbrev pub StaysBut : Place → List KeptPage → List KeptPage → Type 0

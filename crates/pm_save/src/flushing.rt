@@ -9,7 +9,7 @@ ghost use Rattle.pm_saving.specs.Tied.{HasPage};
 ghost use Rattle.pm_save.specs.Frozen.{frozen_in};
 ghost use Rattle.pm_save.specs.Seen.{progress_seen};
 ghost use Rattle.pm_save.specs.Kept.{IsKept};
-ghost use Rattle.pm_save.specs.Answers.{HasCause, Makes, OnMemory, TellsOn};
+ghost use Rattle.pm_save.specs.Answers.{HasSaveCause, Makes, OnMemory, TellsOn};
 ghost use Rattle.pm_save.specs.Putting.{IsReady};
 ghost use Rattle.pm_save.specs.Steps.{IsStep};
 
@@ -49,7 +49,7 @@ fn flush<D: Disk>(
     ensures leaves { IfTold (D.contents (disk_of pages.old)) (λ told. LeavesOnly D.moment D.since
         (disk_of pages.old) (disk_of pages.new) (Holds (state pages.old) told)) }
     ensures told { TellsOn (D.contents (disk_of pages.old)) (D.contents (disk_of pages.new)) }
-    ensures cause { HasCause (D.count (disk_of pages.old)) (D.count (disk_of pages.new)) result }
+    ensures cause { HasSaveCause (D.count (disk_of pages.old)) (D.count (disk_of pages.new)) result }
     ensures made { Makes (D.made (disk_of pages.old)) (D.made (disk_of pages.new)) result }
     // A fault comes only where a page is left.
     ensures fault { OnErr result (IsSome (next_page (frozen_in cars.now) (progress_seen settled.now it.old))) }
@@ -69,7 +69,7 @@ impl Saver {
     ghost use Rattle.pm_shadow.specs.Pages.{state, disk_of};
     ghost use Rattle.pm_saving.specs.Tied.{IsTied};
     ghost use Rattle.pm_save.specs.Shown.{saving, frozen_of, frozen_cars};
-    ghost use Rattle.pm_save.specs.Answers.{HasCause, IsFlushed, Makes, IsStill, KeepsCopy, OnMemory, Spares, TellsOn, UnlessDisk};
+    ghost use Rattle.pm_save.specs.Answers.{HasSaveCause, IsFlushed, Makes, IsStill, KeepsCopy, OnMemory, Spares, TellsOn, UnlessDisk};
 
     /// Writes the next page of the copy in progress on the lowest page that is free. `AllFlushed` exactly where no
     /// copy is in progress, or nothing of it is left to be written; nothing changed then.
@@ -99,7 +99,7 @@ impl Saver {
         // and a crash at any moment of the call leaves it.
         ensures leaves { Spares D.contents D.moment D.since (state pages.old) (disk_of pages.old) (disk_of pages.new) }
         ensures told { TellsOn (D.contents (disk_of pages.old)) (D.contents (disk_of pages.new)) }
-        ensures cause { HasCause (D.count (disk_of pages.old)) (D.count (disk_of pages.new)) result }
+        ensures cause { HasSaveCause (D.count (disk_of pages.old)) (D.count (disk_of pages.new)) result }
         // One write was made for a page, and no read reached past the end of what the disk told.
         ensures made { Makes (D.made (disk_of pages.old)) (D.made (disk_of pages.new)) result }
         // A fault comes only where a page is left, and leaves the copies as they were.

@@ -7,7 +7,7 @@ ghost use Rattle.pm_image.specs.Opening.{open_gate};
 ghost use Rattle.pm_shadow.specs.State.{IsPublishable, other, published, with_closed};
 ghost use Rattle.pm_shadow.specs.Images.{Holds, Renews, shutting, with_gate, with_header, with_shut_gate};
 ghost use Rattle.pm_shadow.specs.Pages.{state, disk_of};
-ghost use Rattle.pm_save.specs.Answers.{HasCause, OnMemory, TellsOn};
+ghost use Rattle.pm_save.specs.Answers.{HasSaveCause, OnMemory, TellsOn};
 ghost use Rattle.pm_save.specs.Settling.{ClosesFrom, PublishesFrom};
 ghost use Rattle.std.specs.List.{AllByRecursion};
 ghost use Rattle.pm_image.specs.declared.settled.KeptPage.{KeptPage};
@@ -82,7 +82,7 @@ fn close_gate<D: Disk>(pages: &mut Pages<D>) -> Result<(), SaveFault>
     ensures leaves { IfTold (D.contents (disk_of pages.old)) (λ told.
         LeavesOnly D.moment D.since (disk_of pages.old) (disk_of pages.new) (Holds (state pages.old) told)) }
     ensures told { TellsOn (D.contents (disk_of pages.old)) (D.contents (disk_of pages.new)) }
-    ensures cause { HasCause (D.count (disk_of pages.old)) (D.count (disk_of pages.new)) result }
+    ensures cause { HasSaveCause (D.count (disk_of pages.old)) (D.count (disk_of pages.new)) result }
     ensures memory { OnMemory result ⊥ }
     ensures made { MakesCalls (shutting (state pages.old)) (shutting (state pages.old)) (D.made (disk_of pages.old))
         (D.made (disk_of pages.new)) result }
@@ -113,7 +113,7 @@ fn publish<D: Disk>(pages: &mut Pages<D>, header: &Header) -> Result<(), SaveFau
         LeavesOnly D.moment D.since (disk_of pages.old) (disk_of pages.new)
         (λ image. Holds (state pages.old) told image ⊎ Renews (state pages.old) header.now told image)) }
     ensures told { TellsOn (D.contents (disk_of pages.old)) (D.contents (disk_of pages.new)) }
-    ensures cause { HasCause (D.count (disk_of pages.old)) (D.count (disk_of pages.new)) result }
+    ensures cause { HasSaveCause (D.count (disk_of pages.old)) (D.count (disk_of pages.new)) result }
     ensures memory { OnMemory result ⊥ }
     ensures made { MakesCalls 2 2 (D.made (disk_of pages.old)) (D.made (disk_of pages.new)) result }
 {
@@ -148,7 +148,7 @@ impl Saver {
     ghost use Rattle.pm_saving.specs.Paging.{left_of};
     ghost use Rattle.pm_saving.specs.Tied.{IsTied};
     ghost use Rattle.pm_save.specs.Shown.{saving, frozen_of, frozen_cars};
-    ghost use Rattle.pm_save.specs.Answers.{HasCause, OnMemory, Spares, TellsOn, UnlessDisk};
+    ghost use Rattle.pm_save.specs.Answers.{HasSaveCause, OnMemory, Spares, TellsOn, UnlessDisk};
     ghost use Rattle.pm_save.specs.Settling.{IsCausedBy, IsLeftSo, LeavesSpace, SettlesPages, SparesEither, StaysOn, settling_syncs, settling_writes};
     ghost use Rattle.pm_save.specs.Runs.{Runs};
 
@@ -171,7 +171,7 @@ impl Saver {
         ensures goes { OnErr result (StaysOn (saving self.old) (saving self.new)) }
         ensures spares { Spares D.contents D.moment D.since (state pages.old) (disk_of pages.old) (disk_of pages.new) }
         ensures told { TellsOn (D.contents (disk_of pages.old)) (D.contents (disk_of pages.new)) }
-        ensures cause { HasCause (D.count (disk_of pages.old)) (D.count (disk_of pages.new)) result }
+        ensures cause { HasSaveCause (D.count (disk_of pages.old)) (D.count (disk_of pages.new)) result }
         ensures made { MakesCalls (left_of (saving self.old).progress) 0 (D.made (disk_of pages.old))
             (D.made (disk_of pages.new)) result }
     {

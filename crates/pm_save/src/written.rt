@@ -16,7 +16,7 @@ ghost use Rattle.pm_shadow.specs.Images.{Holds};
 ghost use Rattle.pm_shadow.specs.Pages.{state, disk_of};
 ghost use Rattle.pm_saving.specs.Tied.{IsOnPage, with_all_kept};
 ghost use Rattle.pm_save.specs.declared.place.PlacedCar.{PlacedCar};
-ghost use Rattle.pm_save.specs.Answers.{HasCause, OnMemory, TellsOn};
+ghost use Rattle.pm_save.specs.Answers.{HasSaveCause, OnMemory, TellsOn};
 ghost use Rattle.pm_save.specs.Putting.{IsReady, IsWritten, pages_in};
 
 use crate::SaveFault;
@@ -134,7 +134,7 @@ pub(crate) fn put_page<D: Disk>(
     ensures leaves { IfTold (D.contents (disk_of pages.old)) (λ told. LeavesOnly D.moment D.since
         (disk_of pages.old) (disk_of pages.new) (Holds (state pages.old) told)) }
     ensures told { TellsOn (D.contents (disk_of pages.old)) (D.contents (disk_of pages.new)) }
-    ensures cause { HasCause (D.count (disk_of pages.old)) (D.count (disk_of pages.new)) result }
+    ensures cause { HasSaveCause (D.count (disk_of pages.old)) (D.count (disk_of pages.new)) result }
     ensures made { IfOk result (λ page. D.made (disk_of pages.new) ≡ with_write (D.made (disk_of pages.old))) }
     ensures most { MadeAtMost 1 0 (D.made (disk_of pages.old)) (D.made (disk_of pages.new)) }
 {

@@ -10,12 +10,12 @@ use Rattle.pm_saving.specs.Tied.{HasCopy, IsTied}
 use Rattle.pm_serving.specs.Serving.{Serving, opening, world}
 
 -- the bytes stand for the copy that has settled in this world, whole
-abbrev pub IsSettled : World → List ℕ → Type 0
-IsSettled world image = StandsForCopy image world.settled world.settled_copy
+abbrev pub IsSettledCopy : World → List ℕ → Type 0
+IsSettledCopy world image = StandsForCopy image world.settled world.settled_copy
 
 -- the bytes stand for the copy that is in progress in this world, whole
-abbrev pub IsInProgress : World → List ℕ → Type 0
-IsInProgress world image = (begun : ℕ × Copy) × (world.saving ≡ Some begun) × StandsForCopy image begun.0 begun.1
+abbrev pub IsCopyInProgress : World → List ℕ → Type 0
+IsCopyInProgress world image = (begun : ℕ × Copy) × (world.saving ≡ Some begun) × StandsForCopy image begun.0 begun.1
 
 -- the bytes stand for a member of the journal's chain of settled copies, whole
 abbrev pub IsOfChain : World → List Entry → List ℕ → Type 0
@@ -23,11 +23,11 @@ IsOfChain start journal image = (kept : ℕ × Copy) × Contains (chain start jo
 
 -- the same of the last acknowledged copy; or, where a call answered that the disk failed, of the copy in progress
 abbrev pub IsLast : Serving → List ℕ → Type 0
-IsLast it image = IsSettled (world it) image ⊎ (IsSome it.stopped × IsInProgress (world it) image)
+IsLast it image = IsSettledCopy (world it) image ⊎ (IsSome it.stopped × IsCopyInProgress (world it) image)
 
 -- the same of a member of the chain; or, where a call answered that the disk failed, of the copy in progress
 abbrev pub IsOfRun : Serving → List ℕ → Type 0
-IsOfRun it image = IsOfChain (opening it) it.journal image ⊎ (IsSome it.stopped × IsInProgress (world it) image)
+IsOfRun it image = IsOfChain (opening it) it.journal image ⊎ (IsSome it.stopped × IsCopyInProgress (world it) image)
 
 -- the disk tells its contents
 abbrev pub IsTold : Option (List ℕ) → Type 0

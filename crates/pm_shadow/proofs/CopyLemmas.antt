@@ -10,7 +10,7 @@ use Rattle.pm_image.specs.Stands.{opened, pages_of}
 use Rattle.pm_image.proofs.FrameLaws.{graph_too, opened_as}
 use Rattle.pm_shadow.specs.declared.page_use.PageUse.{PageUse}
 use Rattle.pm_shadow.specs.declared.page_use.PageUse.TheVariants.{Free, Current, Claimed, Kept}
-use Rattle.pm_shadow.specs.Uses.{with_use, is_next, renewed, renewed_uses, abandoned, IsListed, IsLowestFree}
+use Rattle.pm_shadow.specs.Uses.{with_use, is_next, renewed, renewed_uses, abandoned, UsesOnlyListed, IsLowestFree}
 use Rattle.pm_shadow.specs.State.{State, other, keeps, keeps_by, IsListable, known_by, with_claimed, with_kept, abandoned_in, published, IsIdle}
 use Rattle.pm_shadow.specs.Images.{Heads, Holds, Renews}
 use Rattle.pm_shadow.specs.Copies.{AreUsed, KeepsGraph, NextGraph, IsLowestUnused, current_graph, next_graph, KeepsSamePages}
@@ -156,7 +156,7 @@ none_renewed false Kept = refl
 pub published_idle : (s : State) (header : Header) → IsIdle (published s header)
 published_idle s header page = none_renewed (nat_lt page 2) (s.uses page)
 
-pub listed_idle : (pages : List ℕ) (uses : ℕ → PageUse) → IsListed pages uses → (page : ℕ) → is_next (uses page) ≡ false
+pub listed_idle : (pages : List ℕ) (uses : ℕ → PageUse) → UsesOnlyListed pages uses → (page : ℕ) → is_next (uses page) ≡ false
 listed_idle pages uses listed page =
     elim (cases_lt page 2) [
       | inl low ↦ ap is_next (listed.headers page low)
@@ -190,14 +190,14 @@ lowest_unused s bytes graph page known stands is = record {
 
 -- ---- the pages of the current copy are listed
 
-listed_current : (pages : List ℕ) (uses : ℕ → PageUse) (page : ℕ) → IsListed pages uses → 2 ≤ page → keeps_by true (uses page) ≡ true → Contains pages page
+listed_current : (pages : List ℕ) (uses : ℕ → PageUse) (page : ℕ) → UsesOnlyListed pages uses → 2 ≤ page → keeps_by true (uses page) ≡ true → Contains pages page
 listed_current pages uses page listed low kept =
     elim (in_or_not pages page) [
       | inl within ↦ within
       | inr apart ↦ let free : keeps_by true (uses page) ≡ false = ap (keeps_by true) (listed.others page low apart) in absurd (cc (kept, free))
     ]
 
-pub listed_graph : (s : State) (uses : ℕ → PageUse) (bytes pages : List ℕ) (used : AreUsed s bytes pages) → All (IsListable s) pages → IsListed pages uses → KeepsGraph (known_by s uses) bytes used.graph
+pub listed_graph : (s : State) (uses : ℕ → PageUse) (bytes pages : List ℕ) (used : AreUsed s bytes pages) → All (IsListable s) pages → UsesOnlyListed pages uses → KeepsGraph (known_by s uses) bytes used.graph
 listed_graph s uses bytes pages used there listed = record {
   found = used.found;
   first = graph_first (pages_of bytes) s.header used.graph used.found;
@@ -208,5 +208,5 @@ listed_graph s uses bytes pages used there listed = record {
   only = λ known page low kept. used.only page (listed_current pages uses page listed low kept);
 }
 
-pub listed_keeps : (s : State) (uses : ℕ → PageUse) (bytes pages : List ℕ) → AreUsed s bytes pages → All (IsListable s) pages → IsListed pages uses → (graph : Graph) × KeepsGraph (known_by s uses) bytes graph
+pub listed_keeps : (s : State) (uses : ℕ → PageUse) (bytes pages : List ℕ) → AreUsed s bytes pages → All (IsListable s) pages → UsesOnlyListed pages uses → (graph : Graph) × KeepsGraph (known_by s uses) bytes graph
 listed_keeps s uses bytes pages used there listed = (used.graph, listed_graph s uses bytes pages used there listed)

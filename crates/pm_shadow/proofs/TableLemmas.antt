@@ -3,7 +3,7 @@ use Rattle.std.proofs.Common.{◌≡◌, ◌≢◌, ℕ, zero, suc, Bool, true, 
 use Rattle.std.proofs.Math.ListN.{set}
 use Rattle.std.proofs.Math.Seq.{set-append_seam}
 use Rattle.std.specs.Prelude.{All, reverse, if◌then◌else◌}
-use Rattle.pm_shadow.specs.Uses.{IsListed, marked, use_of, free_from, is_current, abandoned, abandoned_uses, IsLowestFree, with_use}
+use Rattle.pm_shadow.specs.Uses.{UsesOnlyListed, marked, use_of, free_from, is_current, abandoned, abandoned_uses, IsLowestFree, with_use}
 use Rattle.pm_shadow.specs.declared.page_use.PageUse.{PageUse}
 use Rattle.pm_shadow.specs.declared.page_use.PageUse.TheVariants.{Free, Current, Claimed, Kept}
 use Rattle.std.proofs.lemmas.List.{map-append, take_more, length-map, length-take-le, append_assoc, get_or-append_right, get_or_past, get_or_append_left, reverse-append, reverse-reverse, get_or-set_other, get_or-map, get_or-replicate, length-replicate, get_or_default}
@@ -227,7 +227,7 @@ length-marked (page ∷ pages) uses = length-marked pages (set uses (page - 2) C
 all_free : (n i : ℕ) → get_or (replicate n Free) i Free ≡ Free
 all_free n i = elim (cases_lt i n) [ inl lt ↦ get_or-replicate n i Free Free lt | inr past ↦ get_or_past (replicate n Free) i Free (omega (arith, length-replicate {A = PageUse} n Free)) ]
 
-pub is_listed : (pages : List ℕ) (new : List PageUse) (len : ℕ) → new ≡ marked pages (replicate len Free) → All (λ page. 2 ≤ page) pages → All (λ page. page < len + 2) pages → IsListed pages (use_of new)
+pub is_listed : (pages : List ℕ) (new : List PageUse) (len : ℕ) → new ≡ marked pages (replicate len Free) → All (λ page. 2 ≤ page) pages → All (λ page. page < len + 2) pages → UsesOnlyListed pages (use_of new)
 is_listed pages new len is low within = record {
   headers = λ page under. use_low new page under;
   listed = λ page there.

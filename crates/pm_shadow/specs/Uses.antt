@@ -81,7 +81,7 @@ marked [] uses = uses
 marked (page ∷ pages) uses = marked pages (slice_set uses (page - 2) Current)
 
 -- the listed pages are those of the current copy, and all others from page 2 on are free
-pub record IsListed (pages : List ℕ) (uses : ℕ → PageUse) : Type 0 where
+pub record UsesOnlyListed (pages : List ℕ) (uses : ℕ → PageUse) : Type 0 where
   pub headers : (page : ℕ) → page < 2 → uses page ≡ Current
   pub listed : (page : ℕ) → Contains pages page → uses page ≡ Current
   pub others : (page : ℕ) → 2 ≤ page → (Contains pages page → ⊥) → uses page ≡ Free

@@ -5,7 +5,7 @@ ghost use Rattle.pm_image.specs.Graphs.{Graph};
 ghost use Rattle.pm_image.specs.Stands.{opened};
 ghost use Rattle.pm_shadow.specs.declared.page_use.PageUse.{PageUse};
 ghost use Rattle.pm_shadow.specs.declared.page_use.PageUse.TheVariants.{Free};
-ghost use Rattle.pm_shadow.specs.Uses.{IsLowestFree, IsListed};
+ghost use Rattle.pm_shadow.specs.Uses.{IsLowestFree, UsesOnlyListed};
 ghost use Rattle.pm_shadow.specs.State.{State, keeps, known_by, with_claimed, with_kept, abandoned_in, published, IsIdle};
 ghost use Rattle.pm_shadow.specs.Images.{Heads, Holds, Renews};
 ghost use Rattle.pm_shadow.specs.Copies.{KeepsGraph, NextGraph, KeepsSamePages, IsLowestUnused, current_graph, next_graph};
@@ -46,7 +46,7 @@ pub fn the_next_copy_grows_beside_the_current_one()
     ensures abandoned { (s : State) → s.known ≡ true → KeepsSamePages s (abandoned_in s) }
     // Nothing is claimed or kept once the pages of the current copy were listed, the next copy was given up, or its
     // header was published.
-    ensures listed { (s : State) (pages : List ℕ) (uses : ℕ → PageUse) → IsListed pages uses
+    ensures listed { (s : State) (pages : List ℕ) (uses : ℕ → PageUse) → UsesOnlyListed pages uses
         → IsIdle (known_by s uses) }
     ensures given_up { (s : State) → IsIdle (abandoned_in s) }
     ensures published { (s : State) (header : Header) → IsIdle (published s header) }

@@ -54,7 +54,7 @@ impl<D: Disk> Pages<D> {
     ghost use Rattle.pm_layout.specs.Headers.{HasHeaderSpelling};
     ghost use Rattle.pm_image.specs.Opening.{current, page_count, page_of, gate_place, open_gate};
     ghost use Rattle.pm_image.specs.Graphs.{Graph};
-    ghost use Rattle.pm_shadow.specs.Uses.{IsLowestFree, IsListed};
+    ghost use Rattle.pm_shadow.specs.Uses.{IsLowestFree, UsesOnlyListed};
     ghost use Rattle.pm_shadow.specs.State.{other, attached, IsListable, IsKeepable, IsWritable, IsPublishable, known_by, with_claimed, with_kept, abandoned_in, with_page, with_closed, with_failed, published};
     ghost use Rattle.pm_shadow.specs.Copies.{AreUsed, KeepsGraph};
     ghost use Rattle.pm_shadow.specs.Images.{IsSoundState, Holds, Renews, WritesPage, place_of, shutting, with_header, with_gate};
@@ -167,7 +167,7 @@ impl<D: Disk> Pages<D> {
         requires there { All (IsListable (state self.old)) pages.now }
         requires first { Contains pages.now (state self.old).header.first }
         requires used { IfTold (D.contents (disk_of self.old)) (λ bytes. AreUsed (state self.old) bytes pages.now) }
-        ensures listed { OnOk result (IsListed pages.now (state self.new).uses) }
+        ensures listed { OnOk result (UsesOnlyListed pages.now (state self.new).uses) }
         // The graph of the current copy stands on the pages that are its own now, and on no others.
         ensures keeps { OnOk result (IfTold (D.contents (disk_of self.old)) (λ bytes.
             (graph : Graph) × KeepsGraph (state self.new) bytes graph)) }

@@ -25,7 +25,7 @@ pub(crate) struct Table {
 
 impl Table {
     ghost use Rattle.std.specs.Prelude.{◌≡◌, ◌<◌, ◌≤◌, ◌+◌, ◌-◌, ◌^◌, [], All, IfOk, OnErr, true};
-    ghost use Rattle.pm_shadow.specs.Uses.{IsLowestFree, is_current, with_use, renewed_uses, abandoned_uses, IsListed};
+    ghost use Rattle.pm_shadow.specs.Uses.{IsLowestFree, is_current, with_use, renewed_uses, abandoned_uses, UsesOnlyListed};
     ghost use Rattle.pm_shadow.specs.Tables.{uses_in};
 
     /// No page is used.
@@ -73,7 +73,7 @@ impl Table {
     /// A table in which the current copy's pages are these, and all others are free.
     pub(crate) fn listing(alloc: Global, pages: &[u64]) -> Result<Table, NoMemory>
         requires { All (λ page. 2 ≤ page) pages.now }
-        ensures { IfOk result (λ table. IsListed pages.now (uses_in table)) }
+        ensures { IfOk result (λ table. UsesOnlyListed pages.now (uses_in table)) }
     {
         let len = needed(pages);
         if len > MOST_PAGES {

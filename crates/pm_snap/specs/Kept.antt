@@ -83,6 +83,6 @@ module _ {T S : Type 0} where
     pub passed : (k : ℕ) → next ≤ k → k < after → k ≢ key → is_some (hash.get nat_eq values k) ≡ true
 
   -- the keys are kept so, and no old value is kept for the key 0
-  pub record IsWhole (values : HashMap ℕ T S) (freed : FreedKeys) (next : ℕ) (kept : Option (BTreeMap ℕ (Option T))) : Type 0 where
+  pub record AreKeysWhole (values : HashMap ℕ T S) (freed : FreedKeys) (next : ℕ) (kept : Option (BTreeMap ℕ (Option T))) : Type 0 where
     pub keys : IsKept values freed next
     pub zero_unnoted : noted kept 0 ≡ None

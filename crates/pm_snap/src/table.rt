@@ -36,7 +36,7 @@ pub struct Table<T> {
 
 impl<T> Model for Table<T> {
     ghost use Rattle.pm_snap.specs.Snapped.{Snapped, snapped_code};
-    ghost use Rattle.pm_snap.specs.Kept.{IsWhole, table_of};
+    ghost use Rattle.pm_snap.specs.Kept.{AreKeysWhole, table_of};
 
     ghost Value = { Snapped T };
 
@@ -44,7 +44,7 @@ impl<T> Model for Table<T> {
 
     ghost view = { λ it. table_of it.values it.kept };
 
-    ghost invariant = { λ it. IsWhole it.values it.freed it.next it.kept };
+    ghost invariant = { λ it. AreKeysWhole it.values it.freed it.next it.kept };
 }
 
 // The next key once `key` is used: `next` itself where that is another one, and else the least key above it

@@ -1,5 +1,5 @@
 -- What was answered of each client's commands, where workers ask them in any order.
-use Rattle.std.proofs.Common.{◌≡◌, ℕ, suc, zero, ◌+◌, ◌^◌, ◌<◌, ◌≤◌, min, List, [], ◌∷◌, ◌++◌, length, arith, Option, Some, refl, ap, sym, ◌∙◌}
+use Rattle.std.proofs.Common.{◌≡◌, ℕ, suc, zero, ◌+◌, ◌^◌, ◌<◌, ◌≤◌, List, [], ◌∷◌, ◌++◌, length, arith, Option, Some, refl, ap, sym, ◌∙◌}
 use Rattle.std.proofs.Math.Nat.{min-eq_left}
 use Rattle.std.proofs.lemmas.List.{append-nil, append_cancel_left}
 use Rattle.std.proofs.lemmas.List.Sums.{sum_by-cons}
@@ -8,7 +8,7 @@ use Rattle.pm_types.specs.declared.command.Cmd.{Cmd}
 use Rattle.pm_types.specs.declared.entry.Entry.{Entry}
 use Rattle.pm_model.specs.Journal.{commands_of, part}
 use Rattle.pm_script.specs.declared.line.Line.{Line}
-use Rattle.pm_parts.specs.Asked.{events_asked, flushes_asked, requests_asked, steps_asked}
+use Rattle.pm_parts.specs.Asked.{events_asked, requests_asked, steps_asked}
 use Rattle.pm_parts.specs.Lists.{count_left, list_of}
 use Rattle.pm_serving.specs.Serving.{Serving}
 use Rattle.pm_events.specs.declared.stop.Stop.{Stop}

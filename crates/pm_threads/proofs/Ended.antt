@@ -9,7 +9,7 @@ use Rattle.pm_disk.specs.declared.disk.Disk.{Ghosts}
 use Rattle.pm_disk.specs.Disk.{LeavesOnly}
 use Rattle.pm_model.specs.Journal.{IsLegal}
 use Rattle.pm_serving.specs.Serving.{Serving, opening, world}
-use Rattle.pm_serving.specs.Images.{IsOfRun, IsSettled, IsTold}
+use Rattle.pm_serving.specs.Images.{IsOfRun, IsSettledCopy, IsTold}
 use Rattle.pm_engine.specs.declared.engine.Engine.{Engine}
 use Rattle.pm_engine.specs.Shown.{KeepsStart, disk_in, opened_disk, serving}
 use Rattle.pm_events.specs.declared.stop.Stop.{Stop}
@@ -42,13 +42,13 @@ counts_ended before after was now why counts =
 module _ {D : Type 0} {F : Type 0} {g : Ghosts D} where
   -- nothing was made
   pub runs_none : (old new : Engine D F g) → IsFresh (serving old) → serving new ≡ serving old → disk_in new ≡ disk_in old → IsLegal (opening (serving old)) (serving old).journal
-      → ((serving old).stopped ≡ None → IsTold (g.contents (opened_disk old)) → (left : List ℕ) → g.image (disk_in old) left → IsSettled (world (serving old)) left)
+      → ((serving old).stopped ≡ None → IsTold (g.contents (opened_disk old)) → (left : List ℕ) → g.image (disk_in old) left → IsSettledCopy (world (serving old)) left)
       → ((left : List ℕ) → g.since (disk_in old) (g.moment (disk_in old)) left → g.image (disk_in old) left) → RunsOnDisk old new (Some Memory)
   runs_none old new fresh same disk legal settled now =
       let first = goes_first old fresh.stopped legal (settled fresh.stopped) now in
       record {
         leaves = λ told. subst (λ (both : D × Serving). LeavesOnly g.moment g.since (disk_in old) both.0 (IsOfRun both.1)) (λ i. (sym disk i, sym same i)) (first.leaves told);
-        last = λ told left here. inl (subst (λ (it : Serving). IsSettled (world it) left) (sym same) (settled fresh.stopped told left (subst (λ (d : D). g.image d left) disk here)));
+        last = λ told left here. inl (subst (λ (it : Serving). IsSettledCopy (world it) left) (sym same) (settled fresh.stopped told left (subst (λ (d : D). g.image d left) disk here)));
         going = λ _. ap (λ (it : Serving). it.stopped) same ∙ fresh.stopped;
         cause = ap g.count disk;
         past = ap (λ (d : D). (g.made d).past) disk;
@@ -57,7 +57,7 @@ module _ {D : Type 0} {F : Type 0} {g : Ghosts D} where
 
   module _ (old new : Engine D F g) (fault : Option EngineFault) (after : Option Stop) (why : Ends (stop_kept fault) after) (goes : ∥ EngineGoesOn old new (stop_kept fault) ∥₁) where
     -- what a book's engine did is what a run does
-    pub runs_known : IsFresh (serving old) → ((serving new).stopped ≡ None → IsTold (g.contents (opened_disk new)) → (left : List ℕ) → g.image (disk_in new) left → IsSettled (world (serving new)) left)
+    pub runs_known : IsFresh (serving old) → ((serving new).stopped ≡ None → IsTold (g.contents (opened_disk new)) → (left : List ℕ) → g.image (disk_in new) left → IsSettledCopy (world (serving new)) left)
         → ∥ RunsOnDisk old new after ∥₁
     runs_known fresh law = ∥∥₁_map goes (λ on. runs old new after fresh (goes_ended old new (stop_kept fault) after why on) law)
 

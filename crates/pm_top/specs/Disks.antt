@@ -10,7 +10,7 @@ use Rattle.pm_model.specs.Journal.{IsLegal, after}
 use Rattle.pm_image.specs.Stands.{StandsForCopy, opened}
 use Rattle.pm_image.specs.Blank.{blank_store}
 use Rattle.pm_shadow.specs.Init.{KeepsBytes}
-use Rattle.pm_serving.specs.Images.{IsInProgress, IsOfChain, IsSettled}
+use Rattle.pm_serving.specs.Images.{IsCopyInProgress, IsOfChain, IsSettledCopy}
 use Rattle.pm_top.specs.declared.ended.Detail.{Detail}
 use Rattle.pm_top.specs.declared.ended.Detail.TheVariants.{Fine, Device, NotEmpty, Refused, Memory}
 use Rattle.pm_top.specs.Stages.{IsPast, IsBefore, the_store}
@@ -23,12 +23,12 @@ IsOfDisk detail = ⊥
 -- What a crash may leave of a run from this world, with this journal: a member of the chain of copies that settled; where
 -- the disk failed, the copy in progress at the journal's end too.
 abbrev pub IsOfRun : Detail → World → List Entry → List ℕ → Type 0
-IsOfRun detail start journal image = IsOfChain start journal image ⊎ (IsOfDisk detail × IsInProgress (after start journal) image)
+IsOfRun detail start journal image = IsOfChain start journal image ⊎ (IsOfDisk detail × IsCopyInProgress (after start journal) image)
 
 -- What it may leave at the end of a run, of which this is the last world: the copy that was acknowledged last; where the
 -- disk failed, that one or the one in progress.
 abbrev pub IsLastOf : Detail → World → List ℕ → Type 0
-IsLastOf detail world image = IsSettled world image ⊎ (IsOfDisk detail × IsInProgress world image)
+IsLastOf detail world image = IsSettledCopy world image ⊎ (IsOfDisk detail × IsCopyInProgress world image)
 
 -- the bytes stand for no copy, and this is the answer of the first rule that they break
 abbrev pub Breaks : List ℕ → OpenFault → Type 0

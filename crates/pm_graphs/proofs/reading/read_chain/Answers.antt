@@ -7,7 +7,7 @@ use Rattle.pm_image.specs.declared.catalog.CatalogPage.{CatalogPage}
 use Rattle.pm_image.specs.CatalogPages.{Met, HasCatalogPage}
 use Rattle.pm_image.specs.Graphs.{Catalog, catalog_from, catalog_of, most_pages, entries_of}
 use Rattle.pm_shadow.specs.State.{State}
-use Rattle.pm_graphs.specs.Reading.{Fails, store_of, link_at, IsSound, root_count, page_numbers, Follow}
+use Rattle.pm_graphs.specs.Reading.{Fails, store_of, link_at, IsSound, root_count, page_numbers, MayFollow}
 use Rattle.pm_graphs.proofs.LookedLaws.{looked_then}
 use Rattle.pm_graphs.proofs.ChainLaws.{chain_on, chain_done, chain_ends, chain_long, never_long, next_there, roots_on, sound_on, begun_on, follow_more}
 use Rattle.pm_base.proofs.Fronts.{with_front}
@@ -47,8 +47,8 @@ returns-then-next-eq0-clause-follow g c =
     let read = c.in_ok-read.read in
     let count = c.args.pages.now.count in
     let has = subst (λ (n : ℕ). HasCatalogPage (Some n) l.met read) (ap (λ (s : State). s.count) l.invariant.looked.same) c.in_ok-read.ensures.has in
-    subst (Follow set.empty 0 None) (append-nil (entries_of c.from_vec.result))
-    (subst (λ (pages : Catalog). Follow set.empty 0 None (entries_of pages ++ [])) (sym (c.from_vec.ensures ∙ c.in_ok-push.ensures.items)) (follow_more count l.met l.chain.items l.page read [] has l.invariant.follow tt))
+    subst (MayFollow set.empty 0 None) (append-nil (entries_of c.from_vec.result))
+    (subst (λ (pages : Catalog). MayFollow set.empty 0 None (entries_of pages ++ [])) (sym (c.from_vec.ensures ∙ c.in_ok-push.ensures.items)) (follow_more count l.met l.chain.items l.page read [] has l.invariant.follow tt))
 
 pub returns-then-next-eq0-clause-begins : goal.returns-then-next-eq0-clause-begins
 returns-then-next-eq0-clause-begins g c =
@@ -77,8 +77,8 @@ loop-preserved g c =
       begun = Contains-append_left (page_numbers c.push.new.self.items) (read.next ∷ []) c.args.pages.now.header.first
           (subst (λ (pages : Catalog). Contains (page_numbers pages) c.args.pages.now.header.first) (sym items) (begun_on l.chain.items l.page c.args.pages.now.header.first read l.invariant.begun));
       follow = λ more is.
-          subst (λ (pages : Catalog). Follow set.empty 0 None (entries_of pages ++ more)) (sym items)
-          (follow_more count l.met l.chain.items l.page read more has l.invariant.follow (subst (λ (m : Met). Follow m.cars m.train m.name more) met is));
+          subst (λ (pages : Catalog). MayFollow set.empty 0 None (entries_of pages ++ more)) (sym items)
+          (follow_more count l.met l.chain.items l.page read more has l.invariant.follow (subst (λ (m : Met). MayFollow m.cars m.train m.name more) met is));
       roots = ap (λ (m : Met). m.roots) met ∙ (roots_on count l.met l.chain.items l.page read has l.invariant.sound l.invariant.roots).0 ∙ ap (λ (ps : Catalog). root_count (entries_of ps)) (sym items);
     }
 

@@ -3,7 +3,7 @@ use Rattle.std.specs.FinSet as set
 use Rattle.pm_image.specs.declared.catalog.CatEntry.{CatEntry}
 use Rattle.pm_image.specs.Graphs.{catalog_from, catalog_of, most_pages, entries_of}
 use Rattle.pm_shadow.specs.Pages.{state, disk_of}
-use Rattle.pm_graphs.specs.Reading.{Looked, store_of, IsThere, IsSound, root_count, page_numbers, Follow}
+use Rattle.pm_graphs.specs.Reading.{Looked, store_of, IsThere, IsSound, root_count, page_numbers, MayFollow}
 use Rattle.pm_base.proofs.Fronts.{with_front}
 use Rattle.pm_graphs.proofs.reading.read_chain.Given as goal
 
@@ -16,6 +16,6 @@ invariant-loop g l = record {
   there : IsThere (state l.fn.pages).count l.page;
   sound : IsSound (state l.fn.pages).count l.chain.items;
   begun : Contains (page_numbers l.chain.items ++ l.page ∷ []) (state l.fn.pages).header.first;
-  follow : (more : List CatEntry) → Follow l.met.cars l.met.train l.met.name more → Follow set.empty 0 None (entries_of l.chain.items ++ more);
+  follow : (more : List CatEntry) → MayFollow l.met.cars l.met.train l.met.name more → MayFollow set.empty 0 None (entries_of l.chain.items ++ more);
   roots : l.met.roots ≡ root_count (entries_of l.chain.items);
 }

@@ -2,7 +2,7 @@ use Rattle.std.proofs.Common.{◌+◌, ℕ, List, Some, None, drop, map, ap, sym
 use Rattle.pm_trains.specs.Trains.{Trains, train_of}
 use Rattle.pm_graphs.proofs.Lists.{drop_here}
 use Rattle.pm_reopen.specs.Lists.{placed_of}
-use Rattle.pm_reopen.specs.Trains.{with_kept, with_all_kept, AreApart, AreNew}
+use Rattle.pm_reopen.specs.Trains.{with_kept, with_all_kept, HaveOwnNumbers, AreNew}
 use Rattle.pm_reopen.proofs.TrainLaws.{places, places_apart, all_in, all_still_new, none_yet, walked_to_end}
 use Rattle.pm_reopen.proofs.trains.make_trains.Goals as goal
 
@@ -27,7 +27,7 @@ loop-one-preserved c =
     let one = c.one-item.result in
     let rest = places (drop (l.one-index + 1) cars) in
     let here = ap places (drop_here cars l.one-index one c.loop-one-test.true c.one-item.is) in
-    let apart = subst AreApart here l.invariant.apart in
+    let apart = subst HaveOwnNumbers here l.invariant.apart in
     let new = subst (AreNew l.trains.trains) here l.invariant.are_new in
     let put = c.in_ok-put_car.ensures.trains ∙ ap (λ (n : ℕ). with_kept l.last (one.0, n) l.trains) c.number.ensures in
     record {

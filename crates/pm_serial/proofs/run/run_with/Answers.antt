@@ -4,7 +4,7 @@ use Rattle.pm_model.specs.Text.{text}
 use Rattle.pm_serving.specs.Serving.{Before, Serving, world}
 use Rattle.pm_events.specs.Running.{IsFresh}
 use Rattle.pm_serial.specs.Ordered.{course_of}
-use Rattle.pm_serving.specs.Images.{IsSettled, IsTold}
+use Rattle.pm_serving.specs.Images.{IsSettledCopy, IsTold}
 use Rattle.pm_engine.specs.Shown.{disk_in, serving, tally_in}
 use Rattle.pm_output.specs.Gathered.{gathered}
 use Rattle.pm_events.specs.declared.stop.Stop.TheVariants.{Memory}
@@ -43,7 +43,7 @@ returns-in_default-clause-disk g c =
     let still = goes_still old new room.start room.grows room.serving room.disk c.requires.fresh.stopped law.legal (law.settled c.requires.fresh.stopped) (g.met.D.Disk.only_now (disk_in old)) in
     runs old new (Some Memory) c.requires.fresh (goes_short old new still)
     (λ none told left here.
-    subst (λ (it : Serving). IsSettled (world it) left) (sym room.serving)
+    subst (λ (it : Serving). IsSettledCopy (world it) left) (sym room.serving)
     (law.settled c.requires.fresh.stopped (subst (λ (d : g.row.D.Denot). IsTold (g.D.Disk.contents d)) room.start.disk told) left (subst (λ (d : g.row.D.Denot). g.D.Disk.image d left) room.disk here)))
 
 pub returns-in_default-clause-sink : goal.returns-in_default-clause-sink
