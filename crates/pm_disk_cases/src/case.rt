@@ -4,6 +4,7 @@ use crate::cars::{push_car, push_car_in, push_old_car, push_slots};
 use crate::catalogs::{push_catalog, push_catalog_in, push_entries};
 use crate::disks::push_disk;
 use crate::fault::{Fault, refuse};
+use crate::fuses::push_fuse;
 use crate::headers::{push_digest, push_header, seal};
 use crate::slots::{push_old_cut, push_old_slot, push_slot, push_slot_end};
 use crate::spelling::{bytes, first_word, numbered, written_out};
@@ -131,6 +132,7 @@ impl Case {
             "case" => self.begin(alloc, text, out),
             "digest" => push_digest(alloc, text, out),
             "disk" => push_disk(alloc, text, out),
+            "fuse" => push_fuse(alloc, text, out),
             _ => self.stream_step(alloc, step, text, out),
         }
     }

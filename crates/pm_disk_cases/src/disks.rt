@@ -123,14 +123,28 @@ fn push_image(alloc: Global, disk: &MemDisk, pick: u64, out: &mut String) -> Res
     push_bytes(alloc, image.as_slice(), out)
 }
 
-// What a disk in memory tells beside its calls: `contents`, `calls`, `refused`, `image PICK`, and `in-order`.
-fn push_part(alloc: Global, disk: &mut MemDisk, text: &str, out: &mut String) -> Result<(), Fault> {
+/// Adds what a disk in memory tells beside its calls: `contents`, `calls`, `refused`, and `image PICK`.
+pub(crate) fn push_told(
+    alloc: Global,
+    disk: &MemDisk,
+    text: &str,
+    out: &mut String,
+) -> Result<(), Fault> {
     let (word, rest) = first_word(text);
     match word {
         "contents" => push_bytes(alloc, disk.contents(), out),
         "calls" => push_number(disk.calls().len() as u64, out),
         "refused" => push_number(disk.refused(), out),
         "image" => push_image(alloc, disk, number(rest)?, out),
+        _ => Err(refuse("no such call")),
+    }
+}
+
+// A call of a disk in memory: one of any disk, `in-order`, or what it tells beside them.
+fn push_part(alloc: Global, disk: &mut MemDisk, text: &str, out: &mut String) -> Result<(), Fault> {
+    let (word, rest) = first_word(text);
+    match word {
+        "contents" | "calls" | "refused" | "image" => push_told(alloc, disk, text, out),
         "in-order" => push_both(alloc, disk, rest, out),
         _ => push_call(alloc, disk, text, out),
     }
@@ -142,8 +156,8 @@ impl Called for MemDisk {
     }
 }
 
-// A disk that holds these bytes, and that fails the calls of these numbers. It may be sent to another thread.
-fn disk_of(alloc: Global, held: &str, fails: &str) -> Result<MemDisk, Fault> {
+/// A disk that holds these bytes, and that fails the calls of these numbers. It may be sent to another thread.
+pub(crate) fn disk_of(alloc: Global, held: &str, fails: &str) -> Result<MemDisk, Fault> {
     let disk = MemDisk::new(bytes(alloc, held)?, numbers(alloc, fails)?);
     is_sent(&disk);
     is_sent(&Moments::new());

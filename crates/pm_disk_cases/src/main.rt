@@ -8,6 +8,7 @@ mod case;
 mod catalogs;
 mod disks;
 mod fault;
+mod fuses;
 mod headers;
 mod slots;
 mod spelling;

@@ -2,7 +2,7 @@
 
 use crate::fault::Fault;
 use crate::spelling::{push_bytes, script, written_out};
-use crate::stopping::{opening, push_calls, push_failing, push_stops, push_whole};
+use crate::stopping::{opening, push_calls, push_failing, push_fused, push_stops, push_whole};
 use pm_disk::MemDisk;
 use pm_script::Script;
 use pm_shadow::init;
@@ -69,6 +69,10 @@ impl Case {
             "fails" => {
                 let lines = script(alloc, text)?;
                 push_failing(alloc, &self.disk, lines.as_slice(), out)?;
+            }
+            "fuses" => {
+                let lines = script(alloc, text)?;
+                push_fused(alloc, &self.disk, lines.as_slice(), out)?;
             }
             "stops" => {
                 let lines = script(alloc, text)?;

@@ -3,6 +3,7 @@
 use crate::fault::Fault;
 use crate::running::{AfterFault, push_run};
 use pm_disk::{DiskCall, MemDisk};
+use pm_fuse::FuseDisk;
 use pm_script::Line;
 use pm_types::PAGE_BYTES;
 use std::alloc::Global;
@@ -157,6 +158,39 @@ pub(crate) fn push_failing(
         let number = made.saturating_add(1);
         write!(out, "call {}: ", number.saturating_sub(opening))?;
         push_failing_at(alloc, bytes, lines, number, out)?;
+    }
+    Ok(())
+}
+
+// Runs the lines over a disk with these bytes that passes so many calls on and then fails each one, and goes on with
+// the next line after that; and adds what that gives.
+fn push_fused_at(
+    alloc: Global,
+    bytes: &[u8],
+    lines: &[Line],
+    passes: usize,
+    out: &mut String,
+) -> Result<(), Fault> {
+    let disk = FuseDisk::new(disk_of(alloc, bytes, Vec::new(alloc))?, passes as u64);
+    push_run(alloc, disk, lines, AfterFault::GoOn, out)?;
+    out.push('\n')?;
+    Ok(())
+}
+
+/// Runs the lines over a disk with these bytes that fails each call from one on, for each call of the lines in turn;
+/// and adds what each of these runs gives.
+pub(crate) fn push_fused(
+    alloc: Global,
+    bytes: &[u8],
+    lines: &[Line],
+    out: &mut String,
+) -> Result<(), Fault> {
+    let opening = opening(alloc, bytes)?;
+    let mut whole = String::new(alloc);
+    let calls = push_whole(alloc, bytes, lines, &mut whole)?.calls().len();
+    for passes in opening..calls {
+        write!(out, "after {}: ", passes.saturating_sub(opening))?;
+        push_fused_at(alloc, bytes, lines, passes, out)?;
     }
     Ok(())
 }

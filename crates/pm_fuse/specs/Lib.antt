@@ -1,0 +1,3 @@
+pub mod Missed
+pub mod FuseDisk
+pub mod FuseDiskLaws
