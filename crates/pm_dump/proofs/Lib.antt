@@ -19,3 +19,4 @@ pub mod Lines
 pub mod Search
 pub mod Strays
 pub mod Reader
+pub mod Begun

@@ -145,7 +145,7 @@ module _ (from start : ℕ) (places : List Place) (fields : List (Option ℕ)) (
   objects_listed [] tail all rest = rest
   objects_listed (e ∷ objects) tail all rest = (names_if e.1.fields all.0, objects_listed objects tail all.1 rest)
 
-as_many : (from start : ℕ) (places : List Place) (fields : List (Option ℕ)) (bytes : List ℕ) → length (objects_shown from start places fields bytes) ≡ length places
+pub as_many : (from start : ℕ) (places : List Place) (fields : List (Option ℕ)) (bytes : List ℕ) → length (objects_shown from start places fields bytes) ≡ length places
 as_many from start [] fields bytes = refl
 as_many from start (place ∷ places) fields bytes = ap suc (as_many place.fields place.bytes places fields bytes)
 

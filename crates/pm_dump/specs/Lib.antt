@@ -5,3 +5,4 @@ pub mod Faults
 pub mod Reading
 pub mod Read
 pub mod Answers
+pub mod Lent

@@ -1,4 +1,4 @@
-ghost use Rattle.std.specs.Prelude.{◌≡◌, ◌≤◌, ◌⊎◌, length, map, IfOk, IfErr, Ok, Err};
+ghost use Rattle.std.specs.Prelude.{◌≡◌, ◌<◌, ◌≤◌, ◌⊎◌, Some, length, map, slice_get, IfOk, IfErr, Ok, Err};
 ghost use Rattle.pm_types.specs.declared.limits.TheConstants.{SOURCE_BYTES};
 ghost use Rattle.pm_dump.specs.declared.fault.DumpFault.{DumpFault as Fault};
 ghost use Rattle.pm_dump.specs.declared.fault.DumpFault.TheVariants as dump_fault;
@@ -7,9 +7,11 @@ ghost use Rattle.pm_dump.specs.Spelled.{Spells};
 ghost use Rattle.pm_dump.specs.Sound.{IsSoundDump};
 ghost use Rattle.pm_dump.specs.Answers.{IsDumpFault, Answers};
 ghost use Rattle.pm_dump.specs.Read.{dump_in, root_shown, AreKept};
+ghost use Rattle.pm_dump.specs.Lent.{object_shown};
 
 use crate::dangling::first_dangling;
 use crate::fault::{DumpCause, DumpFault};
+use crate::lent::{DumpObject, object_at};
 use crate::parts::{DumpRoot, Parts};
 use crate::read::read_lines;
 use std::alloc::Global;
@@ -42,6 +44,22 @@ impl Dump {
         ensures { result ≡ self.now.next }
     {
         self.parts.next
+    }
+
+    /// How many objects there are.
+    #[tactic(auto, using(crate::proofs::Strays::as_many))]
+    pub fn object_count(&self) -> usize
+        ensures { result ≡ length self.now.objects }
+    {
+        self.parts.places.len()
+    }
+
+    /// The object at this place, lent, counted from 0 in ascending order of the identities.
+    pub fn object(&self, at: usize) -> DumpObject<'_>
+        requires { at < length self.now.objects }
+        ensures { slice_get self.now.objects at ≡ Some (object_shown result) }
+    {
+        object_at(&self.parts, at)
     }
 
     /// The names with their identities, ascending, lent: at most 4,096.

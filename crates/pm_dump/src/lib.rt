@@ -6,6 +6,7 @@ mod dangling;
 mod dump;
 mod fault;
 mod laws;
+mod lent;
 mod line;
 mod parts;
 mod read;
@@ -19,4 +20,5 @@ pub use laws::{
     a_dump_has_one_reading, a_dump_is_spelled_or_has_one_fault, a_dumps_copy,
     dumps_of_copies_are_read_again,
 };
+pub use lent::DumpObject;
 pub use parts::DumpRoot;

@@ -66,3 +66,35 @@ fn the_first_fault_is_told(rt: HostRuntime) {
         (3, 4)
     );
 }
+
+// Of the last object that is read its identity, its last field and its first byte.
+fn last_object(alloc: Global, bytes: &[u8]) -> Option<(u32, Option<Option<u32>>, Option<u8>)>
+    requires { length bytes.now ≤ SOURCE_BYTES }
+{
+    let Ok(dump) = read_dump(alloc, bytes) else {
+        return None;
+    };
+    let count = dump.object_count();
+    if count == 0 {
+        return None;
+    }
+    let object = dump.object(count - 1);
+    Some((
+        object.id,
+        object.fields.last().copied(),
+        object.bytes.first().copied(),
+    ))
+}
+
+#[test]
+fn objects_are_lent(rt: HostRuntime) {
+    let alloc = rt.alloc();
+    assert_eq!(rt;
+        last_object(
+            alloc,
+            b"pmos dump 1 4\nobject 1 1 01 3\nobject 3 2 CAfe 0 1\nend\n"
+        ),
+        Some((3, Some(Some(1)), Some(0xca)))
+    );
+    assert_eq!(rt; last_object(alloc, b"pmos dump 1 4\nend\n"), None);
+}

@@ -51,6 +51,7 @@ fn shows(step: &str) -> Option<Shows> {
         "replies" => Some(Shows::Replies),
         "end" => Some(Shows::End),
         "last" => Some(Shows::Last),
+        "dump" => Some(Shows::Dump),
         _ => None,
     }
 }

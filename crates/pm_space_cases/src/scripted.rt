@@ -12,6 +12,7 @@ use pm_reclaim::collect_one;
 use pm_script::{Line, Script, read_script, reply_text};
 use pm_space::Space;
 use pm_types::{Cmd, Entry, Reply, SOURCE_BYTES, Step};
+use pm_walk::dump_text;
 use std::alloc::Global;
 use std::fmt::Write;
 
@@ -26,6 +27,8 @@ pub(crate) enum Shows {
     End,
     /// The last reply.
     Last,
+    /// The text of the dump at the end.
+    Dump,
 }
 
 // Whether the space itself answers the command.
@@ -242,6 +245,29 @@ fn push_end<F: Drop>(space: &Space<F>, events: Events, out: &mut String) -> Resu
     Ok(())
 }
 
+// Adds the text of the dump of the space.
+fn push_dump<F>(space: &Space<F>, alloc: Global, out: &mut String) -> Result<(), Fault> {
+    match String::from_utf8(dump_text(alloc, space)?) {
+        Ok(text) => Ok(out.push_str(&text)?),
+        Err(_) => Err(Fault::Step),
+    }
+}
+
+// Adds what is shown behind the last line.
+fn push_behind<F: Drop>(
+    space: &Space<F>,
+    alloc: Global,
+    shows: Shows,
+    course: &Course,
+    out: &mut String,
+) -> Result<(), Fault> {
+    match shows {
+        Shows::Last => Ok(out.push_str(&course.last)?),
+        Shows::Dump => push_dump(space, alloc, out),
+        _ => push_end(space, course.events, out),
+    }
+}
+
 // Runs the lines over a space, and adds what is shown.
 fn push_course<F: Fn(&[u64]) -> usize + Drop>(
     space: &mut Space<F>,
@@ -254,11 +280,7 @@ fn push_course<F: Fn(&[u64]) -> usize + Drop>(
     requires { IsChooser F.Fn space.old.parts.place }
 {
     run(space, alloc, lines, shows, course, out)?;
-    if shows == Shows::Last {
-        out.push_str(&course.last)?;
-        return Ok(());
-    }
-    push_end(space, course.events, out)
+    push_behind(space, alloc, shows, course, out)
 }
 
 // Runs the lines over a space where nothing happened yet, and adds what is shown.

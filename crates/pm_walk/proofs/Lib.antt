@@ -1,0 +1,5 @@
+pub mod Lists
+pub mod Growing
+pub mod Steps
+pub mod Heaps
+pub mod Texts

@@ -1,0 +1,38 @@
+use Rattle.std.proofs.Common.{ap, sym, ◌∙◌}
+use Rattle.std.specs.Option.{option_copied}
+use Rattle.pm_space.specs.Shown.{view}
+use Rattle.pm_walk.proofs.Growing.{grows_by}
+use Rattle.pm_walk.proofs.Steps.{both_ok, named_is, named_met, meets_sound, meets_to}
+use Rattle.pm_walk.proofs.walk.meet.Goals as goal
+
+pub returns-then-contains_key-clause-met : goal.returns-then-contains_key-clause-met
+returns-then-contains_key-clause-met g c =
+    let v = view c.args.space.now.parts in
+    let object = c.in-Some.object.now in
+    named_met v c.args.walk.now c.args.to object.id
+    (named_is v c.args.to c.resolve-at.result (option_copied c.object_at.result) object c.resolve-at.ensures c.object_at.ensures.object (ap option_copied c.in-Some.is))
+    (sym c.contains_key.ensures ∙ c.if-contains_key.true)
+
+pub returns-clause-sound : goal.returns-clause-sound
+returns-clause-sound g c =
+    let v = view c.args.space.now.parts in
+    let object = c.in-Some.object.now in
+    let named = named_is v c.args.to c.resolve-at.result (option_copied c.object_at.result) object c.resolve-at.ensures c.object_at.ensures.object (ap option_copied c.in-Some.is) in
+    both_ok c.add.result
+    (meets_sound v c.args.walk.now c.add.new.walk c.args.to (record { id = object.id; at = c.resolve-at.result; from = c.args.from; index = c.args.index }) c.requires.sound c.requires.kept c.requires.led c.resolve-at.ensures named
+    (sym c.contains_key.ensures ∙ c.if-contains_key.false))
+    c.add.ensures.found c.add.ensures.met
+
+pub returns-clause-grows : goal.returns-clause-grows
+returns-clause-grows g c =
+    both_ok c.add.result (grows_by c.args.walk.now c.add.new.walk (record { id = c.in-Some.object.now.id; at = c.resolve-at.result; from = c.args.from; index = c.args.index })) c.add.ensures.found c.add.ensures.met
+
+pub returns-clause-met : goal.returns-clause-met
+returns-clause-met g c =
+    let v = view c.args.space.now.parts in
+    let object = c.in-Some.object.now in
+    let named = named_is v c.args.to c.resolve-at.result (option_copied c.object_at.result) object c.resolve-at.ensures c.object_at.ensures.object (ap option_copied c.in-Some.is) in
+    both_ok c.add.result
+    (meets_to v c.args.walk.now c.add.new.walk c.args.to (record { id = object.id; at = c.resolve-at.result; from = c.args.from; index = c.args.index }) c.requires.sound c.requires.kept c.requires.led c.resolve-at.ensures named
+    (sym c.contains_key.ensures ∙ c.if-contains_key.false))
+    c.add.ensures.found c.add.ensures.met

@@ -1,0 +1,12 @@
+use Rattle.pm_space.specs.Shown.{view}
+use Rattle.pm_walk.specs.Walked.{IsSoundWalk, IsBegun}
+use Rattle.pm_walk.proofs.Steps.{AreDone}
+use Rattle.pm_walk.proofs.walk.walk_space.Given as goal
+
+-- what the objects so far hold was met
+abbrev pub invariant-loop-place : goal.invariant-loop-place
+invariant-loop-place g l = record {
+  sound : IsSoundWalk (view l.space.parts) l.walk;
+  begun : IsBegun (view l.space.parts) l.walk;
+  done : AreDone (view l.space.parts) l.walk l.place;
+}
