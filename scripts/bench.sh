@@ -6,6 +6,7 @@
 # - a second settle after one `put`: how many pages it writes, and how long it takes beside the first;
 # - the report of these stores;
 # - scripts of 16,384 and of 65,536 lines of mixed commands;
+# - a large run of four clients, one of eight clients and one of one client alone, each serially and in threads;
 # - a script that is made, and a trial of it, of 4,000 and of 16,000 turns.
 #
 # 'scripts/build.sh' builds the program; PMOS names another one. Needs python3, dd, sha256sum and GNU time.
@@ -24,23 +25,30 @@ pmos, work = sys.argv[1:]
 PAGE = 16384
 ROUNDS = 5
 
-def timed(words, text=b"", prepare=None):
-    """The best of the rounds: seconds, and bytes of memory at the highest."""
-    seconds, memory = [], []
+def measured(words, text=b"", prepare=None):
+    """The best of the rounds: seconds of the clock and of the processors, and bytes of memory at the highest."""
+    seconds, busy, memory = [], [], []
     for _ in range(ROUNDS):
         if prepare:
             prepare()
         with open(f"{work}/replies", "wb") as out:
             start = time.perf_counter()
-            ran = subprocess.run(["/usr/bin/time", "-f", "%M", *words], input=text, stdout=out, stderr=subprocess.PIPE)
+            ran = subprocess.run(["/usr/bin/time", "-f", "%M %U %S", *words], input=text, stdout=out, stderr=subprocess.PIPE)
             seconds.append(time.perf_counter() - start)
         if ran.returncode:
             sys.exit(f"{words}: {ran.stderr.decode()}")
-        memory.append(int(re.findall(rb"^(\d+)$", ran.stderr, re.M)[-1]) * 1024)
-    return min(seconds), min(memory)
+        most, user, system = re.findall(rb"^(\d+) ([\d.]+) ([\d.]+)$", ran.stderr, re.M)[-1]
+        busy.append(float(user) + float(system))
+        memory.append(int(most) * 1024)
+    return min(seconds), min(busy), min(memory)
 
-def run(store):
-    return [pmos, "run", store, "serial"]
+def timed(words, text=b"", prepare=None):
+    """The same without the time of the processors."""
+    seconds, _, memory = measured(words, text, prepare)
+    return seconds, memory
+
+def run(store, mode="serial"):
+    return [pmos, "run", store, mode]
 
 def fresh(store):
     if os.path.exists(store):
@@ -102,6 +110,34 @@ for count in (16384, 65536):
     text = "".join(line(i) + "\n" for i in range(count)).encode()
     seconds, memory = timed(run(store), text, lambda: fresh(store))
     print(f"  {count:6d}  {seconds:6.3f} s  {memory >> 10:6d}")
+
+def large():
+    """Four clients, each 2,000 rounds of four commands; 50,000 steps of the collector and 100 flush events."""
+    lines = []
+    for _ in range(2000):
+        for c in range(4):
+            lines += [f"{c} new 2 1 -", f"{c} store 2 0 1", f"{c} copy 1 2", f"{c} root l{c} 1"]
+        lines.append("! gc 25")
+    for c in range(4):
+        lines += [f"{c} unroot l{c}", f"{c} close"]
+    return lines + ["0 save", "! flush 100", "0 settle"]
+
+def commands(clients):
+    """64,000 commands of so many clients, eight of one behind another."""
+    return [re.sub("^[0-7]", str(i // 8 % clients), line(i)) for i in range(64000)]
+
+print("in threads beside serially: seconds of the clock, of the processors, KiB; what an event takes more, in nanoseconds")
+for name, lines, events in (
+    ("a large run of four clients", large(), 32010 + 50000 + 100),
+    ("eight clients", commands(8), 64000),
+    ("one client", commands(1), 64000),
+):
+    text = "".join(line + "\n" for line in lines).encode()
+    told = [measured(run(store, mode), text, lambda: fresh(store)) for mode in ("serial", "threads")]
+    for mode, (clock, busy, memory) in zip(("serial", "threads"), told):
+        print(f"  {name:28}  {mode:8}  {clock:6.3f} s  {busy:6.3f} s  {memory >> 10:6d}")
+    more = [(told[1][i] - told[0][i]) / events * 1e9 for i in (0, 1)]
+    print(f"    an event {more[0]:.0f} ns more by the clock, {more[1]:.0f} ns by the processors")
 
 print("scripts that are made from a seed, and trials of them on a new store: turns, seconds, KiB")
 for turns in (4000, 16000):

@@ -316,6 +316,31 @@ wait "$first" 2>/dev/null
 started=()
 row "a settle is told before the run ends" "0 ok 1,0 ok,0 begun 1,0 saved 1 settled" "$came $(is_which "$work/store")"
 
+# In threads the lines of each client keep their order, and nothing else does.
+fresh
+for client in 0 1 2 3 4 5 6 7; do
+    echo "$client new 1 0 0$client"
+    echo "$client root c$client 1"
+    echo "$client find 2 c$client"
+    echo "$client data 2"
+done >"$work/threads.script"
+printf '! gc 500\n! flush 20\n' >>"$work/threads.script"
+"$pmos" run "$work/store" threads <"$work/threads.script" >"$work/out"
+came=$?
+wrong=""
+for client in 0 1 2 3 4 5 6 7; do
+    [ "$(grep "^$client " "$work/out" | sed 's/ok [1-8]$/ok ID/' | paste -sd,)" = "$client ok ID,$client ok,$client ok ID,$client 0$client" ] ||
+        wrong="$wrong $client"
+done
+row "eight clients in threads" "0 32 end 500 none" \
+    "$came $(grep -c '^[0-7] ' "$work/out") $(tail -n 1 "$work/out" | cut -d ' ' -f 1,2) ${wrong:-none}"
+
+fresh
+"$pmos" run "$work/store" threads <"$work/settle.script" >"$work/out" 2>/dev/null
+came=$?
+row "a copy that settles in threads" "0 0 ok 1,0 ok,0 begun 1,0 saved 1 settled" \
+    "$came $(head -n 4 "$work/out" | paste -sd,) $(is_which "$work/store")"
+
 fresh
 "$pmos" run "$work/store" serial <"$work/long.script" 2>/dev/null | true
 row "a pipe that closes early" "4 settled" "${PIPESTATUS[0]} $(is_which "$work/store")"

@@ -1,7 +1,8 @@
 #!/usr/bin/env bash
 # Refuses the program memory, once in each run and at each place in turn, on real files. It takes its memory by calls of
 # the C library. A shared object of a few lines, which this script compiles, counts those calls and refuses the one whose
-# number it is told. For each number from 1 until nothing is left to refuse the run has to end as the contracts say:
+# number it is told. For each number from 1 until nothing is left to refuse the run has to end as the contracts say; where a
+# thread is refused, it goes on without it:
 #
 # - with status 0 or 7, or with 5 where the refusal fell into a call that opens a file;
 # - with a first part of the replies of the run that is refused nothing, and with all of them on status 0;
@@ -32,12 +33,14 @@ cat >"$work/refuse.c" <<'C'
 #include <fcntl.h>
 #include <stdlib.h>
 #include <stdio.h>
+#include <sys/syscall.h>
 #include <unistd.h>
 
 extern void *__libc_malloc(size_t), *__libc_calloc(size_t, size_t), *__libc_realloc(void *, size_t), *__libc_memalign(size_t, size_t);
 
 /* Counted from the first line of main's start on: what the loader takes before is no concern of the program. */
-static long calls, refused;
+static _Atomic long calls;
+static long refused;
 static int is_counting;
 
 __attribute__((constructor)) static void begin(void) {
@@ -53,6 +56,13 @@ __attribute__((destructor)) static void tell(void) {
     int length = snprintf(text, sizeof text, "%ld\n", calls);
     int file = path ? open(path, O_WRONLY | O_CREAT | O_TRUNC, 0600) : -1;
     if (file >= 0 && write(file, text, length) == length) close(file);
+}
+
+/* A program with threads in it ends so, and runs no destructor. */
+void _exit(int status) {
+    tell();
+    syscall(SYS_exit_group, status);
+    __builtin_unreachable();
 }
 
 static int is_refused(void) {
@@ -133,6 +143,7 @@ ROWS = [
     ("a first copy", empty, ["run", store, "serial"], first),
     ("a collection through an old address", empty, ["run", store, "serial"], moves),
     ("a copy beside a running client", empty, ["run", store, "serial"], beside),
+    ("a copy in threads", empty, ["run", store, "threads"], beside),
     ("opening a copy", copied, ["run", store, "serial"], "0 find 1 a / 0 data 1"),
     ("a second copy", copied, ["run", store, "serial"], second),
     ("init", None, ["init", store], ""),

@@ -2,6 +2,7 @@
 
 use crate::disks::{digits_at, named, patch, put_digest_of, seal};
 use crate::ends::push_memory_text;
+use crate::failing::{Repeated, push_failings, push_fuses};
 use crate::fault::{Fault, refuse};
 use crate::generated::generated;
 use crate::inner::{push_copies, push_digest, push_name, push_register, push_room};
@@ -12,6 +13,8 @@ use crate::shown::{push_first, push_last, push_named, push_run, push_run_in_line
 use crate::spelling::{bytes, counted, first_word, number, numbered, push_lines, written_out};
 use std::alloc::Global;
 use std::fmt::Write;
+use std::sync::Wait;
+use std::thread::Threads;
 
 /// What a case has come to.
 #[derive(Drop)]
@@ -20,6 +23,8 @@ pub(crate) struct Case {
     disk: Vec<u8>,
     /// With what the next run begins, where a step has said something of it.
     setting: Option<Setting>,
+    /// The script with which a disk is looked at that failed.
+    look: Vec<u8>,
     /// How the last run ended, and whether it changed the disk's bytes.
     last: Option<Run>,
     changed: bool,
@@ -33,13 +38,21 @@ fn setting_of(alloc: Global, lines: &str) -> Result<Setting, Fault> {
 }
 
 // Runs over a disk with one script, and nothing fails.
-fn run_lines<R: AllocGlobal>(rt: &R, disk: Vec<u8>, lines: &str) -> Result<Run, Fault> {
+fn run_lines<R: AllocGlobal + Threads + Wait + Sync>(
+    rt: &R,
+    disk: Vec<u8>,
+    lines: &str,
+) -> Result<Run, Fault> {
     let setting = setting_of(rt.alloc(), lines)?;
     run(rt, disk, setting)
 }
 
 // Runs over a disk that holds these bytes.
-fn run_on<R: AllocGlobal>(rt: &R, disk: &[u8], setting: Setting) -> Result<Run, Fault> {
+fn run_on<R: AllocGlobal + Threads + Wait + Sync>(
+    rt: &R,
+    disk: &[u8],
+    setting: Setting,
+) -> Result<Run, Fault> {
     let copy = disk.to_vec(rt.alloc())?;
     run(rt, copy, setting)
 }
@@ -87,7 +100,7 @@ fn push_times(alloc: Global, script: &mut Vec<u8>, text: &str) -> Result<(), Fau
 }
 
 // Adds what a script gives on the image of the last run's disk that this pick chooses.
-fn push_image<R: AllocGlobal>(
+fn push_image<R: AllocGlobal + Threads + Wait + Sync>(
     rt: &R,
     last: &Run,
     pick: u64,
@@ -101,7 +114,7 @@ fn push_image<R: AllocGlobal>(
 }
 
 // Adds what a script gives on each image of the last run's disk whose pick is below N.
-fn push_images<R: AllocGlobal>(
+fn push_images<R: AllocGlobal + Threads + Wait + Sync>(
     rt: &R,
     last: &Run,
     text: &str,
@@ -120,6 +133,7 @@ impl Case {
         Case {
             disk: Vec::new(alloc),
             setting: None,
+            look: Vec::new(alloc),
             last: None,
             changed: false,
         }
@@ -159,7 +173,11 @@ impl Case {
     }
 
     // Runs with the setting so far and these lines; the disk is what the run leaves.
-    fn go<R: AllocGlobal>(&mut self, rt: &R, lines: &str) -> Result<(), Fault> {
+    fn go<R: AllocGlobal + Threads + Wait + Sync>(
+        &mut self,
+        rt: &R,
+        lines: &str,
+    ) -> Result<(), Fault> {
         let alloc = rt.alloc();
         self.push_script(alloc, lines)?;
         let setting = self.take_setting(alloc)?;
@@ -174,7 +192,7 @@ impl Case {
     }
 
     // How many calls opening makes of this disk.
-    fn opening<R: AllocGlobal>(&self, rt: &R) -> Result<u64, Fault> {
+    fn opening<R: AllocGlobal + Threads + Wait + Sync>(&self, rt: &R) -> Result<u64, Fault> {
         let copy = self.disk.as_slice().to_vec(rt.alloc())?;
         let ended = run_lines(rt, copy, "")?;
         Ok(ended.disk.calls().len() as u64)
@@ -215,10 +233,43 @@ impl Case {
     }
 
     // The calls of the disk that fail in the next run.
-    fn set_disk_fails<R: AllocGlobal>(&mut self, rt: &R, text: &str) -> Result<(), Fault> {
+    fn set_disk_fails<R: AllocGlobal + Threads + Wait + Sync>(
+        &mut self,
+        rt: &R,
+        text: &str,
+    ) -> Result<(), Fault> {
         let opening = self.opening(rt)?;
         self.setting(rt.alloc())?.disk_fails = call_numbers(rt.alloc(), text, opening)?;
         Ok(())
+    }
+
+    // How many calls the disk of the next run passes on.
+    fn set_fuse<R: AllocGlobal + Threads + Wait + Sync>(
+        &mut self,
+        rt: &R,
+        text: &str,
+    ) -> Result<(), Fault> {
+        let opening = self.opening(rt)?;
+        self.setting(rt.alloc())?.passes = call_number(text, opening)?;
+        Ok(())
+    }
+
+    // With what a disk is looked at from here on.
+    fn set_look(&mut self, alloc: Global, text: &str) -> Result<(), Fault> {
+        let mut script = Vec::new(alloc);
+        push_lines(&mut script, text)?;
+        self.look = script;
+        Ok(())
+    }
+
+    // What is run again and again: the setting so far and these lines. The next run begins anew.
+    fn repeated(&mut self, alloc: Global, lines: &str) -> Result<Repeated, Fault> {
+        self.push_script(alloc, lines)?;
+        Ok(Repeated {
+            setting: self.take_setting(alloc)?,
+            disk: self.disk.to_vec(alloc)?,
+            look: self.look.to_vec(alloc)?,
+        })
     }
 
     // The calls of the source that fail in the next run.
@@ -234,7 +285,11 @@ impl Case {
     }
 
     // The disk is the one of that name.
-    fn lay_disk<R: AllocGlobal>(&mut self, rt: &R, text: &str) -> Result<(), Fault> {
+    fn lay_disk<R: AllocGlobal + Threads + Wait + Sync>(
+        &mut self,
+        rt: &R,
+        text: &str,
+    ) -> Result<(), Fault> {
         self.disk = named(rt, &self.last, text)?;
         Ok(())
     }
@@ -245,7 +300,7 @@ impl Case {
     }
 
     // Runs with these lines, and adds what that gave.
-    fn go_and_push<R: AllocGlobal>(
+    fn go_and_push<R: AllocGlobal + Threads + Wait + Sync>(
         &mut self,
         rt: &R,
         lines: &str,
@@ -256,7 +311,11 @@ impl Case {
     }
 
     // Makes a store, and adds what that gave.
-    fn init<R: AllocGlobal>(&mut self, rt: &R, out: &mut String) -> Result<(), Fault> {
+    fn init<R: AllocGlobal + Threads + Wait + Sync>(
+        &mut self,
+        rt: &R,
+        out: &mut String,
+    ) -> Result<(), Fault> {
         self.set_words(rt.alloc(), INIT)?;
         self.go_and_push(rt, "", out)
     }
@@ -314,13 +373,37 @@ impl Case {
     }
 
     // Adds what a script gives on images of the last run's disk.
-    fn push_images<R: AllocGlobal>(
+    fn push_images<R: AllocGlobal + Threads + Wait + Sync>(
         &self,
         rt: &R,
         text: &str,
         out: &mut String,
     ) -> Result<(), Fault> {
         push_images(rt, ended(&self.last)?, text, out)
+    }
+
+    // Adds what a script gives over each fuse, and what it leaves.
+    fn push_fuses<R: AllocGlobal + Threads + Wait + Sync>(
+        &mut self,
+        rt: &R,
+        text: &str,
+        out: &mut String,
+    ) -> Result<(), Fault> {
+        let (picks, lines) = numbered(text)?;
+        let repeated = self.repeated(rt.alloc(), lines)?;
+        push_fuses(rt, &repeated, picks, out)
+    }
+
+    // Adds what a script gives where each call of a part fails in turn.
+    fn push_failings<R: AllocGlobal + Threads + Wait + Sync>(
+        &mut self,
+        rt: &R,
+        text: &str,
+        out: &mut String,
+    ) -> Result<(), Fault> {
+        let (part, lines) = first_word(text);
+        let repeated = self.repeated(rt.alloc(), lines)?;
+        push_failings(rt, &repeated, part, out)
     }
 
     // Adds the text of the last run's journal.
@@ -342,7 +425,7 @@ impl Case {
     }
 
     // A step that says with what the next run begins, or another one.
-    fn set_step<R: AllocGlobal>(
+    fn set_step<R: AllocGlobal + Threads + Wait + Sync>(
         &mut self,
         rt: &R,
         step: &str,
@@ -356,12 +439,13 @@ impl Case {
             "times" => self.add_times(alloc, text),
             "bytes" => self.add_bytes(alloc, text),
             "generate" => self.add_generated(alloc, text),
+            "look" => self.set_look(alloc, text),
             _ => self.fail_step(rt, step, text, out),
         }
     }
 
     // A step that says what fails in the next run, or another one.
-    fn fail_step<R: AllocGlobal>(
+    fn fail_step<R: AllocGlobal + Threads + Wait + Sync>(
         &mut self,
         rt: &R,
         step: &str,
@@ -370,6 +454,7 @@ impl Case {
     ) -> Result<(), Fault> {
         let alloc = rt.alloc();
         match step {
+            "fuse" => self.set_fuse(rt, text),
             "disk-fails" => self.set_disk_fails(rt, text),
             "source-fails" => self.set_source_fails(alloc, text),
             "sink-fails" => self.set_sink_fails(alloc, text),
@@ -378,7 +463,7 @@ impl Case {
     }
 
     // A step that changes the disk's bytes, or another one.
-    fn lay_step<R: AllocGlobal>(
+    fn lay_step<R: AllocGlobal + Threads + Wait + Sync>(
         &mut self,
         rt: &R,
         step: &str,
@@ -395,7 +480,7 @@ impl Case {
     }
 
     // A step that runs the program, or another one.
-    fn run_step<R: AllocGlobal>(
+    fn run_step<R: AllocGlobal + Threads + Wait + Sync>(
         &mut self,
         rt: &R,
         step: &str,
@@ -407,6 +492,8 @@ impl Case {
             "run" => self.go_and_push(rt, text, out),
             "init" => self.init(rt, out),
             "images" => self.push_images(rt, text, out),
+            "fuses" => self.push_fuses(rt, text, out),
+            "fails-of" => self.push_failings(rt, text, out),
             _ => self.show_step(rt.alloc(), step, text, out),
         }
     }
@@ -453,7 +540,7 @@ impl Case {
     }
 
     // Takes a line that says something, written out.
-    fn take_written<R: AllocGlobal>(
+    fn take_written<R: AllocGlobal + Threads + Wait + Sync>(
         &mut self,
         rt: &R,
         line: &str,
@@ -468,7 +555,7 @@ impl Case {
 
     /// Takes a line of the input, and adds what it gives. A line that begins with `#`, and one that is empty, say
     /// nothing.
-    pub(crate) fn take<R: AllocGlobal>(
+    pub(crate) fn take<R: AllocGlobal + Threads + Wait + Sync>(
         &mut self,
         rt: &R,
         line: &str,

@@ -6,9 +6,11 @@ use crate::spelling::{bytes, number, numbered, place, placed};
 use pm_layout::digest;
 use pm_types::PAGE_BYTES;
 use std::alloc::Global;
+use std::sync::Wait;
+use std::thread::Threads;
 
 // The bytes of a store that has just been made.
-fn new_store<R: AllocGlobal>(rt: &R) -> Result<Vec<u8>, Fault> {
+fn new_store<R: AllocGlobal + Threads + Wait + Sync>(rt: &R) -> Result<Vec<u8>, Fault> {
     let alloc = rt.alloc();
     let made = run(rt, Vec::new(alloc), Setting::new(alloc, INIT)?)?;
     if made.status != 0 {
@@ -27,7 +29,7 @@ fn image(alloc: Global, last: &Option<Run>, pick: u64) -> Result<Vec<u8>, Fault>
 
 /// `empty`, `new`, `zeros N`, or `image PICK`: no byte, a new store, N zero bytes, or what a crash after the last run
 /// leaves.
-pub(crate) fn named<R: AllocGlobal>(
+pub(crate) fn named<R: AllocGlobal + Threads + Wait + Sync>(
     rt: &R,
     last: &Option<Run>,
     text: &str,

@@ -5,6 +5,7 @@
 mod case;
 mod disks;
 mod ends;
+mod failing;
 mod fault;
 mod generated;
 mod inner;
@@ -18,9 +19,11 @@ mod spelling;
 use case::Case;
 use std::fmt::Write;
 use std::io::{self, BufRead, BufReader};
+use std::sync::Wait;
+use std::thread::Threads;
 
 // Takes a line, and adds what it gives, or why it was not done.
-fn push_line<R: AllocGlobal>(
+fn push_line<R: AllocGlobal + Threads + Wait + Sync>(
     rt: &R,
     case: &mut Case,
     line: &str,

@@ -2,10 +2,14 @@
 
 use crate::fault::Fault;
 use pm_disk::MemDisk;
+use pm_fuse::FuseDisk;
 use pm_io::{MemSink, MemSource};
 use pm_place::Placement;
 use pm_top::{Ended, pmos};
+use pm_turns::OpenGate;
 use std::alloc::Global;
+use std::sync::Wait;
+use std::thread::Threads;
 
 /// How the program ended over a disk, a source and a sink in memory.
 pub(crate) type Run = Ended<MemDisk, MemSource, MemSink>;
@@ -19,6 +23,8 @@ pub(crate) struct Setting {
     pub(crate) script: Vec<u8>,
     /// How many bytes the source gives at most in one call.
     pub(crate) piece: usize,
+    /// How many calls the disk passes on, before it fails each one.
+    pub(crate) passes: u64,
     /// Which calls fail, by their numbers from 1.
     pub(crate) disk_fails: Vec<u64>,
     pub(crate) source_fails: Vec<u64>,
@@ -32,10 +38,19 @@ impl Setting {
             words: String::from_str(alloc, words)?,
             script: Vec::new(alloc),
             piece: 4,
+            passes: u64::MAX,
             disk_fails: Vec::new(alloc),
             source_fails: Vec::new(alloc),
             sink_fails: Vec::new(alloc),
         })
+    }
+
+    /// The same words, script and pieces, and nothing that fails.
+    pub(crate) fn again(&self, alloc: Global) -> Result<Setting, Fault> {
+        let mut setting = Setting::new(alloc, self.words.as_str())?;
+        setting.script = self.script.to_vec(alloc)?;
+        setting.piece = self.piece;
+        Ok(setting)
     }
 }
 
@@ -57,16 +72,39 @@ fn words_of(alloc: Global, text: &str) -> Result<Vec<&str>, Fault> {
     Ok(words)
 }
 
+// The end of a run, with the disk in memory in place of the one with a fuse over it.
+fn without_fuse(ended: Ended<FuseDisk<MemDisk>, MemSource, MemSink>) -> Run {
+    Ended {
+        status: ended.status,
+        detail: ended.detail,
+        journal: ended.journal,
+        tally: ended.tally,
+        disk: ended.disk.into_inner(),
+        source: ended.source,
+        sink: ended.sink,
+    }
+}
+
 // Runs the program with these words.
-fn run_words<R: AllocGlobal>(rt: &R, words: &[&str], disk: Vec<u8>, setting: Setting) -> Run {
-    let disk = MemDisk::new(disk, setting.disk_fails);
+fn run_words<R: AllocGlobal + Threads + Wait + Sync>(
+    rt: &R,
+    words: &[&str],
+    disk: Vec<u8>,
+    setting: Setting,
+) -> Run {
+    let disk = FuseDisk::new(MemDisk::new(disk, setting.disk_fails), setting.passes);
     let source = MemSource::new(setting.script, setting.piece.max(1), setting.source_fails);
     let sink = MemSink::new(rt.alloc(), setting.sink_fails);
-    pmos(rt, words, disk, source, sink, Placement::new(|_: &[u64]| 0))
+    let placement = Placement::new(|_: &[u64]| 0);
+    without_fuse(pmos(rt, words, disk, source, sink, placement, &OpenGate))
 }
 
 /// Runs the program over a disk with these bytes.
-pub(crate) fn run<R: AllocGlobal>(rt: &R, disk: Vec<u8>, setting: Setting) -> Result<Run, Fault> {
+pub(crate) fn run<R: AllocGlobal + Threads + Wait + Sync>(
+    rt: &R,
+    disk: Vec<u8>,
+    setting: Setting,
+) -> Result<Run, Fault> {
     let text = String::from_str(rt.alloc(), setting.words.as_str())?;
     let words = words_of(rt.alloc(), text.as_str())?;
     Ok(run_words(rt, words.as_slice(), disk, setting))

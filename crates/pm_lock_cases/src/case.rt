@@ -3,7 +3,7 @@
 use crate::fault::Fault;
 use crate::opened::push_opened;
 use crate::spelling::{number, script, workers, written_out};
-use crate::threaded::{push_between, push_threads};
+use crate::threaded::{push_alone, push_between, push_threads};
 use std::alloc::Global;
 use std::fmt::Write;
 use std::sync::Wait;
@@ -77,6 +77,7 @@ fn push_step<R: Threads + Wait + Sync>(
         "fails" => push_failing(alloc, text, out)?,
         "threads" => push_threads(rt, alloc, Vec::new(alloc), text, out)?,
         "threads-fail" => push_failing_threads(rt, alloc, text, out)?,
+        "alone" => push_alone(rt, alloc, text, out)?,
         "between" => push_between(rt, alloc, text, out)?,
         _ => return Err(Fault::Step),
     }

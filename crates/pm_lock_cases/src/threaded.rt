@@ -3,11 +3,13 @@
 ghost use Rattle.pm_place.specs.Choosers.{IsChooser};
 ghost use Rattle.pm_engine.specs.Shown.{chooser, serving};
 ghost use Rattle.pm_events.specs.Running.{IsFresh};
+ghost use Rattle.pm_lock.specs.Shown.{engine_in};
 
 use crate::fault::Fault;
 use crate::opened::{disk_of, new_disk, open};
 use crate::served::{count_parts, push_legal};
 use crate::spelling::script;
+use crate::turned::made_alone;
 use pm_disk::Disk;
 use pm_engine::Engine;
 use pm_lock::{Book, run_all};
@@ -20,6 +22,15 @@ use std::fmt::Write;
 use std::sync::Wait;
 use std::sync::atomic::{AtomicBool, Ordering};
 use std::thread::{self, Threads};
+
+// How all of a book is made, and what is told of it.
+#[derive(Clone, Copy)]
+struct Way {
+    /// In one thread, one worker after another.
+    alone: bool,
+    /// The replies are told too.
+    replies: bool,
+}
 
 /// Holds the first event of client 1 until the first of client 0 was made, and the second of client 0 until the first of
 /// client 1 was.
@@ -141,7 +152,22 @@ fn push_made<D: Disk + Drop, F: Drop>(
     said
 }
 
-// Makes all of a book in threads, and adds what that came to.
+// Makes all of a book: in threads, or in one.
+fn made<
+    D: Disk + Drop + Send,
+    F: Fn(&[u64]) -> usize + Drop + Send,
+    G: Gate + Sync,
+    R: Threads + Wait + Sync,
+>(rt: &R, alloc: Global, book: Book<D, F>, gate: &G, alone: bool) -> Book<D, F>
+    requires { IsChooser F.Fn (chooser (engine_in book)) }
+{
+    if alone {
+        return made_alone(alloc, book);
+    }
+    run_all(rt, alloc, book, gate)
+}
+
+// Makes all of a script over an engine, and adds what that came to.
 fn push_run<
     D: Disk + Drop + Send,
     F: Fn(&[u64]) -> usize + Drop + Send,
@@ -154,14 +180,17 @@ fn push_run<
     asked: Script,
     gate: &G,
     text: &str,
-    replies: bool,
+    way: Way,
     out: &mut String,
 ) -> Result<(), Fault>
     requires fresh { IsFresh (serving engine) }
     requires chooser { IsChooser F.Fn (chooser engine) }
 {
     match Book::new(alloc, engine, asked) {
-        Ok(book) => push_made(alloc, run_all(rt, alloc, book, gate), text, replies, out),
+        Ok(book) => {
+            let book = made(rt, alloc, book, gate, way.alone);
+            push_made(alloc, book, text, way.replies, out)
+        }
         Err((engine, _)) => {
             drop(disk_of(engine));
             Err(Fault::Memory)
@@ -169,7 +198,7 @@ fn push_run<
     }
 }
 
-// Opens a new store whose disk fails the calls of these numbers, makes all of the script in threads, by this gate, and
+// Opens a new store whose disk fails the calls of these numbers, makes all of the script, in threads by this gate, and
 // adds what that came to.
 fn push_gated<G: Gate + Sync, R: Threads + Wait + Sync>(
     rt: &R,
@@ -177,13 +206,13 @@ fn push_gated<G: Gate + Sync, R: Threads + Wait + Sync>(
     fails: Vec<u64>,
     gate: &G,
     text: &str,
-    replies: bool,
+    way: Way,
     out: &mut String,
 ) -> Result<(), Fault> {
     let asked = script(alloc, text)?;
     let disk = new_disk(alloc, fails)?;
     let engine = open(alloc, disk, Placement::new(|_: &[u64]| 0))?;
-    push_run(rt, alloc, engine, asked, gate, text, replies, out)
+    push_run(rt, alloc, engine, asked, gate, text, way, out)
 }
 
 /// Opens a new store whose disk fails the calls of these numbers, makes all of the script in threads, and adds what that
@@ -195,7 +224,25 @@ pub(crate) fn push_threads<R: Threads + Wait + Sync>(
     text: &str,
     out: &mut String,
 ) -> Result<(), Fault> {
-    push_gated(rt, alloc, fails, &OpenGate, text, false, out)
+    let way = Way {
+        alone: false,
+        replies: false,
+    };
+    push_gated(rt, alloc, fails, &OpenGate, text, way, out)
+}
+
+/// Makes all of the script over a new store in one thread, one worker after another, and adds what that came to.
+pub(crate) fn push_alone<R: Threads + Wait + Sync>(
+    rt: &R,
+    alloc: Global,
+    text: &str,
+    out: &mut String,
+) -> Result<(), Fault> {
+    let way = Way {
+        alone: true,
+        replies: false,
+    };
+    push_gated(rt, alloc, Vec::new(alloc), &OpenGate, text, way, out)
 }
 
 /// Makes all of the script in threads over a new store, with client 1 held between two events of client 0, and adds what
@@ -207,5 +254,9 @@ pub(crate) fn push_between<R: Threads + Wait + Sync>(
     out: &mut String,
 ) -> Result<(), Fault> {
     let gate = Between::new();
-    push_gated(rt, alloc, Vec::new(alloc), &gate, text, true, out)
+    let way = Way {
+        alone: false,
+        replies: true,
+    };
+    push_gated(rt, alloc, Vec::new(alloc), &gate, text, way, out)
 }

@@ -1,6 +1,7 @@
 //! Turns of a book, one after another.
 
-ghost use Rattle.std.specs.Prelude.{◌≡◌};
+ghost use Rattle.std.specs.Prelude.{◌≡◌, ◌<◌};
+ghost use Rattle.pm_turns.specs.declared.limits.TheConstants.{WORKERS};
 ghost use Rattle.pm_place.specs.Choosers.{IsChooser};
 ghost use Rattle.pm_engine.specs.Shown.{chooser};
 ghost use Rattle.pm_lock.specs.Shown.{engine_in};
@@ -61,6 +62,37 @@ pub(crate) fn push_turns<D: Disk, F: Fn(&[u64]) -> usize + Drop>(
         push_turn(alloc, book, *who, out)?;
     }
     Ok(())
+}
+
+// Makes the turns of a worker until it has finished, or the book is stopped.
+fn make_all_of<D: Disk, F: Fn(&[u64]) -> usize + Drop>(
+    alloc: Global,
+    book: &mut Book<D, F>,
+    who: u32,
+)
+    requires who { who < WORKERS }
+    requires chooser { IsChooser F.Fn (chooser (engine_in book.old)) }
+    ensures { chooser (engine_in book.new) ≡ chooser (engine_in book.old) }
+{
+    for _ in 0..u64::MAX {
+        match book.step(alloc, who) {
+            Turn::Made => {}
+            Turn::Finished | Turn::Stopped => return,
+        }
+    }
+}
+
+/// Makes all of a book in one thread, all turns of a worker before those of the next.
+pub(crate) fn made_alone<D: Disk, F: Fn(&[u64]) -> usize + Drop>(
+    alloc: Global,
+    mut book: Book<D, F>,
+) -> Book<D, F>
+    requires { IsChooser F.Fn (chooser (engine_in book)) }
+{
+    for who in 0..WORKERS {
+        make_all_of(alloc, &mut book, who);
+    }
+    book
 }
 
 /// Adds how many events were made, how many of them by the collector, and the fault that is kept.

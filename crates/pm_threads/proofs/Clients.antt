@@ -1,20 +1,25 @@
 -- What was answered of each client's commands, where workers ask them in any order.
-use Rattle.std.proofs.Common.{◌≡◌, ℕ, suc, zero, ◌+◌, ◌^◌, ◌<◌, ◌≤◌, List, [], ◌∷◌, ◌++◌, length, arith, Option, Some, refl, ap, sym, ◌∙◌}
+use Rattle.std.proofs.Common.{◌≡◌, ◌⊎◌, inl, inr, ⊎_elim, ℕ, suc, zero, ◌+◌, ◌^◌, ◌<◌, ◌≤◌, List, [], ◌∷◌, ◌++◌, length, arith, Option, Some, refl, ap, sym, ◌∙◌}
+use Rattle.std.proofs.Math.Logic.{∥∥₁_map}
 use Rattle.std.proofs.Math.Nat.{min-eq_left}
 use Rattle.std.proofs.lemmas.List.{append-nil, append_cancel_left}
 use Rattle.std.proofs.lemmas.List.Sums.{sum_by-cons}
 use Rattle.pm_base.specs.Counts.{greatest_count}
 use Rattle.pm_types.specs.declared.command.Cmd.{Cmd}
 use Rattle.pm_types.specs.declared.entry.Entry.{Entry}
+use Rattle.pm_types.specs.declared.fault.EngineFault.TheVariants.{Memory as NoRoom}
 use Rattle.pm_model.specs.Journal.{commands_of, part}
 use Rattle.pm_script.specs.declared.line.Line.{Line}
-use Rattle.pm_parts.specs.Asked.{events_asked, requests_asked, steps_asked}
+use Rattle.pm_parts.specs.Asked.{events_asked, flushes_asked, requests_asked, steps_asked}
 use Rattle.pm_parts.specs.Lists.{count_left, list_of}
+use Rattle.pm_saving.specs.Paging.{left_of}
 use Rattle.pm_serving.specs.Serving.{Serving}
 use Rattle.pm_events.specs.declared.stop.Stop.{Stop}
+use Rattle.pm_events.specs.declared.stop.Stop.TheVariants.{Memory}
 use Rattle.pm_events.specs.Causes.{IsDone}
+use Rattle.pm_lock.specs.Kept.{AwaitsClient, HasLeft}
 use Rattle.pm_lock.specs.Whole.{MakesAllOf}
-use Rattle.pm_threads.specs.Running.{AnswersClients}
+use Rattle.pm_threads.specs.Running.{AnswersClients, AwaitsCommand, LeavesSome}
 
 -- where no client has a command left there is none
 none_left : (lists : List (List Cmd)) → ((client : ℕ) → list_of lists client ≡ []) → count_left lists ≡ 0
@@ -34,7 +39,9 @@ few_enough : (n : ℕ) → n < 2 ^ 50 → n ≤ greatest_count
 few_enough n few = omega (arith, few)
 
 module _ (lines : List Line) (it : Serving) (lists : List (List Cmd)) (stop : Option Stop) (parts : (client : ℕ) → part client it.journal ++ list_of lists client ≡ commands_of client (requests_asked lines))
-    (answered : length it.journal + count_left lists ≡ length (requests_asked lines)) (few : events_asked lines < 2 ^ 50) (all : IsDone stop → MakesAllOf lines it) where
+    (answered : length it.journal + count_left lists ≡ length (requests_asked lines)) (few : events_asked lines < 2 ^ 50) (all : IsDone stop → MakesAllOf lines it)
+    (collects flushes : ℕ) (steps_left : it.steps + collects ≡ steps_asked lines) (events_left : it.events + flushes ≡ length it.journal + it.steps + flushes_asked lines)
+    (kept : stop ≡ Some Memory → ∥ HasLeft (Some NoRoom) it lists collects flushes ∥₁) where
   long : IsDone stop → length it.journal ≡ length (requests_asked lines)
   long done =
       let none = none_left lists (λ client. none_behind (part client it.journal) (list_of lists client) (commands_of client (requests_asked lines)) (parts client) ((all done).serves client)) in
@@ -49,6 +56,20 @@ module _ (lines : List Line) (it : Serving) (lists : List (List Cmd)) (stop : Op
   few_steps : steps_asked lines ≤ greatest_count
   few_steps = let within = few_enough (events_asked lines) few in omega (arith, within)
 
+  awaits : AwaitsClient it lists → AwaitsCommand lines it.journal (left_of it.saving.progress)
+  awaits await = record {
+    client = await.client;
+    cmd = await.cmd;
+    rest = await.rest;
+    next = ap (λ (list : List Cmd). part await.client it.journal ++ list) (sym await.next) ∙ parts await.client;
+    unfinished = await.unfinished;
+  }
+
+  leaves_some : HasLeft (Some NoRoom) it lists collects flushes → LeavesSome lines it.journal it.steps it.events (left_of it.saving.progress)
+  leaves_some left =
+      inr (⊎_elim (λ some. inl (omega (arith, some, steps_left)))
+      (λ other. inr (⊎_elim (λ some. inl (omega (arith, some, events_left))) (λ await. inr (awaits await)) other)) left)
+
   pub answers_clients : AnswersClients lines it stop
   answers_clients = record {
     parts = λ client. (list_of lists client, parts client);
@@ -56,14 +77,16 @@ module _ (lines : List Line) (it : Serving) (lists : List (List Cmd)) (stop : Op
     long = long;
     events = λ done. made done ∙ sym (min-eq_left (few_enough (events_asked lines) few));
     steps = λ done. (all done).steps ∙ sym (min-eq_left few_steps);
+    short = λ is. ∥∥₁_map (kept is) leaves_some;
   }
 
 -- nothing was answered
-pub answers_none_yet : (lines : List Line) (it : Serving) (stop : Stop) → it.journal ≡ [] → AnswersClients lines it (Some stop)
-answers_none_yet lines it stop empty = record {
+pub answers_none_yet : (lines : List Line) (it : Serving) (stop : Stop) → it.journal ≡ [] → it.events ≡ 0 → AnswersClients lines it (Some stop)
+answers_none_yet lines it stop empty none = record {
   parts = λ client. (commands_of client (requests_asked lines), ap (λ (j : List Entry). part client j ++ commands_of client (requests_asked lines)) empty);
   serves = λ done. absurd done;
   long = λ done. absurd done;
   events = λ done. absurd done;
   steps = λ done. absurd done;
+  short = λ is. ∣ inl none ∣₁;
 }

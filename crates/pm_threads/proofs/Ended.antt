@@ -34,6 +34,13 @@ kept_none None after why done = refl
 kept_none (Some fault) after why done =
     ⊎_elim (λ same. absurd (subst IsDone same done)) (λ both. let never = both.0 in absurd (cc never)) why
 
+-- one that memory ran out of had kept just that
+pub kept_memory : (fault : Option EngineFault) (after : Option Stop) → Ends (stop_kept fault) after → after ≡ Some Memory → fault ≡ Some NoRoom
+kept_memory None after why is = ⊎_elim (λ same. absurd (cc (same, is))) (λ both. absurd (cc (both.1, is))) why
+kept_memory (Some NoRoom) after why is = refl
+kept_memory (Some (Disk before now)) after why is = ⊎_elim (λ same. absurd (cc (same, is))) (λ both. absurd (cc both.0)) why
+kept_memory (Some (Reopen count)) after why is = ⊎_elim (λ same. absurd (cc (same, is))) (λ both. absurd (cc both.0)) why
+
 counts_ended : (before after : Option Stop) (was now : ℕ) → Ends before after → CountsDisk before was now → CountsDisk after was now
 counts_ended before after was now why counts =
     ⊎_elim (λ same. subst (λ (s : Option Stop). CountsDisk s was now) (sym same) counts)

@@ -1,12 +1,33 @@
 -- A run in threads over an engine.
-use Rattle.std.specs.Prelude.{◌≡◌, ℕ, List, Option, length}
+use Rattle.std.specs.Prelude.{◌≡◌, ◌⊎◌, ℕ, ◌+◌, ◌<◌, true, List, ◌∷◌, ◌++◌, Option, Some, length}
 use Rattle.pm_base.specs.Counts.{capped}
+use Rattle.pm_types.specs.declared.command.Cmd.{Cmd}
+use Rattle.pm_types.specs.declared.entry.Entry.{Entry}
+use Rattle.pm_model.specs.Frames.{is_settle}
 use Rattle.pm_model.specs.Journal.{IsFirstPart, Serves, commands_of, part}
 use Rattle.pm_script.specs.declared.line.Line.{Line}
-use Rattle.pm_parts.specs.Asked.{events_asked, requests_asked, steps_asked}
+use Rattle.pm_parts.specs.Asked.{events_asked, flushes_asked, requests_asked, steps_asked}
+use Rattle.pm_saving.specs.Paging.{left_of}
 use Rattle.pm_serving.specs.Serving.{Serving}
 use Rattle.pm_events.specs.declared.stop.Stop.{Stop}
+use Rattle.pm_events.specs.declared.stop.Stop.TheVariants.{Memory}
 use Rattle.pm_events.specs.Causes.{IsDone}
+
+-- a client's command was not answered; where it is to settle, something of the copy in progress is left to be written
+pub record AwaitsCommand (lines : List Line) (journal : List Entry) (left : ℕ) : Type 0 where
+  pub client : ℕ
+  pub cmd : Cmd
+  pub rest : List Cmd
+  pub next : part client journal ++ cmd ∷ rest ≡ commands_of client (requests_asked lines)
+  pub unfinished : is_settle cmd ≡ true → 0 < left
+
+-- What these lines ask for is not all made, by what was answered, how many events of the collector and in all were made,
+-- and how many pages of the copy in progress are left: none was made; or one of the collector is left, or a flush event,
+-- or a client's command.
+abbrev pub LeavesSome : List Line → List Entry → ℕ → ℕ → ℕ → Type 0
+LeavesSome lines journal steps events left =
+    (events ≡ 0) ⊎ ((steps < steps_asked lines)
+    ⊎ ((events < length journal + steps + flushes_asked lines) ⊎ AwaitsCommand lines journal left))
 
 -- What is answered of lines whose clients are asked in any order, by why the run stopped, if it did. That each reply is
 -- the world's is a law of every engine.
@@ -18,3 +39,5 @@ pub record AnswersClients (lines : List Line) (new : Serving) (stop : Option Sto
   pub long : IsDone stop → length new.journal ≡ length (requests_asked lines)
   pub events : IsDone stop → new.events ≡ capped (events_asked lines)
   pub steps : IsDone stop → new.steps ≡ capped (steps_asked lines)
+  -- where memory ran out, an event is left in which it may: it does not in a `settle` once all of the copy was flushed
+  pub short : stop ≡ Some Memory → ∥ LeavesSome lines new.journal new.steps new.events (left_of new.saving.progress) ∥₁

@@ -1,5 +1,7 @@
 -- Where a command has what it needs, and nothing fails, it is done, or memory ran out.
 use Rattle.std.proofs.Common.{◌≡◌, ◌⊎◌, inl, inr, ℕ, List, [], Option, Some, refl, subst, arith}
+use Rattle.std.proofs.Math.Logic.{∥∥₁_elim}
+use Rattle.std.proofs.Props.{props}
 use Rattle.pm_base.specs.Counts.{Rose, ShowsRise}
 use Rattle.pm_types.specs.declared.entry.Entry.{Entry}
 use Rattle.pm_disk.specs.declared.disk.Disk as disk
@@ -7,7 +9,7 @@ use Rattle.pm_io.specs.declared.source.Source as source
 use Rattle.pm_io.specs.declared.sink.Sink as sink
 use Rattle.pm_script.proofs.BadLaws.{no_fault}
 use Rattle.pm_words.specs.declared.command.Command.{Command}
-use Rattle.pm_words.specs.declared.command.Command.TheVariants.{Init, Run, Inspect, Make, Trial}
+use Rattle.pm_words.specs.declared.command.Command.TheVariants.{Init, Run, RunThreads, Inspect, Make, Trial}
 use Rattle.pm_top.specs.declared.ended.Detail.{Detail}
 use Rattle.pm_top.specs.declared.ended.Detail.TheVariants.{Fine, Usage, Script, Reading, Writing, Device, NotEmpty, Refused, Memory}
 use Rattle.pm_top.specs.declared.ended.Ended.{Ended}
@@ -15,7 +17,8 @@ use Rattle.pm_top.specs.Ends.{ShowsReading, ShowsWriting, ShowsDevice, status_of
 use Rattle.pm_top.specs.Stages.{IsPast, the_words}
 use Rattle.pm_top.specs.Journals.{IsScriptEnd}
 use Rattle.pm_top.specs.Disks.{IsRefusedFor, LeavesMade}
-use Rattle.pm_top.specs.Commands.{ShowsCauses, EndsInspecting, EndsMaking, EndsTrying, Does}
+use Rattle.pm_top.specs.declared.writes.Writes.TheVariants.{Replies}
+use Rattle.pm_top.specs.Commands.{ShowsCauses, EndsInspecting, EndsMaking, EndsTrying, RunsStore, Does}
 use Rattle.pm_top.specs.Needs.{HasNeeds, HoldsScript, HoldsStore, NothingFails}
 use Rattle.pm_top.proofs.Opened.{never_shut}
 
@@ -34,6 +37,18 @@ MayEnd (Script fault) = ⊥
 MayEnd (NotEmpty bytes) = ⊥
 MayEnd (Refused fault) = ⊥
 MayEnd detail = Unit {0}
+
+-- in one way at most
+may_once : (detail : Detail) → IsProp (MayEnd detail)
+may_once Fine = hlevel props
+may_once Usage = hlevel props
+may_once (Script fault) = hlevel props
+may_once (Reading before after) = hlevel props
+may_once (Writing before after) = hlevel props
+may_once (Device before after opened) = hlevel props
+may_once (NotEmpty bytes) = hlevel props
+may_once (Refused fault) = hlevel props
+may_once (Memory opened) = hlevel props
 
 module _ {D : Type 0} (d : disk.Ghosts D) where
   make_ends : (start end : D) (detail : Detail) → LeavesMade d start end detail → d.contents start ≡ Some [] → MayEnd detail
@@ -117,6 +132,10 @@ module _ {D S K : Type 0} (d : disk.Ghosts D) (s : source.Ghosts S) (k : sink.Gh
   may_end Run disk source sink it does needs =
       run_ends (d.contents disk) (s.left source) needs.0 needs.1 it.detail it.journal.items does.ends
       (does.script needs.1.bytes needs.1.is_told).refused (does.store.leaves.refused needs.0.bytes needs.0.is_told)
+  may_end RunThreads disk source sink it does needs =
+      ∥∥₁_elim does.store (may_once it.detail) (λ (store : RunsStore d k Replies disk sink it).
+      run_ends (d.contents disk) (s.left source) needs.0 needs.1 it.detail it.journal.items does.ends
+      (does.script needs.1.bytes needs.1.is_told).refused (store.leaves.refused needs.0.bytes needs.0.is_told))
   may_end Inspect disk source sink it does needs =
       inspect_ends (d.contents disk) needs it.detail does.ends (does.refused needs.bytes needs.is_told)
   may_end (Make seed turns) disk source sink it does needs = make_script_ends it.detail does.ends

@@ -6,6 +6,7 @@ pub mod NotMade
 pub mod Opened
 pub mod Stores
 pub mod Scripts
+pub mod Unread
 pub mod Faults
 pub mod Complete
 pub mod Performing

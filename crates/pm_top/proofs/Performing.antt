@@ -11,7 +11,7 @@ use Rattle.pm_script.specs.Script.{IsScript}
 use Rattle.pm_script.proofs.BadLaws.{no_fault}
 use Rattle.pm_make.specs.Made.{made_text}
 use Rattle.pm_words.specs.declared.command.Command.{Command}
-use Rattle.pm_words.specs.declared.command.Command.TheVariants.{Init, Run, Inspect, Make, Trial}
+use Rattle.pm_words.specs.declared.command.Command.TheVariants.{Init, Run, RunThreads, Inspect, Make, Trial}
 use Rattle.pm_top.specs.declared.ended.Detail.{Detail}
 use Rattle.pm_top.specs.declared.ended.Detail.TheVariants.{Fine, Usage, Script, Reading, Writing, Device, NotEmpty, Refused, Memory}
 use Rattle.pm_top.specs.declared.ended.Ended.{Ended}
@@ -100,6 +100,14 @@ module _ {D S K : Type 0} (d : disk.Ghosts D) (s : source.Ghosts S) (k : sink.Gh
     script = λ bytes told. unread bytes it.journal.items empty;
     order = λ bytes told. unordered bytes (Memory false) it.journal.items empty (λ past. absurd (omega (arith, past)));
     store = untouched_store d k Replies disk source sink it empty now;
+    saved = tt;
+  }
+  untouched_does RunThreads disk source sink it empty now same = record {
+    ends = omega arith;
+    read = λ past. absurd (omega (arith, past));
+    script = λ bytes told. unread bytes it.journal.items empty;
+    store = ∣ untouched_store d k Replies disk source sink it empty now ∣₁;
+    short = λ ran bytes told lines script. tt;
   }
   untouched_does Inspect disk source sink it empty now same = record {
     ends = tt;

@@ -36,6 +36,7 @@ use Rattle.pm_events.specs.Causes.{IsDone, CountsDisk, OnStop}
 use Rattle.pm_serial.specs.Causes.{CountsSink}
 use Rattle.pm_parts.specs.Asked.{events_asked, requests_asked}
 use Rattle.pm_serial.specs.Running.{AnswersLines}
+use Rattle.pm_threads.specs.Running.{AnswersClients, LeavesSome}
 use Rattle.pm_events.specs.Running.{IsFresh, RunsOnDisk}
 use Rattle.pm_serial.specs.Writing.{tail_of}
 use Rattle.pm_serial.specs.Ordered.{StopsAmong, course_of}
@@ -157,6 +158,28 @@ lines_served lines it tally stop a b c d is answers =
       events = λ past. ap (λ (total : Total). total.events) is ∙ answers.events (done_back stop a b c d past);
     }
 
+-- where the clients' commands were asked in any order
+pub clients_served : (lines : List Line) (it : Serving) (tally : Tally) (stop : Option Stop) (a b c d : ℕ) → tally_of tally ≡ tally_in it
+    → AnswersClients lines it stop → ServesLines lines (ended_by stop a b c d) it.journal (Some tally)
+clients_served lines it tally stop a b c d is answers =
+    let late = ended_late stop a b c d in
+    record {
+      ends = late_past (ended_by stop a b c d) late;
+      tried = omega (arith, late);
+      parts = answers.parts;
+      serves = λ past. answers.serves (done_back stop a b c d past);
+      long = λ past. answers.long (done_back stop a b c d past);
+      steps = λ past. ap (λ (total : Total). total.steps) is ∙ answers.steps (done_back stop a b c d past);
+      events = λ past. ap (λ (total : Total). total.events) is ∙ answers.events (done_back stop a b c d past);
+    }
+
+-- where memory ran out an event is left in which it may
+pub clients_short : (lines : List Line) (it : Serving) (journal : List Entry) (tally : Tally) (stop : Option Stop) (a b c d : ℕ) → tally_of tally ≡ tally_in it → journal ≡ it.journal
+    → AnswersClients lines it stop → RanShort (ended_by stop a b c d) → ∥ LeavesSome lines journal (tally_of tally).steps (tally_of tally).events (tally_of tally).left ∥₁
+clients_short lines it journal tally stop a b c d is is_journal answers ran =
+    subst (λ (total : Total). ∥ LeavesSome lines journal total.steps total.events total.left ∥₁) (sym is)
+    (subst (λ (j : List Entry). ∥ LeavesSome lines j it.steps it.events (left_of it.saving.progress) ∥₁) (sym is_journal) (answers.short (short_back stop a b c d ran)))
+
 module _ {D F K : Type 0} {g : disk.Ghosts D} (k : sink.Ghosts K) where
   -- what a run over this engine leaves that ended so, by its journal
   abbrev Leaves : Writes → Engine D F g → D → Tally → K → K → Detail → List Entry → Type 0
@@ -177,9 +200,9 @@ module _ {D F S K : Type 0} {g : disk.Ghosts D} (k : sink.Ghosts K) where
       → (world (serving new)).watches ≡ length (serving new).watches
       → ReachesAtMost (world (serving new)) (standing (serving new).view) → tally_of tally ≡ tally_in (serving new)
       → AllByRecursion IsHonest (tally_of tally).lines
-      → Wrote k writes sink last (text (serving new).journal) (tail_of (tally_in (serving new))) stop → AcknowledgesFor k writes sink last (serving new).journal stop
+      → Wrote k writes sink last (text (serving new).journal) (tail_of (tally_in (serving new))) stop
       → RunsEngine k writes old sink (with_parts it (ended_by stop a b c d) (Some tally) (disk_in new) source last)
-  engine_run writes old new tally source sink last it stop a b c d is_journal on_disk start served told closed legal watching few is honest wrote saved =
+  engine_run writes old new tally source sink last it stop a b c d is_journal on_disk start served told closed legal watching few is honest wrote =
       let left = subst (Leaves k writes old (disk_in new) tally sink last (ended_by stop a b c d)) (sym is_journal) leaves in
       record {
         late = ended_late stop a b c d;
@@ -191,9 +214,6 @@ module _ {D F S K : Type 0} {g : disk.Ghosts D} (k : sink.Ghosts K) where
         there = refl;
         comes_to = left.4;
         replies = left.5;
-        saved =
-            subst (λ (j : List Entry). AcknowledgesFor k writes sink last j (stop_in (ended_by stop a b c d))) (sym is_journal)
-            (subst (λ (why : Option Stop). AcknowledgesFor k writes sink last (serving new).journal why) (stop_back stop a b c d) saved);
       }
     where
       same : opening (serving new) ≡ opening (serving old)
@@ -213,6 +233,14 @@ module _ {D F S K : Type 0} {g : disk.Ghosts D} (k : sink.Ghosts K) where
             subst (λ (total : Total). Wrote k writes sink last (text journal) (tail_of total) (stop_in detail)) (sym is)
                 (subst (λ (why : Option Stop). Wrote k writes sink last (text journal) (tail_of (tally_in (serving new))) why) (stop_back stop a b c d) wrote),
           )
+
+module _ {K : Type 0} (k : sink.Ghosts K) where
+  -- what is finished of the replies which say that a copy settled
+  pub acknowledged : (writes : Writes) (sink last : K) (journal entries : List Entry) (stop : Option Stop) (a b c d : ℕ) → entries ≡ journal → AcknowledgesFor k writes sink last journal stop
+      → AcknowledgesFor k writes sink last entries (stop_in (ended_by stop a b c d))
+  acknowledged writes sink last journal entries stop a b c d is saved =
+      subst (λ (j : List Entry). AcknowledgesFor k writes sink last j (stop_in (ended_by stop a b c d))) (sym is)
+      (subst (λ (why : Option Stop). AcknowledgesFor k writes sink last journal why) (stop_back stop a b c d) saved)
 
 -- ---- causes
 

@@ -20,11 +20,16 @@ use Rattle.pm_top.specs.Stages.{IsPast, unreached, the_words, the_store, the_eve
 use Rattle.pm_top.specs.Journals.{IsBegun, ServesInOrder, ServesLines}
 use Rattle.pm_top.specs.Disks.{LeavesDisk}
 use Rattle.pm_top.specs.Tallies.{ComesTo}
-use Rattle.pm_top.specs.Wrote.{AcknowledgesFor, Wrote}
+use Rattle.pm_top.specs.Wrote.{Wrote}
 use Rattle.pm_top.specs.Commands.{RunsStore}
 use Rattle.pm_serial.proofs.Cutting.{on_stop}
 use Rattle.pm_top.proofs.Parts.{with_parts}
 use Rattle.pm_top.proofs.Ran.{none_begun}
+
+-- what holds anyway holds of a tally
+pub if_there : {A : Type 0} (tally : Option Tally) → A → IfSome tally (λ it. A)
+if_there None a = tt
+if_there (Some tally) a = a
 
 module _ {D S K : Type 0} (d : disk.Ghosts D) (k : sink.Ghosts K) where
   -- no store was opened
@@ -43,7 +48,6 @@ module _ {D S K : Type 0} (d : disk.Ghosts D) (k : sink.Ghosts K) where
     leaves = subst (LeavesDisk d start end detail) (sym empty) leaves;
     quiet = refl;
     replies = tt;
-    saved = tt;
   }
 
   -- lines were run
@@ -52,9 +56,8 @@ module _ {D S K : Type 0} (d : disk.Ghosts D) (k : sink.Ghosts K) where
       → IfSome it.tally (λ tally. ComesTo (begin begun.number begun.copy) it.journal.items (tally_of tally))
       → LeavesDisk d disk it.disk it.detail it.journal.items
       → IfSome it.tally (λ tally. Wrote k writes sink it.sink (text it.journal.items) (tail_of (tally_of tally)) (stop_in it.detail))
-      → AcknowledgesFor k writes sink it.sink it.journal.items (stop_in it.detail)
       → RunsStore d k writes disk sink it
-  store_run writes disk sink it begun late there stands comes leaves replies saved = record {
+  store_run writes disk sink it begun late there stands comes leaves replies = record {
     begun = begun;
     none = told (it.journal.items ≡ []) it.tally there;
     stands = λ is. stands;
@@ -62,13 +65,8 @@ module _ {D S K : Type 0} (d : disk.Ghosts D) (k : sink.Ghosts K) where
     leaves = leaves;
     quiet = told (it.sink ≡ sink) it.tally there;
     replies = replies;
-    saved = some it.tally saved;
   }
     where
-      some : {A : Type 0} (tally : Option Tally) → A → IfSome tally (λ it. A)
-      some None a = tt
-      some (Some tally) a = a
-
       told : (A : Type 0) (tally : Option Tally) → IsSome tally → IfNone tally A
       told A None is = absurd (cc is)
       told A (Some tally) is = tt

@@ -8,23 +8,27 @@ use Rattle.pm_model.specs.World.{begin}
 use Rattle.pm_model.specs.Text.{text}
 use Rattle.pm_image.specs.Stands.{StandsForCopy}
 use Rattle.pm_engine.specs.Shown.{tally_of}
+use Rattle.pm_serial.specs.Acknowledged.{Acknowledges}
 use Rattle.pm_serial.specs.Writing.{tail_of}
 use Rattle.pm_inspect.specs.Surveyed.{IsReport, IsSomeReport}
 use Rattle.pm_make.specs.Made.{made_text}
+use Rattle.pm_script.specs.declared.line.Line.{Line}
+use Rattle.pm_script.specs.Script.{IsScript}
+use Rattle.pm_threads.specs.Running.{LeavesSome}
 use Rattle.pm_types.specs.declared.limits.TheConstants.{MOST_TURNS}
 use Rattle.pm_words.specs.declared.command.Command.{Command}
-use Rattle.pm_words.specs.declared.command.Command.TheVariants.{Init, Run, Inspect, Make, Trial}
+use Rattle.pm_words.specs.declared.command.Command.TheVariants.{Init, Run, RunThreads, Inspect, Make, Trial}
 use Rattle.pm_top.specs.declared.ended.Detail.{Detail}
 use Rattle.pm_top.specs.declared.ended.Detail.TheVariants.{Fine, Writing, Device, Refused, Memory}
 use Rattle.pm_top.specs.declared.ended.Ended.{Ended}
 use Rattle.pm_top.specs.declared.writes.Writes.{Writes}
 use Rattle.pm_top.specs.declared.writes.Writes.TheVariants.{Replies, Digest}
-use Rattle.pm_top.specs.Ends.{ShowsReading, ShowsWriting, ShowsDevice, ShowsOpened, NamesRule, stop_in}
+use Rattle.pm_top.specs.Ends.{RanShort, ShowsReading, ShowsWriting, ShowsDevice, ShowsOpened, NamesRule, stop_in}
 use Rattle.pm_top.specs.Stages.{IsPast, the_words, the_script}
 use Rattle.pm_top.specs.Journals.{IsBegun, KeepsOrder, ReadsScript}
 use Rattle.pm_top.specs.Disks.{IsRefusedFor, LeavesDisk, LeavesMade}
 use Rattle.pm_top.specs.Tallies.{TalliesRun}
-use Rattle.pm_top.specs.Wrote.{AcknowledgesFor, IsWriting, Wrote, WroteText}
+use Rattle.pm_top.specs.Wrote.{IsWriting, Wrote, WroteText}
 
 -- All is as it was.
 pub record IsUntouched {D S K : Type 0} (disk : D) (source : S) (sink : K) (ended : Ended D S K) : Type 0 where
@@ -93,7 +97,7 @@ module _ {D S K : Type 0} (d : disk.Ghosts D) where
     pub no_tally : ended.tally ≡ None
 
 module _ {D S K : Type 0} (d : disk.Ghosts D) (k : sink.Ghosts K) where
-  -- What a run that writes this does to disk and sink, and what it answers, whatever it reads.
+  -- What a run that writes this does to disk and sink, and what it answers, whatever it reads, in whichever order it asks.
   pub record RunsStore (writes : Writes) (disk : D) (sink : K) (ended : Ended D S K) : Type 0 where
     -- the journal is legal from the world of some copy, and empty where no store was opened
     pub begun : IsBegun ended.journal.items
@@ -110,9 +114,6 @@ module _ {D S K : Type 0} (d : disk.Ghosts D) (k : sink.Ghosts K) where
     -- and where one was, it is what this run writes for the journal's text and for the lines behind it, by how it ended
     pub replies : IfSome ended.tally
         (λ it. Wrote k writes sink ended.sink (text ended.journal.items) (tail_of (tally_of it)) (stop_in ended.detail))
-    -- acknowledged is told: unless the sink failed, the text through each reply `saved` is finished, where replies are written
-    pub saved : IfSome ended.tally
-        (λ it. AcknowledgesFor k writes sink ended.sink ended.journal.items (stop_in ended.detail))
 
   -- What `inspect FILE` does: the store is opened and its report is written.
   pub record InspectsStore (disk : D) (source : S) (sink : K) (ended : Ended D S K) : Type 0 where
@@ -172,11 +173,31 @@ module _ {D S K : Type 0} (d : disk.Ghosts D) (s : source.Ghosts S) (k : sink.Gh
         → KeepsOrder bytes ended.detail ended.journal.items ended.tally
     -- what it does to disk and sink
     pub store : RunsStore d k Replies disk sink ended
+    -- acknowledged is told: unless the sink failed, the text through each reply `saved` is finished
+    pub saved : IfSome ended.tally (λ it. Acknowledges k sink ended.sink ended.journal.items (stop_in ended.detail))
+
+  -- What `run FILE threads` does: the source is read to its end, the script is read, the store is opened, and each client's
+  -- lines are run in their order, in threads that take turns. The journal has the commands in the order of the turns.
+  pub record RunsTogether (disk : D) (source : S) (sink : K) (ended : Ended D S K) : Type 0 where
+    -- the words were read, so it ends as no other command does
+    pub ends : IsPast the_words ended.detail
+    -- past the script the source was read to its end
+    pub read : IsPast the_script ended.detail
+        → (bytes : List ℕ) → s.left source ≡ Some bytes → s.left ended.source ≡ Some []
+    -- what it answers of the bytes that the source told
+    pub script : (bytes : List ℕ) → s.left source ≡ Some bytes
+        → ReadsScript bytes ended.detail ended.journal.items ended.tally
+    -- what it does to disk and sink; the replies are written behind the last event
+    pub store : ∥ RunsStore d k Replies disk sink ended ∥₁
+    -- where memory runs out, no event was made, or one is left in which it may: a copy that was flushed whole settles
+    pub short : RanShort ended.detail → (bytes : List ℕ) → s.left source ≡ Some bytes → (lines : List Line) → IsScript bytes lines
+        → IfSome ended.tally (λ it. ∥ LeavesSome lines ended.journal.items (tally_of it).steps (tally_of it).events (tally_of it).left ∥₁)
 
   -- what each command does
   abbrev pub Does : Command → D → S → K → Ended D S K → Type 0
   Does Init disk source sink ended = MakesStore d disk source sink ended
   Does Run disk source sink ended = RunsScript disk source sink ended
+  Does RunThreads disk source sink ended = RunsTogether disk source sink ended
   Does Inspect disk source sink ended = InspectsStore d k disk source sink ended
   Does (Make seed turns) disk source sink ended = MakesScript k seed turns disk source sink ended
   Does (Trial seed turns) disk source sink ended = TriesScript d k seed turns disk source sink ended

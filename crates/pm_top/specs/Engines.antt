@@ -17,7 +17,7 @@ use Rattle.pm_top.specs.Ends.{stop_in}
 use Rattle.pm_top.specs.Stages.{unreached, the_events}
 use Rattle.pm_top.specs.Disks.{IsLastOf, IsOfRun}
 use Rattle.pm_top.specs.Tallies.{ComesTo}
-use Rattle.pm_top.specs.Wrote.{AcknowledgesFor, Wrote}
+use Rattle.pm_top.specs.Wrote.{Wrote}
 
 module _ {D F S K : Type 0} {g : Ghosts D} (k : sink.Ghosts K) where
   -- By how it ended: from the world that was opened, over this engine, on its disk. What is said of images is said of a
@@ -38,8 +38,6 @@ module _ {D F S K : Type 0} {g : Ghosts D} (k : sink.Ghosts K) where
     -- there is a tally, which is that of the engine
     pub there : IsSome ended.tally
     pub comes_to : IfSome ended.tally (λ it. ComesTo (opening (serving engine)) ended.journal.items (tally_of it))
-    -- what is finished of the replies which say that a copy settled
-    pub saved : AcknowledgesFor k writes sink ended.sink ended.journal.items (stop_in ended.detail)
     -- what was written
     pub replies : IfSome ended.tally
         (λ it. Wrote k writes sink ended.sink (text ended.journal.items) (tail_of (tally_of it)) (stop_in ended.detail))

@@ -1,5 +1,5 @@
 -- What a run answers: its journal, and the events that it made.
-use Rattle.std.specs.Prelude.{◌≡◌, ◌⊎◌, ◌∷◌, ℕ, ◌+◌, ◌<◌, ◌≤◌, List, ◌++◌, length, Option, IfSome}
+use Rattle.std.specs.Prelude.{◌≡◌, ◌⊎◌, false, ◌∷◌, ℕ, ◌+◌, ◌<◌, ◌≤◌, List, ◌++◌, length, Option, IfSome}
 use Rattle.pm_base.specs.Counts.{capped, greatest_count}
 use Rattle.pm_types.specs.declared.entry.Entry.{Entry}
 use Rattle.pm_model.specs.declared.request.Request.{Request}
@@ -19,7 +19,7 @@ use Rattle.pm_events.specs.Causes.{OnStop}
 use Rattle.pm_serial.specs.Ordered.{StopsAmong, course_of}
 use Rattle.pm_top.specs.declared.ended.Detail.{Detail}
 use Rattle.pm_top.specs.declared.ended.Detail.TheVariants.{Script, Reading, Memory}
-use Rattle.pm_top.specs.Ends.{RanShort, stop_in}
+use Rattle.pm_top.specs.Ends.{IsOfScript, RanShort, stop_in}
 use Rattle.pm_top.specs.Stages.{IsPast, unreached, the_words, the_script, the_store, the_output}
 
 -- The journal is legal from the world of some copy, under some number, also where the disk tells nothing.
@@ -89,6 +89,19 @@ EndsFor fault (Script told) = told ≡ fault
 EndsFor fault (Reading before after) = Unit {0}
 EndsFor fault (Memory opened) = Unit {0}
 EndsFor fault detail = ⊥
+
+-- how reading a script may stop the program
+abbrev pub EndsReading : Detail → Type 0
+EndsReading (Script fault) = IsOfScript fault
+EndsReading (Reading before after) = Unit {0}
+EndsReading (Memory opened) = opened ≡ false
+EndsReading detail = ⊥
+
+-- What is said of bytes that were not read as a script: they are refused for no fault but the first that applies, and where
+-- one applies they are refused, unless memory ran out or the source failed.
+pub record StopsReading (bytes : List ℕ) (detail : Detail) : Type 0 where
+  pub refused : IsScriptEnd bytes detail
+  pub told : (fault : ScriptFault) → IsBad fault bytes → EndsFor fault detail
 
 -- Every event was made for which the lines ask: so many are the collector's, and beside them and those that write pages
 -- there is one for each entry of the journal.

@@ -9,7 +9,7 @@ use Rattle.pm_image.specs.Stands.{StandsForCopy}
 use Rattle.pm_script.specs.declared.line.Line.{Line}
 use Rattle.pm_script.specs.Script.{IsScript}
 use Rattle.pm_words.specs.declared.command.Command.{Command}
-use Rattle.pm_words.specs.declared.command.Command.TheVariants.{Init, Run, Inspect, Make, Trial}
+use Rattle.pm_words.specs.declared.command.Command.TheVariants.{Init, Run, RunThreads, Inspect, Make, Trial}
 use Rattle.pm_top.specs.declared.ended.Ended.{Ended}
 
 -- the source tells that it holds a script
@@ -32,6 +32,7 @@ module _ {D S : Type 0} (d : disk.Ghosts D) (s : source.Ghosts S) where
   abbrev pub HasNeeds : Command → D → S → Type 0
   HasNeeds Init disk source = d.contents disk ≡ Some []
   HasNeeds Run disk source = HoldsStore (d.contents disk) × HoldsScript (s.left source)
+  HasNeeds RunThreads disk source = HoldsStore (d.contents disk) × HoldsScript (s.left source)
   HasNeeds Inspect disk source = HoldsStore (d.contents disk)
   HasNeeds (Make seed turns) disk source = Unit {0}
   HasNeeds (Trial seed turns) disk source = HoldsStore (d.contents disk)

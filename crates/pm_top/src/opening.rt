@@ -1,11 +1,12 @@
 //! A run: the store is opened, and the lines are run over its copy.
-ghost use Rattle.std.specs.Prelude.{◌≡◌};
+ghost use Rattle.std.specs.Prelude.{◌≡◌, IfSome};
 ghost use Rattle.pm_script.specs.Script.{AreLines};
 ghost use Rattle.pm_place.specs.Choosers.{IsChooser};
 ghost use Rattle.pm_engine.specs.Shown.{chooser, disk_in, serving};
 ghost use Rattle.pm_events.specs.Running.{IsFresh};
-ghost use Rattle.pm_top.specs.Ends.{status_of};
+ghost use Rattle.pm_top.specs.Ends.{status_of, stop_in};
 ghost use Rattle.pm_top.specs.Journals.{ServesInOrder, ServesLines};
+ghost use Rattle.pm_top.specs.Wrote.{AcknowledgesFor};
 ghost use Rattle.pm_top.specs.Commands.{ShowsCauses, RunsStore};
 ghost use Rattle.pm_top.specs.Engines.{RunsEngine};
 
@@ -38,6 +39,7 @@ fn run_engine<D: Disk, F: Fn(&[u64]) -> usize + Drop, S: Source, K: Sink>(
     ensures serves { ServesLines lines.items result.detail result.journal.items result.tally }
     ensures order { ServesInOrder lines.items result.detail result.journal.items result.tally }
     ensures runs { RunsEngine K.Sink writes engine sink result }
+    ensures saved { AcknowledgesFor K.Sink writes sink result.sink result.journal.items (stop_in result.detail) }
     ensures causes { ShowsCauses D.Disk S.Source K.Sink (disk_in engine) source sink result }
 {
     let sink_before = sink.faults();
@@ -66,6 +68,9 @@ pub(crate) fn open_and_run<D: Disk, F: Fn(&[u64]) -> usize + Drop, S: Source, K:
     ensures serves { ServesLines lines.items result.detail result.journal.items result.tally }
     ensures order { ServesInOrder lines.items result.detail result.journal.items result.tally }
     ensures store { RunsStore D.Disk K.Sink writes disk sink result }
+    // Acknowledged is told: unless the sink failed, the text through each reply `saved` is finished.
+    ensures saved { IfSome result.tally
+        (λ it. AcknowledgesFor K.Sink writes sink result.sink result.journal.items (stop_in result.detail)) }
     ensures causes { ShowsCauses D.Disk S.Source K.Sink disk source sink result }
 {
     let before = disk.faults();

@@ -9,6 +9,9 @@ use crate::{Detail, Ended, pmos};
 use pm_disk::Disk;
 use pm_io::{Sink, Source};
 use pm_place::Placement;
+use pm_turns::Gate;
+use std::sync::Wait;
+use std::thread::Threads;
 
 /// Writes the line of an end to the sink for errors, as far as that takes it. Where all is fine there is none, and the
 /// sink is not called. It takes no memory.
@@ -26,8 +29,16 @@ pub fn tell<E: Sink>(errors: &mut E, detail: &Detail)
 
 /// Does what the program does, over any disk, streams and sink for errors, and hands back what it was lent, with the
 /// status with which it ends: 0 to 7. The replies go to `sink` alone, and to `errors` the line of the end, where the
-/// status is not 0.
-pub fn program<R: AllocGlobal, D: Disk, S: Source, K: Sink, F: Fn(&[u64]) -> usize + Drop, E: Sink>(
+/// status is not 0. As `pmos` it waits for threads where a script is run in them, and else for nobody.
+pub fn program<
+    R: AllocGlobal + Threads + Wait + Sync,
+    D: Disk + Drop + Send,
+    S: Source,
+    K: Sink,
+    F: Fn(&[u64]) -> usize + Drop + Send,
+    E: Sink,
+    G: Gate + Sync,
+>(
     rt: &R,
     words: &[&str],
     disk: D,
@@ -35,12 +46,13 @@ pub fn program<R: AllocGlobal, D: Disk, S: Source, K: Sink, F: Fn(&[u64]) -> usi
     sink: K,
     errors: &mut E,
     place: Placement<F>,
+    gate: &G,
 ) -> Ended<D, S, K>
     requires chooser { IsChooser F.Fn place }
     ensures told { Tells E.Sink errors.old errors.new (detail_line result.detail) }
     ensures performs { Performs D.Disk S.Source K.Sink (map (λ word. word.now) words.now) disk source sink result }
 {
-    let ended = pmos(rt, words, disk, source, sink, place);
+    let ended = pmos(rt, words, disk, source, sink, place, gate);
     tell(errors, &ended.detail);
     ended
 }

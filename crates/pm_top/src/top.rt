@@ -12,21 +12,34 @@ use crate::inspecting::inspect_store;
 use crate::made::{make_script, try_script};
 use crate::making::make_store;
 use crate::running::run_source;
+use crate::together::{images_since_now, run_together};
 use crate::{Detail, Ended};
 use pm_disk::Disk;
 use pm_io::{Sink, Source};
 use pm_place::Placement;
+use pm_turns::Gate;
 use pm_words::{Command, read_words, words_spell_one_command};
 use std::alloc::Global;
+use std::sync::Wait;
+use std::thread::Threads;
 
-// Does what a command asks for.
-fn perform<D: Disk, F: Fn(&[u64]) -> usize + Drop, S: Source, K: Sink>(
+// Does what a command asks for. A run in threads alone waits.
+fn perform<
+    R: Threads + Wait + Sync,
+    D: Disk + Drop + Send,
+    S: Source,
+    K: Sink,
+    F: Fn(&[u64]) -> usize + Drop + Send,
+    G: Gate + Sync,
+>(
+    rt: &R,
     alloc: Global,
     command: Command,
     disk: D,
     source: S,
     sink: K,
     place: Placement<F>,
+    gate: &G,
 ) -> Ended<D, S, K>
     requires may { MayPerform command }
     requires chooser { IsChooser F.Fn place }
@@ -37,6 +50,7 @@ fn perform<D: Disk, F: Fn(&[u64]) -> usize + Drop, S: Source, K: Sink>(
     match command {
         Command::Init => make_store(alloc, disk, source, sink),
         Command::Run => run_source(alloc, disk, place, source, sink),
+        Command::RunThreads => run_together(rt, alloc, disk, place, source, sink, gate),
         Command::Inspect => inspect_store(alloc, disk, source, sink),
         Command::Make { seed, turns } => make_script(alloc, seed, turns, disk, source, sink),
         Command::Trial { seed, turns } => {
@@ -56,6 +70,11 @@ fn perform<D: Disk, F: Fn(&[u64]) -> usize + Drop, S: Source, K: Sink>(
 /// collector, and `! flush N` makes N that write a page of that copy each, while one is left. Behind the last reply come
 /// the end line and a line for each watch.
 ///
+/// `run FILE threads` does the same in threads: one for each client, one for the events of the collector and one for
+/// those that write pages. Each client's commands are asked in the order of its lines, and nothing else of the order is
+/// promised; around each event the gate is called. The replies are written behind the last event. It waits for the
+/// threads, and all that is promised of it holds once it returns; every other command waits for nobody.
+///
 /// `inspect FILE` opens the store and writes its report. Nothing is written to the disk.
 ///
 /// `make SEED N` writes the script of this seed and of N turns. The disk is not called.
@@ -66,13 +85,21 @@ fn perform<D: Disk, F: Fn(&[u64]) -> usize + Drop, S: Source, K: Sink>(
 /// An object moves to the train that the chooser of `place` picks.
 ///
 /// What the disk and the source hold and what the sink has is said where they tell it.
-pub fn pmos<R: AllocGlobal, D: Disk, S: Source, K: Sink, F: Fn(&[u64]) -> usize + Drop>(
+pub fn pmos<
+    R: AllocGlobal + Threads + Wait + Sync,
+    D: Disk + Drop + Send,
+    S: Source,
+    K: Sink,
+    F: Fn(&[u64]) -> usize + Drop + Send,
+    G: Gate + Sync,
+>(
     rt: &R,
     words: &[&str],
     disk: D,
     source: S,
     sink: K,
     place: Placement<F>,
+    gate: &G,
 ) -> Ended<D, S, K>
     requires chooser { IsChooser F.Fn place }
     ensures status { result.status ≡ status_of result.detail }
@@ -98,9 +125,10 @@ pub fn pmos<R: AllocGlobal, D: Disk, S: Source, K: Sink, F: Fn(&[u64]) -> usize 
         → (result.status ≡ 0) ⊎ (result.status ≡ 7) }
 {
     words_spell_one_command();
+    images_since_now(&disk);
     let alloc = rt.alloc();
     match read_words(alloc, words) {
-        Ok(Some(command)) => perform(alloc, command, disk, source, sink, place),
+        Ok(Some(command)) => perform(rt, alloc, command, disk, source, sink, place, gate),
         Ok(None) => end_unopened(alloc, Detail::Usage, disk, source, sink),
         Err(_) => end_unopened(alloc, Detail::Memory { opened: false }, disk, source, sink),
     }

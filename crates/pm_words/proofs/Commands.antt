@@ -2,8 +2,8 @@
 use Rattle.std.proofs.Common.{◌≡◌, ℕ, ◌+◌, ◌*◌, List, [], ◌∷◌, length, refl, ap, ap₂, sym, ◌∙◌, arith, codes}
 use Rattle.std.proofs.lemmas.Fmt.{decimal_injective}
 use Rattle.pm_words.specs.declared.command.Command.{Command}
-use Rattle.pm_words.specs.declared.command.Command.TheVariants.{Init, Run, Inspect, Make, Trial}
-use Rattle.pm_words.specs.Words.{IsSeed, IsTurns, AreMake, AreTrial, Spells}
+use Rattle.pm_words.specs.declared.command.Command.TheVariants.{Init, Run, RunThreads, Inspect, Make, Trial}
+use Rattle.pm_words.specs.Words.{IsSeed, IsTurns, AreMake, AreRun, AreRunThreads, AreTrial, Spells}
 
 -- how many words follow the first, and how long that is
 tag : List (List ℕ) → ℕ
@@ -13,6 +13,7 @@ tag (word ∷ words) = length words + 10 * length word
 tag_of : Command → ℕ
 tag_of Init = 41
 tag_of Run = 32
+tag_of RunThreads = 32
 tag_of Inspect = 71
 tag_of (Make seed turns) = 42
 tag_of (Trial seed turns) = 53
@@ -21,6 +22,7 @@ tagged : (words : List (List ℕ)) (command : Command) → Spells words command 
 unfolding tag tag_of
 tagged words Init are = ap tag are.are
 tagged words Run are = ap tag are.are
+tagged words RunThreads are = ap tag are.are
 tagged words Inspect are = ap tag are.are
 tagged words (Make seed turns) are = ap tag are.are
 tagged words (Trial seed turns) are = ap tag are.are
@@ -55,10 +57,21 @@ trial_same words s n t m a b =
     let second : a.second ≡ b.second = cc same in
     ap₂ Trial (seed_same a.first b.first s t a.is_seed b.is_seed first) (turns_same a.second b.second n m a.is_turns b.is_turns second)
 
+-- the order is told by the third word
+orders_differ : (words : List (List ℕ)) → AreRun words → AreRunThreads words → ⊥
+orders_differ words a b =
+    let same : codes "run" ∷ a.file ∷ codes "serial" ∷ [] ≡ codes "run" ∷ b.file ∷ codes "threads" ∷ [] = sym a.are ∙ b.are in
+    let third : codes "serial" ≡ codes "threads" = cc same in
+    let long : 6 ≡ 7 = ap length third in
+    absurd (omega (arith, long))
+
 pub one_command : (words : List (List ℕ)) (one other : Command) → Spells words one → Spells words other → one ≡ other
 unfolding tag_of
 one_command words Init Init a b = refl
 one_command words Run Run a b = refl
+one_command words Run RunThreads a b = absurd (orders_differ words a b)
+one_command words RunThreads Run a b = absurd (orders_differ words b a)
+one_command words RunThreads RunThreads a b = refl
 one_command words Inspect Inspect a b = refl
 one_command words (Make s n) (Make t m) a b = make_same words s n t m a b
 one_command words (Trial s n) (Trial t m) a b = trial_same words s n t m a b

@@ -2,7 +2,7 @@
 use Rattle.std.specs.Prelude.{◌≡◌, ℕ, ◌^◌, ◌<◌, ◌≤◌, List, [], ◌∷◌, codes, decimal}
 use Rattle.pm_types.specs.declared.limits.TheConstants.{MOST_TURNS}
 use Rattle.pm_words.specs.declared.command.Command.{Command}
-use Rattle.pm_words.specs.declared.command.Command.TheVariants.{Init, Run, Inspect, Make, Trial}
+use Rattle.pm_words.specs.declared.command.Command.TheVariants.{Init, Run, RunThreads, Inspect, Make, Trial}
 
 -- a file's name: it is not empty, and does not begin with a dash, which is 45
 pub record IsFile (word : List ℕ) : Type 0 where
@@ -33,6 +33,12 @@ pub record AreRun (words : List (List ℕ)) : Type 0 where
   pub is_file : IsFile file
   pub are : words ≡ codes "run" ∷ file ∷ codes "serial" ∷ []
 
+-- `run FILE threads`
+pub record AreRunThreads (words : List (List ℕ)) : Type 0 where
+  pub file : List ℕ
+  pub is_file : IsFile file
+  pub are : words ≡ codes "run" ∷ file ∷ codes "threads" ∷ []
+
 -- `inspect FILE`
 pub record AreInspect (words : List (List ℕ)) : Type 0 where
   pub file : List ℕ
@@ -61,6 +67,7 @@ pub record AreTrial (words : List (List ℕ)) (seed turns : ℕ) : Type 0 where
 abbrev pub Spells : List (List ℕ) → Command → Type 0
 Spells words Init = AreInit words
 Spells words Run = AreRun words
+Spells words RunThreads = AreRunThreads words
 Spells words Inspect = AreInspect words
 Spells words (Make seed turns) = AreMake words seed turns
 Spells words (Trial seed turns) = AreTrial words seed turns

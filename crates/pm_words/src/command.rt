@@ -5,6 +5,8 @@ pub enum Command {
     Init,
     /// `run FILE serial`: run the script on the source, in the order of its lines.
     Run,
+    /// `run FILE threads`: run it in threads, each client's lines in their order.
+    RunThreads,
     /// `inspect FILE`: write the report of a store.
     Inspect,
     /// `make SEED N`: write the script of this seed and this many turns.

@@ -90,6 +90,8 @@ fn of_three(verb: &str, second: &str, third: &str) -> Option<Command>
         of_make(second, third)
     } else if verb == "run" && is_file(second) && third == "serial" {
         Some(Command::Run)
+    } else if verb == "run" && is_file(second) && third == "threads" {
+        Some(Command::RunThreads)
     } else {
         None
     }

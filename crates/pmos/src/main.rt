@@ -2,7 +2,7 @@
 //! leaves all else to `pm_top`.
 #![tactic(auto)]
 
-ghost use Rattle.std.specs.Prelude.{◌≡◌, List, map, drop, string_bytes, IfOk, OnErr};
+ghost use Rattle.std.specs.Prelude.{◌≡◌, map, drop, string_bytes, IfOk, OnErr};
 ghost use Rattle.std.specs.Process.{exit_status};
 ghost use Rattle.std.specs.Vec.Iter.{into_iter_items};
 ghost use Rattle.pm_top.specs.Ends.{detail_line};
@@ -10,16 +10,18 @@ ghost use Rattle.pm_top.specs.Program.{Tells, TellsEnd};
 ghost use Rattle.pmos.specs.Main.{path_in, PerformsFrom};
 
 use pm_disk::Disk;
-use pm_file::{FileDisk, StoreFile};
+use pm_file::FileDisk;
 use pm_io::{Sink, Source, StdSink, StdSource};
 use pm_place::Placement;
 use pm_top::{Detail, Ended, program, tell};
+use pm_turns::OpenGate;
 use pm_types::NoMemory;
 use std::alloc::{AllocError, Global};
 use std::env::{Args, Env};
-use std::fs::Files;
 use std::io::{ErrorKind, Read, Write};
 use std::process::ExitCode;
+use std::sync::Wait;
+use std::thread::Threads;
 use std::{env, io};
 
 // The words behind the program's name, all of them.
@@ -66,82 +68,80 @@ fn path_of<'a>(words: &[&'a str]) -> &'a str
 }
 
 // Runs the program over the file that the words name, over a reader and over a writer, and hands back what it left.
-fn run<R: AllocGlobal + Files + Copy + Drop, I: Read + Drop, O: Write + Drop, E: Sink>(
+fn run<R: AllocGlobal + Threads + Wait + Sync, I: Read + Drop, O: Write + Drop, E: Sink>(
     rt: &R,
+    files: HostRuntime,
     words: &[&str],
     reader: I,
     writer: O,
     errors: &mut E,
-) -> Result<Ended<FileDisk<R>, StdSource<I>, StdSink<O>>, NoMemory>
-where
-    R::File: StoreFile,
+) -> Result<Ended<FileDisk<HostRuntime>, StdSource<I>, StdSink<O>>, NoMemory>
     ensures told { IfOk result (λ ended. Tells E.Sink errors.old errors.new (detail_line ended.detail)) }
     ensures untold { OnErr result (errors.new ≡ errors.old) }
     ensures performs { IfOk result (λ ended. PerformsFrom
-        ⟦<FileDisk<R> as Disk>⟧ ⟦<StdSource<I> as Source>⟧ ⟦<StdSink<O> as Sink>⟧
-        (λ disk source sink. (⟦<FileDisk<R> as Disk>⟧.count disk ≡ 0)
+        ⟦<FileDisk<HostRuntime> as Disk>⟧ ⟦<StdSource<I> as Source>⟧ ⟦<StdSink<O> as Sink>⟧
+        (λ disk source sink. (⟦<FileDisk<HostRuntime> as Disk>⟧.count disk ≡ 0)
         × (source.known ≡ I.remaining reader) × (sink.known ≡ O.contents writer))
         (map (λ word. word.now) words.now) ended) }
 {
-    let disk = FileDisk::at(*rt, rt.alloc(), path_of(words))?;
+    let disk = FileDisk::at(files, rt.alloc(), path_of(words))?;
     let source = StdSource::new(reader);
     let sink = StdSink::new(writer);
     // Of the trains an object may move to it picks the first.
     let place = Placement::new(|_: &[u64]| 0);
-    Ok(program(rt, words, disk, source, sink, errors, place))
+    // Between its turns no worker is held back.
+    let gate = OpenGate;
+    Ok(program(rt, words, disk, source, sink, errors, place, &gate))
 }
 
 // Runs the program over the words, of which the texts are lent.
-fn run_words<R: AllocGlobal + Files + Copy + Drop, I: Read + Drop, O: Write + Drop, E: Sink>(
+fn run_words<R: AllocGlobal + Threads + Wait + Sync, I: Read + Drop, O: Write + Drop, E: Sink>(
     rt: &R,
+    files: HostRuntime,
     words: &[String],
     reader: I,
     writer: O,
     errors: &mut E,
-) -> Result<Ended<FileDisk<R>, StdSource<I>, StdSink<O>>, NoMemory>
-where
-    R::File: StoreFile,
+) -> Result<Ended<FileDisk<HostRuntime>, StdSource<I>, StdSink<O>>, NoMemory>
     ensures told { IfOk result (λ ended. Tells E.Sink errors.old errors.new (detail_line ended.detail)) }
     ensures untold { OnErr result (errors.new ≡ errors.old) }
     ensures performs { IfOk result (λ ended. PerformsFrom
-        ⟦<FileDisk<R> as Disk>⟧ ⟦<StdSource<I> as Source>⟧ ⟦<StdSink<O> as Sink>⟧
-        (λ disk source sink. (⟦<FileDisk<R> as Disk>⟧.count disk ≡ 0)
+        ⟦<FileDisk<HostRuntime> as Disk>⟧ ⟦<StdSource<I> as Source>⟧ ⟦<StdSink<O> as Sink>⟧
+        (λ disk source sink. (⟦<FileDisk<HostRuntime> as Disk>⟧.count disk ≡ 0)
         × (source.known ≡ I.remaining reader) × (sink.known ≡ O.contents writer))
         (map string_bytes words.now) ended) }
 {
     let texts = texts(rt.alloc(), words)?;
-    run(rt, texts.as_slice(), reader, writer, errors)
+    run(rt, files, texts.as_slice(), reader, writer, errors)
 }
 
 // Runs the program over the words of the command line, and answers its status.
-fn run_all<R: AllocGlobal + Env + Files + Copy + Drop, I: Read + Drop, O: Write + Drop, E: Sink>(
+fn run_all<R: AllocGlobal + Env + Threads + Wait + Sync, I: Read + Drop, O: Write + Drop, E: Sink>(
     rt: &R,
+    files: HostRuntime,
     reader: I,
     writer: O,
     errors: &mut E,
 ) -> Result<u8, NoMemory>
-where
-    R::File: StoreFile,
     ensures told { IfOk result (λ status. TellsEnd E.Sink errors.old errors.new status) }
     ensures untold { OnErr result (errors.new ≡ errors.old) }
 {
     let words = words(rt)?;
-    let ended = run_words(rt, words.as_slice(), reader, writer, errors)?;
+    let ended = run_words(rt, files, words.as_slice(), reader, writer, errors)?;
     Ok(ended.status)
 }
 
 // The status with which the program ends. Where there is no memory for its words or for the file's name, that is told.
-fn end<R: AllocGlobal + Env + Files + Copy + Drop, I: Read + Drop, O: Write + Drop, E: Sink>(
+fn end<R: AllocGlobal + Env + Threads + Wait + Sync, I: Read + Drop, O: Write + Drop, E: Sink>(
     rt: &R,
+    files: HostRuntime,
     reader: I,
     writer: O,
     errors: &mut E,
 ) -> u8
-where
-    R::File: StoreFile,
     ensures { TellsEnd E.Sink errors.old errors.new result }
 {
-    match run_all(rt, reader, writer, errors) {
+    match run_all(rt, files, reader, writer, errors) {
         Ok(status) => status,
         Err(_) => {
             tell(errors, &Detail::Memory { opened: false });
@@ -159,5 +159,5 @@ fn exit_of(status: u8) -> ExitCode
 
 fn main(rt: HostRuntime) -> ExitCode {
     let mut errors = StdSink::new(rt.stderr());
-    exit_of(end(&rt, rt.reader(), io::writer(&rt), &mut errors))
+    exit_of(end(&rt, rt, rt.reader(), io::writer(&rt), &mut errors))
 }

@@ -1,4 +1,5 @@
-use Rattle.std.proofs.Common.{List, refl, ap, sym, subst, ◌∙◌}
+use Rattle.std.proofs.Common.{List, Option, refl, ap, sym, subst, ◌∙◌}
+use Rattle.pm_types.specs.declared.fault.EngineFault.{EngineFault}
 use Rattle.pm_model.specs.Text.{text}
 use Rattle.pm_script.specs.declared.line.Line.{Line}
 use Rattle.pm_serving.specs.Serving.{Serving}
@@ -10,16 +11,16 @@ use Rattle.pm_events.specs.Events.{EngineGoesOn}
 use Rattle.pm_events.specs.Running.{RunsOnDisk}
 use Rattle.pm_serial.specs.Writing.{tail_of}
 use Rattle.pm_serial.proofs.Gathering.{wrote_none}
-use Rattle.pm_lock.specs.Kept.{HasCauseSince, stop_kept}
-use Rattle.pm_lock.specs.Shown.{engine_in, fault_in, left_in, lines_in}
+use Rattle.pm_lock.specs.Kept.{HasCauseSince, HasLeft, stop_kept}
+use Rattle.pm_lock.specs.Shown.{collects_in, engine_in, fault_in, flushes_in, left_in, lines_in}
 use Rattle.pm_lock.specs.Whole.{MakesAllOf}
 use Rattle.pm_threads.specs.Running.{AnswersClients}
 use Rattle.pm_threads.proofs.Clients.{answers_clients, answers_none_yet}
-use Rattle.pm_threads.proofs.Ended.{counts_known, kept_none, past_known, runs_known, runs_none, start_known}
+use Rattle.pm_threads.proofs.Ended.{counts_known, kept_memory, kept_none, past_known, runs_known, runs_none, start_known}
 use Rattle.pm_threads.proofs.run.run_script.Goals as goal
 
 pub returns-in_default-clause-answers : goal.returns-in_default-clause-answers
-returns-in_default-clause-answers g c = answers_none_yet c.args.script (serving c.args.engine) Memory c.requires.fresh.journal
+returns-in_default-clause-answers g c = answers_none_yet c.args.script (serving c.args.engine) Memory c.requires.fresh.journal c.requires.fresh.events
 
 pub returns-in_default-clause-disk : goal.returns-in_default-clause-disk
 returns-in_default-clause-disk g c =
@@ -39,7 +40,9 @@ returns-in-Ok-new-clause-answers g c =
     let run = c.run_all-book.ensures in
     let law = c.keep_its_script.ensures in
     let made = answers_clients (lines_in book) it (left_in book) stop law.parts law.answered law.few
-    (λ done. subst (λ (lines : List Line). MakesAllOf lines it) (sym run.lines) (run.all (kept_none (fault_in book) stop c.end_book.ensures.first done))) in
+    (λ done. subst (λ (lines : List Line). MakesAllOf lines it) (sym run.lines) (run.all (kept_none (fault_in book) stop c.end_book.ensures.first done)))
+    (collects_in book) (flushes_in book) law.steps law.events
+    (λ is. subst (λ (fault : Option EngineFault). ∥ HasLeft fault it (left_in book) (collects_in book) (flushes_in book) ∥₁) (kept_memory (fault_in book) stop c.end_book.ensures.first is) c.keep_its_engine.ensures.short) in
     subst (λ (e : Engine g.row.D.Denot g.row.F.Denot g.D.Disk). AnswersClients c.args.script (serving e) stop) (sym c.end_book.ensures.engine)
     (subst (λ (lines : List Line). AnswersClients lines it stop) (run.lines ∙ c.in-Ok-new.ensures.begins.lines_are) made)
 
@@ -88,7 +91,9 @@ returns-in-Ok-new-clause-start g c =
     subst (λ (e : Engine g.row.D.Denot g.row.F.Denot g.D.Disk). ∥ KeepsStart c.args.engine e ∥₁) (sym c.end_book.ensures.engine) (start_known c.args.engine new fault (why c.end_book.result.0) c.end_book.ensures.first goes)
 
 pub returns-clause-answers : goal.returns-clause-answers
-returns-clause-answers g c = answers_none_yet c.args.script (serving c.in-Err.engine) Memory (ap (λ (it : Serving). it.journal) c.in-Err.ensures.serving ∙ c.requires.fresh.journal)
+returns-clause-answers g c =
+    answers_none_yet c.args.script (serving c.in-Err.engine) Memory (ap (λ (it : Serving). it.journal) c.in-Err.ensures.serving ∙ c.requires.fresh.journal)
+    (ap (λ (it : Serving). it.events) c.in-Err.ensures.serving ∙ c.requires.fresh.events)
 
 pub returns-clause-disk : goal.returns-clause-disk
 returns-clause-disk g c =

@@ -1,18 +1,21 @@
-use Rattle.std.proofs.Common.{◌∙◌, ap, sym, subst, List, None}
+use Rattle.std.proofs.Common.{◌∙◌, ap, sym, subst, List, Option, None}
+use Rattle.std.specs.Prelude.{IfSome}
 use Rattle.pm_types.specs.declared.entry.Entry.{Entry}
 use Rattle.pm_disk.specs.Made.{Made}
 use Rattle.pm_copies.specs.Listed.{copy_in}
 use Rattle.pm_serving.specs.Images.{IsTold}
 use Rattle.pm_place.specs.Choosers.{IsChooser}
 use Rattle.pm_engine.specs.Shown.{disk_in, opened_disk, serving}
-use Rattle.pm_top.specs.Ends.{not_opened}
+use Rattle.pm_engine.specs.declared.tally.Tally.{Tally}
+use Rattle.pm_top.specs.Ends.{not_opened, stop_in}
+use Rattle.pm_top.specs.Wrote.{AcknowledgesFor}
 use Rattle.pm_top.specs.Journals.{ServesInOrder, ServesLines}
 use Rattle.pm_top.specs.Commands.{ShowsCauses, RunsStore}
 use Rattle.pm_top.proofs.Parts.{at_end}
 use Rattle.pm_top.proofs.Ran.{fresh_engine}
 use Rattle.pm_top.proofs.Faults.{ends_open, undone_open, open_causes, causes_after}
 use Rattle.pm_top.proofs.Opened.{opened_run, refused_run, refused_for, none_opened, tried_open}
-use Rattle.pm_top.proofs.Stores.{orders_none, store_run, store_unrun, serves_none}
+use Rattle.pm_top.proofs.Stores.{if_there, orders_none, store_run, store_unrun, serves_none}
 use Rattle.pm_top.proofs.opening.open_and_run.Goals as goal
 
 pub run_engine-requires-clause-fresh : goal.run_engine-requires-clause-fresh
@@ -37,7 +40,15 @@ returns-in-Ok-clause-store g c =
     ran.late ran.there opens.stands ran.comes_to
     (opened_run g.D.Disk c.args.disk (disk_in engine) it.disk (serving engine).number (copy_in (serving engine).opened) it.detail it.journal.items
     opens.told opens.leaves opens.stands ran.legal (λ told. ran.images (told_then told)) (λ told. ran.last (told_then told)) ran.idle opens.made ran.late)
-    ran.replies ran.saved
+    ran.replies
+
+pub returns-in-Ok-clause-saved : goal.returns-in-Ok-clause-saved
+returns-in-Ok-clause-saved g c = if_there c.run_engine.result.tally c.run_engine.ensures.saved
+
+pub returns-in-Err-clause-saved : goal.returns-in-Err-clause-saved
+returns-in-Err-clause-saved g c =
+    let it = c.end_unopened.result in
+    subst (λ (tally : Option Tally). IfSome tally (λ told. AcknowledgesFor g.K.Sink c.args.writes c.args.sink it.sink it.journal.items (stop_in it.detail))) (sym c.end_unopened.ensures.tally) tt
 
 pub returns-in-Ok-clause-causes : goal.returns-in-Ok-clause-causes
 returns-in-Ok-clause-causes g c =

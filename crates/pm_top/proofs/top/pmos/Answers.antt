@@ -27,4 +27,4 @@ returns-in-Err-clause-does g c command spells =
     at_end (λ it. Does g.D.Disk g.S.Source g.K.Sink command c.args.disk c.args.source c.args.sink it) it
     e.detail e.tally e.disk e.source e.sink
     (untouched_does g.D.Disk g.S.Source g.K.Sink command c.args.disk c.args.source c.args.sink it e.journal
-    (g.met.D.Disk.only_now c.args.disk) (record { no_more = λ image is. is; no_fewer = λ image is. is }))
+    c.images_since_now.ensures (record { no_more = λ image is. is; no_fewer = λ image is. is }))

@@ -1,0 +1,24 @@
+//! `pm_parts_cases`: reads cases from standard input, parts the lines of a script by who asks, and prints what each
+//! client has then. `docs/TESTS.md` says how a case is written.
+#![tactic(auto)]
+
+mod case;
+mod fault;
+mod scripts;
+
+use case::take;
+use std::fmt::Write;
+use std::io::{self, BufRead, BufReader};
+
+fn main(rt: HostRuntime) -> io::Result<()> {
+    let alloc = rt.alloc();
+    for line in BufReader::new(alloc, rt.reader())?.lines(alloc) {
+        let line = line?;
+        let mut out = String::new(alloc);
+        if let Err(fault) = take(alloc, line.as_str(), &mut out) {
+            writeln!(out, "? {fault:?}: {line}")?;
+        }
+        print!(rt; "{out}")?;
+    }
+    Ok(())
+}
