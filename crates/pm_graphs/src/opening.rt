@@ -54,7 +54,8 @@ fn read_whole<D: Disk>(alloc: Global, pages: &mut Pages<D>) -> Result<(Chain, Se
     requires { IsThere (state pages.old).count (state pages.old).header.first }
     ensures gives { IfTold (D.contents (disk_of pages.old)) (λ bytes. Gives (as_graph result)
         (graph_of (store_of (state pages.old).count bytes) (state pages.old).header)) }
-    ensures whole { IfOk result (λ read. IsReadWhole (state pages.old).count (state pages.old).header.next read.0 read.1) }
+    ensures whole { IfOk result
+        (λ read. IsReadWhole (state pages.old).count (state pages.old).header.next read.0 read.1) }
     ensures begins { IfOk result (λ read. Contains (page_numbers read.0) (state pages.old).header.first) }
     ensures looked { Looked pages.old pages.new }
     ensures counts { Counts (D.count (disk_of pages.old)) (D.count (disk_of pages.new)) result }
@@ -103,7 +104,8 @@ pub fn read_graph<D: Disk>(
         (graph_of (store_of (state pages.old).count bytes) (state pages.old).header)) }
     // On any disk the pages are pages of the store, with the one that the header names, each entry follows those before
     // it, the cars are those that are listed, and each address leads where it may.
-    ensures whole { IfOk result (λ read. IsReadWhole (state pages.old).count (state pages.old).header.next read.0 read.1) }
+    ensures whole { IfOk result
+        (λ read. IsReadWhole (state pages.old).count (state pages.old).header.next read.0 read.1) }
     ensures begins { IfOk result (λ read. Contains (page_numbers read.0) (state pages.old).header.first) }
     ensures cause { IfErr result (IsGraphFault (D.count (disk_of pages.old)) (D.count (disk_of pages.new))) }
     ensures count { OnOk result (D.count (disk_of pages.new) ≡ D.count (disk_of pages.old)) }

@@ -9,3 +9,4 @@ pub mod BlankLemmas
 pub mod UsedLemmas
 pub mod CopyLemmas
 pub mod OrderLemmas
+pub mod NewLemmas

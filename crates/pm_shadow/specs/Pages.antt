@@ -1,5 +1,5 @@
 -- What the pages of a store show.
-use Rattle.std.specs.Prelude.{◌≡◌, false, List, ℕ, Some}
+use Rattle.std.specs.Prelude.{◌≡◌, false, List, ℕ, Some, Result, Ok, Err}
 use Rattle.pm_disk.specs.declared.disk.Disk.{Ghosts}
 use Rattle.pm_shadow.specs.declared.pages.Pages.{Pages}
 use Rattle.pm_shadow.specs.State.{State}
@@ -12,6 +12,11 @@ module _ {D : Type 0} {g : Ghosts D} where
 
   abbrev pub disk_of : Pages D g → D
   disk_of it = it.disk
+
+  -- the disk that is left: that of the pages, or the one that is handed back
+  abbrev pub disk_left : {F : Type 0} → Result (Pages D g) (D × F) → D
+  disk_left (Ok it) = disk_of it
+  disk_left (Err handed) = handed.0
 
   -- while no publish has failed, whatever a crash leaves has the current header and the current copy's pages
   pub current_kept : (it : Pages D g) → (state it).failed ≡ false → (bytes : List ℕ) → g.contents (disk_of it) ≡ Some bytes → IsSoundState (state it) bytes (g.image (disk_of it))

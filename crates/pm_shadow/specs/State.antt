@@ -1,11 +1,12 @@
 -- What contracts see of the pages of a store, beside the disk.
 use Rattle.std.specs.Prelude.{◌≡◌, ℕ, ◌-◌, ◌+◌, ◌<◌, ◌≤◌, Bool, true, false, not, List, [], length, max}
 use Rattle.pm_layout.specs.declared.header.Header.{Header}
+use Rattle.pm_image.specs.Blank.{blank_header}
 use Rattle.pm_shadow.specs.declared.page_use.PageUse.{PageUse}
 use Rattle.pm_shadow.specs.declared.page_use.PageUse.TheVariants.{Free, Current, Claimed, Kept}
 use Rattle.pm_layout.specs.Headers.{HasHeaderSpelling}
 use Rattle.pm_types.specs.declared.limits.TheConstants.{PAGE_BYTES}
-use Rattle.pm_shadow.specs.Uses.{use_of, with_use, is_next, renewed_uses, abandoned_uses}
+use Rattle.pm_shadow.specs.Uses.{use_of, with_use, is_next, new_uses, renewed_uses, abandoned_uses}
 
 -- The current header and the slot where it stands; how many pages the store had when that header was found or
 -- published, and how many it has now; whether the pages of the current copy are known, and what each page is used
@@ -67,6 +68,11 @@ IsIdle s = (page : ℕ) → is_next (s.uses page) ≡ false
 -- a header was found: no page is known to be used, and none is claimed
 abbrev pub attached : ℕ → Header → ℕ → Bool → State
 attached slot header count closed = record { slot = slot; header = header; settled = count; count = count; known = false; uses = use_of []; closed = closed; failed = false }
+
+-- A store was just made: its header is in slot 0, the gate of the other slot is closed, and of its three pages the
+-- current copy stands on page 2.
+abbrev pub new_store : State
+new_store = record { slot = 0; header = blank_header; settled = 3; count = 3; known = true; uses = new_uses; closed = true; failed = false }
 
 -- the pages have these uses
 abbrev pub with_uses : State → (ℕ → PageUse) → State

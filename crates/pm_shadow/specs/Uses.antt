@@ -85,3 +85,7 @@ pub record UsesOnlyListed (pages : List ℕ) (uses : ℕ → PageUse) : Type 0 w
   pub headers : (page : ℕ) → page < 2 → uses page ≡ Current
   pub listed : (page : ℕ) → Contains pages page → uses page ≡ Current
   pub others : (page : ℕ) → 2 ≤ page → (Contains pages page → ⊥) → uses page ≡ Free
+
+-- in a store that was just made page 2 is the current copy's, as the headers are in use, and all others are free
+abbrev pub new_uses : ℕ → PageUse
+new_uses page = if nat_lt page 3 then Current else Free

@@ -1,6 +1,7 @@
 ghost use Rattle.std.specs.Prelude.{◌≡◌, ℕ, List, true, Ok};
 ghost use Rattle.pm_layout.specs.declared.header.Header.{Header};
-ghost use Rattle.pm_image.specs.Opening.{current, is_placed, page_count};
+ghost use Rattle.pm_image.specs.Blank.{blank_catalog_page, blank_store};
+ghost use Rattle.pm_image.specs.Opening.{current, is_placed, page_count, page_of};
 ghost use Rattle.pm_image.specs.Graphs.{Graph};
 ghost use Rattle.pm_image.specs.Stands.{opened};
 ghost use Rattle.pm_shadow.specs.declared.page_use.PageUse.{PageUse};
@@ -50,4 +51,10 @@ pub fn the_next_copy_grows_beside_the_current_one()
         → IsIdle (known_by s uses) }
     ensures given_up { (s : State) → IsIdle (abandoned_in s) }
     ensures published { (s : State) (header : Header) → IsIdle (published s header) }
+{}
+
+/// A store that was just made has three pages, and its catalog is the last one.
+pub fn a_new_store_has_three_pages()
+    ensures count { page_count blank_store ≡ 3 }
+    ensures catalog { page_of blank_store 2 ≡ blank_catalog_page }
 {}

@@ -12,8 +12,8 @@ mod slots;
 mod table;
 
 pub use law::{
-    a_header_in_the_picked_slot_is_current, an_image_is_opened_with_its_graph,
-    the_next_copy_grows_beside_the_current_one,
+    a_header_in_the_picked_slot_is_current, a_new_store_has_three_pages,
+    an_image_is_opened_with_its_graph, the_next_copy_grows_beside_the_current_one,
 };
 pub use making::init;
 pub use page_use::PageUse;

@@ -1,5 +1,5 @@
 //! Making a store.
-ghost use Rattle.std.specs.Prelude.{◌≡◌, ◌*◌, ◌-◌, ◌<◌, ◌≤◌, [], List, ℕ, Some, length, MatchResult, IfOk, IfErr, OnOk, OnErr};
+ghost use Rattle.std.specs.Prelude.{◌≡◌, ◌*◌, ◌-◌, ◌<◌, ◌≤◌, [], List, ℕ, Some, None, length, option_map, MatchResult, IfOk, IfErr, OnOk, OnErr};
 ghost use Rattle.pm_disk.specs.Writes.{written};
 ghost use Rattle.pm_disk.specs.Disk.{IfTold, SameImages, LeavesOnly, HasCause};
 ghost use Rattle.pm_disk.specs.Made.{MakesCalls};
@@ -8,10 +8,12 @@ ghost use Rattle.pm_image.specs.CarPages.{padded};
 ghost use Rattle.pm_image.specs.Opening.{open_gate};
 ghost use Rattle.pm_image.specs.Blank.{blank_header, blank_catalog_page, blank_store};
 ghost use Rattle.pm_shadow.specs.Images.{place_of, with_gate};
+ghost use Rattle.pm_shadow.specs.Runs.{OnlyLooks};
 ghost use Rattle.pm_shadow.specs.Init.{IsInitFault, IsInitFaultOf, KeepsBytes, MakesInOrder, UnlessFailed, shut_store};
 
 use crate::runs::write_and_sync;
 use crate::slots::{OPEN, gate_place};
+use crate::table::FIRST_PAGE;
 use pm_disk::{Disk, DiskFailed};
 use pm_image::ENTRIES;
 use pm_layout::{Header, digest, write_header};
@@ -40,20 +42,27 @@ fn catalog_page(alloc: Global) -> Result<Vec<u8>, NoMemory>
     Ok(page)
 }
 
-/// The page of the first header, whose gate is closed.
-fn header_page(alloc: Global, catalog: &[u8]) -> Result<Vec<u8>, NoMemory>
+/// The header of a new store, whose catalog page has these bytes.
+fn header_before(catalog: &[u8]) -> Header
     requires { catalog.now ≡ blank_catalog_page }
-    ensures items { IfOk result (λ page. page.items ≡ padded (header_spelling blank_header)) }
-    ensures len { IfOk result (λ page. length page.items ≡ PAGE_BYTES) }
+    ensures { result ≡ blank_header }
 {
-    let header = Header {
+    Header {
         version: VERSION,
         epoch: 0,
         next: 1,
-        first: 2,
+        first: FIRST_PAGE,
         digest: digest(catalog),
-    };
-    padded_page(alloc, &write_header(&header))
+    }
+}
+
+/// The page of the first header, whose gate is closed.
+fn header_page(alloc: Global, header: &Header) -> Result<Vec<u8>, NoMemory>
+    requires { header.now ≡ blank_header }
+    ensures items { IfOk result (λ page. page.items ≡ padded (header_spelling blank_header)) }
+    ensures len { IfOk result (λ page. length page.items ≡ PAGE_BYTES) }
+{
+    padded_page(alloc, &write_header(header))
 }
 
 /// Three pages, a sync, the gate of the first one, and a sync.
@@ -66,9 +75,9 @@ fn write_pages<D: Disk>(
     requires zeroth { length zeroth.now ≡ PAGE_BYTES }
     requires first { length first.now ≡ PAGE_BYTES }
     requires second { length second.now ≡ PAGE_BYTES }
-    ensures written { OnOk result (IfTold (D.contents disk.old) (λ bytes. D.contents disk.new ≡ Some
-        (with_gate 0 open_gate (written (place_of 2) second.now
-        (written (place_of 1) first.now (written 0 zeroth.now bytes)))))) }
+    ensures written { OnOk result (D.contents disk.new ≡ option_map
+        (λ bytes. with_gate 0 open_gate (written (place_of 2) second.now
+        (written (place_of 1) first.now (written 0 zeroth.now bytes)))) (D.contents disk.old)) }
     ensures only { OnOk result (IfTold (D.contents disk.new) (λ told. (left : List ℕ) → D.image disk.new left
         → left ≡ told)) }
     ensures cause { HasCause (D.count disk.old) (D.count disk.new) result }
@@ -85,9 +94,11 @@ fn write_pages<D: Disk>(
 }
 
 /// Writes a store without an object and without a root: three pages, of which the first has the header.
-fn make<D: Disk>(alloc: Global, disk: &mut D) -> Result<Result<(), DiskFailed>, NoMemory>
+fn write_store<D: Disk>(alloc: Global, disk: &mut D) -> Result<Result<Header, DiskFailed>, NoMemory>
+    ensures header { IfOk result (λ made. IfOk made (λ header. header ≡ blank_header)) }
     ensures blank { IfOk result (λ made. OnOk made (IfTold (D.contents disk.old) (λ bytes. length bytes ≡ 0
         → D.contents disk.new ≡ Some blank_store))) }
+    ensures untold { IfOk result (λ made. OnOk made (D.contents disk.old ≡ None → D.contents disk.new ≡ None)) }
     ensures only { IfOk result (λ made. OnOk made (IfTold (D.contents disk.new) (λ told. (left : List ℕ)
         → D.image disk.new left → left ≡ told))) }
     ensures cause { IfOk result (λ made. HasCause (D.count disk.old) (D.count disk.new) made) }
@@ -97,9 +108,58 @@ fn make<D: Disk>(alloc: Global, disk: &mut D) -> Result<Result<(), DiskFailed>, 
     ensures still { OnErr result (disk.new ≡ disk.old) }
 {
     let second = catalog_page(alloc)?;
-    let zeroth = header_page(alloc, &second)?;
+    let header = header_before(&second);
+    let zeroth = header_page(alloc, &header)?;
     let first = padded_page(alloc, &[])?;
-    Ok(write_pages(disk, &zeroth, &first, &second))
+    match write_pages(disk, &zeroth, &first, &second) {
+        Ok(()) => Ok(Ok(header)),
+        Err(DiskFailed) => Ok(Err(DiskFailed)),
+    }
+}
+
+/// Asks a disk whether it is empty.
+pub(crate) fn ask_empty<D: Disk>(disk: &mut D) -> Result<(), InitFault>
+    ensures empty { OnOk result (IfTold (D.contents disk.old) (λ bytes. length bytes ≡ 0)) }
+    ensures fault { IfErr result (λ fault. IfTold (D.contents disk.old) (λ bytes. IsInitFaultOf bytes fault)) }
+    ensures cause { MatchResult result (λ _. D.count disk.new ≡ D.count disk.old)
+        (IsInitFault (D.count disk.old) (D.count disk.new)) }
+    ensures looks { OnlyLooks D.contents D.image D.moment D.since disk.old disk.new }
+    ensures made { D.made disk.new ≡ D.made disk.old }
+{
+    let before = disk.faults();
+    match disk.len() {
+        Ok(0) => Ok(()),
+        Ok(n) => Err(InitFault::NotEmpty(n)),
+        Err(DiskFailed) => {
+            let after = disk.faults();
+            Err(InitFault::Disk { before, after })
+        }
+    }
+}
+
+/// Makes a store on a disk that holds no byte.
+pub(crate) fn make<D: Disk>(alloc: Global, disk: &mut D) -> Result<Header, InitFault>
+    requires { IfTold (D.contents disk.old) (λ bytes. length bytes ≡ 0) }
+    ensures header { IfOk result (λ header. header ≡ blank_header) }
+    ensures blank { OnOk result (D.contents disk.new ≡ option_map (λ _. blank_store) (D.contents disk.old)) }
+    ensures only { OnOk result (IfTold (D.contents disk.new) (λ told. (left : List ℕ) → D.image disk.new left
+        → left ≡ told)) }
+    ensures fault { IfErr result (λ fault. IfTold (D.contents disk.old) (λ bytes. IsInitFaultOf bytes fault)) }
+    ensures cause { MatchResult result (λ _. D.count disk.new ≡ D.count disk.old)
+        (IsInitFault (D.count disk.old) (D.count disk.new)) }
+    ensures made { MakesCalls 4 2 (D.made disk.old) (D.made disk.new) result }
+    ensures order { IfTold (D.contents disk.old) (λ _. MakesInOrder D.Disk shut_store disk.old disk.new) }
+    ensures still { IfErr result (λ fault. UnlessFailed fault (disk.new ≡ disk.old)) }
+{
+    let before = disk.faults();
+    match write_store(alloc, disk) {
+        Ok(Ok(header)) => Ok(header),
+        Ok(Err(DiskFailed)) => {
+            let after = disk.faults();
+            Err(InitFault::Disk { before, after })
+        }
+        Err(NoMemory) => Err(InitFault::Memory),
+    }
 }
 
 /// Makes a store on an empty disk: copy 0, of no object and no root, on three pages of 16,384 bytes. The
@@ -130,21 +190,7 @@ pub fn init<D: Disk>(alloc: Global, disk: &mut D) -> Result<(), InitFault>
     ensures still { IfErr result (λ fault. UnlessFailed fault
         ((D.contents disk.new ≡ D.contents disk.old) × SameImages (D.image disk.old) (D.image disk.new))) }
 {
-    let before = disk.faults();
-    match disk.len() {
-        Ok(0) => {}
-        Ok(n) => return Err(InitFault::NotEmpty(n)),
-        Err(DiskFailed) => {
-            let after = disk.faults();
-            return Err(InitFault::Disk { before, after });
-        }
-    }
-    match make(alloc, disk) {
-        Ok(Ok(())) => Ok(()),
-        Ok(Err(DiskFailed)) => {
-            let after = disk.faults();
-            Err(InitFault::Disk { before, after })
-        }
-        Err(NoMemory) => Err(InitFault::Memory),
-    }
+    ask_empty(disk)?;
+    make(alloc, disk)?;
+    Ok(())
 }

@@ -7,12 +7,13 @@ ghost use Rattle.pm_shadow.specs.Images.{IsSoundState};
 use crate::PageUse;
 use crate::attaching::Found;
 use crate::looking::find;
+use crate::making::{ask_empty, make};
 use crate::runs::{write_and_sync, write_one_by_one};
 use crate::slots::{CLOSED, OPEN, body_of, gate_place};
-use crate::table::Table;
+use crate::table::{FIRST_PAGE, Table};
 use pm_disk::{Disk, DiskFailed};
 use pm_layout::Header;
-use pm_types::{NoMemory, OpenFault, PAGE_BYTES};
+use pm_types::{InitFault, NoMemory, OpenFault, PAGE_BYTES};
 use std::alloc::Global;
 
 /// The pages of a store on a disk. Its current copy stands on some of them, which are never written; the
@@ -47,20 +48,23 @@ pub struct Pages<D: Disk> {
 }
 
 impl<D: Disk> Pages<D> {
-    ghost use Rattle.std.specs.Prelude.{◌≡◌, ◌⊎◌, ◌+◌, ◌*◌, ◌-◌, ◌^◌, ◌<◌, ◌≤◌, ℕ, List, All, Contains, Some, true, false, [], length, option_map, not, Ok, MatchResult, IsOk, IfOk, IfErr, OnOk, OnErr};
+    ghost use Rattle.std.specs.Prelude.{◌≡◌, ◌⊎◌, ◌+◌, ◌*◌, ◌-◌, ◌^◌, ◌<◌, ◌≤◌, ℕ, List, All, Contains, Some, true, false, [], ◌∷◌, length, option_map, not, Ok, MatchResult, IsOk, IfOk, IfErr, OnOk, OnErr};
     ghost use Rattle.pm_disk.specs.Writes.{written, TornIfTold};
     ghost use Rattle.pm_disk.specs.Made.{MakesCalls, with_sync, with_write};
-    ghost use Rattle.pm_disk.specs.Disk.{IfTold, LeavesOnly, HasCause};
+    ghost use Rattle.pm_disk.specs.Disk.{IfTold, SameImages, LeavesOnly, HasCause};
     ghost use Rattle.pm_layout.specs.Headers.{HasHeaderSpelling};
     ghost use Rattle.pm_image.specs.Opening.{current, page_count, page_of, gate_place, open_gate};
     ghost use Rattle.pm_image.specs.Graphs.{Graph};
     ghost use Rattle.pm_shadow.specs.Uses.{IsLowestFree, UsesOnlyListed};
-    ghost use Rattle.pm_shadow.specs.State.{other, attached, IsListable, IsKeepable, IsWritable, IsPublishable, known_by, with_claimed, with_kept, abandoned_in, with_page, with_closed, with_failed, published};
+    ghost use Rattle.pm_shadow.specs.State.{other, attached, new_store, IsListable, IsKeepable, IsWritable, IsPublishable, known_by, with_claimed, with_kept, abandoned_in, with_page, with_closed, with_failed, published};
     ghost use Rattle.pm_shadow.specs.Copies.{AreUsed, KeepsGraph};
     ghost use Rattle.pm_shadow.specs.Images.{IsSoundState, Holds, Renews, WritesPage, place_of, shutting, with_header, with_gate};
     ghost use Rattle.pm_shadow.specs.Runs.{OnlyLooks};
     ghost use Rattle.pm_shadow.specs.Attaching.{IsFaultOf, IsAttachFault, IsFoundIn, HasFound};
-    ghost use Rattle.pm_shadow.specs.Pages.{state, disk_of};
+    ghost use Rattle.pm_shadow.specs.Pages.{state, disk_of, disk_left};
+    ghost use Rattle.pm_shadow.specs.Init.{IsInitFault, IsInitFaultOf, KeepsBytes, MakesInOrder, UnlessFailed, shut_store};
+    ghost use Rattle.pm_shadow.specs.Tables.{uses_in};
+    ghost use Rattle.pm_image.specs.Blank.{blank_header, blank_store};
 
     /// Finds the current header of a store. The disk is synced first, and nothing is written. The pages of
     /// the current copy are not known then, and none is claimed. It takes no memory.
@@ -113,6 +117,70 @@ impl<D: Disk> Pages<D> {
             known: false,
             table: Table::new(alloc),
             closed: found.closed,
+            failed: false,
+        }
+    }
+
+    /// Makes a store on an empty disk as `init` does, and answers its pages, of which none is read. Its current copy
+    /// is copy 0, of no object and no root: its header is on page 0, its catalog on page 2, the pages of the copy are
+    /// known, and the gate of the other slot is closed. All memory is taken before the first write.
+    ///
+    /// # Errors
+    ///
+    /// Those of `init`, in the same order: `NotEmpty` where the disk holds a byte, `Memory` before anything is
+    /// written, and `Disk` where the disk failed. The disk is handed back.
+    pub fn make(alloc: Global, disk: D) -> Result<Pages<D>, (D, InitFault)>
+        ensures state { IfOk result (λ it. state it ≡ new_store) }
+        // Where the disk tells, it holds the new store now, and a crash leaves nothing else.
+        ensures blank { IfOk result (λ it. D.contents (disk_of it) ≡ option_map (λ _. blank_store) (D.contents disk)) }
+        ensures only { IfOk result (λ it. IfTold (D.contents (disk_of it)) (λ told.
+            (left : List ℕ) → D.image (disk_of it) left → left ≡ told)) }
+        // A store is made only on an empty disk, and the faults are those of `init`.
+        ensures fault { IfTold (D.contents disk)
+            (λ bytes. MatchResult result (λ _. length bytes ≡ 0) (λ e. IsInitFaultOf bytes e.1)) }
+        ensures cause { MatchResult result (λ it. D.count (disk_of it) ≡ D.count disk)
+            (λ e. IsInitFault (D.count disk) (D.count e.0) e.1) }
+        ensures kept { KeepsBytes (D.contents disk) (D.contents (disk_left result)) (D.image disk)
+            (D.image (disk_left result)) }
+        ensures leaves { IfTold (D.contents disk) (λ bytes. 0 < length bytes
+            → LeavesOnly D.moment D.since disk (disk_left result) (D.image disk)) }
+        ensures made { MakesCalls 4 2 (D.made disk) (D.made (disk_left result)) result }
+        ensures order { IfTold (D.contents disk) (λ bytes. length bytes ≡ 0
+            → MakesInOrder D.Disk shut_store disk (disk_left result)) }
+        ensures still { IfErr result (λ e. UnlessFailed e.1
+            ((D.contents e.0 ≡ D.contents disk) × SameImages (D.image disk) (D.image e.0))) }
+    {
+        let mut disk = disk;
+        if let Err(fault) = ask_empty(&mut disk) {
+            return Err((disk, fault));
+        }
+        let Ok(table) = Table::listing(alloc, &[FIRST_PAGE]) else {
+            return Err((disk, InitFault::Memory));
+        };
+        match make(alloc, &mut disk) {
+            Ok(header) => Ok(Pages::fresh(disk, header, table)),
+            Err(fault) => Err((disk, fault)),
+        }
+    }
+
+    /// The pages of a store that was just made.
+    fn fresh(disk: D, header: Header, table: Table) -> Pages<D>
+        requires header { header ≡ blank_header }
+        requires table { UsesOnlyListed (2 ∷ []) (uses_in table) }
+        requires blank { (bytes : List ℕ) → D.contents disk ≡ Some bytes → bytes ≡ blank_store }
+        requires only { (bytes left : List ℕ) → D.contents disk ≡ Some bytes → D.image disk left → left ≡ bytes }
+        ensures disk { disk_of result ≡ disk }
+        ensures state { state result ≡ new_store }
+    {
+        Pages {
+            disk,
+            slot: 0,
+            header,
+            settled: 3,
+            count: 3,
+            known: true,
+            table,
+            closed: true,
             failed: false,
         }
     }

@@ -1,4 +1,4 @@
-use Rattle.std.proofs.Common.{◌≡◌, ◌∷◌, [], ℕ, Some, length, ap, arith, ◌∙◌}
+use Rattle.std.proofs.Common.{◌≡◌, ◌∷◌, [], ℕ, List, Option, Some, None, length, ap, arith, ◌∙◌}
 use Rattle.std.specs.Prelude.{option_map}
 use Rattle.pm_disk.specs.Writes.{written}
 use Rattle.pm_disk.proofs.MadeLemmas.{more_then, write_more}
@@ -7,16 +7,26 @@ use Rattle.pm_shadow.specs.Images.{place_of}
 use Rattle.pm_shadow.proofs.OrderLemmas.{begins, early, ordered, then_runs, then_writes}
 use Rattle.pm_shadow.proofs.making.write_pages.Goals as goal
 
+-- one change behind another, of what is told
+told_then : (f g : List ℕ → List ℕ) (old mid new : Option (List ℕ)) → mid ≡ option_map f old → new ≡ option_map g mid → new ≡ option_map (λ bytes. g (f bytes)) old
+told_then f g None mid new one two = two ∙ ap (option_map g) one
+told_then f g (Some bytes) mid new one two = two ∙ ap (option_map g) one
+
 pub returns-clause-written : goal.returns-clause-written
-returns-clause-written g c bytes told =
+returns-clause-written g c =
+    let d = g.D.Disk in
+    let d0 = d.contents c.args.disk.now in
+    let d1 = d.contents c.write_at.new.self in
+    let d2 = d.contents c.write_at-2.new.self in
+    let d3 = d.contents c.write_and_sync.new.disk in
+    let d4 = d.contents c.write_and_sync-2.new.disk in
     let zeroth = written 0 c.args.zeroth.now in
     let first = written (place_of 1) c.args.first.now in
     let second = written (place_of 2) c.args.second.now in
-    let one = c.in_ok-write_at.ensures.written ∙ ap (option_map zeroth) told in
-    let two = c.in_ok-write_at-2.ensures.written ∙ ap (option_map first) one in
-    let three = c.in_ok-write_and_sync.ensures.written ∙ ap (option_map second) two in
-    c.in_ok-write_and_sync-2.ensures.written ∙ ap (option_map (written c.gate_place.result (open_gate ∷ []))) three
-    ∙ ap (λ (at : ℕ). Some (written at (open_gate ∷ []) (second (first (zeroth bytes))))) c.gate_place.ensures
+    let two = told_then zeroth first d0 d1 d2 c.in_ok-write_at.ensures.written c.in_ok-write_at-2.ensures.written in
+    let three = told_then (λ (bytes : List ℕ). first (zeroth bytes)) second d0 d2 d3 two c.in_ok-write_and_sync.ensures.written in
+    let four = told_then (λ (bytes : List ℕ). second (first (zeroth bytes))) (written c.gate_place.result (open_gate ∷ [])) d0 d3 d4 three c.in_ok-write_and_sync-2.ensures.written in
+    four ∙ ap (λ (at : ℕ). option_map (λ (bytes : List ℕ). written at (open_gate ∷ []) (second (first (zeroth bytes)))) d0) c.gate_place.ensures
 
 pub returns-in_err-write_at-clause-order : goal.returns-in_err-write_at-clause-order
 returns-in_err-write_at-clause-order g c bytes told =
