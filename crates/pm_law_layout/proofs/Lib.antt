@@ -1,3 +1,4 @@
+pub mod Filling
 pub mod Cutting
 pub mod Sizes
 pub mod Planned

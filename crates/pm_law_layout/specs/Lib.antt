@@ -1,4 +1,5 @@
 pub mod Plans
+pub mod Filling
 pub mod Cutting
 pub mod Laid
 pub mod Examples
