@@ -1,4 +1,4 @@
--- A copy of a space begins beside the settled one.
+-- A copy of a list, and so of a space, begins beside the settled one.
 use Rattle.std.proofs.Common.{◌≡◌, ◌⊎◌, inl, inr, ⊎_elim, ◌↔◌, ℕ, ◌<◌, ◌≤◌, ◌^◌, ◌==◌, Bool, true, false, nat_le, nat_lt, ◌&&◌, List, [], ◌∷◌, ◌++◌, length, drop, map, Contains, Option, Some, None, refl, sym, ap, subst, ◌∙◌, arith, if◌then◌else◌}
 use Rattle.std.specs.List.{AllByRecursion, flat_map}
 use Rattle.std.specs.FinMap.{entries, get}
@@ -33,9 +33,9 @@ use Rattle.pm_law_graphs.proofs.Found.{bytes_whole, graph_spelled}
 use Rattle.pm_law_graphs.proofs.Lists.{all_both}
 use Rattle.pm_law_graphs.proofs.Sets.{once}
 use Rattle.pm_law_layout.specs.Plans.{root_entry}
-use Rattle.pm_saving.specs.Progress.{Place, Clean, Unwritten, Written, PlacedCar, Progress, Saving, catalog_left, copy_of, image_of, in_list, list_of, parts_of, roots_of, slots_of}
+use Rattle.pm_saving.specs.Progress.{Place, Clean, Unwritten, Written, PlacedCar, Progress, Saving, catalog_left, copy_of, image_at, image_of, in_list, list_of, parts_of, roots_of, slots_of}
 use Rattle.pm_saving.specs.Paging.{Put, car_put, clean_pages, kept_pages, puts_of}
-use Rattle.pm_saving.specs.Beginning.{ArePlaced, Begins, IsCarNumbered, IsInProgress, IsPlacedAs, StandsAs, settled_at}
+use Rattle.pm_saving.specs.Beginning.{AreFrozen, ArePlaced, Begins, BeginsListed, IsCarNumbered, IsInProgress, IsPlacedAs, StandsAs, settled_at}
 use Rattle.pm_saving.specs.Tied.{AreItsPages, AreSettled, IsBegun, IsPut, IsTied}
 use Rattle.pm_law_saving.proofs.Growing.{no_parts, places, written_cars}
 
@@ -128,7 +128,7 @@ clean_exactly settled s bytes image place fits grown are is = (forth, back place
 -- ---- the cars of the copy are those that are frozen
 
 abbrev IsFrozen : Cars → Listed → Type 0
-IsFrozen cars listed = listed.1 ≡ record { number = listed.1.number; slots = slots_of (get cars listed.1.number) }
+IsFrozen cars listed = listed.1 ≡ image_at cars listed.1.number
 
 all_flat : {A B : Type 0} (P : B → Type 0) (f : A → List B) (xs : List A) → ((x : A) → AllByRecursion P (f x)) → AllByRecursion P (flat_map f xs)
 all_flat P f [] each = tt
@@ -146,14 +146,14 @@ car_frozen view train number = by (is_aside view number)
     by true = tt
     by false = image_frozen view.cars train number (get view.cars number) refl
 
-all_frozen : (view : SpaceView) → AllByRecursion (IsFrozen view.cars) (listed view)
+pub all_frozen : (view : SpaceView) → AreFrozen view.cars (listed view)
 all_frozen view = all_flat (IsFrozen view.cars) (listed_of view) view.trains.trains (λ train. all_flat (IsFrozen view.cars) (listed_car view train.number) train.cars (λ number. car_frozen view train.number number))
 
 -- what a car that was placed holds is what is listed
 placed_image : (cars : Cars) (first : Listed) (one : PlacedCar) → one.number ≡ first.1.number → IsFrozen cars first → image_of cars one ≡ first.1
 placed_image cars first one number frozen = ap (λ (n : ℕ). (record { number = n; slots = slots_of (get cars n) })) number ∙ sym frozen
 
-placed_list : (settled : List KeptPage) (cars : Cars) (list : List Listed) (placed : List PlacedCar) → ArePlaced settled list placed → AllByRecursion (IsFrozen cars) list → map (in_list cars) placed ≡ list
+placed_list : (settled : List KeptPage) (cars : Cars) (list : List Listed) (placed : List PlacedCar) → ArePlaced settled list placed → AreFrozen cars list → map (in_list cars) placed ≡ list
 placed_list settled cars [] [] are frozen = refl
 placed_list settled cars [] (one ∷ placed) are frozen = absurd are
 placed_list settled cars (first ∷ list) [] are frozen = absurd are
@@ -167,7 +167,7 @@ stands_placed settled image frozen (Clean kept) is same = (settled_in image.numb
 stands_placed settled image frozen Unwritten is same = tt
 stands_placed settled image frozen (Written kept) is same = absurd is
 
-placed_stand : (settled : List KeptPage) (cars : Cars) (list : List Listed) (placed : List PlacedCar) → ArePlaced settled list placed → AllByRecursion (IsFrozen cars) list
+placed_stand : (settled : List KeptPage) (cars : Cars) (list : List Listed) (placed : List PlacedCar) → ArePlaced settled list placed → AreFrozen cars list
     → AllByRecursion (λ (one : PlacedCar). StandsAs settled (image_of cars one) one.place) placed
 placed_stand settled cars [] [] are frozen = tt
 placed_stand settled cars [] (one ∷ placed) are frozen = absurd are
@@ -179,33 +179,33 @@ roots_same : (es : List (List ℕ × (ℕ × Addr))) → map root_entry (map unn
 roots_same [] = refl
 roots_same (e ∷ es) = ap (λ (rest : List CatEntry). root_listed e ∷ rest) (roots_same es)
 
-module _ (old new : Saving) (view : SpaceView) (number : ℕ) (begins : Begins old new view number) where
-  begun_list : list_of view.cars begins.begun ≡ listed view
-  begun_list = placed_list old.settled view.cars (listed view) begins.begun.cars begins.cars (all_frozen view)
+module _ (old new : Saving) (list : List Listed) (names : List (List ℕ × Addr)) (next number : ℕ) (cars : Cars) (frozen : AreFrozen cars list) (begins : BeginsListed old new list names next number) where
+  begun_list : list_of cars begins.begun ≡ list
+  begun_list = placed_list old.settled cars list begins.begun.cars begins.cars frozen
 
-  begun_roots : roots_of begins.begun ≡ root_entries view
-  begun_roots = ap (map root_entry) begins.roots ∙ roots_same (entries view.roots)
+  begun_roots : roots_of begins.begun ≡ map root_entry names
+  begun_roots = ap (map root_entry) begins.roots
 
-  pub begun_copy : copy_of view.cars begins.begun ≡ copy_in view
-  begun_copy = λ i. copy_listed (begun_list i) (begun_roots i) (begins.next_id i)
+  pub listed_copy : copy_of cars begins.begun ≡ copy_listed list (map root_entry names) next
+  listed_copy = λ i. copy_listed (begun_list i) (begun_roots i) (begins.next_id i)
 
-  begun_accepted : HeapLaw view → IsAccepted (list_of view.cars begins.begun) (roots_of begins.begun) begins.begun.next_id
-  begun_accepted law =
+  begun_accepted : IsAccepted list (map root_entry names) next → IsAccepted (list_of cars begins.begun) (roots_of begins.begun) begins.begun.next_id
+  begun_accepted accepted =
       subst (λ (list : List Listed). IsAccepted list (roots_of begins.begun) begins.begun.next_id) (sym begun_list)
-      (subst (λ (roots : List CatEntry). IsAccepted (listed view) roots begins.begun.next_id) (sym begun_roots)
-      (subst (IsAccepted (listed view) (root_entries view)) (sym begins.next_id) (accepted view law)))
+      (subst (λ (roots : List CatEntry). IsAccepted list roots begins.begun.next_id) (sym begun_roots)
+      (subst (IsAccepted list (map root_entry names)) (sym begins.next_id) accepted))
 
-  pub begun_progress : HeapLaw view → AllByRecursion IsCarNumbered begins.begun.cars → AllByRecursion (λ (root : List ℕ × Addr). IsName root.0) begins.begun.roots → number < 2 ^ 32
-      → IsInProgress old.settled view.cars begins.begun
-  begun_progress law numbered names small =
+  begun_progress : IsAccepted list (map root_entry names) next → AllByRecursion IsCarNumbered begins.begun.cars → AllByRecursion (λ (root : List ℕ × Addr). IsName root.0) begins.begun.roots → number < 2 ^ 32
+      → IsInProgress old.settled cars begins.begun
+  begun_progress accepted numbered names small =
       let none : length begins.begun.parts ≡ 0 = ap length begins.parts in
       let is = begins.number_is in
       record {
-        accepted = begun_accepted law;
+        accepted = begun_accepted accepted;
         numbered = numbered;
         copy_number = omega (arith, small, is);
         names = names;
-        stand = placed_stand old.settled view.cars (listed view) begins.begun.cars begins.cars (all_frozen view);
+        stand = placed_stand old.settled cars list begins.begun.cars begins.cars frozen;
         catalog = record { few = omega (arith, none); placed = λ some. absurd (omega (arith, some, none)); kept = λ some. absurd (omega (arith, some, none)) };
       }
 
@@ -229,13 +229,13 @@ none_begun : (settled : List KeptPage) (progress : Option Progress) (epoch : ℕ
 none_begun settled None epoch is = refl
 none_begun settled (Some progress) epoch is = absurd is
 
-begun_pages : (old new : Saving) (view : SpaceView) (number : ℕ) (begins : Begins old new view number) (s : State) (contents : Option (List ℕ)) → AreItsPages None s contents → AreItsPages (Some begins.begun) s contents
-begun_pages old new view number begins s contents none =
-    let begun = begins.begun in
-    let cars = no_puts old.settled (listed view) begun.cars begins.cars in
-    let parts = no_parts begun.parts (drop (catalog_left begun) (parts_of begun)) begins.parts in
+begun_pages : (settled : List KeptPage) (list : List Listed) (begun : Progress) (s : State) (contents : Option (List ℕ)) → ArePlaced settled list begun.cars → begun.kept ≡ false → begun.parts ≡ []
+    → AreItsPages None s contents → AreItsPages (Some begun) s contents
+begun_pages settled list begun s contents placed unkept unwritten none =
+    let cars = no_puts settled list begun.cars placed in
+    let parts = no_parts begun.parts (drop (catalog_left begun) (parts_of begun)) unwritten in
     let puts : puts_of begun ≡ [] = λ i. cars i ++ parts i in
-    let kept : kept_pages begun ≡ [] = ap (λ (b : Bool). if b then clean_pages begun else []) begins.kept in
+    let kept : kept_pages begun ≡ [] = ap (λ (b : Bool). if b then clean_pages begun else []) unkept in
     record {
       claimed = λ page is. absurd (in_none page (none.claimed page is));
       written = subst (AllByRecursion (λ (put : Put). s.uses put.0 ≡ Claimed)) (sym puts) tt;
@@ -245,21 +245,44 @@ begun_pages old new view number begins s contents none =
       are_kept = subst (AllByRecursion (λ (page : ℕ). s.uses page ≡ Kept)) (sym kept) tt;
     }
 
-pub copy_begins : (old new : Saving) (view : SpaceView) (number : ℕ) → HeapLaw view → (begins : Begins old new view number) → copy_of view.cars begins.begun ≡ copy_in view
-copy_begins old new view number law begins = begun_copy old new view number begins
+-- ---- a copy of a list
 
-pub begun_tied : (old new : Saving) (view : SpaceView) (number : ℕ) (s : State) (contents : Option (List ℕ)) → HeapLaw view → (begins : Begins old new view number) → AllByRecursion IsCarNumbered begins.begun.cars
-    → AllByRecursion (λ (root : List ℕ × Addr). IsName root.0) begins.begun.roots → number < 2 ^ 32 → s.header.epoch < number → IsTied old None s contents → IsTied new (Some view.cars) s contents
-begun_tied old new view number s contents law begins numbered names small later tied =
+pub listed_tied : (old new : Saving) (list : List Listed) (names : List (List ℕ × Addr)) (next number : ℕ) (cars : Cars) (s : State) (contents : Option (List ℕ)) → IsAccepted list (map root_entry names) next → AreFrozen cars list
+    → (begins : BeginsListed old new list names next number) → AllByRecursion IsCarNumbered begins.begun.cars → AllByRecursion (λ (root : List ℕ × Addr). IsName root.0) begins.begun.roots
+    → number < 2 ^ 32 → s.header.epoch < number → IsTied old None s contents → IsTied new (Some cars) s contents
+listed_tied old new list names next number cars s contents accepted frozen begins numbered named small later tied =
     let is = begins.number_is in
-    let made : IsTied (record { settled = old.settled; progress = Some begins.begun }) (Some view.cars) s contents = record {
+    let made : IsTied (record { settled = old.settled; progress = Some begins.begun }) (Some cars) s contents = record {
       sound = tied.sound;
       known = tied.known;
       grown = tied.grown;
       current = tied.current;
       on_pages = tied.on_pages;
-      pages = begun_pages old new view number begins s contents
+      pages = begun_pages old.settled list begins.begun s contents begins.cars begins.kept begins.parts
           (subst (λ (progress : Option Progress). AreItsPages progress s contents) (none_begun old.settled old.progress s.header.epoch tied.begun) tied.pages);
-      begun = (begun_progress old new view number begins law numbered names small, omega (arith, later, is));
+      begun = (begun_progress old new list names next number cars frozen begins accepted numbered named small, omega (arith, later, is));
     } in
-    subst (λ (saving : Saving). IsTied saving (Some view.cars) s contents) (λ i. record { settled = sym begins.settled i; progress = sym begins.now i }) made
+    subst (λ (saving : Saving). IsTied saving (Some cars) s contents) (λ i. record { settled = sym begins.settled i; progress = sym begins.now i }) made
+
+-- ---- a copy of a space is one of its list
+
+abbrev names_of : SpaceView → List (List ℕ × Addr)
+names_of view = map unnumbered (entries view.roots)
+
+view_roots : (view : SpaceView) → map root_entry (names_of view) ≡ root_entries view
+view_roots view = roots_same (entries view.roots)
+
+-- and no rule refuses it
+pub view_accepted : (view : SpaceView) → HeapLaw view → IsAccepted (listed view) (map root_entry (names_of view)) view.next
+view_accepted view law = subst (λ (roots : List CatEntry). IsAccepted (listed view) roots view.next) (sym (view_roots view)) (accepted view law)
+
+pub copy_begins : (old new : Saving) (view : SpaceView) (number : ℕ) → HeapLaw view → (begins : Begins old new view number) → copy_of view.cars begins.begun ≡ copy_in view
+copy_begins old new view number law begins =
+    listed_copy old new (listed view) (names_of view) view.next number view.cars (all_frozen view) begins
+    ∙ ap (λ (roots : List CatEntry). copy_listed (listed view) roots view.next) (view_roots view)
+
+pub begun_tied : (old new : Saving) (view : SpaceView) (number : ℕ) (s : State) (contents : Option (List ℕ)) → HeapLaw view → (begins : Begins old new view number) → AllByRecursion IsCarNumbered begins.begun.cars
+    → AllByRecursion (λ (root : List ℕ × Addr). IsName root.0) begins.begun.roots → number < 2 ^ 32 → s.header.epoch < number → IsTied old None s contents → IsTied new (Some view.cars) s contents
+begun_tied old new view number s contents law =
+    listed_tied old new (listed view) (names_of view) view.next number view.cars s contents
+    (view_accepted view law) (all_frozen view)

@@ -9,5 +9,6 @@ pub mod Planned
 pub mod Growing
 pub mod Keeping
 pub mod Written
+pub mod Filed
 pub mod Begun
 pub mod Whole

@@ -6,7 +6,10 @@ mod beginning;
 mod ending;
 mod writing;
 
-pub use beginning::{a_copy_begins_beside_the_settled_one, a_store_begins_with_its_settled_copy};
+pub use beginning::{
+    a_copy_begins_beside_the_settled_one, a_listed_copy_begins_beside_the_settled_one,
+    a_store_begins_with_its_settled_copy,
+};
 pub use ending::{
     a_copy_is_given_up, a_gate_is_closed_beside_the_copy, a_published_copy_is_the_settled_one,
     a_whole_copy_may_be_published,

@@ -10,7 +10,7 @@ use Rattle.pm_view.specs.View.{Cars, SpaceView}
 use Rattle.pm_copies.specs.Listed.{Listed, listed}
 use Rattle.pm_copies.specs.Accepted.{IsAccepted}
 use Rattle.pm_copies.specs.Opened.{unnumbered}
-use Rattle.pm_saving.specs.Progress.{Place, Clean, Unwritten, Written, PlacedCar, Progress, Saving, catalog_len, image_of, list_of, roots_of}
+use Rattle.pm_saving.specs.Progress.{Place, Clean, Unwritten, Written, PlacedCar, Progress, Saving, catalog_len, image_at, image_of, list_of, roots_of}
 use Rattle.pm_saving.specs.Paging.{kept_on, unwritten}
 
 -- the first of the settled cars that has this number
@@ -33,17 +33,26 @@ ArePlaced settled (first ∷ list) [] = ⊥
 ArePlaced settled (first ∷ list) (one ∷ others) =
     (one.train ≡ first.0) × (one.number ≡ first.1.number) × IsPlacedAs settled first.1 one.place × ArePlaced settled list others
 
--- A copy of the space is in progress under this number, and nothing of it was written. What is settled stays.
-pub record Begins (old new : Saving) (view : SpaceView) (number : ℕ) : Type 0 where
+-- A copy of this list and these roots is in progress under this number, with this next identity, and nothing of it was
+-- written. What is settled stays.
+pub record BeginsListed (old new : Saving) (list : List Listed) (names : List (List ℕ × Addr)) (next number : ℕ) : Type 0 where
   pub settled : new.settled ≡ old.settled
   pub begun : Progress
   pub now : new.progress ≡ Some begun
   pub number_is : begun.number ≡ number
-  pub cars : ArePlaced old.settled (listed view) begun.cars
-  pub roots : begun.roots ≡ map unnumbered (entries view.roots)
-  pub next_id : begun.next_id ≡ view.next
+  pub cars : ArePlaced old.settled list begun.cars
+  pub roots : begun.roots ≡ names
+  pub next_id : begun.next_id ≡ next
   pub kept : begun.kept ≡ false
   pub parts : begun.parts ≡ []
+
+-- A copy of the space is in progress under this number, and nothing of it was written. What is settled stays.
+abbrev pub Begins : Saving → Saving → SpaceView → ℕ → Type 0
+Begins old new view number = BeginsListed old new (listed view) (map unnumbered (entries view.roots)) view.next number
+
+-- among these cars each one that is listed is found by its number, as it is listed
+abbrev pub AreFrozen : Cars → List Listed → Type 0
+AreFrozen cars list = AllByRecursion (λ (one : Listed). one.1 ≡ image_at cars one.1.number) list
 
 -- ---- what holds of a copy in progress
 

@@ -1,7 +1,7 @@
 -- A copy in progress: what it lists, and which of its pages were written.
 use Rattle.std.specs.Prelude.{ℕ, ◌-◌, Bool, List, [], ◌∷◌, ◌++◌, length, map, drop, replicate, Option, Some, None}
 use Rattle.std.specs.List.{flat_map}
-use Rattle.std.specs.FinMap.{empty, get, entries}
+use Rattle.std.specs.FinMap.{empty, get, entries, from_entries}
 use Rattle.pm_types.specs.declared.address.Addr.{Addr}
 use Rattle.pm_types.specs.declared.object.Slot.{Slot}
 use Rattle.pm_cars.specs.Cars.{Car}
@@ -12,6 +12,7 @@ use Rattle.pm_image.specs.declared.catalog.CatEntry.TheVariants.{Car as CarEntry
 use Rattle.pm_image.specs.declared.settled.KeptPage.{KeptPage}
 use Rattle.pm_view.specs.View.{Cars}
 use Rattle.pm_copies.specs.Listed.{Listed, copy_listed}
+use Rattle.pm_copies.specs.Opened.{next_after}
 use Rattle.pm_law_layout.specs.Plans.{CarPlan, PlannedPage, PlannedTrain, planned_entries, root_entry}
 use Rattle.pm_law_layout.specs.Cutting.{OnePage, cut}
 
@@ -57,9 +58,13 @@ abbrev pub slots_of : Option Car → List (ℕ × Slot)
 slots_of None = []
 slots_of (Some car) = entries car.slots
 
+-- the car of this number, as its page spells it; without a slot where there is none
+abbrev pub image_at : Cars → ℕ → CarImage
+image_at cars number = record { number = number; slots = slots_of (get cars number) }
+
 -- what a car holds
 abbrev pub image_of : Cars → PlacedCar → CarImage
-image_of cars one = record { number = one.number; slots = slots_of (get cars one.number) }
+image_of cars one = image_at cars one.number
 
 -- a car as the copy lists it
 abbrev pub in_list : Cars → PlacedCar → Listed
@@ -76,6 +81,16 @@ roots_of progress = map root_entry progress.roots
 -- the copy
 abbrev pub copy_of : Cars → Progress → Copy
 copy_of cars progress = copy_listed (list_of cars progress) (roots_of progress) progress.next_id
+
+-- ---- cars that are no space's
+
+-- a car that has these slots; its next one is behind the last of them
+abbrev pub car_of : CarImage → Car
+car_of image = record { number = image.number; slots = from_entries image.slots; next = next_after 0 image.slots }
+
+-- cars as a map, each with its slots
+abbrev pub cars_of : List CarImage → Cars
+cars_of images = from_entries (map (λ (image : CarImage). (image.number, car_of image)) images)
 
 -- ---- where it stands
 
