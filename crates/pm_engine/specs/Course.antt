@@ -1,5 +1,5 @@
 -- What was told of a journal's entries.
-use Rattle.std.specs.Prelude.{ℕ, List, [], ◌∷◌, ◌++◌}
+use Rattle.std.specs.Prelude.{List, [], ◌∷◌, ◌++◌}
 use Rattle.pm_serving.specs.Serving.{Before}
 use Rattle.pm_engine.specs.declared.course.Course.{Course}
 use Rattle.pm_engine.specs.declared.course.Course.TheVariants.{Nothing, Then'}

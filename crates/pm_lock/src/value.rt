@@ -1,6 +1,5 @@
 //! A book as a value that workers take turns at.
 
-ghost use Rattle.std.specs.Prelude.{◌≡◌};
 ghost use Rattle.pm_place.specs.Choosers.{IsChooser};
 ghost use Rattle.pm_engine.specs.Shown.{chooser};
 ghost use Rattle.pm_lock.specs.Shown.{engine_in, first_in, lines_in};

@@ -1,6 +1,7 @@
 -- A copy that begins is kept as copies in progress are.
 use Rattle.std.proofs.Common.{◌≡◌, ℕ, ◌^◌, ◌<◌, ◌≤◌, arith, refl, sym, ap, subst, ◌∙◌, List, [], ◌∷◌, ◌++◌, length, map, take, Option, Some, None}
-use Rattle.std.specs.Prelude.{replicate, reverse, vec_capacity}
+use Rattle.std.specs.Prelude.{IfSome, replicate, reverse, vec_capacity}
+use Rattle.std.specs.FinMap.{entries}
 use Rattle.std.specs.List.{AllByRecursion}
 use Rattle.std.proofs.lemmas.List.{take_all, length-map}
 use Rattle.pm_image.specs.declared.settled.KeptPage.{KeptPage}
@@ -9,18 +10,21 @@ use Rattle.pm_types.specs.declared.address.Addr.{Addr}
 use Rattle.pm_shadow.specs.State.{State}
 use Rattle.pm_view.specs.View.{Cars, SpaceView}
 use Rattle.pm_view.specs.Law.{HeapLaw}
-use Rattle.pm_copies.specs.Listed.{copy_in}
+use Rattle.pm_copies.specs.Listed.{Listed, copy_in, copy_listed, listed}
+use Rattle.pm_copies.specs.Accepted.{IsAccepted}
+use Rattle.pm_copies.specs.Opened.{unnumbered}
+use Rattle.pm_law_saving.proofs.Begun.{view_accepted}
 use Rattle.pm_saving.specs.Tied.{IsTied}
 use Rattle.pm_law_layout.specs.Plans.{PlannedPage, chain_of, digest_of, root_entry}
 use Rattle.pm_law_layout.specs.Cutting.{OnePage, cut}
 use Rattle.pm_saving.specs.Progress.{Progress, Saving, copy_of, catalog_left, draft_entry, paired, roots_of, cars_or_none}
-use Rattle.pm_saving.specs.Beginning.{Begins, IsCarNumbered}
+use Rattle.pm_saving.specs.Beginning.{AreFrozen, ArePlaced, Begins, BeginsListed, IsCarNumbered}
 use Rattle.pm_save.specs.declared.place.PlacedCar.{PlacedCar}
 use Rattle.pm_save.specs.declared.place.InProgress.{InProgress}
 use Rattle.pm_save.specs.Seen.{car_seen, progress_seen}
 use Rattle.pm_save.specs.Kept.{IsPlaced, IsWithin, IsKept, counts_of}
 use Rattle.pm_save.specs.Counted.{drafted, drafted_entries, lengths}
-use Rattle.pm_save.specs.Planned.{IsPlanOf}
+use Rattle.pm_save.specs.Planned.{IsPlanned, IsStarted}
 
 drafts : (settled : List KeptPage) (cars : List PlacedCar) → map draft_entry (map (car_seen settled) cars) ≡ map drafted cars
 drafts settled [] = refl
@@ -53,38 +57,54 @@ kept_plan settled it placed within counts parts digest parts_room room cars_room
       cars_room = cars_room;
     }
 
--- and it begins
-pub begins : (settled : List KeptPage) (was : Option Progress) (view : SpaceView) (number : ℕ) (it : InProgress) → IsPlanOf settled view number it
-    → Begins (record { settled = settled; progress = was }) (record { settled = settled; progress = Some (progress_seen settled it) }) view number
-begins settled was view number it plan = record {
-  settled = refl;
-  begun = progress_seen settled it;
-  now = refl;
-  number_is = plan.number_is;
-  cars = plan.cars.placed;
-  roots = plan.roots.roots_are;
-  next_id = plan.next_id;
-  kept = plan.kept;
-  parts = ap reverse plan.parts;
-}
+module _ (settled : List KeptPage) (was : Option Progress) (list : List Listed) (names : List (List ℕ × Addr)) (next number : ℕ) (cars : List PlacedCar) (it : InProgress) (started : IsStarted cars names next number it)
+    (planned : IsPlanned settled list cars) where
+  -- and it begins
+  pub begins : BeginsListed (record { settled = settled; progress = was }) (record { settled = settled; progress = Some (progress_seen settled it) }) list names next number
+  begins = record {
+    settled = refl;
+    begun = progress_seen settled it;
+    now = refl;
+    number_is = started.number_is;
+    cars = subst (λ (cars : List PlacedCar). ArePlaced settled list (map (car_seen settled) cars)) (sym started.cars) planned.placed;
+    roots = started.roots;
+    next_id = started.next_id;
+    kept = started.kept;
+    parts = ap reverse started.parts;
+  }
 
--- it is the copy of the space then
-pub copied : (settled : List KeptPage) (was : Option Progress) (view : SpaceView) (number : ℕ) (it : InProgress) (frozen : Option Cars)
-    → ((old new : Saving) (view : SpaceView) (number : ℕ) → HeapLaw view → (begins : Begins old new view number) → copy_of view.cars begins.begun ≡ copy_in view)
-    → HeapLaw view → IsPlanOf settled view number it → frozen ≡ Some view.cars → copy_of (cars_or_none frozen) (progress_seen settled it) ≡ copy_in view
-unfolding begins
-copied settled was view number it frozen law heap plan is =
-    ap (λ (cars : Option Cars). copy_of (cars_or_none cars) (progress_seen settled it)) is
-    ∙ law (record { settled = settled; progress = was }) (record { settled = settled; progress = Some (progress_seen settled it) }) view number heap (begins settled was view number it plan)
+  numbered : AllByRecursion IsCarNumbered (progress_seen settled it).cars
+  numbered = subst (λ (cars : List PlacedCar). AllByRecursion IsCarNumbered (map (car_seen settled) cars)) (sym started.cars) planned.numbered
 
--- and what holds between calls holds again
-pub tied : (settled : List KeptPage) (was : Option Progress) (view : SpaceView) (number : ℕ) (it : InProgress) (frozen : Option Cars) (s : State) (contents : Option (List ℕ))
-    → ((old new : Saving) (view : SpaceView) (number : ℕ) (s : State) (contents : Option (List ℕ)) → HeapLaw view → (begins : Begins old new view number) → AllByRecursion IsCarNumbered begins.begun.cars
-    → AllByRecursion (λ (root : List ℕ × Addr). IsName root.0) begins.begun.roots → number < 2 ^ 32 → s.header.epoch < number → IsTied old None s contents → IsTied new (Some view.cars) s contents)
-    → HeapLaw view → IsPlanOf settled view number it → number < 2 ^ 32 → frozen ≡ Some view.cars → s.header.epoch < number → IsTied (record { settled = settled; progress = was }) None s contents
-    → IsTied (record { settled = settled; progress = Some (progress_seen settled it) }) frozen s contents
-unfolding begins
-tied settled was view number it frozen s contents law heap plan small is later had =
-    let new : Saving = record { settled = settled; progress = Some (progress_seen settled it) } in
-    subst (λ (cars : Option Cars). IsTied new cars s contents) (sym is)
-    (law (record { settled = settled; progress = was }) new view number s contents heap (begins settled was view number it plan) plan.cars.numbered plan.roots.names small later had)
+  -- it is the copy that is listed
+  pub copied : (frozen : Cars)
+      → ((old new : Saving) (list : List Listed) (names : List (List ℕ × Addr)) (next number : ℕ) (cars : Cars) → AreFrozen cars list → (begins : BeginsListed old new list names next number)
+      → copy_of cars begins.begun ≡ copy_listed list (map root_entry names) next)
+      → AreFrozen frozen list → copy_of frozen (progress_seen settled it) ≡ copy_listed list (map root_entry names) next
+  unfolding begins
+  copied frozen law are = law (record { settled = settled; progress = was }) (record { settled = settled; progress = Some (progress_seen settled it) }) list names next number frozen are begins
+
+  -- and what holds between calls holds again
+  pub tied : (frozen : Cars) (s : State) (contents : Option (List ℕ))
+      → ((old new : Saving) (list : List Listed) (names : List (List ℕ × Addr)) (next number : ℕ) (cars : Cars) (s : State) (contents : Option (List ℕ)) → IsAccepted list (map root_entry names) next → AreFrozen cars list
+      → (begins : BeginsListed old new list names next number) → AllByRecursion IsCarNumbered begins.begun.cars → AllByRecursion (λ (root : List ℕ × Addr). IsName root.0) begins.begun.roots
+      → number < 2 ^ 32 → s.header.epoch < number → IsTied old None s contents → IsTied new (Some cars) s contents)
+      → IsAccepted list (map root_entry names) next → AreFrozen frozen list → AllByRecursion (λ (root : List ℕ × Addr). IsName root.0) names → number < 2 ^ 32 → s.header.epoch < number
+      → IsTied (record { settled = settled; progress = was }) None s contents → IsTied (record { settled = settled; progress = Some (progress_seen settled it) }) (Some frozen) s contents
+  unfolding begins
+  tied frozen s contents law accepted are named small later had =
+      law (record { settled = settled; progress = was }) (record { settled = settled; progress = Some (progress_seen settled it) }) list names next number frozen s contents accepted are begins numbered
+      (subst (AllByRecursion (λ (root : List ℕ × Addr). IsName root.0)) (sym started.roots) named) small later had
+
+-- ---- a copy of a space
+
+-- it is the copy in the space then, by the cars that are frozen
+pub copy_then : (old new : Saving) (view : SpaceView) (number : ℕ) (frozen : Option Cars) → (begins : Begins old new view number) → frozen ≡ Some view.cars → copy_of view.cars begins.begun ≡ copy_in view
+    → IfSome new.progress (λ (progress : Progress). copy_of (cars_or_none frozen) progress ≡ copy_in view)
+copy_then old new view number frozen begins is copy =
+    subst (λ (p : Option Progress). IfSome p (λ (progress : Progress). copy_of (cars_or_none frozen) progress ≡ copy_in view)) (sym begins.now)
+    (ap (λ (cars : Option Cars). copy_of (cars_or_none cars) begins.begun) is ∙ copy)
+
+-- its list is one that no rule refuses
+pub accepted_roots : (view : SpaceView) (names : List (List ℕ × Addr)) → names ≡ map unnumbered (entries view.roots) → HeapLaw view → IsAccepted (listed view) (map root_entry names) view.next
+accepted_roots view names is law = subst (λ (names : List (List ℕ × Addr)). IsAccepted (listed view) (map root_entry names) view.next) (sym is) (view_accepted view law)

@@ -3,9 +3,10 @@ pub mod PlaceLemmas
 pub mod PlanLemmas
 pub mod RootLemmas
 pub mod BeginLemmas
+mod FrozenCars
 mod Slices
 mod Between
-mod Frozen
+mod FrozenSlots
 mod Parts
 mod Placed
 mod NotedCar
@@ -13,6 +14,7 @@ mod NotedPart
 mod Keeping
 mod FlushLemmas
 mod DropLemmas
+mod LeftLemmas
 mod TakeLemmas
 mod RunLemmas
 mod GateLemmas

@@ -1,5 +1,5 @@
 -- What a saver keeps of a copy in progress beside what is seen of it.
-use Rattle.std.specs.Prelude.{◌≡◌, ℕ, ◌+◌, ◌<◌, ◌≤◌, Bool, true, false, List, [], ◌++◌, length, map, take, Option, Some, None, vec_capacity}
+use Rattle.std.specs.Prelude.{◌≡◌, ℕ, ◌+◌, ◌<◌, ◌≤◌, Bool, true, false, if◌then◌else◌, List, [], ◌∷◌, ◌++◌, length, map, take, Option, Some, None, vec_capacity}
 use Rattle.std.specs.List.{AllByRecursion}
 use Rattle.pm_image.specs.declared.settled.KeptPage.{KeptPage}
 use Rattle.pm_law_layout.specs.Plans.{chain_of, digest_of}
@@ -17,6 +17,11 @@ abbrev pub is_open : Place → Bool
 is_open (Clean index) = false
 is_open Unwritten = true
 is_open (Written kept) = false
+
+-- how many cars stand on none
+abbrev pub open_count : List PlacedCar → ℕ
+open_count [] = 0
+open_count (one ∷ cars) = (if is_open one.place then 1 else 0) + open_count cars
 
 -- the car stands on a page
 abbrev pub IsPlaced : PlacedCar → Type 0

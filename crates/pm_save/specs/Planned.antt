@@ -2,15 +2,11 @@
 use Rattle.std.specs.Prelude.{◌≡◌, ℕ, suc, ◌==◌, false, List, [], ◌∷◌, ◌++◌, map, Option, Some, None, option_map, if◌then◌else◌}
 use Rattle.std.specs.List.{AllByRecursion}
 use Rattle.std.specs.Ordering.{nat_cmp}
-use Rattle.std.specs.FinMap.{entries}
 use Rattle.std.specs.BTreeMap.{BTreeMap}
 use Rattle.std.specs.BTreeMap as tree
-use Rattle.pm_types.specs.Names.{IsName}
 use Rattle.pm_types.specs.declared.address.Addr.{Addr}
 use Rattle.pm_image.specs.declared.settled.KeptPage.{KeptPage}
-use Rattle.pm_view.specs.View.{SpaceView}
-use Rattle.pm_copies.specs.Listed.{Listed, listed}
-use Rattle.pm_copies.specs.Opened.{unnumbered}
+use Rattle.pm_copies.specs.Listed.{Listed}
 use Rattle.pm_saving.specs.Beginning.{ArePlaced, IsCarNumbered}
 use Rattle.pm_save.specs.declared.place.PlacedCar.{PlacedCar}
 use Rattle.pm_save.specs.declared.place.InProgress.{InProgress}
@@ -41,16 +37,11 @@ pub record IsPlanned (settled : List KeptPage) (list : List Listed) (cars : List
 abbrev pub PlansOn : List KeptPage → List Listed → List PlacedCar → List PlacedCar → Type 0
 PlansOn settled more old new = (list : List Listed) → IsPlanned settled list old → IsPlanned settled (list ++ more) new
 
--- these are the roots of a space, each a name with its address, ascending
-pub record AreItsRoots (view : SpaceView) (roots : List (List ℕ × Addr)) : Type 0 where
-  pub roots_are : roots ≡ map unnumbered (entries view.roots)
-  pub names : AllByRecursion (λ (root : List ℕ × Addr). IsName root.0) roots
-
--- a copy of the space, of which nothing was written
-pub record IsPlanOf (settled : List KeptPage) (view : SpaceView) (number : ℕ) (it : InProgress) : Type 0 where
+-- a copy of these cars and roots, of which nothing was written
+pub record IsStarted (listed : List PlacedCar) (names : List (List ℕ × Addr)) (next number : ℕ) (it : InProgress) : Type 0 where
   pub number_is : it.number ≡ number
-  pub cars : IsPlanned settled (listed view) it.cars.items
-  pub roots : AreItsRoots view it.roots.items
-  pub next_id : it.next_id ≡ view.next
+  pub cars : it.cars.items ≡ listed
+  pub roots : it.roots.items ≡ names
+  pub next_id : it.next_id ≡ next
   pub kept : it.kept ≡ false
   pub parts : it.parts.items ≡ []

@@ -1,10 +1,11 @@
-//! A frozen car as its page spells it.
+//! The frozen cars of a space, each as its page spells it.
 
 ghost use Rattle.std.specs.Prelude.{◌≡◌, IfOk};
 ghost use Rattle.std.specs.FinMap.{get};
 ghost use Rattle.pm_saving.specs.Progress.{slots_of};
-ghost use Rattle.pm_save.specs.Frozen.{frozen_image, frozen_in};
+ghost use Rattle.pm_save.specs.Frozen.{frozen_in};
 
+use crate::Frozen;
 use pm_image::{CarImage, SlotList};
 use pm_snap::Table;
 use pm_space::Held;
@@ -32,13 +33,15 @@ fn slots_in(alloc: Global, cars: &Table<Held>, number: u64) -> Result<Vec<(u32, 
     }
 }
 
-/// The car of this number, as it was frozen.
-pub(crate) fn image_in(alloc: Global, cars: &Table<Held>, number: u64) -> Result<CarImage, NoMemory>
-    ensures { IfOk result (λ image. image ≡ frozen_image cars.now number) }
-{
-    let slots = slots_in(alloc, cars, number)?;
-    Ok(CarImage {
-        number,
-        slots: SlotList::from_vec(slots),
-    })
+impl Frozen for Table<Held> {
+    ghost cars = { frozen_in };
+
+    /// The car of this number, as it was frozen.
+    fn image(&self, alloc: Global, number: u64) -> Result<CarImage, NoMemory> {
+        let slots = slots_in(alloc, self, number)?;
+        Ok(CarImage {
+            number,
+            slots: SlotList::from_vec(slots),
+        })
+    }
 }

@@ -6,7 +6,6 @@ ghost use Rattle.pm_shadow.specs.Images.{Holds};
 ghost use Rattle.pm_shadow.specs.Pages.{state, disk_of};
 ghost use Rattle.pm_saving.specs.Paging.{next_page};
 ghost use Rattle.pm_saving.specs.Tied.{HasPage};
-ghost use Rattle.pm_save.specs.Frozen.{frozen_in};
 ghost use Rattle.pm_save.specs.Seen.{progress_seen};
 ghost use Rattle.pm_save.specs.Kept.{IsKept};
 ghost use Rattle.pm_save.specs.Answers.{HasSaveCause, Makes, OnMemory, TellsOn};
@@ -16,7 +15,7 @@ ghost use Rattle.pm_save.specs.Steps.{IsStep};
 use crate::next::{find_next, ready_next};
 use crate::place::InProgress;
 use crate::written::{note_written, put_page};
-use crate::{SaveFault, Saver};
+use crate::{Frozen, SaveFault, Writer};
 use pm_disk::Disk;
 use pm_law_saving::{
     a_published_copy_is_the_settled_one, pages_of_a_copy_are_written_in_order,
@@ -24,24 +23,22 @@ use pm_law_saving::{
 };
 use pm_settled::PackedPage;
 use pm_shadow::Pages;
-use pm_snap::Table;
-use pm_space::{Held, Space};
 use pm_types::Flushed;
 use std::alloc::Global;
 
 /// Writes the next page of a copy in progress, where one is left.
-fn flush<D: Disk>(
+fn flush<D: Disk, C: Frozen>(
     alloc: Global,
     settled: &[PackedPage],
-    cars: &Table<Held>,
+    frozen: &C,
     it: &mut InProgress,
     pages: &mut Pages<D>,
 ) -> Result<Flushed, SaveFault>
     requires kept { IsKept settled.now it.old }
-    requires may { IfSome (next_page (frozen_in cars.now) (progress_seen settled.now it.old)) HasPage }
+    requires may { IfSome (next_page (C.cars frozen.now) (progress_seen settled.now it.old)) HasPage }
     requires ready { IsReady (state pages.old) settled.now }
     ensures kept { IsKept settled.now it.new }
-    ensures step { IfOk result (IsStep (frozen_in cars.now) (progress_seen settled.now it.old)
+    ensures step { IfOk result (IsStep (C.cars frozen.now) (progress_seen settled.now it.old)
         (progress_seen settled.now it.new)
         (state pages.old) (state pages.new) (D.contents (disk_of pages.old)) (D.contents (disk_of pages.new))) }
     ensures err { OnErr result (progress_seen settled.now it.new ≡ progress_seen settled.now it.old) }
@@ -52,10 +49,10 @@ fn flush<D: Disk>(
     ensures cause { HasSaveCause (D.count (disk_of pages.old)) (D.count (disk_of pages.new)) result }
     ensures made { Makes (D.made (disk_of pages.old)) (D.made (disk_of pages.new)) result }
     // A fault comes only where a page is left.
-    ensures fault { OnErr result (IsSome (next_page (frozen_in cars.now) (progress_seen settled.now it.old))) }
+    ensures fault { OnErr result (IsSome (next_page (C.cars frozen.now) (progress_seen settled.now it.old))) }
 {
     find_next(it);
-    let Some(ready) = ready_next(alloc, settled, cars, it)? else {
+    let Some(ready) = ready_next(alloc, settled, frozen, it)? else {
         return Ok(Flushed::AllFlushed);
     };
     let page = put_page(settled, it, pages, &ready.bytes)?;
@@ -63,34 +60,34 @@ fn flush<D: Disk>(
     Ok(Flushed::Wrote(page))
 }
 
-impl Saver {
-    ghost use Rattle.std.specs.Prelude.{◌≡◌, ◌<◌, IfOk, OnErr};
+impl Writer {
+    ghost use Rattle.std.specs.Prelude.{◌≡◌, ◌<◌, Some, IfOk, OnErr};
     ghost use Rattle.pm_saving.specs.Paging.{left_of};
     ghost use Rattle.pm_shadow.specs.Pages.{state, disk_of};
     ghost use Rattle.pm_saving.specs.Tied.{IsTied};
-    ghost use Rattle.pm_save.specs.Shown.{saving, frozen_of, frozen_cars};
+    ghost use Rattle.pm_save.specs.Shown.{writing};
     ghost use Rattle.pm_save.specs.Answers.{HasSaveCause, IsFlushed, Makes, IsStill, KeepsCopy, OnMemory, Spares, TellsOn, UnlessDisk};
 
-    /// Writes the next page of the copy in progress on the lowest page that is free. `AllFlushed` exactly where no
-    /// copy is in progress, or nothing of it is left to be written; nothing changed then.
+    /// Writes the next page of the copy in progress, whose cars are these, on the lowest page that is free.
+    /// `AllFlushed` exactly where nothing of it is left to be written; nothing changed then.
     ///
     /// # Errors
     ///
     /// `Disk` where the disk failed, and `Memory` where memory ran out. After `Memory` all is as it was.
-    pub fn flush_one<D: Disk, F: Drop>(
+    pub fn flush_from<D: Disk, C: Frozen>(
         &mut self,
         alloc: Global,
-        space: &Space<F>,
+        frozen: &C,
         pages: &mut Pages<D>,
     ) -> Result<Flushed, SaveFault>
-        requires tied { IsTied (saving self.old) (frozen_of space.now.parts) (state pages.old) (D.contents
+        requires tied { IsTied (writing self.old) (Some (C.cars frozen.now)) (state pages.old) (D.contents
             (disk_of pages.old)) }
-        ensures flushed { IfOk result (IsFlushed (saving self.old) (saving self.new) (frozen_cars space.now.parts)
+        ensures flushed { IfOk result (IsFlushed (writing self.old) (writing self.new) (C.cars frozen.now)
             (state pages.old) (state pages.new) (D.contents (disk_of pages.old)) (D.contents (disk_of pages.new))) }
         // What holds between calls holds again.
-        ensures tied { UnlessDisk result (IsTied (saving self.new) (frozen_of space.now.parts) (state pages.new)
+        ensures tied { UnlessDisk result (IsTied (writing self.new) (Some (C.cars frozen.now)) (state pages.new)
             (D.contents (disk_of pages.new))) }
-        ensures memory { OnMemory result (IsStill (saving self.old) (saving self.new) (state pages.old)
+        ensures memory { OnMemory result (IsStill (writing self.old) (writing self.new) (state pages.old)
             (state pages.new)
             (D.contents (disk_of pages.old)) (D.contents (disk_of pages.new))) }
         // The current copy stands where it stood,
@@ -103,8 +100,8 @@ impl Saver {
         // One write was made for a page, and no read reached past the end of what the disk told.
         ensures made { Makes (D.made (disk_of pages.old)) (D.made (disk_of pages.new)) result }
         // A fault comes only where a page is left, and leaves the copies as they were.
-        ensures fault { OnErr result (0 < left_of (saving self.old).progress) }
-        ensures err { OnErr result (saving self.new ≡ saving self.old) }
+        ensures fault { OnErr result (0 < left_of (writing self.old).progress) }
+        ensures err { OnErr result (writing self.new ≡ writing self.old) }
     {
         pages_of_a_copy_are_written_in_order();
         the_next_page_is_written_beside_the_current_copy();
@@ -112,6 +109,6 @@ impl Saver {
         let Some(it) = &mut self.progress else {
             return Ok(Flushed::AllFlushed);
         };
-        flush(alloc, &self.settled, &space.parts.cars, it, pages)
+        flush(alloc, &self.settled, frozen, it, pages)
     }
 }

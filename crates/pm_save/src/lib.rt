@@ -9,13 +9,18 @@ mod dropping;
 mod entries;
 mod fault;
 mod flushing;
+mod frozen;
 mod listed_cars;
 mod next;
 mod place;
 mod roots;
 mod saver;
 mod settling;
+mod writer;
 mod written;
 
 pub use fault::SaveFault;
+pub use frozen::Frozen;
+pub use place::{Place, PlacedCar};
 pub use saver::Saver;
+pub use writer::Writer;

@@ -9,23 +9,20 @@ ghost use Rattle.std.specs.FinSet as set;
 ghost use Rattle.pm_types.specs.declared.limits.TheConstants.{FIELDS, PAGE_BYTES};
 ghost use Rattle.pm_image.specs.CarPages.{HasCarPage, one_car};
 ghost use Rattle.pm_law_layout.specs.Plans.{chain_of, first_of};
-ghost use Rattle.pm_saving.specs.Progress.{catalog_left, catalog_of};
+ghost use Rattle.pm_saving.specs.Progress.{catalog_left, catalog_of, image_at};
 ghost use Rattle.pm_saving.specs.Paging.{car_text, next_page, part_before};
 ghost use Rattle.pm_saving.specs.Tied.{HasPage};
 ghost use Rattle.pm_save.specs.Seen.{progress_seen};
-ghost use Rattle.pm_save.specs.Frozen.{frozen_image, frozen_in};
 ghost use Rattle.pm_save.specs.Kept.{IsKept, IsPlaced, is_open};
 ghost use Rattle.pm_save.specs.Noted.{HasPlaceFor};
 ghost use Rattle.pm_save.specs.Next.{IsFound, Spells, next_seen};
 ghost use Rattle.pm_save.specs.declared.next.Next.TheVariants.{Car};
 
-use crate::copying::image_in;
+use crate::Frozen;
 use crate::entries::entries_between;
 use crate::place::{InProgress, Place, PlacedCar};
 use pm_image::{CatalogPage, EntryList, write_car, write_catalog};
 use pm_settled::{PackedCar, PackedPage};
-use pm_snap::Table;
-use pm_space::Held;
 use pm_types::NoMemory;
 use std::alloc::Global;
 
@@ -48,7 +45,7 @@ pub(crate) struct Ready {
 }
 
 /// The car stands on no page yet.
-fn is_open(place: &Place) -> bool
+pub(crate) fn is_open(place: &Place) -> bool
     ensures { result ≡ is_open place.now }
 {
     matches!(place, Place::Unwritten)
@@ -77,13 +74,13 @@ pub(crate) fn find_next(it: &mut InProgress)
 }
 
 /// The page of the car of this number, as it was frozen.
-fn car_page(alloc: Global, cars: &Table<Held>, number: u64) -> Result<Ready, NoMemory>
-    requires { HasCarPage (one_car FIELDS) set.empty (frozen_image cars.now number) }
-    ensures next { IfOk result (λ page. page.next ≡ Car (frozen_image cars.now number)) }
-    ensures text { IfOk result (λ page. page.bytes.items ≡ car_text (frozen_image cars.now number)) }
+fn car_page<C: Frozen>(alloc: Global, frozen: &C, number: u64) -> Result<Ready, NoMemory>
+    requires { HasCarPage (one_car FIELDS) set.empty (image_at (C.cars frozen.now) number) }
+    ensures next { IfOk result (λ page. page.next ≡ Car (image_at (C.cars frozen.now) number)) }
+    ensures text { IfOk result (λ page. page.bytes.items ≡ car_text (image_at (C.cars frozen.now) number)) }
     ensures whole { IfOk result (λ page. length page.bytes.items ≡ PAGE_BYTES) }
 {
-    let image = image_in(alloc, cars, number)?;
+    let image = frozen.image(alloc, number)?;
     let bytes = write_car(alloc, &image)?;
     Ok(Ready {
         next: Next::Car(PackedCar::pack(alloc, &image, &bytes)?),
@@ -159,24 +156,24 @@ fn part_page(
 
 /// The next page of a copy, ready to be written, if one is left: that of the first car that stands on none, and then
 /// those of the catalog from the last to the first.
-pub(crate) fn ready_next(
+pub(crate) fn ready_next<C: Frozen>(
     alloc: Global,
     settled: &[PackedPage],
-    cars: &Table<Held>,
+    frozen: &C,
     it: &InProgress,
 ) -> Result<Option<Ready>, NoMemory>
     requires kept { IsKept settled.now it.now }
     requires found { IsFound it.now }
-    requires may { IfSome (next_page (frozen_in cars.now) (progress_seen settled.now it.now)) HasPage }
-    ensures next { IfOk result (λ page. next_page (frozen_in cars.now) (progress_seen settled.now it.now)
+    requires may { IfSome (next_page (C.cars frozen.now) (progress_seen settled.now it.now)) HasPage }
+    ensures next { IfOk result (λ page. next_page (C.cars frozen.now) (progress_seen settled.now it.now)
         ≡ option_map (λ (page : Ready). next_seen page.next) page) }
     ensures spelled { IfOk result (λ page. IfSome page (Spells (progress_seen settled.now it.now))) }
     ensures place { IfOk result (λ page. IfSome page (λ (ready : Ready). HasPlaceFor it.now ready.next)) }
     // Memory runs out only where one is left.
-    ensures err { OnErr result (IsSome (next_page (frozen_in cars.now) (progress_seen settled.now it.now))) }
+    ensures err { OnErr result (IsSome (next_page (C.cars frozen.now) (progress_seen settled.now it.now))) }
 {
     match it.cars.get(it.placed) {
-        Some(one) => Ok(Some(car_page(alloc, cars, one.number)?)),
+        Some(one) => Ok(Some(car_page(alloc, frozen, one.number)?)),
         None => part_page(alloc, settled, it),
     }
 }

@@ -5,7 +5,7 @@ use pm_types::{Addr, Name};
 
 /// Where a car of the copy in progress stands.
 #[derive(Debug, Drop)]
-pub(crate) enum Place {
+pub enum Place {
     /// On the page of the settled car at this place of the list, which has the same content.
     Clean(usize),
     /// On no page yet.
@@ -16,12 +16,13 @@ pub(crate) enum Place {
 
 /// A car of the copy in progress.
 #[derive(Debug, Drop)]
-pub(crate) struct PlacedCar {
+pub struct PlacedCar {
     /// The train in which it is listed.
-    pub(crate) train: u64,
+    pub train: u64,
     /// Its number, from 1.
-    pub(crate) number: u64,
-    pub(crate) place: Place,
+    pub number: u64,
+    /// Where it stands.
+    pub place: Place,
 }
 
 /// A copy in progress.

@@ -19,12 +19,11 @@ ghost use Rattle.pm_save.specs.Taken.{AreOnce, StaysBut};
 
 use crate::next::first_part;
 use crate::place::{InProgress, Place};
-use crate::{SaveFault, Saver};
+use crate::{Frozen, SaveFault, Writer};
 use pm_disk::Disk;
 use pm_layout::Header;
 use pm_settled::{PackedCar, PackedPage};
 use pm_shadow::Pages;
-use pm_space::Space;
 use pm_types::{Flushed, VERSION};
 use std::alloc::Global;
 use std::mem;
@@ -137,8 +136,8 @@ fn header_in(it: &InProgress) -> Header
     }
 }
 
-impl Saver {
-    ghost use Rattle.std.specs.Prelude.{◌≡◌, ◌<◌, None, IsSome, IfSome, IfOk, OnOk, OnErr};
+impl Writer {
+    ghost use Rattle.std.specs.Prelude.{◌≡◌, ◌<◌, Some, None, IsSome, IfSome, IfOk, OnOk, OnErr};
     ghost use Rattle.std.specs.List.{AllByRecursion};
     ghost use Rattle.pm_saving.specs.Progress.{car_pages};
     ghost use Rattle.pm_save.specs.Kept.{IsPlaced};
@@ -147,35 +146,35 @@ impl Saver {
     ghost use Rattle.pm_shadow.specs.Pages.{state, disk_of};
     ghost use Rattle.pm_saving.specs.Paging.{left_of};
     ghost use Rattle.pm_saving.specs.Tied.{IsTied};
-    ghost use Rattle.pm_save.specs.Shown.{saving, frozen_of, frozen_cars};
+    ghost use Rattle.pm_save.specs.Shown.{writing};
     ghost use Rattle.pm_save.specs.Answers.{HasSaveCause, OnMemory, Spares, TellsOn, UnlessDisk};
-    ghost use Rattle.pm_save.specs.Settling.{IsCausedBy, IsLeftSo, LeavesSpace, SettlesPages, SparesEither, StaysOn, settling_syncs, settling_writes};
+    ghost use Rattle.pm_save.specs.Settling.{IsCausedBy, IsLeftSo, SettlesPages, SparesEither, StaysOn, settling_syncs, settling_writes};
     ghost use Rattle.pm_save.specs.Runs.{Runs};
 
     /// Writes what is left of the copy in progress.
-    fn write_rest<D: Disk, F: Drop>(
+    fn write_rest<D: Disk, C: Frozen>(
         &mut self,
         alloc: Global,
-        space: &Space<F>,
+        frozen: &C,
         pages: &mut Pages<D>,
     ) -> Result<(), SaveFault>
-        requires tied { IsTied (saving self.old) (frozen_of space.now.parts) (state pages.old)
+        requires tied { IsTied (writing self.old) (Some (C.cars frozen.now)) (state pages.old)
             (D.contents (disk_of pages.old)) }
-        requires begun { IsSome (saving self.old).progress }
-        ensures run { UnlessDisk result (Runs (frozen_of space.now.parts) (frozen_cars space.now.parts)
-            (saving self.old) (saving self.new) (state pages.old) (state pages.new)
+        requires begun { IsSome (writing self.old).progress }
+        ensures run { UnlessDisk result (Runs (Some (C.cars frozen.now)) (C.cars frozen.now)
+            (writing self.old) (writing self.new) (state pages.old) (state pages.new)
             (D.contents (disk_of pages.old)) (D.contents (disk_of pages.new))) }
-        ensures none { OnOk result (left_of (saving self.new).progress ≡ 0) }
-        ensures fault { OnErr result (0 < left_of (saving self.old).progress) }
-        ensures left { OnErr result (0 < left_of (saving self.new).progress) }
-        ensures goes { OnErr result (StaysOn (saving self.old) (saving self.new)) }
+        ensures none { OnOk result (left_of (writing self.new).progress ≡ 0) }
+        ensures fault { OnErr result (0 < left_of (writing self.old).progress) }
+        ensures left { OnErr result (0 < left_of (writing self.new).progress) }
+        ensures goes { OnErr result (StaysOn (writing self.old) (writing self.new)) }
         ensures spares { Spares D.contents D.moment D.since (state pages.old) (disk_of pages.old) (disk_of pages.new) }
         ensures told { TellsOn (D.contents (disk_of pages.old)) (D.contents (disk_of pages.new)) }
         ensures cause { HasSaveCause (D.count (disk_of pages.old)) (D.count (disk_of pages.new)) result }
-        ensures made { MakesCalls (left_of (saving self.old).progress) 0 (D.made (disk_of pages.old))
+        ensures made { MakesCalls (left_of (writing self.old).progress) 0 (D.made (disk_of pages.old))
             (D.made (disk_of pages.new)) result }
     {
-        while let Flushed::Wrote(_page) = self.flush_one(alloc, space, pages)? {}
+        while let Flushed::Wrote(_page) = self.flush_from(alloc, frozen, pages)? {}
         Ok(())
     }
 
@@ -183,8 +182,8 @@ impl Saver {
     fn finish(&mut self, alloc: Global)
         requires placed { IfSome self.old.progress (λ it. AllByRecursion IsPlaced it.cars.items) }
         requires once { IfSome self.old.progress (λ it. AreOnce it.cars.items) }
-        ensures { IfSome (saving self.old).progress (λ progress.
-            saving self.new ≡ record { settled = car_pages progress; progress = None }) }
+        ensures { IfSome (writing self.old).progress (λ progress.
+            writing self.new ≡ record { settled = car_pages progress; progress = None }) }
     {
         let Some(it) = self.progress.take() else {
             return;
@@ -193,39 +192,40 @@ impl Saver {
         self.settled = settled_list(alloc, settled, it);
     }
 
-    /// Writes what is left of the copy in progress and makes it the settled one: the other gate is closed, the header is
-    /// published, and the cars are frozen no more. Answers its number. Once all of it was written no memory is taken.
+    /// Writes what is left of the copy in progress, whose cars are these, and makes it the settled one: the other gate
+    /// is closed, and the header is published. Answers its number. Once all of it was written no memory is taken.
     ///
     /// # Errors
     ///
     /// `Disk` where the disk failed, and `Memory` where memory ran out before all of the copy was written; then it is in
     /// progress still.
-    pub fn settle<D: Disk, F: Drop>(
+    pub fn settle_from<D: Disk, C: Frozen>(
         &mut self,
         alloc: Global,
-        space: &mut Space<F>,
+        frozen: &C,
         pages: &mut Pages<D>,
     ) -> Result<u32, SaveFault>
-        requires tied { IsTied (saving self.old) (frozen_of space.old.parts) (state pages.old)
+        requires tied { IsTied (writing self.old) (Some (C.cars frozen.now)) (state pages.old)
             (D.contents (disk_of pages.old)) }
-        requires begun { IsSome (saving self.old).progress }
         // The copy is the settled one then, and every image stands for it;
-        ensures settled { IfOk result (SettlesPages (saving self.old) (saving self.new) (frozen_cars space.old.parts)
+        ensures settled { IfOk result (SettlesPages (writing self.old) (writing self.new) (C.cars frozen.now)
             pages.old pages.new) }
         // at every moment of the call it stands for the copy that was settled or for this one.
-        ensures leaves { SparesEither D.contents D.moment D.since (saving self.old).progress
-            (frozen_cars space.old.parts) (state pages.old) (disk_of pages.old) (disk_of pages.new) }
-        ensures tied { UnlessDisk result (IsTied (saving self.new) (frozen_of space.new.parts) (state pages.new)
+        ensures leaves { SparesEither D.contents D.moment D.since (writing self.old).progress (C.cars frozen.now)
+            (state pages.old) (disk_of pages.old) (disk_of pages.new) }
+        // What holds between calls holds again: after Ok none is in progress, and after `Memory` this one is still.
+        ensures tied { OnOk result (IsTied (writing self.new) None (state pages.new)
             (D.contents (disk_of pages.new))) }
-        ensures memory { OnMemory result (IsLeftSo D.contents D.moment D.since (saving self.old) (saving self.new)
+        ensures tied_still { OnMemory result (IsTied (writing self.new) (Some (C.cars frozen.now)) (state pages.new)
+            (D.contents (disk_of pages.new))) }
+        ensures memory { OnMemory result (IsLeftSo D.contents D.moment D.since (writing self.old) (writing self.new)
             (state pages.old) (state pages.new) (disk_of pages.old) (disk_of pages.new)) }
         // After a fault the copy is in progress still.
-        ensures goes { OnErr result (StaysOn (saving self.old) (saving self.new)) }
-        ensures space { LeavesSpace space.old.parts space.new.parts result }
-        ensures causes { IsCausedBy (settling_writes (saving self.old) (state pages.old))
+        ensures goes { OnErr result (StaysOn (writing self.old) (writing self.new)) }
+        ensures causes { IsCausedBy (settling_writes (writing self.old) (state pages.old))
             (settling_syncs (state pages.old)) pages.old pages.new result }
     {
-        self.write_rest(alloc, space, pages)?;
+        self.write_rest(alloc, frozen, pages)?;
         close_gate(pages)?;
         let Some(it) = &self.progress else {
             unreachable!()
@@ -233,7 +233,6 @@ impl Saver {
         let header = header_in(it);
         publish(pages, &header)?;
         self.finish(alloc);
-        space.parts.cars.thaw();
         Ok(header.epoch)
     }
 }

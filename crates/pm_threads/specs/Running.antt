@@ -39,5 +39,6 @@ pub record AnswersClients (lines : List Line) (new : Serving) (stop : Option Sto
   pub long : IsDone stop → length new.journal ≡ length (requests_asked lines)
   pub events : IsDone stop → new.events ≡ capped (events_asked lines)
   pub steps : IsDone stop → new.steps ≡ capped (steps_asked lines)
-  -- where memory ran out, an event is left in which it may: it does not in a `settle` once all of the copy was flushed
+  -- where memory ran out, an event is left in which it may: where nothing but a `settle` of a copy that was flushed whole
+  -- is left, it does not run out
   pub short : stop ≡ Some Memory → ∥ LeavesSome lines new.journal new.steps new.events (left_of new.saving.progress) ∥₁

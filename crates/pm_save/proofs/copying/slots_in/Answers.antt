@@ -1,5 +1,5 @@
 use Rattle.std.proofs.Common.{Some, None, ◌∙◌}
-use Rattle.pm_save.proofs.Frozen.{frozen_slots}
+use Rattle.pm_save.proofs.FrozenSlots.{frozen_slots}
 use Rattle.pm_save.proofs.copying.slots_in.Goals as goal
 
 pub returns-in_ok-copy_slots-in-Some : goal.returns-in_ok-copy_slots-in-Some

@@ -3,7 +3,7 @@ use Rattle.std.specs.Prelude.{IfOk, IfSome, IsSome, OnErr, option_map}
 use Rattle.std.specs.List.{AllByRecursion, slice_get}
 use Rattle.pm_image.specs.declared.settled.KeptPage.{KeptPage}
 use Rattle.pm_view.specs.View.{Cars}
-use Rattle.pm_saving.specs.Progress.{catalog_left, image_of}
+use Rattle.pm_saving.specs.Progress.{catalog_left, image_at, image_of}
 use Rattle.pm_saving.specs.Paging.{NextPage as SeenPage}
 use Rattle.pm_saving.specs.Paging.{CarPage, next_after, next_page, part_before}
 use Rattle.pm_saving.specs.Tied.{HasPage}
@@ -11,7 +11,6 @@ use Rattle.pm_save.specs.declared.place.PlacedCar.{PlacedCar}
 use Rattle.pm_save.specs.declared.place.InProgress.{InProgress}
 use Rattle.pm_save.specs.declared.next.Ready.{Ready}
 use Rattle.pm_save.specs.Seen.{car_seen, progress_seen}
-use Rattle.pm_save.specs.Frozen.{frozen_image, frozen_in}
 use Rattle.pm_save.specs.Kept.{IsKept, IsPlaced, is_open}
 use Rattle.pm_save.specs.Next.{IsFound, next_seen}
 use Rattle.pm_save.proofs.Slices.{got, got_none, on_err}
@@ -35,43 +34,43 @@ no_car settled cars it items kept found past same =
     (placed, ap (next_after cars (progress_seen settled it)) (none_open (progress_seen settled it).cars (all_placed settled it.cars.items kept.within placed)))
 
 pub car_page-requires : goal.car_page-requires
-car_page-requires c =
+car_page-requires g c =
     let it = c.args.it.now in
     let settled = c.args.settled.now in
     let one = c.in-Some.one.now in
     let lookup = c.in-Some.ensures.lookup in
     let low = lookup.3.0 in
-    let next = car_next settled (frozen_in c.args.cars.now) it c.deref.result.now one c.requires.kept c.requires.found low lookup.1 c.deref.ensures.value in
-    let may : HasPage (CarPage (frozen_image c.args.cars.now one.number)) = subst (λ (next : Option SeenPage). IfSome next HasPage) next c.requires.may in
+    let next = car_next settled (g.C.Frozen.cars c.args.frozen.now) it c.deref.result.now one c.requires.kept c.requires.found low lookup.1 c.deref.ensures.value in
+    let may : HasPage (CarPage (image_at (g.C.Frozen.cars c.args.frozen.now) one.number)) = subst (λ (next : Option SeenPage). IfSome next HasPage) next c.requires.may in
     may
 
 pub returns-in_ok-car_page-in-Some-clause-next : goal.returns-in_ok-car_page-in-Some-clause-next
-returns-in_ok-car_page-in-Some-clause-next c =
+returns-in_ok-car_page-in-Some-clause-next g c =
     let lookup = c.in-Some.ensures.lookup in
-    car_next c.args.settled.now (frozen_in c.args.cars.now) c.args.it.now c.deref.result.now c.in-Some.one.now c.requires.kept c.requires.found lookup.3.0 lookup.1 c.deref.ensures.value
+    car_next c.args.settled.now (g.C.Frozen.cars c.args.frozen.now) c.args.it.now c.deref.result.now c.in-Some.one.now c.requires.kept c.requires.found lookup.3.0 lookup.1 c.deref.ensures.value
     ∙ ap (λ next. Some (next_seen next)) (sym c.in_ok-car_page-in-Some.ensures.next)
 
 pub part_page-requires-clause-placed : goal.part_page-requires-clause-placed
-part_page-requires-clause-placed c = let l = c.in-None.ensures.lookup in let r = c.requires in
-    (no_car c.args.settled.now (frozen_in c.args.cars.now) c.args.it.now c.deref.result.now c.requires.kept c.requires.found (search rules) c.deref.ensures.value).0
+part_page-requires-clause-placed g c = let l = c.in-None.ensures.lookup in let r = c.requires in
+    (no_car c.args.settled.now (g.C.Frozen.cars c.args.frozen.now) c.args.it.now c.deref.result.now c.requires.kept c.requires.found (search rules) c.deref.ensures.value).0
 
 pub part_page-requires-clause-may : goal.part_page-requires-clause-may
-part_page-requires-clause-may c =
-    let next = (no_car c.args.settled.now (frozen_in c.args.cars.now) c.args.it.now c.deref.result.now c.requires.kept c.requires.found (search rules) c.deref.ensures.value).1 in
+part_page-requires-clause-may g c =
+    let next = (no_car c.args.settled.now (g.C.Frozen.cars c.args.frozen.now) c.args.it.now c.deref.result.now c.requires.kept c.requires.found (search rules) c.deref.ensures.value).1 in
     subst (λ (next : Option SeenPage). IfSome next HasPage) next c.requires.may
 
 pub returns-in-None-clause-next : goal.returns-in-None-clause-next
-returns-in-None-clause-next c =
-    let next = (no_car c.args.settled.now (frozen_in c.args.cars.now) c.args.it.now c.deref.result.now c.requires.kept c.requires.found (search rules) c.deref.ensures.value).1 in
+returns-in-None-clause-next g c =
+    let next = (no_car c.args.settled.now (g.C.Frozen.cars c.args.frozen.now) c.args.it.now c.deref.result.now c.requires.kept c.requires.found (search rules) c.deref.ensures.value).1 in
     subst (λ (next : Option SeenPage). IfOk c.part_page.result (λ page. next ≡ option_map (λ (page : Ready). next_seen page.next) page)) (sym next) c.part_page.ensures.next
 
 pub returns-in_err-car_page-in-Some-clause-err : goal.returns-in_err-car_page-in-Some-clause-err
-returns-in_err-car_page-in-Some-clause-err c =
+returns-in_err-car_page-in-Some-clause-err g c =
     let lookup = c.in-Some.ensures.lookup in
-    let next = car_next c.args.settled.now (frozen_in c.args.cars.now) c.args.it.now c.deref.result.now c.in-Some.one.now c.requires.kept c.requires.found lookup.3.0 lookup.1 c.deref.ensures.value in
-    on_err (IsSome (next_page (frozen_in c.args.cars.now) (progress_seen c.args.settled.now c.args.it.now))) c.from_residual.result (subst (λ (next : Option SeenPage). IsSome next) (sym next) refl)
+    let next = car_next c.args.settled.now (g.C.Frozen.cars c.args.frozen.now) c.args.it.now c.deref.result.now c.in-Some.one.now c.requires.kept c.requires.found lookup.3.0 lookup.1 c.deref.ensures.value in
+    on_err (IsSome (next_page (g.C.Frozen.cars c.args.frozen.now) (progress_seen c.args.settled.now c.args.it.now))) c.from_residual.result (subst (λ (next : Option SeenPage). IsSome next) (sym next) refl)
 
 pub returns-in-None-clause-err : goal.returns-in-None-clause-err
-returns-in-None-clause-err c =
-    let next = (no_car c.args.settled.now (frozen_in c.args.cars.now) c.args.it.now c.deref.result.now c.requires.kept c.requires.found (search rules) c.deref.ensures.value).1 in
+returns-in-None-clause-err g c =
+    let next = (no_car c.args.settled.now (g.C.Frozen.cars c.args.frozen.now) c.args.it.now c.deref.result.now c.requires.kept c.requires.found (search rules) c.deref.ensures.value).1 in
     subst (λ (next : Option SeenPage). OnErr c.part_page.result (IsSome next)) (sym next) c.part_page.ensures.err

@@ -6,7 +6,7 @@ use Rattle.pm_engine.specs.Working.{view_in}
 use Rattle.pm_engine.proofs.Bounding.{told_honest}
 
 pub invariant_of-works : goal.invariant_of-works
-invariant_of-works g c = record { kept = c.args.self.works.saver.kept }
+invariant_of-works g c = record { kept = c.args.self.works.saver.writer.kept }
 
 pub returns-clause-honest : goal.returns-clause-honest
 returns-clause-honest g c = told_honest c.args.self.opening c.args.self.stopped c.args.self.works c.args.self.bounded _
