@@ -1,0 +1,5 @@
+pub mod Filled
+pub mod Places
+pub mod Found
+pub mod Accepted
+pub mod Copies
