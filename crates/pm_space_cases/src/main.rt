@@ -7,6 +7,7 @@ mod drawn;
 mod fault;
 mod frozen;
 mod opened;
+mod paths;
 mod queued;
 mod scripted;
 mod spaced;
@@ -15,6 +16,7 @@ use collected::push_collected;
 use fault::Fault;
 use frozen::push_frozen;
 use opened::push_opened;
+use paths::push_chain;
 use queued::push_queued;
 use scripted::{Shows, push_script};
 use spaced::{push_births, push_drawn, push_names};
@@ -48,6 +50,7 @@ fn push_case(text: &str, out: &mut String) -> Result<(), Fault> {
 fn shows(step: &str) -> Option<Shows> {
     match step {
         "script" => Some(Shows::All),
+        "kinds" => Some(Shows::Kinds),
         "replies" => Some(Shows::Replies),
         "end" => Some(Shows::End),
         "last" => Some(Shows::Last),
@@ -64,7 +67,17 @@ fn push_counted(alloc: Global, step: &str, number: u64, out: &mut String) -> Res
         "names" => push_names(alloc, number, out),
         "frozen" => push_frozen(alloc, number, out),
         "queued" => push_queued(alloc, number, out),
+        "chain" => push_chain(alloc, number, out),
         _ => Err(Fault::Step),
+    }
+}
+
+// A step that is told an identity and the lines of a script.
+fn push_why(alloc: Global, text: &str, out: &mut String) -> Result<(), Fault> {
+    let (id, lines) = numbered(text)?;
+    match u32::try_from(id) {
+        Ok(id) => push_script(alloc, lines, Shows::Why(id), out),
+        Err(_) => Err(Fault::Number),
     }
 }
 
@@ -77,6 +90,7 @@ fn push_step(alloc: Global, step: &str, text: &str, out: &mut String) -> Result<
         "case" => push_case(text, out),
         "collected" => push_collected(alloc, text, out),
         "opened" => push_opened(alloc, text, out),
+        "why" => push_why(alloc, text, out),
         _ => push_counted(alloc, step, number(text)?, out),
     }
 }

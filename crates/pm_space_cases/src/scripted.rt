@@ -6,12 +6,14 @@ ghost use Rattle.pm_place.specs.Choosers.{IsChooser};
 ghost use Rattle.pm_view.specs.Commands.{is_act};
 
 use crate::fault::Fault;
+use crate::paths::push_why;
+use pm_evac::{Row, apply_one, finish_car, fix_one, free_car, move_one, next_row, sweep_one};
 use pm_mutate::act;
 use pm_place::Placement;
-use pm_reclaim::collect_one;
+use pm_reclaim::{collect_one, decide, select};
 use pm_script::{Line, Script, read_script, reply_text};
 use pm_space::Space;
-use pm_types::{Cmd, Entry, Reply, SOURCE_BYTES, Step};
+use pm_types::{Cmd, Entry, Id, NoMemory, Reply, SOURCE_BYTES, Step};
 use pm_walk::dump_text;
 use std::alloc::Global;
 use std::fmt::Write;
@@ -27,8 +29,12 @@ pub(crate) enum Shows {
     End,
     /// The last reply.
     Last,
+    /// As `All`, and each event is made by the call for its kind.
+    Kinds,
     /// The text of the dump at the end.
     Dump,
+    /// A path to this identity at the end.
+    Why(Id),
 }
 
 // Whether the space itself answers the command.
@@ -131,6 +137,27 @@ fn note(events: &mut Events, step: Step, shown: bool, out: &mut String) -> Resul
     Ok(())
 }
 
+// Makes the next event by the call for its kind.
+fn collect_by_kind<F: Fn(&[u64]) -> usize + Drop>(
+    space: &mut Space<F>,
+    alloc: Global,
+) -> Result<Step, NoMemory>
+    requires { IsChooser F.Fn space.old.parts.place }
+    ensures { IsChooser F.Fn space.new.parts.place }
+{
+    match next_row(space) {
+        Row::Nothing => collect_one(space, alloc),
+        Row::Select { .. } => select(space, alloc),
+        Row::Apply { .. } => apply_one(space),
+        Row::Doom { .. } | Row::Start { .. } => decide(space, alloc),
+        Row::Fix { .. } => fix_one(space),
+        Row::MoveAnchor { .. } | Row::MoveOut { .. } | Row::MoveOn { .. } => move_one(space, alloc),
+        Row::Finish { .. } => Ok(finish_car(space)),
+        Row::Sweep { .. } => sweep_one(space, alloc),
+        Row::Free { .. } | Row::FreeDoomed { .. } => free_car(space),
+    }
+}
+
 // Makes so many events.
 fn collect<F: Fn(&[u64]) -> usize + Drop>(
     space: &mut Space<F>,
@@ -144,8 +171,17 @@ fn collect<F: Fn(&[u64]) -> usize + Drop>(
     ensures { IsChooser F.Fn space.new.parts.place }
 {
     for _ in 0..count {
-        let step = collect_one(space, alloc)?;
-        note(events, step, shows == Shows::All, out)?;
+        let step = if shows == Shows::Kinds {
+            collect_by_kind(space, alloc)?
+        } else {
+            collect_one(space, alloc)?
+        };
+        note(
+            events,
+            step,
+            matches!(shows, Shows::All | Shows::Kinds),
+            out,
+        )?;
     }
     show(events, out)
 }
@@ -205,7 +241,7 @@ fn carry_out<F: Fn(&[u64]) -> usize + Drop>(
     match line {
         Line::Client { client, cmd } => {
             course.last = answer(space, alloc, *client, cmd)?;
-            if matches!(shows, Shows::All | Shows::Replies) {
+            if matches!(shows, Shows::All | Shows::Kinds | Shows::Replies) {
                 out.push_str(&course.last)?;
             }
             Ok(())
@@ -264,6 +300,7 @@ fn push_behind<F: Drop>(
     match shows {
         Shows::Last => Ok(out.push_str(&course.last)?),
         Shows::Dump => push_dump(space, alloc, out),
+        Shows::Why(id) => push_why(space, alloc, id, out),
         _ => push_end(space, course.events, out),
     }
 }

@@ -1,19 +1,20 @@
 -- One more object is found.
-use Rattle.std.proofs.Common.{◌≡◌, ◌⊎◌, inl, inr, ℕ, refl, ap, sym, subst, ◌∙◌, cond, Bool, true, false, List, [], ◌∷◌, ◌++◌, length, Option, Some, None, is_some}
+use Rattle.std.proofs.Common.{◌≡◌, ◌⊎◌, inl, inr, ℕ, ◌<◌, ◌≤◌, get_or, arith, refl, ap, sym, subst, ◌∙◌, cond, Bool, true, false, List, [], ◌∷◌, ◌++◌, length, Option, Some, None, is_some}
 use Rattle.std.specs.List.{slice_get}
 use Rattle.std.specs.Option.{IsSome, IsSomeAnd, IfSome}
 use Rattle.std.specs.Cmp.{nat_cmp_total, eq_by_cmp_equiv}
 use Rattle.std.specs.Ordering.{nat_cmp, eq_by_cmp}
 use Rattle.std.specs.FinMap.{get, insert, get-insert, nat_cmp-IsAntisymmetric}
+use Rattle.std.proofs.lemmas.Bool.{cases_lt}
+use Rattle.std.proofs.lemmas.Option.{same_Some, slice_get_within, slice_get-get_or}
 use Rattle.std.proofs.lemmas.Map.Views.{tells_apart}
 use Rattle.pm_types.specs.declared.address.Addr.{Addr}
-use Rattle.pm_types.specs.declared.object.Object as stored
 use Rattle.pm_types.specs.declared.source.RefSource.TheVariants.{Field}
 use Rattle.pm_view.specs.View.{SpaceView}
 use Rattle.pm_view.specs.Reading.{stored, resolve, named_by}
 use Rattle.pm_walk.specs.declared.walk.Found.{Found}
 use Rattle.pm_walk.specs.declared.walk.Walk.{Walk}
-use Rattle.pm_walk.specs.Walked.{met_in, IsMet, LeadsTo, IsFoundAt, IsSoundWalk, Grows}
+use Rattle.pm_walk.specs.Walked.{met_in, IsMet, LeadsTo, IsFoundAt, IsSoundWalk, Grows, AreFoundBy}
 use Rattle.pm_walk.proofs.Lists.{not_none, in_front, at_end, front_or_end}
 
 -- what leads to an address still does when more was found
@@ -45,6 +46,32 @@ grows_twice old between new first second = record {
   found = λ place one is. second.found place one (first.found place one is);
   met = λ id is. second.met id (first.met id is);
 }
+
+-- nothing stands behind a list
+past_end : {A : Type 0} (xs : List A) (place : ℕ) (x : A) → length xs ≤ place → slice_get xs place ≡ Some x → ⊥
+past_end xs place x behind is = no (slice_get_within xs place x is)
+  where
+    no : place < length xs → ⊥
+    no within = omega (arith, behind, within)
+
+pub found_not : (xs : List Found) (from : Option ℕ) → AreFoundBy xs xs from
+found_not xs from place one behind is = absurd (past_end xs place one behind is)
+
+pub found_one : (xs : List Found) (one : Found) → AreFoundBy xs (xs ++ one ∷ []) one.from
+found_one xs one place other behind is = elim (front_or_end xs one place other is) [
+  | inl there ↦ absurd (past_end xs place other behind there)
+  | inr last ↦ ap (λ (f : Found). f.from) (sym last.1)
+]
+
+pub found_twice : (old : List Found) (between new : Walk) (from : Option ℕ) → Grows between new → AreFoundBy old between.found.items from → AreFoundBy between.found.items new.found.items from → AreFoundBy old new.found.items from
+found_twice old between new from grows first second place one behind is = elim (cases_lt place (length between.found.items)) [
+  | inl before ↦
+      let there = slice_get-get_or between.found.items place one before in
+      let other = get_or between.found.items place one in
+      let same : other ≡ one = same_Some other one (sym (grows.found place other there) ∙ is) in
+      ap (λ (f : Found). f.from) (sym same) ∙ first place other behind there
+  | inr later ↦ second place one later is
+]
 
 module _ (old new : Walk) (one : Found) (found : new.found.items ≡ old.found.items ++ one ∷ []) (met : met_in new ≡ insert (met_in old) one.id one.at) where
   answer : (id : ℕ) → get (met_in new) id ≡ cond (eq_by_cmp nat_cmp id one.id) (Some one.at) (get (met_in old) id)

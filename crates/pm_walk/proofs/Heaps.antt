@@ -57,7 +57,7 @@ module _ (view : SpaceView) (law : HeapLaw view) (walk : Walk) (sound : IsSoundW
         whole.done it.0 it.1 index to it.2 (ap (λ b. stored view (Field b index)) same ∙ field_stored view a object index to at.here held)
 
     -- the copy has nothing that was not met
-    all_met : (id : ℕ) → IsSome (get (copy_in view).heap id) → IsSome (get (met_in walk) id)
+    pub all_met : (id : ℕ) → IsSome (get (copy_in view).heap id) → IsSome (get (met_in walk) id)
     all_met id some = least view law (λ id. is_some (get (met_in walk) id)) whole.begun inside_next id some
 
     answer : (id : ℕ) (o : Option Addr) → get (met_in walk) id ≡ o → get (copy_in view).heap id ≡ option_map (meant_at view) o

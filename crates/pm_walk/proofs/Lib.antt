@@ -3,3 +3,4 @@ pub mod Growing
 pub mod Steps
 pub mod Heaps
 pub mod Texts
+pub mod Broad

@@ -1,5 +1,5 @@
 -- Elements of a list at their places.
-use Rattle.std.proofs.Common.{◌≡◌, ◌⊎◌, inl, inr, ℕ, zero, suc, ◌+◌, refl, ap, subst, cond, true, false, List, [], ◌∷◌, ◌++◌, length, Option, Some, None}
+use Rattle.std.proofs.Common.{◌≡◌, ◌⊎◌, inl, inr, ℕ, zero, suc, refl, ap, subst, cond, true, false, List, [], ◌∷◌, ◌++◌, length, Option, Some, None}
 use Rattle.std.specs.List.{AllByRecursion, slice_get}
 use Rattle.std.specs.Option.{IsSome}
 use Rattle.std.specs.declared.cmp.Ordering.{Ordering}

@@ -23,7 +23,7 @@ use Rattle.pm_law_walks.specs.Kept.{IsKeptAt}
 use Rattle.pm_walk.specs.declared.walk.Found.{Found}
 use Rattle.pm_walk.specs.declared.walk.Walk.{Walk}
 use Rattle.pm_walk.specs.Walked.{met_in, IsKept, IsMet, LeadsTo, IsFieldAt, IsFoundAt, IsSoundWalk, Grows, IsBegun, IsDoneAt}
-use Rattle.pm_walk.proofs.Lists.{not_none, known, all_at, found_place}
+use Rattle.pm_walk.proofs.Lists.{not_none, all_at, found_place}
 use Rattle.pm_walk.proofs.Growing.{met_grows, sound_by, met_by}
 
 pub both_ok : {X E A B C : Type 0} (r : Result X E) → (A → B → C) → OnOk r A → OnOk r B → OnOk r C
@@ -95,7 +95,7 @@ below_zero n below = omega (arith, below)
 pub none_met : (view : SpaceView) (walk : Walk) (fields : List (Option Addr)) → AreMet view walk fields 0
 none_met view walk fields index to below is = absurd (below_zero index below)
 
-split_lt : (count n : ℕ) → n < count + 1 → (n < count) ⊎ (n ≡ count)
+pub split_lt : (count n : ℕ) → n < count + 1 → (n < count) ⊎ (n ≡ count)
 split_lt count n below = elim (nat_lt n count) as (λ b. nat_lt n count ≡ b → (n < count) ⊎ (n ≡ count)) [
   | true ↦ λ is. inl (grind (arith, nat_tests, is))
   | false ↦ λ is. inr (grind (arith, nat_tests, is, below))

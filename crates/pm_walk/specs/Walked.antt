@@ -1,5 +1,5 @@
 -- Walks: the objects that were found, each with what led to it, and when a walk is whole.
-use Rattle.std.specs.Prelude.{◌≡◌, ℕ, ◌<◌, List, [], Option, Some, None, IsSome, IsSomeAnd, IfSome, slice_get}
+use Rattle.std.specs.Prelude.{◌≡◌, ℕ, ◌<◌, ◌≤◌, ◌+◌, List, [], length, Option, Some, None, IsSome, IsSomeAnd, IfSome, slice_get}
 use Rattle.std.specs.Ordering.{nat_cmp}
 use Rattle.std.specs.BTreeMap.{BTreeMap}
 use Rattle.std.specs.FinMap.{FinMap, get, entries, from_entries}
@@ -73,6 +73,10 @@ pub record Grows (old new : Walk) : Type 0 where
   pub found : (place : ℕ) (one : Found) → slice_get old.found.items place ≡ Some one → slice_get new.found.items place ≡ Some one
   pub met : (id : ℕ) → IsSome (get (met_in old) id) → IsSome (get (met_in new) id)
 
+-- what was found behind the first ones was found by the names, or by the object at this place
+abbrev pub AreFoundBy : List Found → List Found → Option ℕ → Type 0
+AreFoundBy old new from = (place : ℕ) (one : Found) → length old ≤ place → slice_get new place ≡ Some one → one.from ≡ from
+
 -- what each name stands for was met
 abbrev pub IsBegun : SpaceView → Walk → Type 0
 IsBegun view walk = (name : List ℕ) (bound : ℕ × Addr) → get view.roots name ≡ Some bound → IsMet view walk bound.1
@@ -86,3 +90,24 @@ IsDoneAt view walk place =
 pub record IsWholeWalk (view : SpaceView) (walk : Walk) : Type 0 where
   pub begun : IsBegun view walk
   pub done : (place : ℕ) → IsDoneAt view walk place
+
+-- the object of this identity was found at this place
+abbrev pub IsPlaceOf : Walk → ℕ → ℕ → Type 0
+IsPlaceOf walk id place = IsSomeAnd (slice_get walk.found.items place) (λ one. one.id ≡ id)
+
+-- how many objects had been looked at when one was found that this led to: none by a name, and else the holder last
+abbrev pub turn : Option ℕ → ℕ
+turn None = 0
+turn (Some from) = from + 1
+
+-- the address leads to nothing, or to an object that was found before more than so many objects were looked at
+abbrev pub IsMetBy : SpaceView → List Found → ℕ → Addr → Type 0
+IsMetBy view found count to =
+    IfSome (named_by view to) (λ id. (place : ℕ) × IsSomeAnd (slice_get found place) (λ one. (one.id ≡ id) × (turn one.from ≤ count)))
+
+-- Breadth first: what was found later was led to later; each name's object was found by a name; and what the first so
+-- many objects hold was found when they had been looked at, if not before.
+pub record IsBroadWalk (view : SpaceView) (walk : Walk) (count : ℕ) : Type 0 where
+  pub rise : (place later : ℕ) (one two : Found) → place ≤ later → slice_get walk.found.items place ≡ Some one → slice_get walk.found.items later ≡ Some two → turn one.from ≤ turn two.from
+  pub names : (name : List ℕ) (bound : ℕ × Addr) → get view.roots name ≡ Some bound → IsMetBy view walk.found.items 0 bound.1
+  pub fields : (place : ℕ) (one : Found) (index : ℕ) (to : Addr) → place < count → slice_get walk.found.items place ≡ Some one → stored view (Field one.at index) ≡ Some to → IsMetBy view walk.found.items (place + 1) to

@@ -3,5 +3,8 @@
 
 mod text;
 mod walk;
+mod words;
 
-pub use text::dump_text;
+pub use text::{dump_text, identity};
+pub use walk::{Found, Walk, walk_until};
+pub use words::{append, append_number, append_word};

@@ -12,36 +12,12 @@ ghost use Rattle.pm_walk.specs.Walked.{shown};
 ghost use Rattle.pm_walk.specs.Lines.{found_line, named_line};
 
 use crate::walk::{Walk, walk_space};
-use itoa::Buffer;
+use crate::words::{append, append_number, append_word};
 use pm_law_walks::a_copy_is_walked_by_addresses;
 use pm_space::{Parts, Space, object_at, resolve};
 use pm_types::{Addr, Id, Name, NoMemory, Object};
 use std::alloc::Global;
 use std::collections::BTreeMap;
-
-// Appends bytes.
-fn append(out: &mut Vec<u8>, bytes: &[u8]) -> Result<(), NoMemory>
-    ensures { OnOk result (out.new.items ≡ out.old.items ++ bytes.now) }
-{
-    out.extend_from_slice(bytes)?;
-    Ok(())
-}
-
-// Appends a space and a word.
-fn append_word(out: &mut Vec<u8>, word: &[u8]) -> Result<(), NoMemory>
-    ensures { OnOk result (out.new.items ≡ out.old.items ++ 32 ∷ word.now) }
-{
-    append(out, b" ")?;
-    append(out, word)
-}
-
-// Appends a space and a number in decimal digits.
-fn append_number(out: &mut Vec<u8>, number: u64) -> Result<(), NoMemory>
-    ensures { OnOk result (out.new.items ≡ out.old.items ++ 32 ∷ decimal number) }
-{
-    let mut buffer = Buffer::new();
-    append_word(out, buffer.format(number).as_bytes())
-}
 
 // Appends a space and bytes as pairs of digits.
 fn append_pairs(alloc: Global, out: &mut Vec<u8>, bytes: &[u8]) -> Result<(), NoMemory>
@@ -54,8 +30,8 @@ fn append_pairs(alloc: Global, out: &mut Vec<u8>, bytes: &[u8]) -> Result<(), No
     append_word(out, digits.as_bytes())
 }
 
-// The identity of the object to which an address leads.
-fn identity<F>(parts: &Parts<F>, at: Addr) -> Option<Id>
+/// The identity of the object to which an address leads; `None` where it leads to none.
+pub fn identity<F>(parts: &Parts<F>, at: Addr) -> Option<Id>
     ensures { result ≡ named_by (view parts.now) at }
 {
     match object_at(&parts.cars, resolve(&parts.cars, at)) {

@@ -1,8 +1,10 @@
-ghost use Rattle.std.specs.Prelude.{◌≡◌, ◌<◌, ◌++◌, ◌∷◌, [], length, slice_get, Some, IfSome, IfOk, OnOk};
+ghost use Rattle.std.specs.Prelude.{◌≡◌, ◌<◌, ◌++◌, ◌∷◌, [], length, slice_get, true, false, Some, None, IfSome, IfNone, IfOk, OnOk};
 ghost use Rattle.std.specs.FinMap as map;
 ghost use Rattle.pm_view.specs.Reading.{resolve};
+ghost use Rattle.pm_copies.specs.Listed.{copy_in};
 ghost use Rattle.pm_space.specs.Shown.{view};
-ghost use Rattle.pm_walk.specs.Walked.{met_in, IsKept, LeadsTo, IsFieldAt, IsMet, IsSoundWalk, Grows, IsBegun, IsDoneAt, IsWholeWalk};
+ghost use Rattle.pm_walk.specs.declared.walk.Found.{Found};
+ghost use Rattle.pm_walk.specs.Walked.{met_in, IsKept, LeadsTo, IsFieldAt, IsMet, IsSoundWalk, Grows, AreFoundBy, IsBegun, IsDoneAt, IsWholeWalk, IsPlaceOf, IsBroadWalk};
 
 use pm_law_walks::a_copy_is_walked_by_addresses;
 use pm_space::{Space, object_at, resolve};
@@ -12,23 +14,23 @@ use std::collections::BTreeMap;
 
 /// An object that a walk found, and what led to it.
 #[derive(Clone, Copy, Debug)]
-pub(crate) struct Found {
+pub struct Found {
     /// Its identity.
-    pub(crate) id: Id,
+    pub id: Id,
     /// Where it lies.
-    pub(crate) at: Addr,
+    pub at: Addr,
     /// The place in the walk of the object that holds it; `None` where a name stands for it.
-    pub(crate) from: Option<usize>,
+    pub from: Option<usize>,
     /// The index of the field that holds it, or the place of the name among the names in ascending order.
-    pub(crate) index: u32,
+    pub index: u32,
 }
 
 /// The objects that were found so far, each once and each behind what led to it, and the address of each by its
 /// identity.
 #[derive(Drop)]
-pub(crate) struct Walk {
-    pub(crate) found: Vec<Found>,
-    pub(crate) met: BTreeMap<Id, Addr>,
+pub struct Walk {
+    pub found: Vec<Found>,
+    pub met: BTreeMap<Id, Addr>,
 }
 
 // Nothing was found.
@@ -67,6 +69,7 @@ fn meet<F>(
     ensures sound { OnOk result (IsSoundWalk (view space.now.parts) walk.new) }
     ensures grows { OnOk result (Grows walk.old walk.new) }
     ensures met { OnOk result (IsMet (view space.now.parts) walk.new to) }
+    ensures by { OnOk result (AreFoundBy walk.old.found.items walk.new.found.items from) }
 {
     let at = resolve(&space.parts.cars, to);
     let Some(object) = object_at(&space.parts.cars, at) else {
@@ -91,6 +94,7 @@ fn meet<F>(
 pub(crate) fn begin<F>(alloc: Global, space: &Space<F>) -> Result<Walk, NoMemory>
     ensures sound { IfOk result (IsSoundWalk (view space.now.parts)) }
     ensures begun { IfOk result (IsBegun (view space.now.parts)) }
+    ensures by { IfOk result (λ walk. AreFoundBy [] walk.found.items None) }
 {
     a_copy_is_walked_by_addresses();
     let mut walk = new_walk(alloc);
@@ -123,6 +127,7 @@ fn meet_field<F>(
     ensures sound { OnOk result (IsSoundWalk (view space.now.parts) walk.new) }
     ensures grows { OnOk result (Grows walk.old walk.new) }
     ensures met { OnOk result (IfSome field (IsMet (view space.now.parts) walk.new)) }
+    ensures by { OnOk result (AreFoundBy walk.old.found.items walk.new.found.items (Some place)) }
 {
     a_copy_is_walked_by_addresses();
     match field {
@@ -138,6 +143,7 @@ pub(crate) fn look<F>(walk: &mut Walk, space: &Space<F>, place: usize) -> Result
     ensures sound { OnOk result (IsSoundWalk (view space.now.parts) walk.new) }
     ensures grows { OnOk result (Grows walk.old walk.new) }
     ensures done { OnOk result (IsDoneAt (view space.now.parts) walk.new place) }
+    ensures by { OnOk result (AreFoundBy walk.old.found.items walk.new.found.items (Some place)) }
 {
     let found = found_at(walk, place);
     let Some(object) = object_at(&space.parts.cars, found.at) else {
@@ -163,4 +169,40 @@ pub(crate) fn walk_space<F>(alloc: Global, space: &Space<F>) -> Result<Walk, NoM
         look(&mut walk, space, place)?;
     }
     Ok(walk)
+}
+
+// Whether the object of this identity was found at a place.
+#[tactic(auto, using(crate::proofs::Broad::other_one))]
+fn is_at(walk: &Walk, place: usize, id: Id) -> bool
+    requires { place < length walk.now.found.items }
+    ensures yes { result ≡ true → IsPlaceOf walk.now id place }
+    ensures no { result ≡ false → (one : Found) → slice_get walk.now.found.items place ≡ Some one → one.id ≡ id → ⊥ }
+{
+    let found = found_at(walk, place);
+    found.id == id
+}
+
+/// Walks from the names of the space, the nearest first, until it comes to the object of this identity: the walk so far
+/// and the object's place in it. `None` where the names do not reach it.
+pub fn walk_until<F>(
+    alloc: Global,
+    space: &Space<F>,
+    id: Id,
+) -> Result<(Walk, Option<usize>), NoMemory>
+    ensures sound { IfOk result (λ done. IsSoundWalk (view space.now.parts) done.0) }
+    ensures found { IfOk result (λ done. IfSome done.1 (IsPlaceOf done.0 id)) }
+    ensures broad { IfOk result (λ done. IfSome done.1 (IsBroadWalk (view space.now.parts) done.0)) }
+    ensures none { IfOk result (λ done. IfNone done.1 (map.get (copy_in (view space.now.parts)).heap id ≡ None)) }
+{
+    let mut walk = begin(alloc, space)?;
+    for place in 0..usize::MAX {
+        if place >= walk.found.len() {
+            return Ok((walk, None));
+        }
+        if is_at(&walk, place, id) {
+            return Ok((walk, Some(place)));
+        }
+        look(&mut walk, space, place)?;
+    }
+    Ok((walk, None))
 }

@@ -2,7 +2,7 @@ use Rattle.std.proofs.Common.{◌≡◌, ap, sym, ◌∙◌, Some}
 use Rattle.std.specs.Option.{option_copied}
 use Rattle.pm_view.specs.Reading.{object_at}
 use Rattle.pm_space.specs.Shown.{view}
-use Rattle.pm_walk.proofs.Growing.{grows_twice}
+use Rattle.pm_walk.proofs.Growing.{grows_twice, found_twice}
 use Rattle.pm_walk.proofs.Steps.{field_at, one_more_met, all_fields_met}
 use Rattle.pm_walk.proofs.walk.look.Goals as goal
 
@@ -22,6 +22,7 @@ loop-index-preserved g c =
     record {
       sound = step.sound;
       grows = grows_twice c.args.walk.now c.loop-index.walk c.meet_field.new.walk old.grows step.grows;
+      by = found_twice c.args.walk.now.found.items c.loop-index.walk c.meet_field.new.walk (Some c.args.place) step.grows old.by step.by;
       met = one_more_met v c.loop-index.walk c.meet_field.new.walk c.as_slice-fields.result.now c.loop-index.index _ c.loop-index-test.true step.grows old.met step.met;
     }
 

@@ -1,0 +1,4 @@
+pub mod Graph
+pub mod Texts
+pub mod Back
+pub mod Shortest
