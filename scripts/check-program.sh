@@ -150,6 +150,15 @@ came="$? $(cat "$work/out" "$work/err")"
 row "the report of a missing FILE" "6 pmos: not a store, a file of 0 bytes" "$came"
 rm -f "$work/missing"
 
+# The dump, and a path.
+"$pmos" dump "$work/store" >"$work/out" </dev/null
+row "the dump of a store" "0 settled, pmos dump 1 2,object 1 2 cafe 0 0,root a 1,end" \
+    "$? $(is_which "$work/store"), $(paste -sd, "$work/out")"
+"$pmos" why "$work/store" 1 >"$work/out" </dev/null
+came="$? $(cat "$work/out")"
+"$pmos" why "$work/store" 2 >"$work/out" </dev/null
+row "why, of an object and of none" "0 root a 1, 0 none, settled" "$came, $? $(cat "$work/out"), $(is_which "$work/store")"
+
 # A script that is made, beside the one that this short program makes by the same rule.
 if lacks python3 || lacks sha256sum; then
     row "a script that is made" "the same" "skipped: no python3 or no sha256sum"
@@ -209,6 +218,10 @@ if [ -c /dev/full ]; then
     fresh
     "$pmos" trial "$work/store" 1 1 >/dev/full 2>/dev/null
     row "make, inspect, trial: a full device" "4 4 4" "$came $?"
+    "$pmos" dump "$work/settled" >/dev/full 2>/dev/null
+    came=$?
+    "$pmos" why "$work/settled" 1 >/dev/full 2>/dev/null
+    row "dump, why: a full device" "4 4" "$came $?"
 fi
 
 # A file that may only be read, also where this script runs as root.

@@ -55,6 +55,11 @@ echo "The collector, on the store that holds the copy:"
 show examples/fourth.script store.pmos
 report store.pmos
 echo
+echo "Its copy as lines of text, 'pmos dump store.pmos':"
+"$pmos" dump "$work/store.pmos" | sed 's/^/    /'
+echo "Why object 2 is kept, 'pmos why store.pmos 2':"
+"$pmos" why "$work/store.pmos" 2 | sed 's/^/    /'
+echo
 echo "A list, and an element that is taken out of it:"
 "$pmos" init "$work/list.pmos"
 show examples/list.script list.pmos

@@ -1,6 +1,7 @@
 //! A case: its steps, one a line.
 
 use crate::disks::{digits_at, named, patch, put_digest_of, seal};
+use crate::drawn::push_drawn;
 use crate::ends::push_memory_text;
 use crate::failing::{Repeated, push_failings, push_fuses};
 use crate::fault::{Fault, refuse};
@@ -226,7 +227,7 @@ impl Case {
 
     // Adds lines that are drawn to the script so far.
     fn add_generated(&mut self, alloc: Global, text: &str) -> Result<(), Fault> {
-        let drawn = generated(alloc, number(text)?)?;
+        let drawn = generated(alloc, number(text)?, 1)?;
         let setting = self.setting(alloc)?;
         setting.script.extend_from_slice(drawn.as_bytes())?;
         Ok(())
@@ -406,6 +407,17 @@ impl Case {
         push_failings(rt, &repeated, part, out)
     }
 
+    // Adds what runs in threads of drawn scripts give, each on this disk.
+    fn push_drawn<R: AllocGlobal + Threads + Wait + Sync>(
+        &self,
+        rt: &R,
+        text: &str,
+        out: &mut String,
+    ) -> Result<(), Fault> {
+        let (runs, lines) = numbered(text)?;
+        push_drawn(rt, self.disk.as_slice(), runs, number(lines)?, out)
+    }
+
     // Adds the text of the last run's journal.
     fn push_texts(&self, alloc: Global, out: &mut String) -> Result<(), Fault> {
         push_texts(alloc, ended(&self.last)?.journal.as_slice(), out)
@@ -494,6 +506,7 @@ impl Case {
             "images" => self.push_images(rt, text, out),
             "fuses" => self.push_fuses(rt, text, out),
             "fails-of" => self.push_failings(rt, text, out),
+            "drawn" => self.push_drawn(rt, text, out),
             _ => self.show_step(rt.alloc(), step, text, out),
         }
     }

@@ -4,7 +4,7 @@ use crate::fault::Fault;
 use std::alloc::Global;
 use std::fmt::Write;
 
-// The next draw. A linear congruence: x times 69,069 and 1, modulo 2^32, from 1 on.
+// The next draw. A linear congruence: x times 69,069 and 1, modulo 2^32.
 fn next_draw(draw: u32) -> u32 {
     draw.wrapping_mul(69069).wrapping_add(1)
 }
@@ -72,9 +72,9 @@ fn push_line(draw: u32, script: &mut String) -> Result<(), Fault> {
     }
 }
 
-// Adds this many lines, each made by a draw.
-fn push_drawn(script: &mut String, lines: u64) -> Result<(), Fault> {
-    let mut draw = 1;
+// Adds this many lines, each made by a draw; the first draw comes behind the seed.
+fn push_drawn(script: &mut String, lines: u64, seed: u32) -> Result<(), Fault> {
+    let mut draw = seed;
     for _ in 0..lines {
         draw = next_draw(draw);
         push_line(draw, script)?;
@@ -82,9 +82,9 @@ fn push_drawn(script: &mut String, lines: u64) -> Result<(), Fault> {
     Ok(())
 }
 
-/// A script of this many lines, each made by a draw.
-pub(crate) fn generated(alloc: Global, lines: u64) -> Result<String, Fault> {
+/// A script of this many lines, each made by a draw, from a seed on.
+pub(crate) fn generated(alloc: Global, lines: u64, seed: u32) -> Result<String, Fault> {
     let mut script = String::new(alloc);
-    push_drawn(&mut script, lines)?;
+    push_drawn(&mut script, lines, seed)?;
     Ok(script)
 }

@@ -4,6 +4,7 @@
 
 mod case;
 mod disks;
+mod drawn;
 mod ends;
 mod failing;
 mod fault;

@@ -26,10 +26,15 @@ fn count_alike(alloc: Global, oracle: &mut Oracle, journal: &[Entry]) -> Result<
     Ok(alike)
 }
 
-/// Adds how many of the commands of a run's journal, begun on a new store, the plain slow program replies to alike.
-pub(crate) fn push_alike(alloc: Global, journal: &[Entry], out: &mut String) -> Result<(), Fault> {
+/// How many of the commands of a run's journal, begun on a new store, the plain slow program replies to alike.
+pub(crate) fn alike_in(alloc: Global, journal: &[Entry]) -> Result<u64, Fault> {
     let mut oracle = Oracle::new(alloc);
-    let alike = count_alike(alloc, &mut oracle, journal)?;
+    count_alike(alloc, &mut oracle, journal)
+}
+
+/// Adds how many they are, and of how many commands.
+pub(crate) fn push_alike(alloc: Global, journal: &[Entry], out: &mut String) -> Result<(), Fault> {
+    let alike = alike_in(alloc, journal)?;
     let commands = journal.len();
     writeln!(out, "oracle alike {alike} of {commands}")?;
     Ok(())

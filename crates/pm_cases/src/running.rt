@@ -57,6 +57,9 @@ impl Setting {
 /// The words of a run.
 pub(crate) const RUN: &str = "run store.pmos serial";
 
+/// The words of a run in threads.
+pub(crate) const RUN_THREADS: &str = "run store.pmos threads";
+
 /// The words that make a store.
 pub(crate) const INIT: &str = "init store.pmos";
 

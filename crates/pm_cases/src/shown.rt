@@ -5,6 +5,7 @@ use crate::fault::{Fault, refuse};
 use crate::printed::{push_digest_of, push_number, push_text};
 use crate::running::Run;
 use pm_disk::DiskCall;
+use pm_script::journal_text;
 use pm_types::PAGE_BYTES;
 use std::alloc::Global;
 use std::fmt::Write;
@@ -101,6 +102,20 @@ fn push_calls(calls: &[DiskCall], out: &mut String) -> Result<(), Fault> {
     Ok(())
 }
 
+// Adds how many calls of the disk and of the sink failed since memory was refused them.
+fn push_refused(run: &Run, out: &mut String) -> Result<(), Fault> {
+    let disk = run.disk.refused();
+    let sink = run.sink.refused();
+    writeln!(out, "refused {disk} {sink}")?;
+    Ok(())
+}
+
+// Adds the reply line of each entry of the journal.
+fn push_entries(alloc: Global, run: &Run, out: &mut String) -> Result<(), Fault> {
+    let text = journal_text(alloc, run.journal.as_slice())?;
+    push_text(text.as_slice(), out)
+}
+
 // The number that is known by this word of the last run.
 fn counted(run: &Run, word: &str) -> Result<u64, Fault> {
     match word {
@@ -123,6 +138,8 @@ pub(crate) fn push_named(
     match word {
         "text" => push_end(alloc, &run.detail, out),
         "output" => push_text(run.sink.written(), out),
+        "entries" => push_entries(alloc, run, out),
+        "refused" => push_refused(run, out),
         "calls" => push_calls(run.disk.calls(), out),
         "sha256" => push_digest_of(alloc, run.disk.contents(), out),
         "output-sha256" => push_digest_of(alloc, run.sink.written(), out),

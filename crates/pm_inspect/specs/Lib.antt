@@ -1,3 +1,2 @@
 pub mod Report
 pub mod Example
-pub mod Surveyed

@@ -1,16 +1,8 @@
-//! A law of reports, and examples worked out by hand. Each function's contract is the law or the example, and the
-//! function does nothing.
-ghost use Rattle.std.specs.Prelude.{◌≡◌, ℕ, List, codes};
+//! Examples worked out by hand. Each function's contract is the example, and the function does nothing.
+ghost use Rattle.std.specs.Prelude.{◌≡◌, codes};
 ghost use Rattle.pm_view.specs.Rows.{new_space};
 ghost use Rattle.pm_inspect.specs.Example.{one_object};
 ghost use Rattle.pm_inspect.specs.Report.{report_text};
-ghost use Rattle.pm_inspect.specs.Surveyed.{IsReport};
-
-/// A law of reports: a store has one alone. The spaces that opening makes of it may number its roots in different ways,
-/// of which a report shows nothing.
-pub fn a_store_has_one_report()
-    ensures { (bytes one other : List ℕ) → IsReport bytes one → IsReport bytes other → one ≡ other }
-{}
 
 /// An example: the report of a space in which nothing was ever made.
 pub fn the_report_of_a_new_space()

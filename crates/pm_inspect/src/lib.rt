@@ -6,7 +6,6 @@ mod counting;
 mod laws;
 mod lines;
 mod reporting;
-pub mod survey;
 
-pub use laws::{a_store_has_one_report, the_report_of_a_new_space, the_report_of_one_object};
+pub use laws::{the_report_of_a_new_space, the_report_of_one_object};
 pub use reporting::report;

@@ -9,7 +9,7 @@ use Rattle.pm_io.specs.declared.source.Source as source
 use Rattle.pm_io.specs.declared.sink.Sink as sink
 use Rattle.pm_script.proofs.BadLaws.{no_fault}
 use Rattle.pm_words.specs.declared.command.Command.{Command}
-use Rattle.pm_words.specs.declared.command.Command.TheVariants.{Init, Run, RunThreads, Inspect, Make, Trial}
+use Rattle.pm_words.specs.declared.command.Command.TheVariants.{Init, Run, RunThreads, Inspect, Dump, Why, Make, Trial}
 use Rattle.pm_top.specs.declared.ended.Detail.{Detail}
 use Rattle.pm_top.specs.declared.ended.Detail.TheVariants.{Fine, Usage, Script, Reading, Writing, Device, NotEmpty, Refused, Memory}
 use Rattle.pm_top.specs.declared.ended.Ended.{Ended}
@@ -18,7 +18,7 @@ use Rattle.pm_top.specs.Stages.{IsPast, the_words}
 use Rattle.pm_top.specs.Journals.{IsScriptEnd}
 use Rattle.pm_top.specs.Disks.{IsRefusedFor, LeavesMade}
 use Rattle.pm_top.specs.declared.writes.Writes.TheVariants.{Replies}
-use Rattle.pm_top.specs.Commands.{ShowsCauses, EndsInspecting, EndsMaking, EndsTrying, RunsStore, Does}
+use Rattle.pm_top.specs.Commands.{ShowsCauses, EndsTelling, EndsMaking, EndsTrying, RunsStore, Does}
 use Rattle.pm_top.specs.Needs.{HasNeeds, HoldsScript, HoldsStore, NothingFails}
 use Rattle.pm_top.proofs.Opened.{never_shut}
 
@@ -77,16 +77,16 @@ run_ends told read store script (NotEmpty bytes) journal past bad refused = absu
 run_ends told read store script (Refused fault) journal past bad refused = never_shut store.bytes store.number store.copy fault store.stands refused
 run_ends told read store script (Memory opened) journal past bad refused = tt
 
-inspect_ends : (told : Option (List ℕ)) (store : HoldsStore told) (detail : Detail) → EndsInspecting detail → IsRefusedFor store.bytes detail → MayEnd detail
-inspect_ends told store Fine ends refused = tt
-inspect_ends told store Usage ends refused = ends
-inspect_ends told store (Script fault) ends refused = ends
-inspect_ends told store (Reading before after) ends refused = tt
-inspect_ends told store (Writing before after) ends refused = tt
-inspect_ends told store (Device before after opened) ends refused = tt
-inspect_ends told store (NotEmpty bytes) ends refused = ends
-inspect_ends told store (Refused fault) ends refused = never_shut store.bytes store.number store.copy fault store.stands refused
-inspect_ends told store (Memory opened) ends refused = tt
+telling_ends : (told : Option (List ℕ)) (store : HoldsStore told) (detail : Detail) → EndsTelling detail → IsRefusedFor store.bytes detail → MayEnd detail
+telling_ends told store Fine ends refused = tt
+telling_ends told store Usage ends refused = ends
+telling_ends told store (Script fault) ends refused = ends
+telling_ends told store (Reading before after) ends refused = tt
+telling_ends told store (Writing before after) ends refused = tt
+telling_ends told store (Device before after opened) ends refused = tt
+telling_ends told store (NotEmpty bytes) ends refused = ends
+telling_ends told store (Refused fault) ends refused = never_shut store.bytes store.number store.copy fault store.stands refused
+telling_ends told store (Memory opened) ends refused = tt
 
 make_script_ends : (detail : Detail) → EndsMaking detail → MayEnd detail
 make_script_ends Fine ends = tt
@@ -99,8 +99,8 @@ make_script_ends (NotEmpty bytes) ends = ends
 make_script_ends (Refused fault) ends = ends
 make_script_ends (Memory opened) ends = tt
 
--- a trial ends as an inspection may
-trial_ends : (detail : Detail) → EndsTrying detail → EndsInspecting detail
+-- a trial ends as what tells of a store may
+trial_ends : (detail : Detail) → EndsTrying detail → EndsTelling detail
 trial_ends Fine ends = tt
 trial_ends Usage ends = ends
 trial_ends (Script fault) ends = ends
@@ -137,10 +137,14 @@ module _ {D S K : Type 0} (d : disk.Ghosts D) (s : source.Ghosts S) (k : sink.Gh
       run_ends (d.contents disk) (s.left source) needs.0 needs.1 it.detail it.journal.items does.ends
       (does.script needs.1.bytes needs.1.is_told).refused (store.leaves.refused needs.0.bytes needs.0.is_told))
   may_end Inspect disk source sink it does needs =
-      inspect_ends (d.contents disk) needs it.detail does.ends (does.refused needs.bytes needs.is_told)
+      telling_ends (d.contents disk) needs it.detail does.ends (does.refused needs.bytes needs.is_told)
+  may_end Dump disk source sink it does needs =
+      telling_ends (d.contents disk) needs it.detail does.ends (does.refused needs.bytes needs.is_told)
+  may_end (Why id) disk source sink it does needs =
+      telling_ends (d.contents disk) needs it.detail does.ends (does.refused needs.bytes needs.is_told)
   may_end (Make seed turns) disk source sink it does needs = make_script_ends it.detail does.ends
   may_end (Trial seed turns) disk source sink it does needs =
-      inspect_ends (d.contents disk) needs it.detail (trial_ends it.detail does.ends) (does.store.leaves.refused needs.bytes needs.is_told)
+      telling_ends (d.contents disk) needs it.detail (trial_ends it.detail does.ends) (does.store.leaves.refused needs.bytes needs.is_told)
 
   -- whatever the command is
   pub complete : (command : Command) (disk : D) (source : S) (sink : K) (it : Ended D S K)

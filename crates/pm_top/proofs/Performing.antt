@@ -10,8 +10,9 @@ use Rattle.pm_script.specs.declared.line.Line.{Line}
 use Rattle.pm_script.specs.Script.{IsScript}
 use Rattle.pm_script.proofs.BadLaws.{no_fault}
 use Rattle.pm_make.specs.Made.{made_text}
+use Rattle.pm_tell.specs.Told.{Telling, Reports, Dumps, GivesPath}
 use Rattle.pm_words.specs.declared.command.Command.{Command}
-use Rattle.pm_words.specs.declared.command.Command.TheVariants.{Init, Run, RunThreads, Inspect, Make, Trial}
+use Rattle.pm_words.specs.declared.command.Command.TheVariants.{Init, Run, RunThreads, Inspect, Dump, Why, Make, Trial}
 use Rattle.pm_top.specs.declared.ended.Detail.{Detail}
 use Rattle.pm_top.specs.declared.ended.Detail.TheVariants.{Fine, Usage, Script, Reading, Writing, Device, NotEmpty, Refused, Memory}
 use Rattle.pm_top.specs.declared.ended.Ended.{Ended}
@@ -20,7 +21,7 @@ use Rattle.pm_top.specs.declared.writes.Writes.TheVariants.{Replies, Digest}
 use Rattle.pm_top.specs.Stages.{IsPast, unreached, the_words, the_script}
 use Rattle.pm_top.specs.Journals.{IsScriptEnd, KeepsOrder, ReadsScript}
 use Rattle.pm_top.specs.Wrote.{WroteText}
-use Rattle.pm_top.specs.Commands.{ShowsCauses, RunsStore, EndsTrying, TriesScript, Does}
+use Rattle.pm_top.specs.Commands.{ShowsCauses, RunsStore, EndsTrying, TriesScript, TellsStore, Does}
 use Rattle.pm_top.proofs.Parts.{with_parts}
 use Rattle.pm_top.proofs.Opened.{uncalled_run}
 use Rattle.pm_top.proofs.Stores.{store_unrun}
@@ -54,6 +55,24 @@ module _ {D S K : Type 0} (d : disk.Ghosts D) (k : sink.Ghosts K) where
     order = unordered (made_text seed turns) (Memory false) it.journal.items empty (λ past. absurd (omega (arith, past)));
     store = untouched_store Digest disk source sink it empty now;
     source_stays = refl;
+  }
+
+  pub untouched_telling : (Says : Telling) (disk : D) (source : S) (sink : K) (it : Ended D S K) → it.journal.items ≡ []
+      → ((at : List ℕ) → d.since disk (d.moment disk) at → d.image disk at)
+      → TellsStore d k Says disk source sink (with_parts it (Memory false) None disk source sink)
+  untouched_telling Says disk source sink it empty now = record {
+    ends = tt;
+    text = [];
+    told = λ never. absurd never;
+    some = λ never. absurd never;
+    wrote = untouched_text k sink [];
+    refused = λ bytes told. tt;
+    disk_stays = refl;
+    images = started d.moment d.since disk (d.image disk) now;
+    unwritten = refl;
+    source_stays = refl;
+    no_event = empty;
+    no_tally = refl;
   }
 
   -- ---- a trial, from the run of its script
@@ -109,20 +128,9 @@ module _ {D S K : Type 0} (d : disk.Ghosts D) (s : source.Ghosts S) (k : sink.Gh
     store = ∣ untouched_store d k Replies disk source sink it empty now ∣₁;
     short = λ ran bytes told lines script. tt;
   }
-  untouched_does Inspect disk source sink it empty now same = record {
-    ends = tt;
-    text = [];
-    report = λ never. absurd never;
-    some = λ never. absurd never;
-    wrote = untouched_text k sink [];
-    refused = λ bytes told. tt;
-    disk_stays = refl;
-    images = started d.moment d.since disk (d.image disk) now;
-    unwritten = refl;
-    source_stays = refl;
-    no_event = empty;
-    no_tally = refl;
-  }
+  untouched_does Inspect disk source sink it empty now same = untouched_telling d k Reports disk source sink it empty now
+  untouched_does Dump disk source sink it empty now same = untouched_telling d k Dumps disk source sink it empty now
+  untouched_does (Why id) disk source sink it empty now same = untouched_telling d k (GivesPath id) disk source sink it empty now
   untouched_does (Make seed turns) disk source sink it empty now same = record {
     ends = tt;
     wrote = untouched_text k sink (made_text seed turns);

@@ -10,14 +10,14 @@ use Rattle.pm_image.specs.Stands.{StandsForCopy}
 use Rattle.pm_engine.specs.Shown.{tally_of}
 use Rattle.pm_serial.specs.Acknowledged.{Acknowledges}
 use Rattle.pm_serial.specs.Writing.{tail_of}
-use Rattle.pm_inspect.specs.Surveyed.{IsReport, IsSomeReport}
+use Rattle.pm_tell.specs.Told.{Telling, IsTold, IsToldOfSome, Reports, Dumps, GivesPath}
 use Rattle.pm_make.specs.Made.{made_text}
 use Rattle.pm_script.specs.declared.line.Line.{Line}
 use Rattle.pm_script.specs.Script.{IsScript}
 use Rattle.pm_threads.specs.Running.{LeavesSome}
 use Rattle.pm_types.specs.declared.limits.TheConstants.{MOST_TURNS}
 use Rattle.pm_words.specs.declared.command.Command.{Command}
-use Rattle.pm_words.specs.declared.command.Command.TheVariants.{Init, Run, RunThreads, Inspect, Make, Trial}
+use Rattle.pm_words.specs.declared.command.Command.TheVariants.{Init, Run, RunThreads, Inspect, Dump, Why, Make, Trial}
 use Rattle.pm_top.specs.declared.ended.Detail.{Detail}
 use Rattle.pm_top.specs.declared.ended.Detail.TheVariants.{Fine, Writing, Device, Refused, Memory}
 use Rattle.pm_top.specs.declared.ended.Ended.{Ended}
@@ -40,14 +40,14 @@ pub record IsUntouched {D S K : Type 0} (disk : D) (source : S) (sink : K) (ende
 
 -- ---- how a command may end
 
--- how `inspect FILE` may end
-abbrev pub EndsInspecting : Detail → Type 0
-EndsInspecting Fine = Unit {0}
-EndsInspecting (Writing before after) = Unit {0}
-EndsInspecting (Device before after opened) = Unit {0}
-EndsInspecting (Refused fault) = Unit {0}
-EndsInspecting (Memory opened) = Unit {0}
-EndsInspecting detail = ⊥
+-- how a command may end that tells of a store
+abbrev pub EndsTelling : Detail → Type 0
+EndsTelling Fine = Unit {0}
+EndsTelling (Writing before after) = Unit {0}
+EndsTelling (Device before after opened) = Unit {0}
+EndsTelling (Refused fault) = Unit {0}
+EndsTelling (Memory opened) = Unit {0}
+EndsTelling detail = ⊥
 
 -- how `make SEED N` may end
 abbrev pub EndsMaking : Detail → Type 0
@@ -115,14 +115,14 @@ module _ {D S K : Type 0} (d : disk.Ghosts D) (k : sink.Ghosts K) where
     pub replies : IfSome ended.tally
         (λ it. Wrote k writes sink ended.sink (text ended.journal.items) (tail_of (tally_of it)) (stop_in ended.detail))
 
-  -- What `inspect FILE` does: the store is opened and its report is written.
-  pub record InspectsStore (disk : D) (source : S) (sink : K) (ended : Ended D S K) : Type 0 where
-    pub ends : EndsInspecting ended.detail
-    -- where it comes to writing, the disk's bytes are a store, and what is written is the report of that; of any disk, it
-    -- is the report of some space
+  -- What a command does that tells of a store: the store is opened, and a text that says so is written.
+  pub record TellsStore (Says : Telling) (disk : D) (source : S) (sink : K) (ended : Ended D S K) : Type 0 where
+    pub ends : EndsTelling ended.detail
+    -- where it comes to writing, the disk's bytes are a store, and what is written says so of that; of any disk, it says so
+    -- of some space
     pub text : List ℕ
-    pub report : IsWriting ended.detail → (bytes : List ℕ) → d.contents disk ≡ Some bytes → IsReport bytes text
-    pub some : IsWriting ended.detail → IsSomeReport text
+    pub told : IsWriting ended.detail → (bytes : List ℕ) → d.contents disk ≡ Some bytes → IsTold Says bytes text
+    pub some : IsWriting ended.detail → IsToldOfSome Says text
     pub wrote : WroteText k sink ended.sink text ended.detail
     -- bytes are refused for no rule but the first that they break
     pub refused : (bytes : List ℕ) → d.contents disk ≡ Some bytes → IsRefusedFor bytes ended.detail
@@ -134,6 +134,18 @@ module _ {D S K : Type 0} (d : disk.Ghosts D) (k : sink.Ghosts K) where
     pub source_stays : ended.source ≡ source
     pub no_event : ended.journal.items ≡ []
     pub no_tally : ended.tally ≡ None
+
+  -- What `inspect FILE` does: its report is written.
+  abbrev pub InspectsStore : D → S → K → Ended D S K → Type 0
+  InspectsStore disk source sink ended = TellsStore Reports disk source sink ended
+
+  -- What `dump FILE` does: the dump of its copy is written.
+  abbrev pub DumpsStore : D → S → K → Ended D S K → Type 0
+  DumpsStore disk source sink ended = TellsStore Dumps disk source sink ended
+
+  -- What `why FILE ID` does: a path to the object of this identity is written, or that there is none.
+  abbrev pub TellsWhy : ℕ → D → S → K → Ended D S K → Type 0
+  TellsWhy id disk source sink ended = TellsStore (GivesPath id) disk source sink ended
 
   -- What `trial FILE SEED N` does: the script of this seed and of so many turns is run as `run FILE serial` does it, and
   -- the digest of the replies' text is written in place of that text. The source is not called.
@@ -189,7 +201,8 @@ module _ {D S K : Type 0} (d : disk.Ghosts D) (s : source.Ghosts S) (k : sink.Gh
         → ReadsScript bytes ended.detail ended.journal.items ended.tally
     -- what it does to disk and sink; the replies are written behind the last event
     pub store : ∥ RunsStore d k Replies disk sink ended ∥₁
-    -- where memory runs out, no event was made, or one is left in which it may: a copy that was flushed whole settles
+    -- where memory runs out, no event was made, or one is left in which it may: where nothing but a settle of a copy that
+    -- was flushed whole is left, it does not run out
     pub short : RanShort ended.detail → (bytes : List ℕ) → s.left source ≡ Some bytes → (lines : List Line) → IsScript bytes lines
         → IfSome ended.tally (λ it. ∥ LeavesSome lines ended.journal.items (tally_of it).steps (tally_of it).events (tally_of it).left ∥₁)
 
@@ -199,5 +212,7 @@ module _ {D S K : Type 0} (d : disk.Ghosts D) (s : source.Ghosts S) (k : sink.Gh
   Does Run disk source sink ended = RunsScript disk source sink ended
   Does RunThreads disk source sink ended = RunsTogether disk source sink ended
   Does Inspect disk source sink ended = InspectsStore d k disk source sink ended
+  Does Dump disk source sink ended = DumpsStore d k disk source sink ended
+  Does (Why id) disk source sink ended = TellsWhy d k id disk source sink ended
   Does (Make seed turns) disk source sink ended = MakesScript k seed turns disk source sink ended
   Does (Trial seed turns) disk source sink ended = TriesScript d k seed turns disk source sink ended

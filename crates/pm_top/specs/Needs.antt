@@ -9,7 +9,7 @@ use Rattle.pm_image.specs.Stands.{StandsForCopy}
 use Rattle.pm_script.specs.declared.line.Line.{Line}
 use Rattle.pm_script.specs.Script.{IsScript}
 use Rattle.pm_words.specs.declared.command.Command.{Command}
-use Rattle.pm_words.specs.declared.command.Command.TheVariants.{Init, Run, RunThreads, Inspect, Make, Trial}
+use Rattle.pm_words.specs.declared.command.Command.TheVariants.{Init, Run, RunThreads, Inspect, Dump, Why, Make, Trial}
 use Rattle.pm_top.specs.declared.ended.Ended.{Ended}
 
 -- the source tells that it holds a script
@@ -34,6 +34,8 @@ module _ {D S : Type 0} (d : disk.Ghosts D) (s : source.Ghosts S) where
   HasNeeds Run disk source = HoldsStore (d.contents disk) × HoldsScript (s.left source)
   HasNeeds RunThreads disk source = HoldsStore (d.contents disk) × HoldsScript (s.left source)
   HasNeeds Inspect disk source = HoldsStore (d.contents disk)
+  HasNeeds Dump disk source = HoldsStore (d.contents disk)
+  HasNeeds (Why id) disk source = HoldsStore (d.contents disk)
   HasNeeds (Make seed turns) disk source = Unit {0}
   HasNeeds (Trial seed turns) disk source = HoldsStore (d.contents disk)
 

@@ -1,11 +1,10 @@
 //! The whole program but for its outermost shell: it reads the words, does what the command asks for, and tells how it
 //! ended. It makes a store; runs a script over a store's copy, in the order of its lines or in threads, and writes the
-//! replies; writes the report of a store; writes a script that is made from a seed; or runs that script and writes the
+//! replies; writes the report of a store, its dump, or a path in it; writes a script that is made from a seed; or runs that script and writes the
 //! digest of the replies.
 #![tactic(auto)]
 
 mod ended;
-mod inspecting;
 mod laws;
 mod made;
 mod making;
@@ -13,6 +12,7 @@ mod opening;
 mod reading;
 mod running;
 mod shell;
+mod telling;
 mod texting;
 mod texts;
 mod together;

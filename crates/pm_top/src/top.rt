@@ -8,15 +8,16 @@ ghost use Rattle.pm_top.specs.Commands.{ShowsCauses, IsUntouched, MayPerform, Do
 ghost use Rattle.pm_top.specs.Needs.{HasNeeds, NothingFails};
 
 use crate::ended::end_unopened;
-use crate::inspecting::inspect_store;
 use crate::made::{make_script, try_script};
 use crate::making::make_store;
 use crate::running::run_source;
+use crate::telling::write_told;
 use crate::together::{images_since_now, run_together};
 use crate::{Detail, Ended};
 use pm_disk::Disk;
 use pm_io::{Sink, Source};
 use pm_place::Placement;
+use pm_tell::{DumpText, ReportText, WhyText};
 use pm_turns::Gate;
 use pm_words::{Command, read_words, words_spell_one_command};
 use std::alloc::Global;
@@ -51,7 +52,9 @@ fn perform<
         Command::Init => make_store(alloc, disk, source, sink),
         Command::Run => run_source(alloc, disk, place, source, sink),
         Command::RunThreads => run_together(rt, alloc, disk, place, source, sink, gate),
-        Command::Inspect => inspect_store(alloc, disk, source, sink),
+        Command::Inspect => write_told(alloc, &ReportText, disk, source, sink),
+        Command::Dump => write_told(alloc, &DumpText, disk, source, sink),
+        Command::Why { id } => write_told(alloc, &WhyText { id }, disk, source, sink),
         Command::Make { seed, turns } => make_script(alloc, seed, turns, disk, source, sink),
         Command::Trial { seed, turns } => {
             try_script(alloc, seed, turns, disk, place, source, sink)
@@ -76,6 +79,11 @@ fn perform<
 /// threads, and all that is promised of it holds once it returns; every other command waits for nobody.
 ///
 /// `inspect FILE` opens the store and writes its report. Nothing is written to the disk.
+///
+/// `dump FILE` opens the store and writes the dump of its copy. Nothing is written to the disk.
+///
+/// `why FILE ID` opens the store and writes a path from a name to the object of this identity, or `none` where no name
+/// reaches it. Nothing is written to the disk.
 ///
 /// `make SEED N` writes the script of this seed and of N turns. The disk is not called.
 ///

@@ -2,21 +2,24 @@
 use Rattle.std.proofs.Common.{◌≡◌, ℕ, ◌+◌, ◌*◌, List, [], ◌∷◌, length, refl, ap, ap₂, sym, ◌∙◌, arith, codes}
 use Rattle.std.proofs.lemmas.Fmt.{decimal_injective}
 use Rattle.pm_words.specs.declared.command.Command.{Command}
-use Rattle.pm_words.specs.declared.command.Command.TheVariants.{Init, Run, RunThreads, Inspect, Make, Trial}
-use Rattle.pm_words.specs.Words.{IsSeed, IsTurns, AreMake, AreRun, AreRunThreads, AreTrial, Spells}
+use Rattle.pm_words.specs.declared.command.Command.TheVariants.{Init, Run, RunThreads, Inspect, Dump, Why, Make, Trial}
+use Rattle.pm_words.specs.Words.{IsNumber, IsTurns, AreMake, AreRun, AreRunThreads, AreTrial, AreWhy, Spells}
 
--- how many words follow the first, and how long that is
+-- how many words follow the first, how many letters its first letter, and that letter
 tag : List (List ℕ) → ℕ
 tag [] = 0
-tag (word ∷ words) = length words + 10 * length word
+tag ([] ∷ words) = length words
+tag ((letter ∷ letters) ∷ words) = length words + 10 * length letters + 100 * letter
 
 tag_of : Command → ℕ
-tag_of Init = 41
-tag_of Run = 32
-tag_of RunThreads = 32
-tag_of Inspect = 71
-tag_of (Make seed turns) = 42
-tag_of (Trial seed turns) = 53
+tag_of Init = 10531
+tag_of Run = 11422
+tag_of RunThreads = 11422
+tag_of Inspect = 10561
+tag_of Dump = 10031
+tag_of (Why id) = 11922
+tag_of (Make seed turns) = 10932
+tag_of (Trial seed turns) = 11643
 
 tagged : (words : List (List ℕ)) (command : Command) → Spells words command → tag words ≡ tag_of command
 unfolding tag tag_of
@@ -24,21 +27,23 @@ tagged words Init are = ap tag are.are
 tagged words Run are = ap tag are.are
 tagged words RunThreads are = ap tag are.are
 tagged words Inspect are = ap tag are.are
+tagged words Dump are = ap tag are.are
+tagged words (Why id) are = ap tag are.are
 tagged words (Make seed turns) are = ap tag are.are
 tagged words (Trial seed turns) are = ap tag are.are
 
--- a word is one seed at most, and one number of turns
-pub one_seed : (word : List ℕ) (a b : ℕ) → IsSeed word a → IsSeed word b → a ≡ b
-one_seed word a b is_a is_b = decimal_injective a b (let s = is_a.small in omega arith) (let s = is_b.small in omega arith) (sym is_a.spelled ∙ is_b.spelled)
+-- a word is one number at most, and one number of turns
+pub one_number : (word : List ℕ) (a b : ℕ) → IsNumber word a → IsNumber word b → a ≡ b
+one_number word a b is_a is_b = decimal_injective a b (let s = is_a.small in omega arith) (let s = is_b.small in omega arith) (sym is_a.spelled ∙ is_b.spelled)
 
 one_turns : (word : List ℕ) (a b : ℕ) → IsTurns word a → IsTurns word b → a ≡ b
 one_turns word a b is_a is_b = decimal_injective a b (let s = is_a.few in omega arith) (let s = is_b.few in omega arith) (sym is_a.spelled ∙ is_b.spelled)
 
-pub seed_of_turns : (word : List ℕ) (turns : ℕ) → IsTurns word turns → IsSeed word turns
-seed_of_turns word turns is = record { small = let few = is.few in omega arith; spelled = is.spelled }
+pub number_of_turns : (word : List ℕ) (turns : ℕ) → IsTurns word turns → IsNumber word turns
+number_of_turns word turns is = record { small = let few = is.few in omega arith; spelled = is.spelled }
 
-seed_same : (v w : List ℕ) (a b : ℕ) → IsSeed v a → IsSeed w b → v ≡ w → a ≡ b
-seed_same v w a b is_a is_b same = one_seed v a b is_a (record { small = is_b.small; spelled = same ∙ is_b.spelled })
+number_same : (v w : List ℕ) (a b : ℕ) → IsNumber v a → IsNumber w b → v ≡ w → a ≡ b
+number_same v w a b is_a is_b same = one_number v a b is_a (record { small = is_b.small; spelled = same ∙ is_b.spelled })
 
 turns_same : (v w : List ℕ) (a b : ℕ) → IsTurns v a → IsTurns w b → v ≡ w → a ≡ b
 turns_same v w a b is_a is_b same = one_turns v a b is_a (record { few = is_b.few; spelled = same ∙ is_b.spelled })
@@ -48,14 +53,20 @@ make_same words s n t m a b =
     let same : codes "make" ∷ a.first ∷ a.second ∷ [] ≡ codes "make" ∷ b.first ∷ b.second ∷ [] = sym a.are ∙ b.are in
     let first : a.first ≡ b.first = cc same in
     let second : a.second ≡ b.second = cc same in
-    ap₂ Make (seed_same a.first b.first s t a.is_seed b.is_seed first) (turns_same a.second b.second n m a.is_turns b.is_turns second)
+    ap₂ Make (number_same a.first b.first s t a.is_seed b.is_seed first) (turns_same a.second b.second n m a.is_turns b.is_turns second)
 
 trial_same : (words : List (List ℕ)) (s n t m : ℕ) → AreTrial words s n → AreTrial words t m → Trial s n ≡ Trial t m
 trial_same words s n t m a b =
     let same : codes "trial" ∷ a.file ∷ a.first ∷ a.second ∷ [] ≡ codes "trial" ∷ b.file ∷ b.first ∷ b.second ∷ [] = sym a.are ∙ b.are in
     let first : a.first ≡ b.first = cc same in
     let second : a.second ≡ b.second = cc same in
-    ap₂ Trial (seed_same a.first b.first s t a.is_seed b.is_seed first) (turns_same a.second b.second n m a.is_turns b.is_turns second)
+    ap₂ Trial (number_same a.first b.first s t a.is_seed b.is_seed first) (turns_same a.second b.second n m a.is_turns b.is_turns second)
+
+why_same : (words : List (List ℕ)) (i j : ℕ) → AreWhy words i → AreWhy words j → Why i ≡ Why j
+why_same words i j a b =
+    let same : codes "why" ∷ a.file ∷ a.word ∷ [] ≡ codes "why" ∷ b.file ∷ b.word ∷ [] = sym a.are ∙ b.are in
+    let word : a.word ≡ b.word = cc same in
+    ap Why (number_same a.word b.word i j a.is_identity.is_number b.is_identity.is_number word)
 
 -- the order is told by the third word
 orders_differ : (words : List (List ℕ)) → AreRun words → AreRunThreads words → ⊥
@@ -73,6 +84,8 @@ one_command words Run RunThreads a b = absurd (orders_differ words a b)
 one_command words RunThreads Run a b = absurd (orders_differ words b a)
 one_command words RunThreads RunThreads a b = refl
 one_command words Inspect Inspect a b = refl
+one_command words Dump Dump a b = refl
+one_command words (Why i) (Why j) a b = why_same words i j a b
 one_command words (Make s n) (Make t m) a b = make_same words s n t m a b
 one_command words (Trial s n) (Trial t m) a b = trial_same words s n t m a b
 one_command words one other a b = let same : tag_of one ≡ tag_of other = sym (tagged words one a) ∙ tagged words other b in absurd (omega (arith, same))

@@ -9,6 +9,13 @@ pub enum Command {
     RunThreads,
     /// `inspect FILE`: write the report of a store.
     Inspect,
+    /// `dump FILE`: write the dump of a store's copy.
+    Dump,
+    /// `why FILE ID`: write a path from a name to an object of a store's copy.
+    Why {
+        /// The object's identity, which is over 0.
+        id: u32,
+    },
     /// `make SEED N`: write the script of this seed and this many turns.
     Make {
         /// The seed.

@@ -1,5 +1,5 @@
 ghost use Rattle.std.specs.Prelude.{◌≡◌, ◌<◌, ◌∷◌, [], ℕ, map, decimal, codes, IfSome, IfNone, true, false};
-ghost use Rattle.pm_words.specs.Words.{IsFile, IsSeed, IsTurns, Spells, SpellsNothing};
+ghost use Rattle.pm_words.specs.Words.{IsFile, IsIdentity, IsNumber, IsTurns, Spells, SpellsNothing};
 
 use crate::command::Command;
 use itoa::Buffer;
@@ -25,10 +25,10 @@ fn is_spelled(word: &str, number: u32) -> bool
     buffer.format(number) == word
 }
 
-// The seed that a word is.
-fn seed(word: &str) -> Option<u32>
-    ensures some { IfSome result (IsSeed word.now) }
-    ensures none { IfNone result ((seed : ℕ) → IsSeed word.now seed → ⊥) }
+// The number of 32 bits that a word is.
+fn number(word: &str) -> Option<u32>
+    ensures some { IfSome result (IsNumber word.now) }
+    ensures none { IfNone result ((number : ℕ) → IsNumber word.now number → ⊥) }
 {
     match word.parse::<u32>() {
         Ok(number) => {
@@ -47,12 +47,21 @@ fn turns(word: &str) -> Option<u32>
     ensures some { IfSome result (IsTurns word.now) }
     ensures none { IfNone result ((turns : ℕ) → IsTurns word.now turns → ⊥) }
 {
-    let number = seed(word)?;
+    let number = number(word)?;
     if number <= MOST_TURNS {
         Some(number)
     } else {
         None
     }
+}
+
+// The identity that a word is.
+fn identity(word: &str) -> Option<u32>
+    ensures some { IfSome result (IsIdentity word.now) }
+    ensures none { IfNone result ((id : ℕ) → IsIdentity word.now id → ⊥) }
+{
+    let number = number(word)?;
+    if number > 0 { Some(number) } else { None }
 }
 
 // The command of two words.
@@ -66,6 +75,8 @@ fn of_two(verb: &str, file: &str) -> Option<Command>
         Some(Command::Init)
     } else if verb == "inspect" {
         Some(Command::Inspect)
+    } else if verb == "dump" {
+        Some(Command::Dump)
     } else {
         None
     }
@@ -76,9 +87,21 @@ fn of_make(first: &str, second: &str) -> Option<Command>
     ensures some { IfSome result (Spells (codes "make" ∷ first.now ∷ second.now ∷ [])) }
     ensures none { IfNone result (SpellsNothing (codes "make" ∷ first.now ∷ second.now ∷ [])) }
 {
-    let seed = seed(first)?;
+    let seed = number(first)?;
     let turns = turns(second)?;
     Some(Command::Make { seed, turns })
+}
+
+// The command of three words of which the first is `why`.
+fn of_why(file: &str, word: &str) -> Option<Command>
+    ensures some { IfSome result (Spells (codes "why" ∷ file.now ∷ word.now ∷ [])) }
+    ensures none { IfNone result (SpellsNothing (codes "why" ∷ file.now ∷ word.now ∷ [])) }
+{
+    if !is_file(file) {
+        return None;
+    }
+    let id = identity(word)?;
+    Some(Command::Why { id })
 }
 
 // The command of three words.
@@ -88,6 +111,8 @@ fn of_three(verb: &str, second: &str, third: &str) -> Option<Command>
 {
     if verb == "make" {
         of_make(second, third)
+    } else if verb == "why" {
+        of_why(second, third)
     } else if verb == "run" && is_file(second) && third == "serial" {
         Some(Command::Run)
     } else if verb == "run" && is_file(second) && third == "threads" {
@@ -105,7 +130,7 @@ fn of_four(verb: &str, file: &str, first: &str, second: &str) -> Option<Command>
     if verb != "trial" || !is_file(file) {
         return None;
     }
-    let seed = seed(first)?;
+    let seed = number(first)?;
     let turns = turns(second)?;
     Some(Command::Trial { seed, turns })
 }

@@ -16,8 +16,8 @@ use Rattle.pm_base.specs.Counts.{capped}
 use Rattle.pm_copies.specs.Listed.{Listed}
 use Rattle.pm_copies.specs.Opened.{IsOpened, IsOpenedFrom, unnumbered}
 use Rattle.pm_inspect.specs.Report.{line, store_line, train_line, line_of_car, car_line, trains_text, total_line, report_text}
-use Rattle.pm_inspect.specs.Surveyed.{IsReport}
-use Rattle.pm_inspect.proofs.Renumbered.{named_alike, sources_no_fewer}
+use Rattle.pm_tell.specs.Told.{IsReport}
+use Rattle.pm_tell.proofs.Renumbered.{named_alike, sources_no_fewer}
 
 module _ (listed : List Listed) (catalog : List CatEntry) (next_id : ℕ) (view other : SpaceView) (one : IsOpened listed catalog next_id view) (two : IsOpened listed catalog next_id other) where
   cars : view.cars ≡ other.cars
@@ -82,4 +82,4 @@ one_report bytes one other first second =
     let stood : first.stands.found ≡ second.stands.found = ok_same first.stands.found second.stands.found (sym first.stands.is_found ∙ second.stands.is_found) in
     let number : first.number ≡ second.number = first.stands.is_number ∙ ap (λ (found : Opened). found.current.header.epoch) stood ∙ sym second.stands.is_number in
     let opened = subst (λ (found : Opened). IsOpenedFrom found.graph found.current.header.next second.view) (sym found) second.store.is_opened in
-    first.is ∙ same_text _ _ _ first.view second.view first.store.is_opened opened first.number ∙ ap (report_text second.view) number ∙ sym second.is
+    first.says ∙ same_text _ _ _ first.view second.view first.store.is_opened opened first.number ∙ ap (report_text second.view) number ∙ sym second.says

@@ -15,7 +15,7 @@ use Rattle.pm_view.specs.Sources.{outside, slot_in}
 use Rattle.pm_view.specs.Reading.{object_at, field_of, stored}
 use Rattle.pm_copies.specs.Opened.{unnumbered}
 use Rattle.pm_law_rows.proofs.Numbers.{owner, found_by_number}
-use Rattle.pm_inspect.proofs.Counted.{no_fewer}
+use Rattle.pm_tell.proofs.Counted.{no_fewer}
 
 -- ---- roots
 

@@ -1,21 +1,20 @@
-use Rattle.std.proofs.Common.{ap, ◌∙◌, arith}
+use Rattle.std.proofs.Common.{ap, subst, ◌∙◌, arith}
 use Rattle.std.proofs.lemmas.Result.{err_from_is_err_and}
 use Rattle.pm_layout.specs.declared.header.Header.{Header}
-use Rattle.pm_inspect.specs.Report.{report_text}
 use Rattle.pm_shadow.specs.State.{State}
 use Rattle.pm_shadow.specs.Pages.{state, disk_of, current_kept}
 use Rattle.pm_space.specs.Shown.{view}
 use Rattle.pm_reopen.proofs.Refusals.{graph_refused}
 use Rattle.pm_reopen.proofs.StoodLaws.{bytes_stand}
-use Rattle.pm_inspect.proofs.survey.tell_store.Goals as goal
+use Rattle.pm_tell.proofs.telling.tell_opened.Goals as goal
 
 pub returns-in_err-space-clause-fault : goal.returns-in_err-space-clause-fault
 returns-in_err-space-clause-fault g c =
     let p = err_from_is_err_and c.from_residual.result c.from_residual.ensures.1 in
     rw (p.1, p.2) (λ bytes told. graph_refused bytes c.in_err-space.field-0.0 ((c.in_err-space.ensures.fault bytes told).refused (c.requires.counted bytes told)))
 
-pub returns-clause-report : goal.returns-clause-report
-returns-clause-report g c bytes before =
+pub returns-clause-told : goal.returns-clause-told
+returns-clause-told g c bytes before =
     let first = state c.args.pages.now in
     let last = c.open_space.new.pages in
     let disk = disk_of last in
@@ -32,5 +31,5 @@ returns-clause-report g c bytes before =
       number = (state last).header.epoch;
       store = opens.store;
       stands = bytes_stand first (state last) bytes (view space.parts) _ c.requires.unknown opens ((current_kept last fine bytes told).each bytes here) each;
-      is = c.in-Ok.ensures ∙ ap (λ (h : Header). report_text (view space.parts) h.epoch) c.header.ensures;
+      says = subst (λ (h : Header). g.T.Teller.says c.args.teller.now (view space.parts) h.epoch c.in-Ok.text.items) c.header.ensures c.in-Ok.ensures;
     }

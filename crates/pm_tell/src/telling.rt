@@ -1,4 +1,4 @@
-//! Opening a store, and making its report.
+//! Opening a store, and making a text of it.
 
 ghost use Rattle.std.specs.Prelude.{◌≡◌, false, IfOk, IfErr, OnOk};
 ghost use Rattle.pm_disk.specs.Disk.{IfTold, LeavesOnly};
@@ -7,9 +7,9 @@ ghost use Rattle.pm_image.specs.Opening.{page_count};
 ghost use Rattle.pm_shadow.specs.Pages.{state, disk_of};
 ghost use Rattle.pm_shadow.specs.Runs.{OnlyLooks};
 ghost use Rattle.pm_reopen.specs.Refused.{IsOpenFault, IsRefusal};
-ghost use Rattle.pm_inspect.specs.Surveyed.{IsReport, IsSomeReport};
+ghost use Rattle.pm_tell.specs.Told.{IsTold, IsToldOfSome};
 
-use crate::report;
+use crate::Teller;
 use pm_disk::Disk;
 use pm_place::Placement;
 use pm_reopen::open_space;
@@ -17,14 +17,18 @@ use pm_shadow::Pages;
 use pm_types::OpenFault;
 use std::alloc::Global;
 
-// Opens the store behind pages that were just found, and makes its report.
-fn tell_store<D: Disk>(alloc: Global, pages: &mut Pages<D>) -> Result<Vec<u8>, OpenFault>
+// Opens the store behind pages that were just found, and makes a text of it.
+fn tell_opened<D: Disk, T: Teller>(
+    alloc: Global,
+    pages: &mut Pages<D>,
+    teller: &T,
+) -> Result<Vec<u8>, OpenFault>
     requires unknown { (state pages.old).known ≡ false }
     requires fine { (state pages.old).failed ≡ false }
     requires counted { IfTold (D.contents (disk_of pages.old)) (λ bytes. (state pages.old).count ≡ page_count bytes) }
-    ensures report { IfOk result (λ text. IfTold (D.contents (disk_of pages.old))
-        (λ bytes. IsReport bytes text.items)) }
-    ensures some { IfOk result (λ text. IsSomeReport text.items) }
+    ensures told { IfOk result (λ text. IfTold (D.contents (disk_of pages.old))
+        (λ bytes. IsTold (T.says teller.now) bytes text.items)) }
+    ensures some { IfOk result (λ text. IsToldOfSome (T.says teller.now) text.items) }
     ensures fault { IfErr result (λ fault. IfTold (D.contents (disk_of pages.old)) (λ bytes. IsRefusal bytes fault)) }
     ensures cause { IfErr result (IsOpenFault (D.count (disk_of pages.old)) (D.count (disk_of pages.new))) }
     ensures count { OnOk result (D.count (disk_of pages.new) ≡ D.count (disk_of pages.old)) }
@@ -34,38 +38,43 @@ fn tell_store<D: Disk>(alloc: Global, pages: &mut Pages<D>) -> Result<Vec<u8>, O
     // No object moves, so that no train is ever picked.
     let place = Placement::new(|_: &[u64]| 0);
     let (space, _) = open_space(alloc, pages, place)?;
-    let Ok(text) = report(alloc, &space, pages.header().epoch) else {
+    let Ok(text) = teller.tell(alloc, &space, pages.header().epoch) else {
         return Err(OpenFault::Memory);
     };
     Ok(text)
 }
 
-/// Opens the store on a disk and makes its report: one line for the store, each train and each car, and one for all
-/// together, as `pm_inspect` says. The disk is synced once, before it is read, and nothing is written. It is handed back.
+/// Opens the store on a disk and makes a text of it. The disk is synced once, before it is read, and nothing is written.
+/// It is handed back.
 ///
 /// # Errors
 ///
 /// `NotAStore`, `Version`, `Damaged` and `Malformed` by the first rule that the bytes break; `Disk` where the disk
 /// failed, with its counts of failed calls before and after; `Memory`.
-pub fn survey<D: Disk>(alloc: Global, disk: D) -> (D, Result<Vec<u8>, OpenFault>)
-    // The text is the report of what opening makes of the disk's bytes.
-    ensures report { IfOk result.1 (λ text. IfTold (D.contents disk) (λ bytes. IsReport bytes text.items)) }
-    // Of any disk, it is the report of some space.
-    ensures some { IfOk result.1 (λ text. IsSomeReport text.items) }
+pub fn tell_store<D: Disk, T: Teller>(
+    alloc: Global,
+    disk: D,
+    teller: &T,
+) -> (D, Result<Vec<u8>, OpenFault>)
+    // The text is the one that is made of what opening makes of the disk's bytes.
+    ensures told { IfOk result.1 (λ text. IfTold (D.contents disk)
+        (λ bytes. IsTold (T.says teller.now) bytes text.items)) }
+    // Of any disk, it is made of some space.
+    ensures some { IfOk result.1 (λ text. IsToldOfSome (T.says teller.now) text.items) }
     // The disk holds what it held, and so does what a crash leaves.
-    ensures told { D.contents result.0 ≡ D.contents disk }
+    ensures stays { D.contents result.0 ≡ D.contents disk }
     ensures leaves { LeavesOnly D.moment D.since disk result.0 (D.image disk) }
     // One sync was made, before any other call, no write, and no read past the end of what the disk told.
     ensures made { D.made result.0 ≡ with_sync (D.moment disk) (D.made disk) }
     ensures count { OnOk result.1 (D.count result.0 ≡ D.count disk) }
-    // Why there is no report.
+    // Why there is no text.
     ensures fault { IfErr result.1 (λ fault. IfTold (D.contents disk) (λ bytes. IsRefusal bytes fault)) }
     ensures cause { IfErr result.1 (IsOpenFault (D.count disk) (D.count result.0)) }
 {
     match Pages::attach(alloc, disk) {
         Ok(pages) => {
             let mut pages = pages;
-            let told = tell_store(alloc, &mut pages);
+            let told = tell_opened(alloc, &mut pages, teller);
             (pages.into_disk(), told)
         }
         Err((disk, fault)) => (disk, Err(fault)),

@@ -1,5 +1,0 @@
-use Rattle.pm_inspect.proofs.OneReport.{one_report}
-use Rattle.pm_inspect.proofs.laws.a_store_has_one_report.Goals as goal
-
-pub returns : goal.returns
-returns c = one_report
