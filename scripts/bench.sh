@@ -4,7 +4,7 @@
 # - a store of 7,000 and of 28,000 objects of 200 bytes that are all reached: the first save and settle, and opening, each
 #   beside `dd` and `sha256sum` of as many pages; memory beside the bytes of the objects;
 # - a second settle after one `put`: how many pages it writes, and how long it takes beside the first;
-# - the report of these stores;
+# - the report of these stores, their dump, and why their first object is kept, which is a path through all of them;
 # - scripts of 16,384 and of 65,536 lines of mixed commands;
 # - a large run of four clients, one of eight clients and one of one client alone, each serially and in threads;
 # - a script that is made, and a trial of it, of 4,000 and of 16,000 turns.
@@ -85,6 +85,9 @@ for count in (7000, 28000):
     sha, _ = timed(["sha256sum", f"{work}/copy"])
     opening, opened = timed(run(kept))
     report, _ = timed([pmos, "inspect", kept])
+    dump, dumped = timed([pmos, "dump", kept])
+    text = os.path.getsize(f"{work}/replies")
+    why, walked = timed([pmos, "why", kept, "1"])
     put = b"0 find 1 last\n0 put 1 0 ff\n"
     once, _ = timed(run(store), put, lambda: copied(kept, store))
     again, _ = timed(run(store), put + b"0 save\n0 settle\n", lambda: copied(kept, store))
@@ -95,6 +98,8 @@ for count in (7000, 28000):
     print(f"    making them {without:.3f} s; first save and settle {first:.3f} s, {first / (dd + sha):.1f} of dd and sha256sum (3 at most)")
     print(f"    opening {opening - empty:.3f} s, {(opening - empty) / (dd + sha):.1f} of dd and sha256sum (3 at most)")
     print(f"    the report {report - empty:.3f} s, which opens the store too")
+    print(f"    the dump {dump - empty:.3f} s, {(dump - empty) / (report - empty):.1f} of the report (2 at most); a text of {text / data:.1f} of the objects' bytes, and {(dumped - opened - text) / data:.1f} more than opening and the text (1.5 at most)")
+    print(f"    why the first object is kept, a path of {count} steps, {why - empty:.3f} s, {(why - empty) / (opening - empty):.1f} of opening; {(walked - opened) / count:.0f} bytes an object more than opening")
     print(f"    second save and settle after one put {second:.3f} s, {second / first:.2f} of the first (0.10 at most); the file grew by {grown} pages")
     print(f"    memory {(memory - empty_memory) / data:.1f} of the objects' bytes with the copy, {(graph - empty_memory) / data:.1f} without (5 at most), {(opened - empty_memory) / data:.1f} opened")
 

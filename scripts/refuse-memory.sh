@@ -10,6 +10,11 @@
 # - with a store that opens again, and is one of those that the same script leaves: the copy before it or after it, whole,
 #   and the one after it wherever `saved` was told.
 #
+# Then it does the same to `pm_cases`, which runs the program over a disk and a sink in memory: what they are refused is a
+# call of theirs that fails, so status 5 comes only where the disk was refused some, and 4 only where the sink was; and the
+# journal is a first part of that of the run that is refused nothing. A line that begins with `?` is what the cases
+# themselves were refused, and is passed over.
+#
 # It prints a line for each row: how many numbers, how often each status and each store came. It ends with 0 where all
 # are as they should be. It takes the program that 'scripts/build.sh' left at ./pmos, the one that 'rt ci' built, or the one
 # that PMOS names. Where there is none, or no C compiler, it says so and ends with 0.
@@ -83,24 +88,24 @@ int posix_memalign(void **to, size_t align, size_t size) {
 C
 cc -O2 -shared -fPIC -o "$work/refuse.so" "$work/refuse.c" || { echo "The shared object was not compiled."; exit 1; }
 
-python3 - "$pmos" "$work" <<'PYTHON'
-import collections, os, shutil, subprocess, sys, time
+python3 - "$pmos" "$work" "$PWD/crates/pm_cases/out/pm_cases" <<'PYTHON'
+import collections, os, re, shutil, subprocess, sys, time
 
-pmos, work = sys.argv[1:]
+pmos, work, cases = sys.argv[1:]
 store, calls_file = f"{work}/store.pmos", f"{work}/calls"
 MOST = 3000
 TEXTS = {0: "", 5: "pmos: disk fault\n", 7: "pmos: no memory\n"}
 valgrind = shutil.which("valgrind") if "VALGRIND" in os.environ else None
 
 
-def ended(words, text=b"", number=None, under=()):
-    """Runs the program, with this call for memory refused; answers status, output, errors and how many calls it made."""
+def ended(words, text=b"", number=None, under=(), program=pmos):
+    """Runs a program, with this call for memory refused; answers status, output, errors and how many calls it made."""
     told = dict(os.environ, CALLS_FILE=calls_file)
     if number is not None:
         told |= {"LD_PRELOAD": f"{work}/refuse.so", "REFUSED_CALL": str(number)}
     if os.path.exists(calls_file):
         os.remove(calls_file)
-    ran = subprocess.run([*under, pmos, *words], input=text, capture_output=True, env=told)
+    ran = subprocess.run([*under, program, *words], input=text, capture_output=True, env=told)
     calls = int(open(calls_file).read()) if os.path.exists(calls_file) else -1
     return ran.returncode, ran.stdout, ran.stderr.decode(errors="replace"), calls
 
@@ -222,7 +227,73 @@ def row(name, kept, words, text):
         print(f"     {it}")
 
 
+# ---- a disk and a sink in memory
+
+
+def told(out):
+    """Of one run of a case: its status, what was refused to its disk and its sink, and the reply lines of its journal; or
+    none, where the cases themselves were refused memory."""
+    lines = out.decode(errors="replace").splitlines()
+    if any(it.startswith("?") for it in lines):
+        return None
+    found = re.search(r"(?m)^status (\d+)\nwritten \d+\njournal \d+\nrefused (\d+) (\d+)$", "\n".join(lines))
+    if not found:
+        return None
+    end = [at for at, it in enumerate(lines) if it.startswith("refused ")][0]
+    return int(found[1]), int(found[2]), int(found[3]), lines[end + 1 :]
+
+
+def case_row(name, mode, text):
+    global bad
+    case = f"case {name}\ndisk new\nwords run store.pmos {mode}\ndo {text}\nshow status written journal refused entries\n".encode()
+    status, out, _, _ = ended([], case, 0, program=cases)
+    whole = told(out)
+    if status or not whole or whole[0]:
+        sys.exit(f"{name}: {out!r} with nothing refused")
+    statuses, passed, wrong, begun = collections.Counter(), 0, [], time.time()
+    for number in range(1, MOST + 1):
+        status, out, errors, came = ended([], case, number, program=cases)
+        one = told(out)
+        # (what is refused to the reading of the cases ends the program with a text of its own)
+        if status not in (0, 1):
+            wrong.append(f"{name}: call {number} refused: the program ended with {status}: {errors}")
+        elif one is None:
+            passed += 1
+        else:
+            statuses[one[0]] += 1
+            faults = []
+            if one[0] not in (0, 4, 5, 7):
+                faults.append(f"status {one[0]}")
+            if one[0] == 5 and not one[1]:
+                faults.append("status 5, and the disk was refused nothing")
+            if one[0] == 4 and not one[2]:
+                faults.append("status 4, and the sink was refused nothing")
+            if mode == "serial" and one[3] != whole[3][: len(one[3])]:
+                faults.append("another journal")
+            if one[0] == 0 and one[3] != whole[3]:
+                faults.append("status 0 without the whole journal")
+            if faults:
+                wrong.append(f"{name}: call {number} refused: {'; '.join(faults)}")
+        if came < number:
+            break
+    else:
+        wrong.append(f"{name}: over {MOST} calls for memory")
+    for it in (7, 5, 4):
+        if not statuses[it]:
+            wrong.append(f"{name}: status {it} never came")
+    bad |= bool(wrong)
+    line = ", ".join(f"{status}: {count}" for status, count in sorted(statuses.items()))
+    print(f"{'BAD' if wrong else 'ok':3}  {name:38}  {number:5} calls  {line:28}  {f'passed over: {passed}':32}  {time.time() - begun:.1f} s")
+    for it in wrong[:8]:
+        print(f"     {it}")
+
+
 for it in ROWS:
     row(*it)
+if os.access(cases, os.X_OK):
+    for name, text in [("a first copy, in memory", first), ("a collection, in memory", moves), ("a copy beside a client, in memory", beside)]:
+        case_row(name, "serial", text)
+else:
+    print("Skipped: the rows in memory, since rt ci has not built crates/pm_cases.")
 sys.exit(bad)
 PYTHON

@@ -1,0 +1,24 @@
+//! `pm_dump_cases`: reads cases from standard input, reads the dump of each step, and prints what it says or which line is
+//! bad. `docs/TESTS.md` says how a case is written.
+#![tactic(auto)]
+
+mod case;
+mod fault;
+mod spelling;
+
+use case::take;
+use std::fmt::Write;
+use std::io::{self, BufRead, BufReader};
+
+fn main(rt: HostRuntime) -> io::Result<()> {
+    let alloc = rt.alloc();
+    for line in BufReader::new(alloc, rt.reader())?.lines(alloc) {
+        let line = line?;
+        let mut out = String::new(alloc);
+        if let Err(fault) = take(alloc, line.as_str(), &mut out) {
+            writeln!(out, "? {fault:?}: {line}")?;
+        }
+        print!(rt; "{out}")?;
+    }
+    Ok(())
+}
