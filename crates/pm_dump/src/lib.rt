@@ -10,8 +10,6 @@ mod lent;
 mod line;
 mod parts;
 mod read;
-#[cfg(test)]
-mod tests;
 mod words;
 
 pub use dump::{Dump, read_dump};

@@ -6,7 +6,7 @@ use Rattle.std.specs.FinMap.{empty, values, len-empty}
 use Rattle.std.proofs.lemmas.Option.{same_Some}
 use Rattle.pm_disk.specs.Disk.{IfTold}
 use Rattle.pm_disk.specs.declared.disk.Disk.{Ghosts}
-use Rattle.pm_disk.specs.Made.{MadeMore}
+use Rattle.pm_disk.specs.Made.{Made, MadeAtMost, MadeMore}
 use Rattle.pm_disk.proofs.RunLemmas.{started, weaker}
 use Rattle.pm_layout.specs.declared.header.Header.{Header}
 use Rattle.pm_model.specs.Heap.{Object, Heap}
@@ -32,7 +32,7 @@ use Rattle.pm_saving.specs.Tied.{HasCopy, IsTied, settled_on}
 use Rattle.pm_save.specs.declared.fault.SaveFault.{SaveFault}
 use Rattle.pm_save.specs.declared.fault.SaveFault.TheVariants.{Disk, Memory}
 use Rattle.pm_save.specs.Answers.{IfMemory, OnMemory, Spares}
-use Rattle.pm_save.specs.Settling.{IsLeftSo, SettlesPages, SparesEither, StandsThen, settling_syncs}
+use Rattle.pm_save.specs.Settling.{IsLeftSo, SettlesPages, SparesEither, StandsThen, settling_syncs, settling_writes}
 use Rattle.pm_dump.specs.Dump.{Dump}
 use Rattle.pm_restore.specs.Parts.{cars_of_dump}
 use Rattle.pm_restore.specs.Restored.{BeginsDump, IsNewStore, IsRestored, LeavesEither, LeavesEmpty, copy_in_dump, dump_progress, pages_from, restored_in}
@@ -105,6 +105,17 @@ laid_dump dump s pages progress low is_new count progress_is was before after to
     contents
     ∙ ap (option_map (settled_on (cars_of_dump dump) pages progress s)) told
     ∙ (λ i. Some (settled_on (cars_of_dump dump) (pages_is i) (progress_is i) (is_new i) was))
+
+-- ---- how many calls were made
+
+pub none_made : (dump : Dump) (made : Made) → MadeAtMost (left (dump_progress dump) + 2) 2 made made
+none_made dump made = record { writes = omega arith; syncs = omega arith; past = refl }
+
+pub made_at_most : (dump : Dump) (saving : Saving) → BeginsDump dump saving → (s : State) (before after : Made) → s ≡ new_store → MadeAtMost (settling_writes saving s) (settling_syncs s) before after
+    → MadeAtMost (left (dump_progress dump) + 2) 2 before after
+made_at_most dump saving begun s before after is_new made =
+    subst (λ (t : State). MadeAtMost (left (dump_progress dump) + (shutting t + 2)) (settling_syncs t) before after) is_new
+    (subst (λ (o : Option Progress). MadeAtMost (left_of o + (shutting s + 2)) (settling_syncs s) before after) (begun.is_progress ∙ ap (λ (p : Progress). Some p) begun.is_begun) made)
 
 module _ {D : Type 0} {g : Ghosts D} where
   -- no call was made of the disk

@@ -1,9 +1,11 @@
 //! Settling a dump as copy 1 of a new store.
-ghost use Rattle.std.specs.Prelude.{◌≡◌, OnOk};
+ghost use Rattle.std.specs.Prelude.{◌≡◌, OnOk, ◌+◌};
+ghost use Rattle.pm_disk.specs.Made.{MadeAtMost};
 ghost use Rattle.pm_dump.specs.Sound.{IsSoundDump};
+ghost use Rattle.pm_saving.specs.Paging.{left};
 ghost use Rattle.pm_shadow.specs.Pages.{disk_of, state};
 ghost use Rattle.pm_save.specs.Answers.{HasSaveCause, OnMemory, TellsOn};
-ghost use Rattle.pm_restore.specs.Restored.{IsNewStore, IsRestored, LeavesEither, LeavesEmpty};
+ghost use Rattle.pm_restore.specs.Restored.{IsNewStore, IsRestored, LeavesEither, LeavesEmpty, dump_progress};
 
 use crate::PackedDump;
 use pm_disk::Disk;
@@ -32,6 +34,8 @@ pub fn settle_dump<D: Disk>(
     // and where memory ran out for copy 0.
     ensures memory { OnMemory result (LeavesEmpty pages.old pages.new) }
     ensures told { TellsOn (D.contents (disk_of pages.old)) (D.contents (disk_of pages.new)) }
+    // Whatever is answered, no more calls are made than settling takes, and none reads past the end.
+    ensures most { MadeAtMost (left (dump_progress dump.now) + 2) 2 (D.made (disk_of pages.old)) (D.made (disk_of pages.new)) }
     ensures cause { HasSaveCause (D.count (disk_of pages.old)) (D.count (disk_of pages.new)) result }
 {
     let packed = PackedDump::new(alloc, dump)?;

@@ -1,9 +1,11 @@
-use Rattle.std.proofs.Common.{subst}
+use Rattle.std.proofs.Common.{subst, ◌+◌}
 use Rattle.std.proofs.lemmas.Result.{err_from_is_err_and}
+use Rattle.pm_disk.specs.Made.{MadeAtMost}
 use Rattle.pm_shadow.specs.Pages.{disk_of, state}
+use Rattle.pm_saving.specs.Paging.{left}
 use Rattle.pm_dump.specs.Dump.{Dump as Says}
-use Rattle.pm_restore.specs.Restored.{IsRestored, LeavesEither, LeavesEmpty}
-use Rattle.pm_restore.proofs.RestoreLemmas.{before_1, either_empty, either_spared, memory_spared, on_memory, settled_dump, still_empty, tied_at}
+use Rattle.pm_restore.specs.Restored.{IsRestored, LeavesEither, LeavesEmpty, dump_progress}
+use Rattle.pm_restore.proofs.RestoreLemmas.{before_1, either_empty, either_spared, made_at_most, memory_spared, none_made, on_memory, settled_dump, still_empty, tied_at}
 use Rattle.pm_restore.proofs.settling.settle_dump.Goals as goal
 
 pub returns-in_err-packed-clause-leaves : goal.returns-in_err-packed-clause-leaves
@@ -53,3 +55,23 @@ pub returns-in_err-settle_from-clause-memory : goal.returns-in_err-settle_from-c
 returns-in_err-settle_from-clause-memory g c =
     let p = err_from_is_err_and c.from_residual-in_err-settle_from.result c.from_residual-in_err-settle_from.ensures.1 in
     rw (p.1, p.2) (memory_spared c.args.pages.now c.settle_from.new.pages c.requires.new _ _ _ c.in_err-settle_from.field-0.0 c.in_err-settle_from.ensures.memory)
+
+pub returns-in_err-packed-clause-most : goal.returns-in_err-packed-clause-most
+returns-in_err-packed-clause-most g c = none_made c.args.dump.now (g.D.Disk.made (disk_of c.args.pages.now))
+
+pub returns-in_err-writer-clause-most : goal.returns-in_err-writer-clause-most
+returns-in_err-writer-clause-most g c = none_made c.args.dump.now (g.D.Disk.made (disk_of c.args.pages.now))
+
+pub returns-in_err-settle_from-clause-most : goal.returns-in_err-settle_from-clause-most
+returns-in_err-settle_from-clause-most g c =
+    let old = g.D.Disk.made (disk_of c.args.pages.now) in
+    let new = g.D.Disk.made (disk_of c.settle_from.new.pages) in
+    subst (λ (d : Says). MadeAtMost (left (dump_progress d) + 2) 2 old new) c.in_ok-packed.ensures
+    (made_at_most c.in_ok-packed.packed _ c.in_ok-writer.ensures (state c.args.pages.now) old new c.requires.new.is_new c.settle_from.ensures.causes.made)
+
+pub returns-clause-most : goal.returns-clause-most
+returns-clause-most g c =
+    let old = g.D.Disk.made (disk_of c.args.pages.now) in
+    let new = g.D.Disk.made (disk_of c.settle_from.new.pages) in
+    subst (λ (d : Says). MadeAtMost (left (dump_progress d) + 2) 2 old new) c.in_ok-packed.ensures
+    (made_at_most c.in_ok-packed.packed _ c.in_ok-writer.ensures (state c.args.pages.now) old new c.requires.new.is_new c.settle_from.ensures.causes.made)
