@@ -4,7 +4,8 @@
 # - a store of 7,000 and of 28,000 objects of 200 bytes that are all reached: the first save and settle, and opening, each
 #   beside `dd` and `sha256sum` of as many pages; memory beside the bytes of the objects;
 # - a second settle after one `put`: how many pages it writes, and how long it takes beside the first;
-# - the report of these stores, their dump, and why their first object is kept, which is a path through all of them;
+# - the report of these stores, their dump, a store that is restored of it, and why their first object is kept, which is a
+#   path through all of them;
 # - scripts of 16,384 and of 65,536 lines of mixed commands;
 # - a large run of four clients, one of eight clients and one of one client alone, each serially and in threads;
 # - a script that is made, and a trial of it, of 4,000 and of 16,000 turns.
@@ -50,9 +51,12 @@ def timed(words, text=b"", prepare=None):
 def run(store, mode="serial"):
     return [pmos, "run", store, mode]
 
-def fresh(store):
+def removed(store):
     if os.path.exists(store):
         os.remove(store)
+
+def fresh(store):
+    removed(store)
     subprocess.run([pmos, "init", store], check=True)
 
 def copied(kept, store):
@@ -87,6 +91,11 @@ for count in (7000, 28000):
     report, _ = timed([pmos, "inspect", kept])
     dump, dumped = timed([pmos, "dump", kept])
     text = os.path.getsize(f"{work}/replies")
+    with open(f"{work}/replies", "rb") as replies:
+        told = replies.read()
+    restore, restored = timed([pmos, "restore", store], told, lambda: removed(store))
+    if subprocess.run([pmos, "dump", store], stdout=subprocess.PIPE, check=True).stdout != told:
+        sys.exit("a restored store has another dump")
     why, walked = timed([pmos, "why", kept, "1"])
     put = b"0 find 1 last\n0 put 1 0 ff\n"
     once, _ = timed(run(store), put, lambda: copied(kept, store))
@@ -99,6 +108,7 @@ for count in (7000, 28000):
     print(f"    opening {opening - empty:.3f} s, {(opening - empty) / (dd + sha):.1f} of dd and sha256sum (3 at most)")
     print(f"    the report {report - empty:.3f} s, which opens the store too")
     print(f"    the dump {dump - empty:.3f} s, {(dump - empty) / (report - empty):.1f} of the report (2 at most); a text of {text / data:.1f} of the objects' bytes, and {(dumped - opened - text) / data:.1f} more than opening and the text (1.5 at most)")
+    print(f"    restoring it {restore - empty:.3f} s, {(restore - empty) / (report - empty):.1f} of the report and {(restore - empty) / first:.1f} of the first save and settle (3 and 1.5 at most); {(restored - empty_memory) / text:.1f} bytes for one of the text (2.5 at most)")
     print(f"    why the first object is kept, a path of {count} steps, {why - empty:.3f} s, {(why - empty) / (opening - empty):.1f} of opening; {(walked - opened) / count:.0f} bytes an object more than opening")
     print(f"    second save and settle after one put {second:.3f} s, {second / first:.2f} of the first (0.10 at most); the file grew by {grown} pages")
     print(f"    memory {(memory - empty_memory) / data:.1f} of the objects' bytes with the copy, {(graph - empty_memory) / data:.1f} without (5 at most), {(opened - empty_memory) / data:.1f} opened")

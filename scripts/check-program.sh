@@ -159,6 +159,27 @@ came="$? $(cat "$work/out")"
 "$pmos" why "$work/store" 2 >"$work/out" </dev/null
 row "why, of an object and of none" "0 root a 1, 0 none, settled" "$came, $? $(cat "$work/out"), $(is_which "$work/store")"
 
+# A dump that is restored, to a FILE that is not there, and dumped again; to one that has a byte; and what is no dump.
+"$pmos" dump "$work/store" >"$work/dump" </dev/null
+"$pmos" restore "$work/restored" <"$work/dump" >"$work/out" 2>&1
+came="$?$(cat "$work/out")"
+"$pmos" dump "$work/restored" >"$work/out" </dev/null
+came+=" $? $(cmp -s "$work/dump" "$work/out" && echo the same), $("$pmos" inspect "$work/restored" </dev/null | head -n 1)"
+row "a dump is restored and dumped again" "0 0 the same, store 1 2 1" "$came"
+rm -f "$work/restored"
+printf 'x' >"$work/restored"
+"$pmos" restore "$work/restored" <"$work/dump" 2>"$work/err"
+came="$? $(cat "$work/err") $(cat "$work/restored")"
+rm -f "$work/restored"
+printf 'pmos dump 1 2\nobject 1 1 - 7\nend\n' | "$pmos" restore "$work/restored" 2>"$work/err"
+came+=", ${PIPESTATUS[1]} $(cat "$work/err")"
+[ -e "$work/restored" ] && came+=", a file"
+row "restore, to a byte, and what is no dump" "6 pmos: not empty 1 x, 2 pmos: dump line 2 limit" "$came"
+head -c 268435457 /dev/zero | "$pmos" restore "$work/restored" 2>"$work/err"
+came="${PIPESTATUS[1]} $(cat "$work/err")"
+[ -e "$work/restored" ] && came+=", a file"
+row "restore, of a byte over 256 MiB" "2 pmos: script too long" "$came"
+
 # A script that is made, beside the one that this short program makes by the same rule.
 if lacks python3 || lacks sha256sum; then
     row "a script that is made" "the same" "skipped: no python3 or no sha256sum"

@@ -8,6 +8,7 @@ use crate::fault::{Fault, refuse};
 use crate::generated::generated;
 use crate::inner::{push_copies, push_digest, push_name, push_register, push_room};
 use crate::replayed::push_alike;
+use crate::restored::push_round;
 use crate::running::{INIT, RUN, Run, Setting, run};
 use crate::scripts::{push_read, push_read_lines, push_texts};
 use crate::shown::{push_first, push_last, push_named, push_run, push_run_in_line};
@@ -507,6 +508,7 @@ impl Case {
             "fuses" => self.push_fuses(rt, text, out),
             "fails-of" => self.push_failings(rt, text, out),
             "drawn" => self.push_drawn(rt, text, out),
+            "round" => push_round(rt, self.disk.as_slice(), out),
             _ => self.show_step(rt.alloc(), step, text, out),
         }
     }

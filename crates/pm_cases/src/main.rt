@@ -12,6 +12,7 @@ mod generated;
 mod inner;
 mod printed;
 mod replayed;
+mod restored;
 mod running;
 mod scripts;
 mod shown;

@@ -60,6 +60,12 @@ pub(crate) const RUN: &str = "run store.pmos serial";
 /// The words of a run in threads.
 pub(crate) const RUN_THREADS: &str = "run store.pmos threads";
 
+/// The words that dump a store.
+pub(crate) const DUMP: &str = "dump store.pmos";
+
+/// The words that make a store of a dump.
+pub(crate) const RESTORE: &str = "restore store.pmos";
+
 /// The words that make a store.
 pub(crate) const INIT: &str = "init store.pmos";
 

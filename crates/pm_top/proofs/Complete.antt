@@ -8,19 +8,22 @@ use Rattle.pm_disk.specs.declared.disk.Disk as disk
 use Rattle.pm_io.specs.declared.source.Source as source
 use Rattle.pm_io.specs.declared.sink.Sink as sink
 use Rattle.pm_script.proofs.BadLaws.{no_fault}
+use Rattle.pm_dump.specs.Dump.{Dump as Dumped}
 use Rattle.pm_words.specs.declared.command.Command.{Command}
-use Rattle.pm_words.specs.declared.command.Command.TheVariants.{Init, Run, RunThreads, Inspect, Dump, Why, Make, Trial}
+use Rattle.pm_words.specs.declared.command.Command.TheVariants.{Init, Run, RunThreads, Inspect, Dump, Restore, Why, Make, Trial}
 use Rattle.pm_top.specs.declared.ended.Detail.{Detail}
-use Rattle.pm_top.specs.declared.ended.Detail.TheVariants.{Fine, Usage, Script, Reading, Writing, Device, NotEmpty, Refused, Memory}
+use Rattle.pm_top.specs.declared.ended.Detail.TheVariants.{Fine, Usage, Script, Dump as BadDump, Reading, Writing, Device, NotEmpty, Refused, Memory}
 use Rattle.pm_top.specs.declared.ended.Ended.{Ended}
 use Rattle.pm_top.specs.Ends.{ShowsReading, ShowsWriting, ShowsDevice, status_of}
 use Rattle.pm_top.specs.Stages.{IsPast, the_words}
 use Rattle.pm_top.specs.Journals.{IsScriptEnd}
-use Rattle.pm_top.specs.Disks.{IsRefusedFor, LeavesMade}
+use Rattle.pm_top.specs.Disks.{IsRefusedFor, LeavesMade, LeavesRestored}
+use Rattle.pm_top.specs.Dumps.{HoldsDump, RefusesBytes}
 use Rattle.pm_top.specs.declared.writes.Writes.TheVariants.{Replies}
-use Rattle.pm_top.specs.Commands.{ShowsCauses, EndsTelling, EndsMaking, EndsTrying, RunsStore, Does}
+use Rattle.pm_top.specs.Commands.{ShowsCauses, EndsTelling, EndsMaking, EndsRestoring, EndsTrying, RunsStore, Does}
 use Rattle.pm_top.specs.Needs.{HasNeeds, HoldsScript, HoldsStore, NothingFails}
 use Rattle.pm_top.proofs.Opened.{never_shut}
+use Rattle.pm_top.proofs.Restored.{no_dump_fault}
 
 abbrev pub IsComplete : Detail → Type 0
 IsComplete detail = (status_of detail ≡ 0) ⊎ (status_of detail ≡ 7)
@@ -34,6 +37,7 @@ rises before after was now shown = subst (λ (n : ℕ). Rose n now) shown.0 (sub
 abbrev MayEnd : Detail → Type 0
 MayEnd Usage = ⊥
 MayEnd (Script fault) = ⊥
+MayEnd (BadDump fault) = ⊥
 MayEnd (NotEmpty bytes) = ⊥
 MayEnd (Refused fault) = ⊥
 MayEnd detail = Unit {0}
@@ -43,6 +47,7 @@ may_once : (detail : Detail) → IsProp (MayEnd detail)
 may_once Fine = hlevel props
 may_once Usage = hlevel props
 may_once (Script fault) = hlevel props
+may_once (BadDump fault) = hlevel props
 may_once (Reading before after) = hlevel props
 may_once (Writing before after) = hlevel props
 may_once (Device before after opened) = hlevel props
@@ -55,6 +60,7 @@ module _ {D : Type 0} (d : disk.Ghosts D) where
   make_ends start end Fine makes empty = tt
   make_ends start end Usage makes empty = makes
   make_ends start end (Script fault) makes empty = makes
+  make_ends start end (BadDump fault) makes empty = makes
   make_ends start end (Reading before after) makes empty = tt
   make_ends start end (Writing before after) makes empty = tt
   make_ends start end (Device before after opened) makes empty = tt
@@ -70,6 +76,7 @@ run_ends : (told read : Option (List ℕ)) (store : HoldsStore told) (script : H
 run_ends told read store script Fine journal past bad refused = tt
 run_ends told read store script Usage journal past bad refused = absurd (omega (arith, past))
 run_ends told read store script (Script fault) journal past bad refused = no_fault script.bytes fault script.lines bad script.script
+run_ends told read store script (BadDump fault) journal past bad refused = absurd (omega (arith, past))
 run_ends told read store script (Reading before after) journal past bad refused = tt
 run_ends told read store script (Writing before after) journal past bad refused = tt
 run_ends told read store script (Device before after opened) journal past bad refused = tt
@@ -81,6 +88,7 @@ telling_ends : (told : Option (List ℕ)) (store : HoldsStore told) (detail : De
 telling_ends told store Fine ends refused = tt
 telling_ends told store Usage ends refused = ends
 telling_ends told store (Script fault) ends refused = ends
+telling_ends told store (BadDump fault) ends refused = ends
 telling_ends told store (Reading before after) ends refused = tt
 telling_ends told store (Writing before after) ends refused = tt
 telling_ends told store (Device before after opened) ends refused = tt
@@ -92,6 +100,7 @@ make_script_ends : (detail : Detail) → EndsMaking detail → MayEnd detail
 make_script_ends Fine ends = tt
 make_script_ends Usage ends = ends
 make_script_ends (Script fault) ends = ends
+make_script_ends (BadDump fault) ends = ends
 make_script_ends (Reading before after) ends = tt
 make_script_ends (Writing before after) ends = tt
 make_script_ends (Device before after opened) ends = tt
@@ -99,11 +108,26 @@ make_script_ends (NotEmpty bytes) ends = ends
 make_script_ends (Refused fault) ends = ends
 make_script_ends (Memory opened) ends = tt
 
+module _ {D : Type 0} (d : disk.Ghosts D) where
+  restore_ends : (read : Option (List ℕ)) (holds : HoldsDump read) (dump : Dumped) (start end : D) (detail : Detail) → EndsRestoring detail → RefusesBytes holds.bytes detail
+      → LeavesRestored d dump start end detail → d.contents start ≡ Some [] → MayEnd detail
+  restore_ends read holds dump start end Fine ends refuses leaves empty = tt
+  restore_ends read holds dump start end Usage ends refuses leaves empty = ends
+  restore_ends read holds dump start end (Script fault) ends refuses leaves empty = let long = refuses.refused in let short = holds.short in absurd (omega (arith, long, short))
+  restore_ends read holds dump start end (BadDump fault) ends refuses leaves empty = no_dump_fault holds.bytes holds.dump fault holds.spelled holds.sound refuses.refused
+  restore_ends read holds dump start end (Reading before after) ends refuses leaves empty = tt
+  restore_ends read holds dump start end (Writing before after) ends refuses leaves empty = tt
+  restore_ends read holds dump start end (Device before after opened) ends refuses leaves empty = tt
+  restore_ends read holds dump start end (NotEmpty n) ends refuses leaves empty = make_ends d start end (NotEmpty n) leaves empty
+  restore_ends read holds dump start end (Refused fault) ends refuses leaves empty = ends
+  restore_ends read holds dump start end (Memory opened) ends refuses leaves empty = tt
+
 -- a trial ends as what tells of a store may
 trial_ends : (detail : Detail) → EndsTrying detail → EndsTelling detail
 trial_ends Fine ends = tt
 trial_ends Usage ends = ends
 trial_ends (Script fault) ends = ends
+trial_ends (BadDump fault) ends = ends
 trial_ends (Reading before after) ends = ends
 trial_ends (Writing before after) ends = tt
 trial_ends (Device before after opened) ends = tt
@@ -118,6 +142,7 @@ stands_done : (detail : Detail) (source_was source_now sink_was sink_now disk_wa
 stands_done Fine a b c d e f may reading writing device source sink disk = inl refl
 stands_done Usage a b c d e f may reading writing device source sink disk = absurd may
 stands_done (Script fault) a b c d e f may reading writing device source sink disk = absurd may
+stands_done (BadDump fault) a b c d e f may reading writing device source sink disk = absurd may
 stands_done (Reading before after) a b c d e f may reading writing device source sink disk = absurd (source (rises before after a b reading))
 stands_done (Writing before after) a b c d e f may reading writing device source sink disk = absurd (sink (rises before after c d writing))
 stands_done (Device before after opened) a b c d e f may reading writing device source sink disk = absurd (disk (rises before after e f device))
@@ -140,6 +165,8 @@ module _ {D S K : Type 0} (d : disk.Ghosts D) (s : source.Ghosts S) (k : sink.Gh
       telling_ends (d.contents disk) needs it.detail does.ends (does.refused needs.bytes needs.is_told)
   may_end Dump disk source sink it does needs =
       telling_ends (d.contents disk) needs it.detail does.ends (does.refused needs.bytes needs.is_told)
+  may_end Restore disk source sink it does needs =
+      restore_ends d (s.left source) needs.1 does.dump disk it.disk it.detail does.ends (does.reads needs.1.bytes needs.1.is_told).refuses does.leaves needs.0
   may_end (Why id) disk source sink it does needs =
       telling_ends (d.contents disk) needs it.detail does.ends (does.refused needs.bytes needs.is_told)
   may_end (Make seed turns) disk source sink it does needs = make_script_ends it.detail does.ends

@@ -10,7 +10,7 @@ use Rattle.pm_io.specs.declared.sink.Sink as sink
 use Rattle.pm_shadow.specs.Init.{IsInitFault}
 use Rattle.pm_reopen.specs.Refused.{IsOpenFault}
 use Rattle.pm_top.specs.declared.ended.Detail.{Detail}
-use Rattle.pm_top.specs.declared.ended.Detail.TheVariants.{Fine, Usage, Script, Reading, Writing, Device, NotEmpty, Refused, Memory}
+use Rattle.pm_top.specs.declared.ended.Detail.TheVariants.{Fine, Usage, Script, Dump as BadDump, Reading, Writing, Device, NotEmpty, Refused, Memory}
 use Rattle.pm_top.specs.declared.ended.Ended.{Ended}
 use Rattle.pm_top.specs.Ends.{ShowsReading, ShowsDevice, not_opened, not_made}
 use Rattle.pm_top.specs.Stages.{IsPast, unreached, the_words, the_events, the_output}
@@ -39,6 +39,7 @@ pub late_past : (detail : Detail) → the_events < unreached detail → IsPast t
 late_past Fine late = omega arith
 late_past Usage late = absurd (omega arith)
 late_past (Script fault) late = absurd (omega arith)
+late_past (BadDump fault) late = absurd (omega arith)
 late_past (Reading before after) late = absurd (omega arith)
 late_past (Writing before after) late = omega arith
 late_past (Device before after false) late = absurd (omega arith)

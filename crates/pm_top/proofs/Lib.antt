@@ -10,4 +10,5 @@ pub mod Unread
 pub mod Faults
 pub mod Complete
 pub mod Performing
+pub mod Restored
 pub mod Programs

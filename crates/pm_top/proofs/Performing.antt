@@ -1,5 +1,5 @@
 -- What each command does, where nothing was called, and where it writes one text.
-use Rattle.std.proofs.Common.{false, ◌≡◌, ℕ, ◌<◌, List, [], None, refl, subst, arith}
+use Rattle.std.proofs.Common.{false, inl, ◌≡◌, ℕ, ◌<◌, List, [], None, refl, subst, arith}
 use Rattle.pm_types.specs.declared.entry.Entry.{Entry}
 use Rattle.pm_disk.specs.declared.disk.Disk as disk
 use Rattle.pm_disk.specs.Disk.{SameImages}
@@ -12,9 +12,9 @@ use Rattle.pm_script.proofs.BadLaws.{no_fault}
 use Rattle.pm_make.specs.Made.{made_text}
 use Rattle.pm_tell.specs.Told.{Telling, Reports, Dumps, GivesPath}
 use Rattle.pm_words.specs.declared.command.Command.{Command}
-use Rattle.pm_words.specs.declared.command.Command.TheVariants.{Init, Run, RunThreads, Inspect, Dump, Why, Make, Trial}
+use Rattle.pm_words.specs.declared.command.Command.TheVariants.{Init, Run, RunThreads, Inspect, Dump, Restore, Why, Make, Trial}
 use Rattle.pm_top.specs.declared.ended.Detail.{Detail}
-use Rattle.pm_top.specs.declared.ended.Detail.TheVariants.{Fine, Usage, Script, Reading, Writing, Device, NotEmpty, Refused, Memory}
+use Rattle.pm_top.specs.declared.ended.Detail.TheVariants.{Fine, Usage, Script, Dump as BadDump, Reading, Writing, Device, NotEmpty, Refused, Memory}
 use Rattle.pm_top.specs.declared.ended.Ended.{Ended}
 use Rattle.pm_top.specs.declared.writes.Writes.{Writes}
 use Rattle.pm_top.specs.declared.writes.Writes.TheVariants.{Replies, Digest}
@@ -70,6 +70,7 @@ module _ {D S K : Type 0} (d : disk.Ghosts D) (k : sink.Ghosts K) where
     disk_stays = refl;
     images = started d.moment d.since disk (d.image disk) now;
     unwritten = refl;
+    synced = inl refl;
     source_stays = refl;
     no_event = empty;
     no_tally = refl;
@@ -94,6 +95,7 @@ module _ {D S K : Type 0} (d : disk.Ghosts D) (k : sink.Ghosts K) where
       by Fine journal past reached refused = tt
       by Usage journal past reached refused = absurd (omega (arith, past))
       by (Script fault) journal past reached refused = absurd (no_fault bytes fault lines refused script)
+      by (BadDump fault) journal past reached refused = absurd (omega (arith, past))
       by (Reading before after) journal past reached refused = absurd (omega (arith, reached))
       by (Writing before after) journal past reached refused = tt
       by (Device before after opened) journal past reached refused = tt
@@ -130,6 +132,21 @@ module _ {D S K : Type 0} (d : disk.Ghosts D) (s : source.Ghosts S) (k : sink.Gh
   }
   untouched_does Inspect disk source sink it empty now same = untouched_telling d k Reports disk source sink it empty now
   untouched_does Dump disk source sink it empty now same = untouched_telling d k Dumps disk source sink it empty now
+  untouched_does Restore disk source sink it empty now same = record {
+    ends = tt;
+    dump = record { next = 1; objects = []; roots = [] };
+    sound = λ never. absurd never;
+    reads = λ bytes told. record {
+      refuses = record { refused = tt; told = λ fault short is. tt; long = λ long. tt };
+      spelled = λ never. absurd never;
+      emptied = λ never. absurd never;
+    };
+    leaves = inl (refl, same);
+    keeps = λ bytes told some. started d.moment d.since disk (d.image disk) now;
+    sink_stays = refl;
+    no_event = empty;
+    no_tally = refl;
+  }
   untouched_does (Why id) disk source sink it empty now same = untouched_telling d k (GivesPath id) disk source sink it empty now
   untouched_does (Make seed turns) disk source sink it empty now same = record {
     ends = tt;

@@ -23,7 +23,7 @@ use Rattle.pm_events.specs.declared.stop.Stop.{Stop}
 use Rattle.pm_events.specs.Causes.{OnStop}
 use Rattle.pm_serial.specs.Ordered.{StopsAmong, course_of}
 use Rattle.pm_top.specs.declared.ended.Detail.{Detail}
-use Rattle.pm_top.specs.declared.ended.Detail.TheVariants.{Fine, Usage, Script, Reading, Writing, Device, NotEmpty, Refused, Memory}
+use Rattle.pm_top.specs.declared.ended.Detail.TheVariants.{Fine, Usage, Script, Dump as BadDump, Reading, Writing, Device, NotEmpty, Refused, Memory}
 use Rattle.pm_top.specs.declared.ended.Ended.{Ended}
 use Rattle.pm_top.specs.Ends.{not_read, stop_in}
 use Rattle.pm_top.specs.Stages.{IsPast, unreached, the_words, the_script, the_store, the_output}
@@ -39,6 +39,7 @@ tried_read : (bytes : List ℕ) (detail : Detail) → the_store < unreached deta
 tried_read bytes Fine tried = tt
 tried_read bytes Usage tried = tt
 tried_read bytes (Script fault) tried = absurd (omega arith)
+tried_read bytes (BadDump fault) tried = tt
 tried_read bytes (Reading before after) tried = tt
 tried_read bytes (Writing before after) tried = tt
 tried_read bytes (Device before after opened) tried = tt

@@ -5,7 +5,7 @@ use Rattle.pm_disk.specs.declared.disk.Disk as disk
 use Rattle.pm_io.specs.declared.source.Source as source
 use Rattle.pm_io.specs.declared.sink.Sink as sink
 use Rattle.pm_top.specs.declared.ended.Detail.{Detail}
-use Rattle.pm_top.specs.declared.ended.Detail.TheVariants.{Fine, Usage, Script, Reading, Writing, Device, NotEmpty, Refused, Memory}
+use Rattle.pm_top.specs.declared.ended.Detail.TheVariants.{Fine, Usage, Script, Dump as BadDump, Reading, Writing, Device, NotEmpty, Refused, Memory}
 use Rattle.pm_top.specs.declared.ended.Ended.{Ended}
 use Rattle.pm_top.specs.Ends.{ShowsReading}
 use Rattle.pm_top.specs.Stages.{IsPast, the_words, the_script, the_store}
@@ -19,6 +19,7 @@ pub ends_unread : (detail : Detail) → EndsReading detail → IsPast the_words 
 ends_unread Fine ends = absurd ends
 ends_unread Usage ends = absurd ends
 ends_unread (Script fault) ends = omega arith
+ends_unread (BadDump fault) ends = absurd ends
 ends_unread (Reading before after) ends = omega arith
 ends_unread (Writing before after) ends = absurd ends
 ends_unread (Device before after opened) ends = absurd ends
@@ -30,6 +31,7 @@ pub script_unread : (detail : Detail) → EndsReading detail → IsPast the_scri
 script_unread Fine ends past = ends
 script_unread Usage ends past = ends
 script_unread (Script fault) ends past = absurd (omega (arith, past))
+script_unread (BadDump fault) ends past = ends
 script_unread (Reading before after) ends past = absurd (omega (arith, past))
 script_unread (Writing before after) ends past = ends
 script_unread (Device before after opened) ends past = ends
@@ -44,6 +46,7 @@ pub refused_unread : (bytes : List ℕ) (detail : Detail) → EndsReading detail
 refused_unread bytes Fine ends = tt
 refused_unread bytes Usage ends = tt
 refused_unread bytes (Script fault) ends = tt
+refused_unread bytes (BadDump fault) ends = tt
 refused_unread bytes (Reading before after) ends = tt
 refused_unread bytes (Writing before after) ends = tt
 refused_unread bytes (Device before after opened) ends = tt
@@ -70,6 +73,7 @@ module _ {D S K : Type 0} (d : disk.Ghosts D) (s : source.Ghosts S) (k : sink.Gh
   causes_unread disk source left sink it Fine ends shown = absurd ends
   causes_unread disk source left sink it Usage ends shown = absurd ends
   causes_unread disk source left sink it (Script fault) ends shown = record { reading = shown; writing = refl; device = refl; rule = ends; opened = tt; reads = refl }
+  causes_unread disk source left sink it (BadDump fault) ends shown = absurd ends
   causes_unread disk source left sink it (Reading before after) ends shown = record { reading = shown; writing = refl; device = refl; rule = tt; opened = tt; reads = refl }
   causes_unread disk source left sink it (Writing before after) ends shown = absurd ends
   causes_unread disk source left sink it (Device before after opened) ends shown = absurd ends

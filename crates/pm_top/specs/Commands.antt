@@ -1,7 +1,8 @@
 -- What each command does, from its start to its end, by how it ended: a record of named facts for each.
-use Rattle.std.specs.Prelude.{◌≡◌, ℕ, ◌<◌, ◌≤◌, List, [], length, Some, None, IsSome, IfSome, IfNone}
+use Rattle.std.specs.Prelude.{◌≡◌, ◌⊎◌, ℕ, ◌<◌, ◌≤◌, List, [], length, Some, None, IsSome, IfSome, IfNone}
 use Rattle.pm_disk.specs.declared.disk.Disk as disk
 use Rattle.pm_disk.specs.Disk.{LeavesOnly}
+use Rattle.pm_disk.specs.Made.{with_sync}
 use Rattle.pm_io.specs.declared.source.Source as source
 use Rattle.pm_io.specs.declared.sink.Sink as sink
 use Rattle.pm_model.specs.World.{begin}
@@ -12,21 +13,25 @@ use Rattle.pm_serial.specs.Acknowledged.{Acknowledges}
 use Rattle.pm_serial.specs.Writing.{tail_of}
 use Rattle.pm_tell.specs.Told.{Telling, IsTold, IsToldOfSome, Reports, Dumps, GivesPath}
 use Rattle.pm_make.specs.Made.{made_text}
+use Rattle.pm_dump.specs.Dump.{Dump as Dumped}
+use Rattle.pm_dump.specs.Sound.{IsSoundDump}
 use Rattle.pm_script.specs.declared.line.Line.{Line}
+use Rattle.pm_script.specs.declared.fault.ScriptFault.TheVariants.{TooLong}
 use Rattle.pm_script.specs.Script.{IsScript}
 use Rattle.pm_threads.specs.Running.{LeavesSome}
 use Rattle.pm_types.specs.declared.limits.TheConstants.{MOST_TURNS}
 use Rattle.pm_words.specs.declared.command.Command.{Command}
-use Rattle.pm_words.specs.declared.command.Command.TheVariants.{Init, Run, RunThreads, Inspect, Dump, Why, Make, Trial}
+use Rattle.pm_words.specs.declared.command.Command.TheVariants.{Init, Run, RunThreads, Inspect, Dump, Restore, Why, Make, Trial}
 use Rattle.pm_top.specs.declared.ended.Detail.{Detail}
-use Rattle.pm_top.specs.declared.ended.Detail.TheVariants.{Fine, Writing, Device, Refused, Memory}
+use Rattle.pm_top.specs.declared.ended.Detail.TheVariants.{Fine, Script, Dump as BadDump, Reading, Writing, Device, NotEmpty, Refused, Memory}
 use Rattle.pm_top.specs.declared.ended.Ended.{Ended}
 use Rattle.pm_top.specs.declared.writes.Writes.{Writes}
 use Rattle.pm_top.specs.declared.writes.Writes.TheVariants.{Replies, Digest}
 use Rattle.pm_top.specs.Ends.{RanShort, ShowsReading, ShowsWriting, ShowsDevice, ShowsOpened, NamesRule, stop_in}
 use Rattle.pm_top.specs.Stages.{IsPast, the_words, the_script}
 use Rattle.pm_top.specs.Journals.{IsBegun, KeepsOrder, ReadsScript}
-use Rattle.pm_top.specs.Disks.{IsRefusedFor, LeavesDisk, LeavesMade}
+use Rattle.pm_top.specs.Disks.{IsRefusedFor, LeavesDisk, LeavesMade, LeavesRestored}
+use Rattle.pm_top.specs.Dumps.{HasDump, ReadsDump}
 use Rattle.pm_top.specs.Tallies.{TalliesRun}
 use Rattle.pm_top.specs.Wrote.{IsWriting, Wrote, WroteText}
 
@@ -48,6 +53,17 @@ EndsTelling (Device before after opened) = Unit {0}
 EndsTelling (Refused fault) = Unit {0}
 EndsTelling (Memory opened) = Unit {0}
 EndsTelling detail = ⊥
+
+-- how `restore FILE` may end
+abbrev pub EndsRestoring : Detail → Type 0
+EndsRestoring Fine = Unit {0}
+EndsRestoring (Script fault) = fault ≡ TooLong
+EndsRestoring (BadDump fault) = Unit {0}
+EndsRestoring (Reading before after) = Unit {0}
+EndsRestoring (Device before after opened) = Unit {0}
+EndsRestoring (NotEmpty bytes) = Unit {0}
+EndsRestoring (Memory opened) = Unit {0}
+EndsRestoring detail = ⊥
 
 -- how `make SEED N` may end
 abbrev pub EndsMaking : Detail → Type 0
@@ -130,6 +146,8 @@ module _ {D S K : Type 0} (d : disk.Ghosts D) (k : sink.Ghosts K) where
     pub disk_stays : d.contents ended.disk ≡ d.contents disk
     pub images : LeavesOnly d.moment d.since disk ended.disk (d.image disk)
     pub unwritten : (d.made ended.disk).writes ≡ (d.made disk).writes
+    -- it is not called, or synced first, before any other call, and not again
+    pub synced : (ended.disk ≡ disk) ⊎ (d.made ended.disk ≡ with_sync (d.moment disk) (d.made disk))
     -- the source is not called
     pub source_stays : ended.source ≡ source
     pub no_event : ended.journal.items ≡ []
@@ -206,6 +224,24 @@ module _ {D S K : Type 0} (d : disk.Ghosts D) (s : source.Ghosts S) (k : sink.Gh
     pub short : RanShort ended.detail → (bytes : List ℕ) → s.left source ≡ Some bytes → (lines : List Line) → IsScript bytes lines
         → IfSome ended.tally (λ it. ∥ LeavesSome lines ended.journal.items (tally_of it).steps (tally_of it).events (tally_of it).left ∥₁)
 
+  -- What `restore FILE` does: the source is read to its end, the dump is read, a store is made, and the dump is settled in it
+  -- as copy 1. The sink is not called.
+  pub record RestoresStore (disk : D) (source : S) (sink : K) (ended : Ended D S K) : Type 0 where
+    pub ends : EndsRestoring ended.detail
+    -- where a dump was read it was this one, also where the source tells nothing
+    pub dump : Dumped
+    pub sound : HasDump ended.detail → IsSoundDump dump
+    -- what it answers of the bytes that the source told
+    pub reads : (bytes : List ℕ) → s.left source ≡ Some bytes → ReadsDump dump bytes (s.left ended.source) ended.detail
+    -- what it does to the disk
+    pub leaves : LeavesRestored d dump disk ended.disk ended.detail
+    -- where the disk told some byte, a crash at any moment leaves what it might have left at the start
+    pub keeps : (bytes : List ℕ) → d.contents disk ≡ Some bytes → 0 < length bytes
+        → LeavesOnly d.moment d.since disk ended.disk (d.image disk)
+    pub sink_stays : ended.sink ≡ sink
+    pub no_event : ended.journal.items ≡ []
+    pub no_tally : ended.tally ≡ None
+
   -- what each command does
   abbrev pub Does : Command → D → S → K → Ended D S K → Type 0
   Does Init disk source sink ended = MakesStore d disk source sink ended
@@ -213,6 +249,7 @@ module _ {D S K : Type 0} (d : disk.Ghosts D) (s : source.Ghosts S) (k : sink.Gh
   Does RunThreads disk source sink ended = RunsTogether disk source sink ended
   Does Inspect disk source sink ended = InspectsStore d k disk source sink ended
   Does Dump disk source sink ended = DumpsStore d k disk source sink ended
+  Does Restore disk source sink ended = RestoresStore disk source sink ended
   Does (Why id) disk source sink ended = TellsWhy d k id disk source sink ended
   Does (Make seed turns) disk source sink ended = MakesScript k seed turns disk source sink ended
   Does (Trial seed turns) disk source sink ended = TriesScript d k seed turns disk source sink ended

@@ -7,6 +7,12 @@ use Rattle.pm_types.specs.declared.fault.OpenFault.{OpenFault}
 use Rattle.pm_types.specs.declared.fault.OpenFault.TheVariants.{NotAStore, Version, Damaged, Malformed, Disk, Memory as NoRoom}
 use Rattle.pm_types.specs.declared.fault.InitFault.{InitFault}
 use Rattle.pm_types.specs.declared.fault.InitFault.TheVariants.{NotEmpty as NotEmptied, Disk as InitDisk, Memory as InitMemory}
+use Rattle.pm_dump.specs.declared.fault.DumpCause.{DumpCause}
+use Rattle.pm_dump.specs.declared.fault.DumpCause.TheVariants as dump_cause
+use Rattle.pm_dump.specs.declared.fault.DumpFault.{DumpFault}
+use Rattle.pm_dump.specs.declared.fault.DumpFault.TheVariants as dump_fault
+use Rattle.pm_save.specs.declared.fault.SaveFault.{SaveFault}
+use Rattle.pm_save.specs.declared.fault.SaveFault.TheVariants as save_fault
 use Rattle.pm_script.specs.declared.fault.Cause.{Cause}
 use Rattle.pm_script.specs.declared.fault.Cause.TheVariants as cause
 use Rattle.pm_script.specs.declared.fault.ScriptFault.{ScriptFault}
@@ -15,13 +21,14 @@ use Rattle.pm_events.specs.declared.stop.Stop.{Stop}
 use Rattle.pm_events.specs.declared.stop.Stop.TheVariants.{Memory as StopMemory, Writing as StopWriting, Device as StopDevice}
 use Rattle.pm_engine.specs.declared.tally.Tally.{Tally}
 use Rattle.pm_top.specs.declared.ended.Detail.{Detail}
-use Rattle.pm_top.specs.declared.ended.Detail.TheVariants.{Fine, Usage, Script, Reading, Writing, Device, NotEmpty, Refused, Memory}
+use Rattle.pm_top.specs.declared.ended.Detail.TheVariants.{Fine, Usage, Script, Dump as BadDump, Reading, Writing, Device, NotEmpty, Refused, Memory}
 
 -- the exit status of each end
 abbrev pub status_of : Detail → ℕ
 status_of Fine = 0
 status_of Usage = 1
 status_of (Script fault) = 2
+status_of (BadDump fault) = 2
 status_of (Reading before after) = 3
 status_of (Writing before after) = 4
 status_of (Device before after opened) = 5
@@ -56,11 +63,24 @@ script_line TooManyLines = codes "pmos: script too many lines\n"
 script_line TooLong = codes "pmos: script too long\n"
 script_line ScriptMemory = codes "pmos: no memory\n"
 
+-- the word for what is wrong with a line of a dump
+abbrev pub dump_word : DumpCause → List ℕ
+dump_word dump_cause.Form = codes "form"
+dump_word dump_cause.Order = codes "order"
+dump_word dump_cause.Limit = codes "limit"
+dump_word dump_cause.Dangling = codes "dangling"
+
+-- the text of a bad dump, on standard error
+abbrev pub dump_line : DumpFault → List ℕ
+dump_line (dump_fault.Line number cause) = codes "pmos: dump line " ++ decimal number ++ codes " " ++ dump_word cause ++ codes "\n"
+dump_line dump_fault.Memory = codes "pmos: no memory\n"
+
 -- the text of each end, on standard error
 abbrev pub detail_line : Detail → List ℕ
 detail_line Fine = []
 detail_line Usage = codes "pmos: usage\n"
 detail_line (Script fault) = script_line fault
+detail_line (BadDump fault) = dump_line fault
 detail_line (Reading before after) = codes "pmos: read fault\n"
 detail_line (Writing before after) = codes "pmos: write fault\n"
 detail_line (Device before after opened) = codes "pmos: disk fault\n"
@@ -98,9 +118,15 @@ abbrev pub IsOfScript : ScriptFault → Type 0
 IsOfScript ScriptMemory = ⊥
 IsOfScript fault = Unit {0}
 
+-- and a dump
+abbrev pub IsOfDump : DumpFault → Type 0
+IsOfDump dump_fault.Memory = ⊥
+IsOfDump fault = Unit {0}
+
 abbrev pub NamesRule : Detail → Type 0
 NamesRule (Refused fault) = IsOfStore fault
 NamesRule (Script fault) = IsOfScript fault
+NamesRule (BadDump fault) = IsOfDump fault
 NamesRule detail = Unit {0}
 
 -- whether a store was opened for a run is told where memory ran out or the disk failed
@@ -134,6 +160,16 @@ not_read (BadLine number cause) = Script (BadLine number cause)
 not_read TooManyLines = Script TooManyLines
 not_read TooLong = Script TooLong
 not_read ScriptMemory = Memory false
+
+-- how the program ends where a dump is not read
+abbrev pub no_dump : DumpFault → Detail
+no_dump (dump_fault.Line number cause) = BadDump (dump_fault.Line number cause)
+no_dump dump_fault.Memory = Memory false
+
+-- how the program ends where a dump is not settled, by the counts of the disk before and after
+abbrev pub not_settled : SaveFault → ℕ → ℕ → Detail
+not_settled save_fault.Disk before after = Device before after false
+not_settled save_fault.Memory before after = Memory false
 
 -- how the program ends where a store is not opened
 abbrev pub not_opened : OpenFault → Detail

@@ -2,6 +2,7 @@ pub mod Stages
 pub mod Ends
 pub mod Journals
 pub mod Disks
+pub mod Dumps
 pub mod Tallies
 pub mod Wrote
 pub mod Engines

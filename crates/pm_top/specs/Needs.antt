@@ -9,8 +9,9 @@ use Rattle.pm_image.specs.Stands.{StandsForCopy}
 use Rattle.pm_script.specs.declared.line.Line.{Line}
 use Rattle.pm_script.specs.Script.{IsScript}
 use Rattle.pm_words.specs.declared.command.Command.{Command}
-use Rattle.pm_words.specs.declared.command.Command.TheVariants.{Init, Run, RunThreads, Inspect, Dump, Why, Make, Trial}
+use Rattle.pm_words.specs.declared.command.Command.TheVariants.{Init, Run, RunThreads, Inspect, Dump, Restore, Why, Make, Trial}
 use Rattle.pm_top.specs.declared.ended.Ended.{Ended}
+use Rattle.pm_top.specs.Dumps.{HoldsDump}
 
 -- the source tells that it holds a script
 pub record HoldsScript (told : Option (List ℕ)) : Type 0 where
@@ -35,6 +36,7 @@ module _ {D S : Type 0} (d : disk.Ghosts D) (s : source.Ghosts S) where
   HasNeeds RunThreads disk source = HoldsStore (d.contents disk) × HoldsScript (s.left source)
   HasNeeds Inspect disk source = HoldsStore (d.contents disk)
   HasNeeds Dump disk source = HoldsStore (d.contents disk)
+  HasNeeds Restore disk source = (d.contents disk ≡ Some []) × HoldsDump (s.left source)
   HasNeeds (Why id) disk source = HoldsStore (d.contents disk)
   HasNeeds (Make seed turns) disk source = Unit {0}
   HasNeeds (Trial seed turns) disk source = HoldsStore (d.contents disk)

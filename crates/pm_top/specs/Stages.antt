@@ -1,7 +1,7 @@
 -- The stages that a run passes, in their order, and what each end says of them.
 use Rattle.std.specs.Prelude.{ℕ, ◌≤◌, true, false}
 use Rattle.pm_top.specs.declared.ended.Detail.{Detail}
-use Rattle.pm_top.specs.declared.ended.Detail.TheVariants.{Fine, Usage, Script, Reading, Writing, Device, NotEmpty, Refused, Memory}
+use Rattle.pm_top.specs.declared.ended.Detail.TheVariants.{Fine, Usage, Script, Dump as BadDump, Reading, Writing, Device, NotEmpty, Refused, Memory}
 
 -- no stage
 abbrev pub at_start : ℕ
@@ -40,6 +40,7 @@ abbrev pub behind : Detail → ℕ
 behind Fine = the_output
 behind Usage = at_start
 behind (Script fault) = the_words
+behind (BadDump fault) = at_start
 behind (Reading before after) = the_words
 behind (Writing before after) = the_store
 behind (Device before after false) = the_script
@@ -54,6 +55,7 @@ abbrev pub unreached : Detail → ℕ
 unreached Fine = at_end
 unreached Usage = the_source
 unreached (Script fault) = the_store
+unreached (BadDump fault) = the_store
 unreached (Reading before after) = the_script
 unreached (Writing before after) = at_end
 unreached (Device before after false) = the_events

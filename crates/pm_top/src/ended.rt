@@ -3,6 +3,7 @@ ghost use Rattle.pm_events.specs.Causes.{why};
 ghost use Rattle.pm_top.specs.Ends.{status_of, ended_by, not_opened};
 
 use pm_disk::Disk;
+use pm_dump::DumpFault;
 use pm_engine::Tally;
 use pm_events::Stop;
 use pm_io::{Sink, Source};
@@ -20,6 +21,9 @@ pub enum Detail {
     Usage,
     /// What was read is no script, by this fault, which is the first that applies. Status 2.
     Script(ScriptFault),
+    /// What was read is no dump, by this fault: the first line that is bad in its form, its order or its limits, or else
+    /// the first that names an object that is not listed. Status 2.
+    Dump(DumpFault),
     /// The source failed: its count of faults rose, from `before` to `after`. Status 3.
     Reading {
         before: u64,
@@ -72,7 +76,7 @@ impl Detail {
         match self {
             Detail::Fine => 0,
             Detail::Usage => 1,
-            Detail::Script(_) => 2,
+            Detail::Script(_) | Detail::Dump(_) => 2,
             Detail::Reading { .. } => 3,
             Detail::Writing { .. } => 4,
             Detail::Device { .. } => 5,

@@ -1,7 +1,7 @@
 //! The whole program but for its outermost shell: it reads the words, does what the command asks for, and tells how it
 //! ended. It makes a store; runs a script over a store's copy, in the order of its lines or in threads, and writes the
-//! replies; writes the report of a store, its dump, or a path in it; writes a script that is made from a seed; or runs that script and writes the
-//! digest of the replies.
+//! replies; writes the report of a store, its dump, or a path in it; makes a store of a dump; writes a script that is made
+//! from a seed; or runs that script and writes the digest of the replies.
 #![tactic(auto)]
 
 mod ended;
@@ -10,6 +10,7 @@ mod made;
 mod making;
 mod opening;
 mod reading;
+mod restoring;
 mod running;
 mod shell;
 mod telling;

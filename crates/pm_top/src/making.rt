@@ -11,8 +11,8 @@ use pm_shadow::init;
 use pm_types::InitFault;
 use std::alloc::Global;
 
-// How the program ends where no store is made.
-fn not_made(fault: InitFault) -> Detail
+/// How the program ends where no store is made.
+pub(crate) fn not_made(fault: InitFault) -> Detail
     ensures { result ≡ not_made fault }
 {
     match fault {

@@ -1,9 +1,11 @@
 //! What the program writes on standard error.
 ghost use Rattle.std.specs.Prelude.{◌≡◌, ◌≤◌, ◌++◌, length, IfOk, codes, decimal};
 ghost use Rattle.pm_script.specs.declared.fault.ScriptFault.TheVariants as script_fault;
-ghost use Rattle.pm_top.specs.Ends.{cause_word, detail_line, refusal_line, script_line};
+ghost use Rattle.pm_dump.specs.declared.fault.DumpFault.TheVariants as dump_fault;
+ghost use Rattle.pm_top.specs.Ends.{cause_word, detail_line, dump_line, dump_word, refusal_line, script_line};
 
 use crate::Detail;
+use pm_dump::{DumpCause, DumpFault};
 use pm_output::line::{Line, append, append_digest, append_number, line_with};
 use pm_script::{Cause, ScriptFault};
 use pm_types::{NoMemory, OpenFault};
@@ -60,6 +62,41 @@ fn script_fault_of(fault: &ScriptFault) -> Line
     }
 }
 
+// The word for what is wrong with a line of a dump.
+fn dump_word(cause: DumpCause) -> &'static [u8]
+    ensures word { result.now ≡ dump_word cause }
+    ensures short { length result.now ≤ 8 }
+{
+    match cause {
+        DumpCause::Form => b"form",
+        DumpCause::Order => b"order",
+        DumpCause::Limit => b"limit",
+        DumpCause::Dangling => b"dangling",
+    }
+}
+
+// The line of a dump of which this line is the one that is told.
+fn bad_dump_line(number: u64, cause: DumpCause) -> Line
+    ensures { result.items ≡ dump_line (dump_fault.Line number cause) }
+{
+    let mut line = line_with(b"pmos: dump line ");
+    append_number(&mut line, number);
+    append(&mut line, b" ");
+    append(&mut line, dump_word(cause));
+    append(&mut line, b"\n");
+    line
+}
+
+// The line of a dump that is bad.
+fn dump_fault_of(fault: &DumpFault) -> Line
+    ensures { result.items ≡ dump_line fault.now }
+{
+    match fault {
+        DumpFault::Line { number, cause } => bad_dump_line(*number, *cause),
+        DumpFault::Memory => line_with(b"pmos: no memory\n"),
+    }
+}
+
 // The line of a page that is damaged.
 fn damaged_line(page: u64, kept: &[u8; 32], found: &[u8; 32]) -> Line
     ensures { result.items ≡ refusal_line (OpenFault.Damaged page kept.now found.now) }
@@ -108,6 +145,7 @@ pub(crate) fn line_of(detail: &Detail) -> Line
         Detail::Fine => line_with(b""),
         Detail::Usage => line_with(b"pmos: usage\n"),
         Detail::Script(fault) => script_fault_of(fault),
+        Detail::Dump(fault) => dump_fault_of(fault),
         Detail::Reading { .. } => line_with(b"pmos: read fault\n"),
         Detail::Writing { .. } => line_with(b"pmos: write fault\n"),
         Detail::Device { .. } => line_with(b"pmos: disk fault\n"),

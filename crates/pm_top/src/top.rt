@@ -10,6 +10,7 @@ ghost use Rattle.pm_top.specs.Needs.{HasNeeds, NothingFails};
 use crate::ended::end_unopened;
 use crate::made::{make_script, try_script};
 use crate::making::make_store;
+use crate::restoring::restore_store;
 use crate::running::run_source;
 use crate::telling::write_told;
 use crate::together::{images_since_now, run_together};
@@ -54,6 +55,7 @@ fn perform<
         Command::RunThreads => run_together(rt, alloc, disk, place, source, sink, gate),
         Command::Inspect => write_told(alloc, &ReportText, disk, source, sink),
         Command::Dump => write_told(alloc, &DumpText, disk, source, sink),
+        Command::Restore => restore_store(alloc, disk, source, sink),
         Command::Why { id } => write_told(alloc, &WhyText { id }, disk, source, sink),
         Command::Make { seed, turns } => make_script(alloc, seed, turns, disk, source, sink),
         Command::Trial { seed, turns } => {
@@ -81,6 +83,10 @@ fn perform<
 /// `inspect FILE` opens the store and writes its report. Nothing is written to the disk.
 ///
 /// `dump FILE` opens the store and writes the dump of its copy. Nothing is written to the disk.
+///
+/// `restore FILE` reads the source to its end, as a dump, makes a store on the disk, where that is empty, and settles in it
+/// the dump's objects and names as copy 1: its objects in ascending order of their identities, each car filled before the
+/// next is begun, in train 1. The sink is not called.
 ///
 /// `why FILE ID` opens the store and writes a path from a name to the object of this identity, or `none` where no name
 /// reaches it. Nothing is written to the disk.

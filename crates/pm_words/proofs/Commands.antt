@@ -2,7 +2,7 @@
 use Rattle.std.proofs.Common.{◌≡◌, ℕ, ◌+◌, ◌*◌, List, [], ◌∷◌, length, refl, ap, ap₂, sym, ◌∙◌, arith, codes}
 use Rattle.std.proofs.lemmas.Fmt.{decimal_injective}
 use Rattle.pm_words.specs.declared.command.Command.{Command}
-use Rattle.pm_words.specs.declared.command.Command.TheVariants.{Init, Run, RunThreads, Inspect, Dump, Why, Make, Trial}
+use Rattle.pm_words.specs.declared.command.Command.TheVariants.{Init, Run, RunThreads, Inspect, Dump, Restore, Why, Make, Trial}
 use Rattle.pm_words.specs.Words.{IsNumber, IsTurns, AreMake, AreRun, AreRunThreads, AreTrial, AreWhy, Spells}
 
 -- how many words follow the first, how many letters its first letter, and that letter
@@ -17,6 +17,7 @@ tag_of Run = 11422
 tag_of RunThreads = 11422
 tag_of Inspect = 10561
 tag_of Dump = 10031
+tag_of Restore = 11461
 tag_of (Why id) = 11922
 tag_of (Make seed turns) = 10932
 tag_of (Trial seed turns) = 11643
@@ -28,6 +29,7 @@ tagged words Run are = ap tag are.are
 tagged words RunThreads are = ap tag are.are
 tagged words Inspect are = ap tag are.are
 tagged words Dump are = ap tag are.are
+tagged words Restore are = ap tag are.are
 tagged words (Why id) are = ap tag are.are
 tagged words (Make seed turns) are = ap tag are.are
 tagged words (Trial seed turns) are = ap tag are.are
@@ -85,6 +87,7 @@ one_command words RunThreads Run a b = absurd (orders_differ words b a)
 one_command words RunThreads RunThreads a b = refl
 one_command words Inspect Inspect a b = refl
 one_command words Dump Dump a b = refl
+one_command words Restore Restore a b = refl
 one_command words (Why i) (Why j) a b = why_same words i j a b
 one_command words (Make s n) (Make t m) a b = make_same words s n t m a b
 one_command words (Trial s n) (Trial t m) a b = trial_same words s n t m a b

@@ -2,7 +2,7 @@
 use Rattle.std.specs.Prelude.{◌≡◌, ℕ, ◌^◌, ◌<◌, ◌≤◌, List, [], ◌∷◌, codes, decimal}
 use Rattle.pm_types.specs.declared.limits.TheConstants.{MOST_TURNS}
 use Rattle.pm_words.specs.declared.command.Command.{Command}
-use Rattle.pm_words.specs.declared.command.Command.TheVariants.{Init, Run, RunThreads, Inspect, Dump, Why, Make, Trial}
+use Rattle.pm_words.specs.declared.command.Command.TheVariants.{Init, Run, RunThreads, Inspect, Dump, Restore, Why, Make, Trial}
 
 -- a file's name: it is not empty, and does not begin with a dash, which is 45
 pub record IsFile (word : List ℕ) : Type 0 where
@@ -56,6 +56,12 @@ pub record AreDump (words : List (List ℕ)) : Type 0 where
   pub is_file : IsFile file
   pub are : words ≡ codes "dump" ∷ file ∷ []
 
+-- `restore FILE`
+pub record AreRestore (words : List (List ℕ)) : Type 0 where
+  pub file : List ℕ
+  pub is_file : IsFile file
+  pub are : words ≡ codes "restore" ∷ file ∷ []
+
 -- `why FILE ID`
 pub record AreWhy (words : List (List ℕ)) (id : ℕ) : Type 0 where
   pub file : List ℕ
@@ -89,6 +95,7 @@ Spells words Run = AreRun words
 Spells words RunThreads = AreRunThreads words
 Spells words Inspect = AreInspect words
 Spells words Dump = AreDump words
+Spells words Restore = AreRestore words
 Spells words (Why id) = AreWhy words id
 Spells words (Make seed turns) = AreMake words seed turns
 Spells words (Trial seed turns) = AreTrial words seed turns

@@ -11,6 +11,8 @@ pub enum Command {
     Inspect,
     /// `dump FILE`: write the dump of a store's copy.
     Dump,
+    /// `restore FILE`: make a store of the dump on the source.
+    Restore,
     /// `why FILE ID`: write a path from a name to an object of a store's copy.
     Why {
         /// The object's identity, which is over 0.

@@ -4,11 +4,12 @@ use pm_types::NoMemory;
 use std::alloc::Global;
 
 // The commands, each with its values.
-const COMMANDS: [(&str, &[&str]); 7] = [
+const COMMANDS: [(&str, &[&str]); 8] = [
     ("init", &["FILE"]),
     ("run", &["FILE", "ORDER"]),
     ("inspect", &["FILE"]),
     ("dump", &["FILE"]),
+    ("restore", &["FILE"]),
     ("why", &["FILE", "ID"]),
     ("make", &["SEED", "N"]),
     ("trial", &["FILE", "SEED", "N"]),

@@ -77,6 +77,8 @@ fn of_two(verb: &str, file: &str) -> Option<Command>
         Some(Command::Inspect)
     } else if verb == "dump" {
         Some(Command::Dump)
+    } else if verb == "restore" {
+        Some(Command::Restore)
     } else {
         None
     }

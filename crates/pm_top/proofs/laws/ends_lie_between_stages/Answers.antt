@@ -1,6 +1,6 @@
 use Rattle.std.proofs.Common.{◌<◌, true, false, arith}
 use Rattle.pm_top.specs.declared.ended.Detail.{Detail}
-use Rattle.pm_top.specs.declared.ended.Detail.TheVariants.{Fine, Usage, Script, Reading, Writing, Device, NotEmpty, Refused, Memory}
+use Rattle.pm_top.specs.declared.ended.Detail.TheVariants.{Fine, Usage, Script, Dump as BadDump, Reading, Writing, Device, NotEmpty, Refused, Memory}
 use Rattle.pm_top.specs.Stages.{behind, unreached}
 use Rattle.pm_top.proofs.laws.ends_lie_between_stages.Goals as goal
 
@@ -8,6 +8,7 @@ between : (detail : Detail) → behind detail < unreached detail
 between Fine = omega arith
 between Usage = omega arith
 between (Script fault) = omega arith
+between (BadDump fault) = omega arith
 between (Reading before after) = omega arith
 between (Writing before after) = omega arith
 between (Device before after false) = omega arith

@@ -1,0 +1,286 @@
+-- How restoring a dump ends, and how it leaves the disk, from its parts.
+use Rattle.std.proofs.Common.{◌≡◌, ◌⊎◌, inl, inr, ℕ, ◌<◌, ◌≤◌, List, [], length, Option, Some, None, refl, sym, ap, subst, ◌∙◌, arith}
+use Rattle.std.specs.Prelude.{option_map}
+use Rattle.pm_types.specs.declared.limits.TheConstants.{SOURCE_BYTES}
+use Rattle.pm_types.specs.declared.fault.InitFault.{InitFault}
+use Rattle.pm_types.specs.declared.fault.InitFault.TheVariants as init_fault
+use Rattle.pm_disk.specs.declared.disk.Disk as disk
+use Rattle.pm_disk.specs.Disk.{IfTold, LeavesOnly, SameImages}
+use Rattle.pm_disk.specs.Made.{MadeMore}
+use Rattle.pm_disk.proofs.RunLemmas.{started}
+use Rattle.pm_io.specs.declared.source.Source as source
+use Rattle.pm_io.specs.declared.sink.Sink as sink
+use Rattle.pm_model.specs.World.{empty_copy}
+use Rattle.pm_image.specs.Blank.{blank_store}
+use Rattle.pm_image.specs.Stands.{StandsForCopy}
+use Rattle.pm_image.proofs.BlankLaws.{blank_stands}
+use Rattle.pm_shadow.specs.Init.{IsInitFault}
+use Rattle.pm_shadow.specs.Pages.{disk_of}
+use Rattle.pm_shadow.specs.declared.pages.Pages.{Pages}
+use Rattle.pm_save.specs.declared.fault.SaveFault.{SaveFault}
+use Rattle.pm_save.specs.declared.fault.SaveFault.TheVariants as save_fault
+use Rattle.pm_save.specs.Answers.{IfMemory, IsFaultOf}
+use Rattle.pm_script.specs.declared.fault.ScriptFault.{ScriptFault}
+use Rattle.pm_script.specs.declared.fault.ScriptFault.TheVariants.{Line as BadLine, TooManyLines, TooLong, Memory as ScriptMemory}
+use Rattle.pm_dump.specs.declared.fault.DumpFault.{DumpFault}
+use Rattle.pm_dump.specs.declared.fault.DumpFault.TheVariants as dump_fault
+use Rattle.pm_dump.specs.Dump.{Dump}
+use Rattle.pm_dump.specs.Spelled.{Spells}
+use Rattle.pm_dump.specs.Sound.{IsSoundDump}
+use Rattle.pm_dump.specs.Answers.{IsDumpFault}
+use Rattle.pm_dump.proofs.DumpLaws.{not_both, one_fault}
+use Rattle.pm_restore.specs.Restored.{IsRestored, LeavesEither, LeavesEmpty}
+use Rattle.pm_top.specs.declared.ended.Detail.{Detail}
+use Rattle.pm_top.specs.declared.ended.Detail.TheVariants.{Fine, Usage, Script, Dump as BadDump, Reading, Writing, Device, NotEmpty, Refused, Memory}
+use Rattle.pm_top.specs.declared.ended.Ended.{Ended}
+use Rattle.pm_top.specs.Ends.{IsOfScript, ShowsDevice, ShowsReading, no_dump, not_made, not_settled}
+use Rattle.pm_top.specs.Disks.{LeavesMade, LeavesRestored, LeavesSettled}
+use Rattle.pm_top.specs.Dumps.{EndsSettling, EndsUnrestored, HasDump, IsDumpEnd, IsReadWhole, RefusesBytes}
+use Rattle.pm_top.specs.Commands.{EndsRestoring, RestoresStore, ShowsCauses}
+use Rattle.pm_top.proofs.Parts.{with_parts}
+
+-- ---- what is read
+
+-- a dump has no fault
+pub no_dump_fault : (bytes : List ℕ) (dump : Dump) (fault : DumpFault) → Spells bytes dump → IsSoundDump dump → IsDumpFault fault bytes → ⊥
+no_dump_fault bytes dump (dump_fault.Line number cause) spelled sound is = not_both bytes dump number cause spelled sound is
+no_dump_fault bytes dump dump_fault.Memory spelled sound is = is
+
+-- bytes have one fault at most
+pub one_dump_fault : (bytes : List ℕ) (one other : DumpFault) → IsDumpFault one bytes → IsDumpFault other bytes → one ≡ other
+one_dump_fault bytes (dump_fault.Line n c) (dump_fault.Line m b) is too = let same = one_fault bytes n m c b is too in λ i. dump_fault.Line (same.0 i) (same.1 i)
+one_dump_fault bytes (dump_fault.Line n c) dump_fault.Memory is too = absurd too
+one_dump_fault bytes dump_fault.Memory other is too = absurd is
+
+-- bytes that are not read as a dump
+pub refused_bytes : (bytes : List ℕ) (fault : DumpFault) → length bytes ≤ SOURCE_BYTES → (fault ≡ dump_fault.Memory) ⊎ IsDumpFault fault bytes → RefusesBytes bytes (no_dump fault)
+refused_bytes bytes (dump_fault.Line number cause) short (inl never) = absurd (cc never)
+refused_bytes bytes (dump_fault.Line number cause) short (inr is) = record {
+  refused = is;
+  told = λ fault few too. one_dump_fault bytes (dump_fault.Line number cause) fault is too;
+  long = λ long. absurd (omega (arith, long, short));
+}
+refused_bytes bytes dump_fault.Memory short is = record { refused = tt; told = λ fault few too. tt; long = λ long. tt }
+
+pub ends_no_dump : (fault : DumpFault) → EndsUnrestored (no_dump fault)
+ends_no_dump (dump_fault.Line number cause) = tt
+ends_no_dump dump_fault.Memory = refl
+
+pub reading_no_dump : (fault : DumpFault) (before after : ℕ) → after ≡ before → ShowsReading (no_dump fault) before after
+reading_no_dump (dump_fault.Line number cause) before after same = same
+reading_no_dump dump_fault.Memory before after same = same
+
+-- a dump was read, so its bytes are not refused
+pub taken_bytes : (bytes : List ℕ) (dump : Dump) (detail : Detail) → EndsSettling detail → length bytes ≤ SOURCE_BYTES → Spells bytes dump → IsSoundDump dump → RefusesBytes bytes detail
+taken_bytes bytes dump detail ends short spelled sound = record {
+  refused = by detail ends;
+  told = λ fault few is. absurd (no_dump_fault bytes dump fault spelled sound is);
+  long = λ long. absurd (omega (arith, long, short));
+}
+  where
+    by : (detail : Detail) → EndsSettling detail → IsDumpEnd bytes detail
+    by Fine ends = tt
+    by Usage ends = tt
+    by (Script fault) ends = absurd ends
+    by (BadDump fault) ends = absurd ends
+    by (Reading before after) ends = tt
+    by (Writing before after) ends = tt
+    by (Device before after opened) ends = tt
+    by (NotEmpty n) ends = tt
+    by (Refused fault) ends = tt
+    by (Memory opened) ends = tt
+
+-- ---- settling
+
+pub ends_settled : (fault : SaveFault) (before after : ℕ) → EndsSettling (not_settled fault before after)
+ends_settled save_fault.Disk before after = refl
+ends_settled save_fault.Memory before after = refl
+
+pub device_settled : (fault : SaveFault) (before after : ℕ) → IsFaultOf before after fault → ShowsDevice (not_settled fault before after) before after
+device_settled save_fault.Disk before after rose = (refl, refl, rose)
+device_settled save_fault.Memory before after same = same
+
+pub ends_not_made : (fault : InitFault) → EndsSettling (not_made fault)
+ends_not_made (init_fault.NotEmpty n) = tt
+ends_not_made (init_fault.Disk before after) = refl
+ends_not_made init_fault.Memory = refl
+
+pub device_not_made : (before after : ℕ) (fault : InitFault) → IsInitFault before after fault → ShowsDevice (not_made fault) before after
+device_not_made before after (init_fault.NotEmpty n) cause = cause.1
+device_not_made before after (init_fault.Disk b a) cause = cause
+device_not_made before after init_fault.Memory cause = cause
+
+module _ {D : Type 0} (d : disk.Ghosts D) where
+  -- it was settled
+  pub leaves_settled : (dump : Dump) (before after : Pages D d) → LeavesEither dump before after → IsRestored dump before after → LeavesSettled d dump (disk_of before) (disk_of after) Fine
+  leaves_settled dump before after leaves restored was told = (leaves was told, restored.laid was told, restored.stands was told)
+
+  -- it was not
+  pub leaves_unsettled : (dump : Dump) (before after : Pages D d) (fault : SaveFault) (b a : ℕ) → LeavesEither dump before after → IfMemory (LeavesEmpty before after) fault
+      → LeavesSettled d dump (disk_of before) (disk_of after) (not_settled fault b a)
+  leaves_unsettled dump before after save_fault.Disk b a leaves empty = leaves
+  leaves_unsettled dump before after save_fault.Memory b a leaves empty = empty
+
+  -- what is told of a store that was just made
+  pub blank_told : (was now : Option (List ℕ)) → now ≡ option_map (λ (bytes : List ℕ). blank_store) was → IfTold now (λ bytes. bytes ≡ blank_store)
+  blank_told None now is bytes told = absurd (let never : ◌≡◌ {A = Option (List ℕ)} (Some bytes) None = sym told ∙ is in cc never)
+  blank_told (Some was) now is bytes told = let same : ◌≡◌ {A = Option (List ℕ)} (Some bytes) (Some blank_store) = sym told ∙ is in cc same
+
+  pub store_made : (start made : D) → d.contents made ≡ option_map (λ (bytes : List ℕ). blank_store) (d.contents start) → IfTold (d.contents start) (λ bytes. length bytes ≡ 0)
+      → IfTold (d.contents made) (λ told. (left : List ℕ) → d.image made left → left ≡ told) → LeavesMade d start made Fine
+  store_made start made blank empty only bytes told =
+      let is : d.contents made ≡ Some blank_store = blank ∙ ap (option_map (λ (bytes : List ℕ). blank_store)) told in
+      (empty bytes told, is, λ left now. subst (λ (image : List ℕ). StandsForCopy image 0 empty_copy) (sym (only blank_store is left now)) blank_stands)
+
+  -- a store was made, and the dump settled in it
+  pub then_settled : (dump : Dump) (start made end : D) (detail : Detail) → EndsSettling detail → MadeMore 4 2 0 (d.made start) (d.made made) → LeavesMade d start made Fine
+      → LeavesSettled d dump made end detail → LeavesRestored d dump start end detail
+  then_settled dump start made end Fine ends calls store settles = record { made = made; calls = calls; store = store; settles = settles }
+  then_settled dump start made end Usage ends calls store settles = absurd ends
+  then_settled dump start made end (Script fault) ends calls store settles = absurd ends
+  then_settled dump start made end (BadDump fault) ends calls store settles = absurd ends
+  then_settled dump start made end (Reading before after) ends calls store settles = absurd ends
+  then_settled dump start made end (Writing before after) ends calls store settles = absurd ends
+  then_settled dump start made end (Device before after opened) ends calls store settles = inr (record { made = made; calls = calls; store = store; settles = settles })
+  then_settled dump start made end (NotEmpty n) ends calls store settles = absurd settles
+  then_settled dump start made end (Refused fault) ends calls store settles = absurd ends
+  then_settled dump start made end (Memory opened) ends calls store settles = inr (record { made = made; calls = calls; store = store; settles = settles })
+
+  -- none was made
+  pub none_restored : (dump : Dump) (start end : D) (fault : InitFault) → LeavesMade d start end (not_made fault) → LeavesRestored d dump start end (not_made fault)
+  none_restored dump start end (init_fault.NotEmpty n) leaves = leaves
+  none_restored dump start end (init_fault.Disk b a) leaves = inl leaves
+  none_restored dump start end init_fault.Memory leaves = inl leaves
+
+  -- the disk was not called
+  pub uncalled_restored : (dump : Dump) (start : D) (detail : Detail) → EndsUnrestored detail → SameImages (d.image start) (d.image start) → LeavesRestored d dump start start detail
+  uncalled_restored dump start Fine ends same = absurd ends
+  uncalled_restored dump start Usage ends same = refl
+  uncalled_restored dump start (Script fault) ends same = refl
+  uncalled_restored dump start (BadDump fault) ends same = refl
+  uncalled_restored dump start (Reading before after) ends same = refl
+  uncalled_restored dump start (Writing before after) ends same = refl
+  uncalled_restored dump start (Device before after opened) ends same = absurd ends
+  uncalled_restored dump start (NotEmpty n) ends same = absurd ends
+  uncalled_restored dump start (Refused fault) ends same = refl
+  uncalled_restored dump start (Memory opened) ends same = inl (refl, same)
+
+-- ---- the ends of the command
+
+pub ends_restored : (detail : Detail) → EndsSettling detail → EndsRestoring detail
+ends_restored Fine ends = tt
+ends_restored Usage ends = ends
+ends_restored (Script fault) ends = absurd ends
+ends_restored (BadDump fault) ends = tt
+ends_restored (Reading before after) ends = tt
+ends_restored (Writing before after) ends = ends
+ends_restored (Device before after opened) ends = tt
+ends_restored (NotEmpty n) ends = tt
+ends_restored (Refused fault) ends = ends
+ends_restored (Memory opened) ends = tt
+
+pub ends_unrestored : (detail : Detail) → EndsUnrestored detail → EndsRestoring detail
+ends_unrestored Fine ends = tt
+ends_unrestored Usage ends = ends
+ends_unrestored (Script fault) ends = ends
+ends_unrestored (BadDump fault) ends = tt
+ends_unrestored (Reading before after) ends = tt
+ends_unrestored (Writing before after) ends = ends
+ends_unrestored (Device before after opened) ends = tt
+ends_unrestored (NotEmpty n) ends = tt
+ends_unrestored (Refused fault) ends = ends
+ends_unrestored (Memory opened) ends = tt
+
+-- no dump was read
+pub none_read : (detail : Detail) → EndsUnrestored detail → HasDump detail → ⊥
+none_read Fine ends has = ends
+none_read Usage ends has = has
+none_read (Script fault) ends has = has
+none_read (BadDump fault) ends has = has
+none_read (Reading before after) ends has = has
+none_read (Writing before after) ends has = has
+none_read (Device before after opened) ends has = ends
+none_read (NotEmpty n) ends has = ends
+none_read (Refused fault) ends has = has
+none_read (Memory opened) ends has = has
+
+module _ {D S K : Type 0} (d : disk.Ghosts D) (s : source.Ghosts S) (k : sink.Ghosts K) where
+  -- the disk was called
+  pub causes_restored : (disk end : D) (source left : S) (sink : K) (it : Ended D S K) (detail : Detail) → EndsSettling detail → s.count left ≡ s.count source
+      → ShowsDevice detail (d.count disk) (d.count end) → (d.made end).past ≡ (d.made disk).past
+      → ShowsCauses d s k disk source sink (with_parts it detail None end left sink)
+  causes_restored disk end source left sink it Fine ends read device past = record { reading = read; writing = refl; device = device; rule = tt; opened = tt; reads = past }
+  causes_restored disk end source left sink it Usage ends read device past = absurd ends
+  causes_restored disk end source left sink it (Script fault) ends read device past = absurd ends
+  causes_restored disk end source left sink it (BadDump fault) ends read device past = absurd ends
+  causes_restored disk end source left sink it (Reading before after) ends read device past = absurd ends
+  causes_restored disk end source left sink it (Writing before after) ends read device past = absurd ends
+  causes_restored disk end source left sink it (Device before after opened) ends read device past = record { reading = read; writing = tt; device = device; rule = tt; opened = ends; reads = past }
+  causes_restored disk end source left sink it (NotEmpty n) ends read device past = record { reading = read; writing = refl; device = device; rule = tt; opened = tt; reads = past }
+  causes_restored disk end source left sink it (Refused fault) ends read device past = absurd ends
+  causes_restored disk end source left sink it (Memory opened) ends read device past = record { reading = read; writing = tt; device = device; rule = tt; opened = ends; reads = past }
+
+  -- the source alone was called
+  pub causes_unrestored : (disk : D) (source left : S) (sink : K) (it : Ended D S K) (detail : Detail) → EndsUnrestored detail → ShowsReading detail (s.count source) (s.count left)
+      → ShowsCauses d s k disk source sink (with_parts it detail None disk left sink)
+  causes_unrestored disk source left sink it Fine ends shown = absurd ends
+  causes_unrestored disk source left sink it Usage ends shown = absurd ends
+  causes_unrestored disk source left sink it (Script fault) ends shown = record { reading = shown; writing = refl; device = refl; rule = of_script fault ends; opened = tt; reads = refl }
+    where
+      of_script : (fault : ScriptFault) → fault ≡ TooLong → IsOfScript fault
+      of_script (BadLine number cause) is = tt
+      of_script TooManyLines is = tt
+      of_script TooLong is = tt
+      of_script ScriptMemory is = absurd (cc is)
+  causes_unrestored disk source left sink it (BadDump fault) ends shown = record { reading = shown; writing = refl; device = refl; rule = ends; opened = tt; reads = refl }
+  causes_unrestored disk source left sink it (Reading before after) ends shown = record { reading = shown; writing = refl; device = refl; rule = tt; opened = tt; reads = refl }
+  causes_unrestored disk source left sink it (Writing before after) ends shown = absurd ends
+  causes_unrestored disk source left sink it (Device before after opened) ends shown = absurd ends
+  causes_unrestored disk source left sink it (NotEmpty n) ends shown = absurd ends
+  causes_unrestored disk source left sink it (Refused fault) ends shown = absurd ends
+  causes_unrestored disk source left sink it (Memory opened) ends shown = record { reading = shown; writing = tt; device = refl; rule = tt; opened = ends; reads = refl }
+
+  -- a dump was read
+  pub restores_read : (dump : Dump) (disk end : D) (source left : S) (sink : K) (it : Ended D S K) (detail : Detail) → it.journal.items ≡ [] → EndsSettling detail → IsSoundDump dump
+      → ((bytes : List ℕ) → s.left source ≡ Some bytes → s.left left ≡ Some []) → ((bytes : List ℕ) → s.left source ≡ Some bytes → Spells bytes dump)
+      → ((bytes : List ℕ) → s.left source ≡ Some bytes → length bytes ≤ SOURCE_BYTES) → LeavesRestored d dump disk end detail
+      → ((bytes : List ℕ) → d.contents disk ≡ Some bytes → 0 < length bytes → LeavesOnly d.moment d.since disk end (d.image disk))
+      → RestoresStore d s k disk source sink (with_parts it detail None end left sink)
+  restores_read dump disk end source left sink it detail empty ends sound emptied spelled short leaves keeps = record {
+    ends = ends_restored detail ends;
+    dump = dump;
+    sound = λ has. sound;
+    reads = λ bytes told. record {
+      refuses = taken_bytes bytes dump detail ends (short bytes told) (spelled bytes told) sound;
+      spelled = λ has. spelled bytes told;
+      emptied = λ whole. emptied bytes told;
+    };
+    leaves = leaves;
+    keeps = keeps;
+    sink_stays = refl;
+    no_event = empty;
+    no_tally = refl;
+  }
+
+  -- none was
+  pub restores_unread : (disk : D) (source left : S) (sink : K) (it : Ended D S K) (detail : Detail) → it.journal.items ≡ [] → EndsUnrestored detail
+      → ((bytes : List ℕ) → s.left source ≡ Some bytes → RefusesBytes bytes detail) → ((bytes : List ℕ) → s.left source ≡ Some bytes → IsReadWhole detail → s.left left ≡ Some [])
+      → ((at : List ℕ) → d.since disk (d.moment disk) at → d.image disk at)
+      → RestoresStore d s k disk source sink (with_parts it detail None disk left sink)
+  restores_unread disk source left sink it detail empty ends refuses emptied now =
+      let dump : Dump = record { next = 1; objects = []; roots = [] } in
+      record {
+        ends = ends_unrestored detail ends;
+        dump = dump;
+        sound = λ has. absurd (none_read detail ends has);
+        reads = λ bytes told. record {
+          refuses = refuses bytes told;
+          spelled = λ has. absurd (none_read detail ends has);
+          emptied = λ whole. emptied bytes told whole;
+        };
+        leaves = uncalled_restored d dump disk detail ends (record { no_more = λ image is. is; no_fewer = λ image is. is });
+        keeps = λ bytes told some. started d.moment d.since disk (d.image disk) now;
+        sink_stays = refl;
+        no_event = empty;
+        no_tally = refl;
+      }
