@@ -86,8 +86,9 @@ fn folder_of(path: &str) -> &str
 }
 
 /// Syncs the bytes and the length. The first sync that succeeds answers for what others did before the file was opened, and
-/// syncs all that the file has, and its name where a crash may still lose it. From then on it is enough to sync the data:
-/// POSIX has it that `fdatasync` also writes what is needed to read the data again, the length among it.
+/// syncs all that the file has. Before it comes the folder, where a crash may still lose the file's name: if the folder
+/// cannot be synced, nothing of the file is. From then on it is enough to sync the data: POSIX has it that `fdatasync` also
+/// writes what is needed to read the data again, the length among it.
 pub(crate) fn sync<R: Files>(rt: &R, path: &str, file: &mut Option<Held<R::File>>) -> io::Result<()>
 where
     R::File: StoreFile,
@@ -96,12 +97,12 @@ where
     if held.was_synced {
         return held.file.sync_data();
     }
-    held.file.sync_all()?;
     if held.may_lose_name {
         let folder = OpenOptions::new().read(true).open(rt, folder_of(path))?;
         folder.sync_all()?;
         held.may_lose_name = false;
     }
+    held.file.sync_all()?;
     held.was_synced = true;
     Ok(())
 }

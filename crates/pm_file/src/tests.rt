@@ -77,15 +77,15 @@ fn a_new_name_is_synced_with_the_first_sync(rt: HostRuntime) -> Result<(), Fail>
     let mut disk = FileDisk::at(files, rt.alloc(), "a/store")?;
     disk.write_at(0, b"abc")?;
     let _ = system.calls()?;
-    system.fail("sync 3");
-    failed(&rt, disk.sync());
-    heard(&rt, &system, "sync 3;")?;
     system.fail("sync 4");
     failed(&rt, disk.sync());
-    heard(&rt, &system, "sync 3;open a r;sync 4;")?;
+    heard(&rt, &system, "open a r;sync 4;")?;
+    system.fail("sync 3");
+    failed(&rt, disk.sync());
+    heard(&rt, &system, "open a r;sync 4;sync 3;")?;
     system.fail("");
     disk.sync()?;
-    heard(&rt, &system, "sync 3;open a r;sync 4;")?;
+    heard(&rt, &system, "sync 3;")?;
     disk.sync()?;
     heard(&rt, &system, "data 3;")?;
     system.fail("data 3");
@@ -115,7 +115,7 @@ fn streams_that_are_closed_are_filled_first(rt: HostRuntime) -> Result<(), Fail>
     let mut disk = FileDisk::at(files, rt.alloc(), "store")?;
     disk.sync()?;
     let calls =
-        "open /dev/null r;open /dev/null r;open store rwc;lock 3;len 3;sync 3;open . r;sync 4;";
+        "open /dev/null r;open /dev/null r;open store rwc;lock 3;len 3;open . r;sync 4;sync 3;";
     heard(&rt, &system, calls)?;
     drop(disk);
     assert_eq!(rt; system.open(), STREAMS);
