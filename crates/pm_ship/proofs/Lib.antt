@@ -1,0 +1,12 @@
+pub mod ListLemmas
+pub mod OfferLemmas
+pub mod FoundLemmas
+pub mod CountLemmas
+pub mod CarLemmas
+pub mod SameLemmas
+pub mod RootLemmas
+pub mod BeginLemmas
+pub mod WriteLemmas
+pub mod StandbyLemmas
+pub mod OfferedLemmas
+pub mod KnownLemmas

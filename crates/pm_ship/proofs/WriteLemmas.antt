@@ -1,0 +1,170 @@
+-- What is written beside the copy of a standby.
+use Rattle.std.proofs.Common.{◌≡◌, ◌⊎◌, inl, inr, ⊎_elim, ℕ, ◌+◌, ◌≤◌, Bool, true, false, List, [], ◌∷◌, Option, Some, None, refl, sym, ap, subst, ◌∙◌}
+use Rattle.std.specs.List.{AllByRecursion}
+use Rattle.std.proofs.lemmas.Option.{same_Some}
+use Rattle.pm_disk.specs.declared.disk.Disk.{Ghosts}
+use Rattle.pm_disk.specs.Made.{MadeMore}
+use Rattle.pm_disk.proofs.RunLemmas.{started, weaker}
+use Rattle.pm_layout.specs.declared.header.Header.{Header}
+use Rattle.pm_model.specs.World.{Copy}
+use Rattle.pm_image.specs.declared.settled.KeptPage.{KeptPage}
+use Rattle.pm_image.specs.Graphs.{Graph}
+use Rattle.pm_image.specs.Stands.{StandsForCopy}
+use Rattle.pm_shadow.specs.declared.page_use.PageUse.{PageUse}
+use Rattle.pm_shadow.specs.declared.page_use.PageUse.TheVariants.{Claimed, Free}
+use Rattle.pm_shadow.specs.Uses.{AreLowestFree, with_use}
+use Rattle.pm_shadow.specs.State.{State, keeps_by}
+use Rattle.pm_shadow.specs.Copies.{KeepsGraph}
+use Rattle.pm_shadow.specs.Images.{shutting}
+use Rattle.pm_shadow.specs.Pages.{current_kept, disk_of, state}
+use Rattle.pm_shadow.specs.Runs.{OnlyLooks}
+use Rattle.pm_shadow.specs.declared.pages.Pages.{Pages}
+use Rattle.pm_view.specs.View.{Cars}
+use Rattle.pm_law_saving.proofs.Publishing.{copy_held}
+use Rattle.pm_saving.specs.Progress.{Progress, Saving, copy_of}
+use Rattle.pm_saving.specs.Paging.{CarPage, NextPage, PartPage, left, left_of, next_page, with_next, written_on}
+use Rattle.pm_saving.specs.Tied.{HasCopy}
+use Rattle.pm_save.specs.Settling.{IsLeftSo, SettlesPages, SparesEither, StandsThen, settling_syncs}
+use Rattle.pm_ship.specs.declared.fault.Shipped.{Shipped}
+use Rattle.pm_ship.specs.Begun.{BeginsOffered}
+use Rattle.pm_ship.specs.Cars.{cars_kept}
+use Rattle.pm_ship.specs.Offers.{Offer, copy_offered}
+use Rattle.pm_ship.specs.Writing.{HasOffered, IsBeside, IsLaid, LeavesCopy, LeavesEitherOf, SparesCopy}
+
+-- ---- the pages that were free
+
+free_kept : (known : Bool) (use_ : PageUse) → known ≡ true → use_ ≡ Free → keeps_by known use_ ≡ false
+free_kept known use_ is free = λ i. keeps_by (is i) (free i)
+
+-- a page that was free is none of the copy's
+free_beside : (s : State) (bytes : List ℕ) (mine : Graph) (page : ℕ) → s.known ≡ true → KeepsGraph s bytes mine → 2 ≤ page → s.uses page ≡ Free → IsBeside mine page
+free_beside s bytes mine page known keeps_ from_2 free = record {
+  from_2 = from_2;
+  apart = λ within. let kept = (keeps_.kept page within).kept in let not = free_kept s.known (s.uses page) known free in absurd (cc (kept, not));
+}
+
+from_2_each : (pages : List ℕ) (uses : ℕ → PageUse) → AreLowestFree uses pages → AllByRecursion (λ (page : ℕ). 2 ≤ page) pages
+from_2_each [] uses low = tt
+from_2_each (page ∷ pages) uses low = (low.0.from_2, from_2_each pages (with_use page Claimed uses) low.1)
+
+all_beside : (s : State) (bytes : List ℕ) (mine : Graph) (pages : List ℕ) → s.known ≡ true → KeepsGraph s bytes mine → AllByRecursion (λ (page : ℕ). 2 ≤ page) pages → AllByRecursion (λ (page : ℕ). s.uses page ≡ Free) pages
+    → AllByRecursion (IsBeside mine) pages
+all_beside s bytes mine [] known keeps_ from_2 free = tt
+all_beside s bytes mine (page ∷ pages) known keeps_ from_2 free = (free_beside s bytes mine page known keeps_ from_2.0 free.0, all_beside s bytes mine pages known keeps_ from_2.1 free.1)
+
+-- ---- the header
+
+written_number : (cars : Cars) (pages : List ℕ) (progress : Progress) → (written_on cars pages progress).number ≡ progress.number
+written_number cars [] progress = refl
+written_number cars (page ∷ pages) progress = written_number cars pages (with_next page progress (next_page cars progress)) ∙ by (next_page cars progress)
+  where
+    by : (o : Option NextPage) → (with_next page progress o).number ≡ progress.number
+    by None = refl
+    by (Some (CarPage image)) = refl
+    by (Some (PartPage entries)) = refl
+
+written_next : (cars : Cars) (pages : List ℕ) (progress : Progress) → (written_on cars pages progress).next_id ≡ progress.next_id
+written_next cars [] progress = refl
+written_next cars (page ∷ pages) progress = written_next cars pages (with_next page progress (next_page cars progress)) ∙ by (next_page cars progress)
+  where
+    by : (o : Option NextPage) → (with_next page progress o).next_id ≡ progress.next_id
+    by None = refl
+    by (Some (CarPage image)) = refl
+    by (Some (PartPage entries)) = refl
+
+module _ {E : Type 0} {e : Ghosts E} where
+  -- ---- nothing was written
+
+  -- each image now stands for the copy that the pages have
+  stands_now : (it : Pages E e) → (state it).failed ≡ false → (mine : Copy) (was image : List ℕ) → e.contents (disk_of it) ≡ Some was → HasCopy (state it) was mine → e.image (disk_of it) image
+      → StandsForCopy image (state it).header.epoch mine
+  stands_now it fine mine was image told has left = copy_held (state it) was image mine has ((current_kept it fine was told).each image left)
+
+  pub looked_leaves : (before after : Pages E e) → (state before).failed ≡ false → OnlyLooks e.contents e.image e.moment e.since (disk_of before) (disk_of after) → LeavesCopy before after
+  looked_leaves before after fine looks mine was told has =
+      weaker e.moment e.since (disk_of before) (disk_of after) (e.image (disk_of before)) (λ image. StandsForCopy image (state before).header.epoch mine) looks.leaves
+      (λ image left. stands_now before fine mine was image told has left)
+
+  pub none_leaves : (it : Pages E e) → (state it).failed ≡ false → ((left : List ℕ) → e.since (disk_of it) (e.moment (disk_of it)) left → e.image (disk_of it) left) → LeavesCopy it it
+  none_leaves it fine now mine was told has =
+      started e.moment e.since (disk_of it) (λ image. StandsForCopy image (state it).header.epoch mine)
+      (λ image left. stands_now it fine mine was image told has (now image left))
+
+  pub either_leaves : (offer : Offer) (before after : Pages E e) → LeavesCopy before after → LeavesEitherOf offer before after
+  either_leaves offer before after leaves mine was told has =
+      weaker e.moment e.since (disk_of before) (disk_of after) (λ image. StandsForCopy image (state before).header.epoch mine)
+      (λ image. StandsForCopy image (state before).header.epoch mine ⊎ StandsForCopy image offer.epoch (copy_offered offer)) (leaves mine was told has) (λ image stands. inl stands)
+
+  -- no call was made
+  pub none_spared : (it : Pages E e) → (state it).failed ≡ false → ((left : List ℕ) → e.since (disk_of it) (e.moment (disk_of it)) left → e.image (disk_of it) left) → SparesCopy it it
+  none_spared it fine now = record {
+    leaves = none_leaves it fine now;
+    has = λ mine was told has bytes held. let same : was ≡ bytes = same_Some was bytes (sym told ∙ held) in subst (λ (bs : List ℕ). HasCopy (state it) bs mine) same has;
+    epoch = refl;
+  }
+
+  -- memory ran out while it was written
+  pub left_spared : (before after : Pages E e) (old new : Saving) → IsLeftSo e.contents e.moment e.since old new (state before) (state after) (disk_of before) (disk_of after) → SparesCopy before after
+  left_spared before after old new it = record {
+    leaves = λ mine was told has. it.spares mine was told has;
+    has = λ mine was told has. it.has mine was told has;
+    epoch = ap (λ (h : Header). h.epoch) it.stays.header;
+  }
+
+  -- ---- the copy was written
+
+  module _ (offer : Offer) (settled cars : List KeptPage) (saving : Saving) (begun : BeginsOffered offer settled saving cars) (before after : Pages E e) where
+    offered_stands : (image : List ℕ) (number : ℕ) → number ≡ offer.epoch → StandsForCopy image number (copy_of (cars_kept cars) begun.progress) → StandsForCopy image offer.epoch (copy_offered offer)
+    offered_stands image number is stands = subst (λ (n : ℕ). StandsForCopy image n (copy_offered offer)) is (subst (λ (copy : Copy). StandsForCopy image number copy) begun.copy stands)
+
+    pub either_spared : SparesEither e.contents e.moment e.since saving.progress (cars_kept cars) (state before) (disk_of before) (disk_of after) → LeavesEitherOf offer before after
+    either_spared spares mine was told has =
+        let run = subst (λ (o : Option Progress). SparesEither e.contents e.moment e.since o (cars_kept cars) (state before) (disk_of before) (disk_of after)) begun.is_progress spares in
+        weaker e.moment e.since (disk_of before) (disk_of after)
+        (λ image. StandsForCopy image (state before).header.epoch mine ⊎ StandsForCopy image begun.progress.number (copy_of (cars_kept cars) begun.progress))
+        (λ image. StandsForCopy image (state before).header.epoch mine ⊎ StandsForCopy image offer.epoch (copy_offered offer))
+        (run mine was told has)
+        (λ image stands. ⊎_elim (λ was. inl was) (λ now. inr (offered_stands image begun.progress.number begun.number now)) stands)
+
+    module _ (known : (state before).known ≡ true) (new : Saving) (number : ℕ) (it : SettlesPages saving new (cars_kept cars) before after number) where
+      same_progress : it.settles.progress ≡ begun.progress
+      same_progress = same_Some it.settles.progress begun.progress (sym it.settles.is_progress ∙ begun.is_progress)
+
+      header_epoch : (state after).header.epoch ≡ offer.epoch
+      header_epoch = ap (λ (h : Header). h.epoch) it.settles.header ∙ written_number (cars_kept cars) it.settles.pages it.settles.progress ∙ ap (λ (p : Progress). p.number) same_progress ∙ begun.number
+
+      header_next : (state after).header.next ≡ offer.next
+      header_next = ap (λ (h : Header). h.next) it.settles.header ∙ written_next (cars_kept cars) it.settles.pages it.settles.progress ∙ ap (λ (p : Progress). p.next_id) same_progress ∙ begun.next
+
+      now : StandsThen e.contents e.image (Some begun.progress) (cars_kept cars) (state after) (disk_of before) (disk_of after) number
+      now = subst (λ (o : Option Progress). StandsThen e.contents e.image o (cars_kept cars) (state after) (disk_of before) (disk_of after) number) begun.is_progress it.now
+
+      number_is : number ≡ offer.epoch
+      number_is = it.settles.number_is ∙ ap (λ (p : Progress). p.number) same_progress ∙ begun.number
+
+      pub offered_had : HasOffered offer before after
+      offered_had = record {
+        epoch = header_epoch;
+        next = header_next;
+        stands = λ was told image left. offered_stands image number number_is ((now was told).0 image left);
+        has = λ was told bytes held. subst (λ (copy : Copy). HasCopy (state after) bytes copy) begun.copy ((now was told).1 bytes held);
+      }
+
+      pub copy_laid : (written : ℕ) → written ≡ left begun.progress → (shipped : Shipped) → shipped.epoch ≡ number → shipped.written ≡ written → IsLaid offer settled before after shipped
+      copy_laid written counted shipped epoch is =
+          let settles = it.settles in
+          let all : shipped.written ≡ left begun.progress = is ∙ counted in
+          record {
+            epoch = epoch ∙ number_is;
+            has = offered_had;
+            count = record { missing = begun.count.missing; are_missing = begun.count.are_missing; sum = all ∙ begun.count.sum };
+            changes = λ mine was bytes told keeps_ held. record {
+              pages = settles.pages;
+              count = settles.count ∙ ap left same_progress ∙ sym all;
+              apart = settles.apart;
+              beside = all_beside (state before) was mine settles.pages known keeps_ (from_2_each settles.pages (state before).uses settles.lowest) settles.free;
+              only = settles.only was told bytes held;
+            };
+            made = subst (λ (n : ℕ). MadeMore (n + (shutting (state before) + 2)) (settling_syncs (state before)) 0 (e.made (disk_of before)) (e.made (disk_of after))) (sym all)
+                (subst (λ (o : Option Progress). MadeMore (left_of o + (shutting (state before) + 2)) (settling_syncs (state before)) 0 (e.made (disk_of before)) (e.made (disk_of after))) begun.is_progress it.made);
+          }

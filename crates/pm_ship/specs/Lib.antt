@@ -1,0 +1,9 @@
+pub mod Cars
+pub mod Listing
+pub mod Offers
+pub mod Counting
+pub mod Reading
+pub mod Comparing
+pub mod Begun
+pub mod Writing
+pub mod Shipped

@@ -1,0 +1,83 @@
+//! A standby, and the pages of its copy.
+ghost use Rattle.std.specs.Prelude.{◌≡◌, false, All, Contains, IfOk, OnOk, OnErr};
+ghost use Rattle.std.specs.List.{AllByRecursion};
+ghost use Rattle.std.specs.FinSet as set;
+ghost use Rattle.pm_types.specs.declared.limits.TheConstants.{FIELDS};
+ghost use Rattle.pm_disk.specs.Disk.{IfTold};
+ghost use Rattle.pm_image.specs.CarPages.{HasCarPage, one_car};
+ghost use Rattle.pm_image.specs.Graphs.{images_of};
+ghost use Rattle.pm_shadow.specs.Copies.{AreUsed};
+ghost use Rattle.pm_shadow.specs.Pages.{state, disk_of};
+ghost use Rattle.pm_shadow.specs.State.{IsListable};
+ghost use Rattle.pm_shadow.specs.Uses.{UsesOnlyListed};
+ghost use Rattle.pm_ship.specs.Reading.{IsKnownFrom, IsPackedFrom};
+
+use crate::index::index_of;
+use crate::store::StoreRead;
+use pm_disk::Disk;
+use pm_settled::{PackedPages, pack_cars};
+use pm_shadow::Pages;
+use pm_types::{Addr, Name, NoMemory};
+use std::alloc::Global;
+use std::collections::BTreeMap;
+
+/// What was read of a standby.
+#[derive(Drop)]
+pub(crate) struct Standby {
+    /// The train of each car.
+    pub(crate) trains: Vec<u64>,
+    /// The roots, each a name with its address.
+    pub(crate) roots: Vec<(Name, Addr)>,
+    /// The cars, each as the used bytes of its page.
+    pub(crate) settled: PackedPages,
+    /// The place of the first car of each number.
+    pub(crate) places: BTreeMap<u64, usize>,
+}
+
+/// What was read, each car packed, and the pages that it stands on. Each car is let go once it is packed.
+pub(crate) fn pack_store(alloc: Global, read: StoreRead) -> Result<(Standby, Vec<u64>), NoMemory>
+    requires { AllByRecursion (HasCarPage (one_car FIELDS) set.empty) (images_of read.cars) }
+    ensures { IfOk result (λ packed. IsPackedFrom read packed.0 packed.1.items) }
+{
+    let places = index_of(alloc, read.cars.as_slice())?;
+    let StoreRead {
+        trains,
+        cars,
+        roots,
+        pages,
+        ..
+    } = read;
+    let settled = pack_cars(alloc, cars)?;
+    Ok((
+        Standby {
+            trains,
+            roots,
+            settled,
+            places,
+        },
+        pages,
+    ))
+}
+
+/// These are the pages that the current copy stands on. They are known from then on; where they were, what is claimed or
+/// kept for a next copy is given up.
+pub(crate) fn know_pages<E: Disk>(
+    alloc: Global,
+    pages: &mut Pages<E>,
+    used: &[u64],
+) -> Result<(), NoMemory>
+    requires there { (state pages.old).known ≡ false → All (IsListable (state pages.old)) used.now }
+    requires first { Contains used.now (state pages.old).header.first }
+    requires used { IfTold (E.contents (disk_of pages.old)) (λ bytes. AreUsed (state pages.old) bytes used.now) }
+    ensures known { OnOk result (IsKnownFrom (state pages.old) (state pages.new)) }
+    ensures listed { OnOk result ((state pages.old).known ≡ false → UsesOnlyListed used.now (state pages.new).uses) }
+    ensures state_err { OnErr result (state pages.new ≡ state pages.old) }
+    ensures still { disk_of pages.new ≡ disk_of pages.old }
+{
+    if pages.is_known() {
+        pages.abandon();
+        return Ok(());
+    }
+    pages.commit_list(alloc, used)?;
+    Ok(())
+}
