@@ -1,2 +1,5 @@
+pub mod Calls
+pub mod Laws
+pub mod Standing
 pub mod Streams
 pub mod Untold

@@ -1,14 +1,16 @@
 //! A system of one file, for the tests: it writes down each call, keeps the bytes, gives the lowest free descriptor,
 //! and fails the call that a test names.
-ghost use Rattle.std.specs.Prelude.{◌≤◌, length, IsErr};
+ghost use Rattle.std.specs.Prelude.{true, None};
+ghost use Rattle.pm_disk.specs.Images.{IsBytes};
+ghost use Rattle.pm_file.specs.Standing.{untold_standing};
+ghost use Rattle.pm_file.specs.Untold.{untold, not_told, untold_short};
 
-use crate::StoreFile;
+use crate::{StoreFile, StoreFiles};
 use std::alloc::{AllocError, Global};
 use std::cell::{Cell, RefCell};
-use std::fs::{Files, Metadata, OpenFile, OpenOptions};
-use std::io::{self, Empty, ErrorKind, Read, Seek, SeekFrom, Write};
+use std::fs::OpenOptions;
+use std::io::{self, ErrorKind};
 use std::os::fd::{AsRawFd, IntoRawFd, RawFd};
-use std::os::unix::fs::FileExt;
 
 /// What was asked of the system, and what it holds.
 #[derive(Drop)]
@@ -70,12 +72,6 @@ fn busy() -> io::Error {
     ErrorKind::Other.into()
 }
 
-fn unsupported<T>() -> io::Result<T>
-    ensures { IsErr result }
-{
-    Err(ErrorKind::Unsupported.into())
-}
-
 /// Gives the system's file, by whatever name, as files of the operating system.
 #[derive(Clone, Copy)]
 pub struct FakeFiles<'a> {
@@ -100,12 +96,9 @@ fn letter(asked: bool, letter: &'static str) -> &'static str {
     if asked { letter } else { "" }
 }
 
-impl<'a> Files for FakeFiles<'a> {
-    type File = FakeFile<'a>;
-
-    type Dir = Empty;
-
-    fn open_file(&self, how: &OpenOptions, path: &str) -> io::Result<FakeFile<'a>> {
+impl<'a> FakeFiles<'a> {
+    // Notes a call that opens a file, and gives it the lowest free descriptor.
+    fn open(&self, how: &OpenOptions, path: &str) -> io::Result<FakeFile<'a>> {
         let system = self.system;
         let read = letter(how.asks_read(), "r");
         let write = letter(how.asks_write(), "w");
@@ -120,99 +113,45 @@ impl<'a> Files for FakeFiles<'a> {
             number: number.cast_signed(),
         })
     }
+}
 
-    fn open_dir(&self, _path: &str) -> io::Result<Empty> {
-        unsupported()
+impl<'a> StoreFiles for FakeFiles<'a> {
+    type File = FakeFile<'a>;
+
+    ghost lies = { λ _ _. untold };
+
+    ghost leaves = { λ _ _. IsBytes };
+
+    ghost filled = { λ _. true };
+
+    ghost short = { λ files path bytes told. untold_short bytes told };
+
+    ghost lying_stays = { λ files path bytes told. not_told bytes told };
+
+    ghost left_bytes = { λ files path bytes is. is };
+
+    fn open_null(&mut self, how: &OpenOptions) -> io::Result<FakeFile<'a>> {
+        self.open(how, "/dev/null")
     }
 
-    fn metadata(&self, _path: &str) -> io::Result<Metadata> {
-        unsupported()
+    fn open_store(&self, how: &OpenOptions, path: &str) -> io::Result<FakeFile<'a>> {
+        self.open(how, path)
     }
 
-    fn symlink_metadata(&self, _path: &str) -> io::Result<Metadata> {
-        unsupported()
-    }
-
-    fn copy(&self, _from: &str, _to: &str) -> io::Result<u64> {
-        unsupported()
-    }
-
-    fn rename(&self, _from: &str, _to: &str) -> io::Result<()> {
-        unsupported()
-    }
-
-    fn remove_file(&self, _path: &str) -> io::Result<()> {
-        unsupported()
-    }
-
-    fn create_dir(&self, _path: &str) -> io::Result<()> {
-        unsupported()
-    }
-
-    fn remove_dir(&self, _path: &str) -> io::Result<()> {
-        unsupported()
-    }
-
-    fn remove_dir_all<B: std::alloc::Allocator>(&self, _alloc: B, _path: &str) -> io::Result<()> {
-        unsupported()
+    fn sync_names(&self, _path: &str, folder: &str, _file: &mut FakeFile<'a>) -> io::Result<()> {
+        self.open(OpenOptions::new().read(true), folder)?
+            .sync_whole()
     }
 }
 
-impl<'a> Read for FakeFile<'a> {
-    fn read(&mut self, _buf: &mut [u8]) -> io::Result<usize> {
-        unsupported()
-    }
-}
-
-impl<'a> Write for FakeFile<'a> {
-    fn write(&mut self, _buf: &[u8]) -> io::Result<usize> {
-        unsupported()
-    }
-
-    fn flush(&mut self) -> io::Result<()> {
-        unsupported()
-    }
-}
-
-impl<'a> Seek for FakeFile<'a> {
-    fn seek(&mut self, _to: SeekFrom) -> io::Result<u64> {
-        unsupported()
-    }
-}
-
-impl<'a> OpenFile for FakeFile<'a> {
-    fn metadata(&self) -> io::Result<Metadata> {
-        let system = self.system;
-        system.note(format!(in system.alloc; "len {}", self.number))?;
-        match system.bytes.try_borrow() {
-            Ok(bytes) => Ok(Metadata::of_file(bytes.len() as u64)),
-            Err(_) => Err(busy()),
-        }
-    }
-
-    fn set_len(&self, _size: u64) -> io::Result<()> {
-        unsupported()
-    }
-
-    fn sync_all(&self) -> io::Result<()> {
-        let system = self.system;
-        system.note(format!(in system.alloc; "sync {}", self.number))
-    }
-
-    fn sync_data(&self) -> io::Result<()> {
-        let system = self.system;
-        system.note(format!(in system.alloc; "data {}", self.number))
-    }
-}
-
-// Reads the bytes from this place on, as many as there are and fit.
-fn taken(bytes: &[u8], at: u64, into: &mut [u8]) -> usize
-    ensures { result ≤ length into.new }
-{
+// Reads the bytes from this place on. It fails where there are too few.
+fn take(bytes: &[u8], at: u64, into: &mut [u8]) -> io::Result<()> {
     let from = &bytes[(at as usize).min(bytes.len())..];
-    let count = from.len().min(into.len());
-    into[..count].copy_from_slice(&from[..count]);
-    count
+    if from.len() < into.len() {
+        return Err(ErrorKind::UnexpectedEof.into());
+    }
+    into.copy_from_slice(&from[..into.len()]);
+    Ok(())
 }
 
 // Writes over the bytes from this place on.
@@ -226,29 +165,6 @@ fn put(bytes: &mut Vec<u8>, at: u64, from: &[u8]) -> io::Result<()> {
     }
     bytes[start..end].copy_from_slice(from);
     Ok(())
-}
-
-impl<'a> FileExt for FakeFile<'a> {
-    fn read_at(&self, buf: &mut [u8], offset: u64) -> io::Result<usize> {
-        let system = self.system;
-        let (number, len) = (self.number, buf.len());
-        system.note(format!(in system.alloc; "read {number} at {offset} for {len}"))?;
-        let Ok(bytes) = system.bytes.try_borrow() else {
-            return Err(busy());
-        };
-        Ok(taken(bytes.as_slice(), offset, buf))
-    }
-
-    fn write_at(&self, buf: &[u8], offset: u64) -> io::Result<usize> {
-        let system = self.system;
-        let (number, len) = (self.number, buf.len());
-        system.note(format!(in system.alloc; "write {number} at {offset} for {len}"))?;
-        let Ok(mut bytes) = system.bytes.try_borrow_mut() else {
-            return Err(busy());
-        };
-        put(&mut bytes, offset, buf)?;
-        Ok(len)
-    }
 }
 
 impl<'a> AsRawFd for FakeFile<'a> {
@@ -265,8 +181,67 @@ impl<'a> IntoRawFd for FakeFile<'a> {
 }
 
 impl<'a> StoreFile for FakeFile<'a> {
-    fn claim(&self) -> io::Result<()> {
+    ghost contents = { λ _. untold };
+
+    ghost image = { λ _. IsBytes };
+
+    ghost since = { λ _ _. IsBytes };
+
+    ghost past = { λ _. 0 };
+
+    ghost standing = { λ _. untold_standing None };
+
+    ghost counts_now = { λ file calls bytes is. is };
+
+    ghost only_now = { λ file bytes is. is };
+
+    ghost earlier = { λ file more fewer bytes le is. is };
+
+    ghost contents_stay = { λ file bytes told. not_told bytes told };
+
+    ghost leaves_bytes = { λ file calls bytes is. is };
+
+    fn claim(&mut self) -> io::Result<()> {
         let system = self.system;
         system.note(format!(in system.alloc; "lock {}", self.number))
+    }
+
+    fn measure(&mut self) -> io::Result<u64> {
+        let system = self.system;
+        system.note(format!(in system.alloc; "len {}", self.number))?;
+        match system.bytes.try_borrow() {
+            Ok(bytes) => Ok(bytes.len() as u64),
+            Err(_) => Err(busy()),
+        }
+    }
+
+    fn read_from(&mut self, at: u64, into: &mut [u8]) -> io::Result<()> {
+        let system = self.system;
+        let (number, len) = (self.number, into.len());
+        system.note(format!(in system.alloc; "read {number} at {at} for {len}"))?;
+        match system.bytes.try_borrow() {
+            Ok(bytes) => take(bytes.as_slice(), at, into),
+            Err(_) => Err(busy()),
+        }
+    }
+
+    fn write_over(&mut self, at: u64, from: &[u8]) -> io::Result<()> {
+        let system = self.system;
+        let (number, len) = (self.number, from.len());
+        system.note(format!(in system.alloc; "write {number} at {at} for {len}"))?;
+        match system.bytes.try_borrow_mut() {
+            Ok(mut bytes) => put(&mut bytes, at, from),
+            Err(_) => Err(busy()),
+        }
+    }
+
+    fn sync_whole(&mut self) -> io::Result<()> {
+        let system = self.system;
+        system.note(format!(in system.alloc; "sync {}", self.number))
+    }
+
+    fn sync_bytes(&mut self) -> io::Result<()> {
+        let system = self.system;
+        system.note(format!(in system.alloc; "data {}", self.number))
     }
 }

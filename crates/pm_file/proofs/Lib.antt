@@ -1,0 +1,3 @@
+mod Images
+mod Times
+pub mod Crossing
