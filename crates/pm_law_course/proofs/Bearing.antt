@@ -80,7 +80,7 @@ kept_none view t law phase kept = record {
 }
 
 -- the car of an object stands
-car_stands : (view : SpaceView) (a : Addr) (id : ℕ) → id_at view a ≡ Some id → IsSome (get view.cars a.car)
+pub car_stands : (view : SpaceView) (a : Addr) (id : ℕ) → id_at view a ≡ Some id → IsSome (get view.cars a.car)
 car_stands view a id is = by_car (get view.cars a.car) is
   where
     by_car : (o : Option Car) → option_map (λ (o : Object). o.id) (object_of (slot_of o a.slot)) ≡ Some id → is_some o ≡ true
@@ -112,7 +112,7 @@ abbrev AnswersNew : SpaceView → Reply × SpaceView → Type 0
 AnswersNew view after = (after.0 ≡ Ident view.next) ⊎ (after.1 ≡ view)
 
 -- a `new` answers the next identity, or leaves the space as it is
-new_answers : (view : SpaceView) (client reg count number : ℕ) (bytes : List ℕ) → ((row_new view client reg count bytes number).0 ≡ Ident view.next) ⊎ ((row_new view client reg count bytes number).1 ≡ view)
+pub new_answers : (view : SpaceView) (client reg count number : ℕ) (bytes : List ℕ) → ((row_new view client reg count bytes number).0 ≡ Ident view.next) ⊎ ((row_new view client reg count bytes number).1 ≡ view)
 new_answers view client reg count number bytes = by_size (nat_lt FIELDS count || nat_lt OBJECT_BYTES (length bytes)) (nat_lt LAST_ID view.next)
   where
     by_size : (b d : Bool) → AnswersNew view (if b then (TooLarge, view) else if d then (IdsSpent, view) else (Ident view.next, object_made view client reg count number bytes))

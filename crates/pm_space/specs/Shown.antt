@@ -1,5 +1,5 @@
 -- What contracts see of the parts of a space.
-use Rattle.std.specs.Prelude.{◌≡◌, ℕ, ◌<◌, true, Some, IsSome, IsSomeAnd, is_some}
+use Rattle.std.specs.Prelude.{◌≡◌, ℕ, ◌<◌, true, Some, IsSome, IsSomeAnd, is_some, Result, IfOk, OnErr}
 use Rattle.std.specs.FinMap.{get}
 use Rattle.std.specs.List.{slice_get}
 use Rattle.std.specs.Option.{option_and_then}
@@ -52,6 +52,12 @@ view parts = record {
 pub record KeepsRest {F : Type 0} (old new : Parts F) : Type 0 where
   pub frozen : new.cars.frozen ≡ old.cars.frozen
   pub place : new.place ≡ old.place
+
+-- A row was made: what was answered says which. After want of memory all that is seen is as it was. The rest stays.
+pub record MakesRow {F A E : Type 0} (old new : Parts F) (result : Result A E) (Says : A → Type 0) : Type 0 where
+  pub ok : IfOk result Says
+  pub err : OnErr result (view new ≡ view old)
+  pub rest : KeepsRest old new
 
 -- the object at this address has a field of this index
 abbrev pub HasFieldAt : Cars → Addr → ℕ → Type 0
