@@ -1,10 +1,5 @@
 pub mod Values
-pub mod Heads
-pub mod Places
+pub mod Trains
 pub mod Bounds
-pub mod Grows
 pub mod Compared
-pub mod Fitting
-pub mod Freed
-pub mod Events
-pub mod Commands
+pub mod Rows
