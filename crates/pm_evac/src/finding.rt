@@ -24,8 +24,8 @@ pub fn has_change(links: &LinkTable, car: u64) -> bool
     }
 }
 
-// The first of these cars that has a queued change, and its place, or one behind the last. None before that place has one,
-// and it is sought from a place on before which none has.
+// The first of these cars that has a queued change, and its place, or one behind the last. None before that place has
+// one, and it is sought from a place on before which none has.
 fn changed_from(links: &LinkTable, cars: &[u64], from: usize) -> (usize, Option<u64>)
     requires { first_changed links.now (take from cars.now) ≡ None }
     ensures quiet { first_changed links.now (take result.0 cars.now) ≡ None }
@@ -41,8 +41,8 @@ fn changed_from(links: &LinkTable, cars: &[u64], from: usize) -> (usize, Option<
     (at, None)
 }
 
-/// The first car of the train that is drained, in the train's order, that has a queued change. It looks at the cars from
-/// the place on before which none has one, and that place goes on to the car.
+/// The first car of the train that is drained, in the train's order, that has a queued change. It looks at the cars
+/// from the place on before which none has one, and that place goes on to the car.
 pub fn changed_car<F: Drop>(space: &mut Space<F>, train: u64) -> Option<u64>
     requires { (view space.old.parts).phase ≡ Draining train }
     ensures car { result ≡ changed_car (view space.old.parts) train }

@@ -1,10 +1,10 @@
-ghost use Rattle.std.specs.Prelude.{◌≡◌, ◌<◌, length, IfOk, OnOk, OnErr};
+ghost use Rattle.std.specs.Prelude.{◌≡◌, ◌<◌, length, OnOk, OnErr};
 ghost use Rattle.pm_trains.specs.Trains.{HasCar};
 ghost use Rattle.pm_place.specs.Choosers.{IsChooser};
 ghost use Rattle.pm_view.specs.Collecting.{selected};
 ghost use Rattle.pm_view.specs.Events.{select, doom, start, next_row, ways_out};
 ghost use Rattle.pm_view.specs.Law.{HeapLaw};
-ghost use Rattle.pm_space.specs.Shown.{view, KeepsRest};
+ghost use Rattle.pm_space.specs.Shown.{view, KeepsRest, MakesRow};
 ghost use Rattle.pm_evac.specs.Noted.{IsAnchored};
 ghost use Rattle.pm_evac.specs.Steps.{IsChosenEvent};
 
@@ -44,9 +44,8 @@ pub(crate) fn select_at<F: Fn(&[u64]) -> usize + Drop>(
 ) -> Result<Step, NoMemory>
     requires law { HeapLaw (view parts.old) }
     requires row { next_row (view parts.old) ≡ select train }
-    ensures ok { IfOk result (λ step. IsChosenEvent F.Fn parts.old.place (view parts.old) (view parts.new) step) }
-    ensures err { OnErr result (view parts.new ≡ view parts.old) }
-    ensures rest { KeepsRest parts.old parts.new }
+    ensures row { MakesRow parts.old parts.new result
+        (λ step. IsChosenEvent F.Fn parts.old.place (view parts.old) (view parts.new) step) }
 {
     select_train(parts, alloc, train)?;
     // For the proof alone: the count is a number of 64 bits.
@@ -77,9 +76,8 @@ fn note<F: Fn(&[u64]) -> usize + Drop>(
     requires chooser { IsChooser F.Fn parts.old.place }
     requires law { HeapLaw (view parts.old) }
     requires some { 0 < length (ways_out (view parts.old) at) }
-    ensures ok { IfOk result (λ noted. IsAnchored F.Fn parts.old.place (view parts.old) (view parts.new) at noted) }
-    ensures err { OnErr result (view parts.new ≡ view parts.old) }
-    ensures rest { KeepsRest parts.old parts.new }
+    ensures row { MakesRow parts.old parts.new result
+        (λ noted. IsAnchored F.Fn parts.old.place (view parts.old) (view parts.new) at noted) }
 {
     match parts.guard.anchor() {
         Some(_) => Ok(false),
@@ -102,9 +100,8 @@ pub(crate) fn start_at<F: Fn(&[u64]) -> usize + Drop>(
     requires chooser { IsChooser F.Fn parts.old.place }
     requires law { HeapLaw (view parts.old) }
     requires row { next_row (view parts.old) ≡ start car at }
-    ensures ok { IfOk result (λ step. IsChosenEvent F.Fn parts.old.place (view parts.old) (view parts.new) step) }
-    ensures err { OnErr result (view parts.new ≡ view parts.old) }
-    ensures rest { KeepsRest parts.old parts.new }
+    ensures row { MakesRow parts.old parts.new result
+        (λ step. IsChosenEvent F.Fn parts.old.place (view parts.old) (view parts.new) step) }
 {
     there_is_a_train_to_pick();
     // For the proof alone: the count is a number of 64 bits.

@@ -72,7 +72,8 @@ fn told_cars(
     old: &[Option<Addr>],
     new: &[Option<Addr>],
 ) -> Result<Vec<u64>, NoMemory>
-    ensures { IfOk result (λ cars. (car : ℕ) → times car cars.items ≡ named_by old.now car + named_by new.now car) }
+    ensures { IfOk result (λ cars. (car : ℕ) → times car cars.items
+        ≡ named_by old.now car + named_by new.now car) }
 {
     let mut cars = Vec::new(alloc);
     add_named(&mut cars, old)?;

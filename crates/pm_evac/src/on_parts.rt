@@ -1,8 +1,8 @@
-ghost use Rattle.std.specs.Prelude.{◌≡◌, IfOk, OnErr};
+ghost use Rattle.std.specs.Prelude.{◌≡◌};
 ghost use Rattle.pm_place.specs.Choosers.{IsChooser};
 ghost use Rattle.pm_view.specs.Law.{HeapLaw};
 ghost use Rattle.pm_view.specs.Events.{nothing, apply, fix, move_anchor, move_out, move_on, finish, sweep, free, free_doomed, next_row};
-ghost use Rattle.pm_space.specs.Shown.{view, KeepsRest};
+ghost use Rattle.pm_space.specs.Shown.{view, KeepsRest, MakesRow};
 ghost use Rattle.pm_evac.specs.Seen.{seen_row};
 ghost use Rattle.pm_evac.specs.Steps.{IsChosenEvent, IsPicking};
 
@@ -35,9 +35,8 @@ pub(crate) fn apply_at<F: Fn(&[u64]) -> usize + Drop>(
     car: u64,
 ) -> Result<Step, NoMemory>
     requires { next_row (view parts.old) ≡ apply car }
-    ensures ok { IfOk result (λ step. IsChosenEvent F.Fn parts.old.place (view parts.old) (view parts.new) step) }
-    ensures err { OnErr result (view parts.new ≡ view parts.old) }
-    ensures rest { KeepsRest parts.old parts.new }
+    ensures row { MakesRow parts.old parts.new result
+        (λ step. IsChosenEvent F.Fn parts.old.place (view parts.old) (view parts.new) step) }
 {
     apply(parts, car)?;
     // For the proof alone: the count is a number of 64 bits.
@@ -55,9 +54,8 @@ pub(crate) fn fix_at<F: Fn(&[u64]) -> usize + Drop>(
 ) -> Result<Step, NoMemory>
     requires law { HeapLaw (view parts.old) }
     requires row { next_row (view parts.old) ≡ fix car source to }
-    ensures ok { IfOk result (λ step. IsChosenEvent F.Fn parts.old.place (view parts.old) (view parts.new) step) }
-    ensures err { OnErr result (view parts.new ≡ view parts.old) }
-    ensures rest { KeepsRest parts.old parts.new }
+    ensures row { MakesRow parts.old parts.new result
+        (λ step. IsChosenEvent F.Fn parts.old.place (view parts.old) (view parts.new) step) }
 {
     fix(parts, car, source, to)?;
     // For the proof alone: the count is a number of 64 bits.
@@ -75,9 +73,8 @@ fn move_anchor<F: Fn(&[u64]) -> usize + Drop>(
 ) -> Result<Step, NoMemory>
     requires law { HeapLaw (view parts.old) }
     requires row { next_row (view parts.old) ≡ move_anchor at train }
-    ensures ok { IfOk result (λ step. IsChosenEvent F.Fn parts.old.place (view parts.old) (view parts.new) step) }
-    ensures err { OnErr result (view parts.new ≡ view parts.old) }
-    ensures rest { KeepsRest parts.old parts.new }
+    ensures row { MakesRow parts.old parts.new result
+        (λ step. IsChosenEvent F.Fn parts.old.place (view parts.old) (view parts.new) step) }
 {
     // For the proof alone: the number that a new car would get is one that no car has.
     let _number = parts.cars.vacant();
@@ -98,9 +95,8 @@ fn move_out<F: Fn(&[u64]) -> usize + Drop>(
     requires chooser { IsChooser F.Fn parts.old.place }
     requires law { HeapLaw (view parts.old) }
     requires row { next_row (view parts.old) ≡ move_out at }
-    ensures ok { IfOk result (λ step. IsChosenEvent F.Fn parts.old.place (view parts.old) (view parts.new) step) }
-    ensures err { OnErr result (view parts.new ≡ view parts.old) }
-    ensures rest { KeepsRest parts.old parts.new }
+    ensures row { MakesRow parts.old parts.new result
+        (λ step. IsChosenEvent F.Fn parts.old.place (view parts.old) (view parts.new) step) }
 {
     there_is_a_train_to_pick();
     // For the proof alone: the number that a new car would get is one that no car has.
@@ -122,9 +118,8 @@ fn move_on<F: Fn(&[u64]) -> usize + Drop>(
 ) -> Result<Step, NoMemory>
     requires law { HeapLaw (view parts.old) }
     requires row { next_row (view parts.old) ≡ move_on at train }
-    ensures ok { IfOk result (λ step. IsChosenEvent F.Fn parts.old.place (view parts.old) (view parts.new) step) }
-    ensures err { OnErr result (view parts.new ≡ view parts.old) }
-    ensures rest { KeepsRest parts.old parts.new }
+    ensures row { MakesRow parts.old parts.new result
+        (λ step. IsChosenEvent F.Fn parts.old.place (view parts.old) (view parts.new) step) }
 {
     // For the proof alone: the number that a new car would get is one that no car has.
     let _number = parts.cars.vacant();
@@ -155,9 +150,8 @@ fn sweep_at<F: Fn(&[u64]) -> usize + Drop>(
 ) -> Result<Step, NoMemory>
     requires law { HeapLaw (view parts.old) }
     requires row { next_row (view parts.old) ≡ sweep at }
-    ensures ok { IfOk result (λ step. IsChosenEvent F.Fn parts.old.place (view parts.old) (view parts.new) step) }
-    ensures err { OnErr result (view parts.new ≡ view parts.old) }
-    ensures rest { KeepsRest parts.old parts.new }
+    ensures row { MakesRow parts.old parts.new result
+        (λ step. IsChosenEvent F.Fn parts.old.place (view parts.old) (view parts.new) step) }
 {
     let id = sweep(parts, alloc, at)?;
     // For the proof alone: the count is a number of 64 bits.
@@ -173,9 +167,8 @@ pub(crate) fn free_at<F: Fn(&[u64]) -> usize + Drop>(
 ) -> Result<Step, NoMemory>
     requires law { HeapLaw (view parts.old) }
     requires row { next_row (view parts.old) ≡ free car }
-    ensures ok { IfOk result (λ step. IsChosenEvent F.Fn parts.old.place (view parts.old) (view parts.new) step) }
-    ensures err { OnErr result (view parts.new ≡ view parts.old) }
-    ensures rest { KeepsRest parts.old parts.new }
+    ensures row { MakesRow parts.old parts.new result
+        (λ step. IsChosenEvent F.Fn parts.old.place (view parts.old) (view parts.new) step) }
 {
     let train = parts.trains.train_of(car);
     free(parts, train, car, true)?;
@@ -192,9 +185,8 @@ pub(crate) fn free_doomed_at<F: Fn(&[u64]) -> usize + Drop>(
 ) -> Result<Step, NoMemory>
     requires law { HeapLaw (view parts.old) }
     requires row { next_row (view parts.old) ≡ free_doomed train car }
-    ensures ok { IfOk result (λ step. IsChosenEvent F.Fn parts.old.place (view parts.old) (view parts.new) step) }
-    ensures err { OnErr result (view parts.new ≡ view parts.old) }
-    ensures rest { KeepsRest parts.old parts.new }
+    ensures row { MakesRow parts.old parts.new result
+        (λ step. IsChosenEvent F.Fn parts.old.place (view parts.old) (view parts.new) step) }
 {
     let completed = parts.trains.cars(train).len() == 1;
     free(parts, train, car, completed)?;
@@ -211,9 +203,8 @@ pub fn make<F: Fn(&[u64]) -> usize + Drop>(
     requires chooser { IsPicking (next_row (view parts.old)) → IsChooser F.Fn parts.old.place }
     requires law { HeapLaw (view parts.old) }
     requires row { next_row (view parts.old) ≡ seen_row row }
-    ensures ok { IfOk result (λ step. IsChosenEvent F.Fn parts.old.place (view parts.old) (view parts.new) step) }
-    ensures err { OnErr result (view parts.new ≡ view parts.old) }
-    ensures rest { KeepsRest parts.old parts.new }
+    ensures row { MakesRow parts.old parts.new result
+        (λ step. IsChosenEvent F.Fn parts.old.place (view parts.old) (view parts.new) step) }
 {
     match row {
         Row::Nothing => Ok(rest(parts)),

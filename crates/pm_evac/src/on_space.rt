@@ -26,12 +26,13 @@ use std::alloc::Global;
 
 /// A law of events that were made: the heap law is kept, and each world for which the space stood; the place of one
 /// object at most is another; less work is left of a collection that is not completed; what fits stays, and the rank
-/// has not risen; and sunk sets stay so. It answers `Nothing` exactly in Idle where no car stands, `Selected` exactly in
-/// Idle where one does, and each other event that completes nothing leaves at least one less work. The function does
+/// has not risen; and sunk sets stay so. It answers `Nothing` exactly in Idle where no car stands, `Selected` exactly
+/// in Idle where one does, and each other event that completes nothing leaves at least one less work. The function does
 /// nothing.
 pub fn an_event_that_was_made_keeps_all()
     ensures law { (old new : SpaceView) (step : Step) → HeapLaw old → IsEvent old new step → HeapLaw new }
-    ensures worlds { (old new : SpaceView) (step : Step) → HeapLaw old → IsEvent old new step → KeepsWorlds old new }
+    ensures worlds { (old new : SpaceView) (step : Step) → HeapLaw old → IsEvent old new step
+        → KeepsWorlds old new }
     ensures places { (old new : SpaceView) (step : Step) → HeapLaw old → (event : IsEvent old new step)
         → MovesOneAtMost old new event.picked }
     ensures work { (old new : SpaceView) (step : Step) → HeapLaw old → IsEvent old new step → LowersWork old new }

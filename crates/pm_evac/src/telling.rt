@@ -12,7 +12,8 @@ use pm_view::Phase;
 
 /// Appends the cars that these fields name to a list, each as often as it is named.
 pub(crate) fn add_named(cars: &mut Vec<u64>, fields: &[Option<Addr>]) -> Result<(), NoMemory>
-    ensures { OnOk result ((car : ℕ) → times car cars.new.items ≡ times car cars.old.items + named_by fields.now car) }
+    ensures { OnOk result ((car : ℕ) → times car cars.new.items
+        ≡ times car cars.old.items + named_by fields.now car) }
 {
     for field in fields {
         if let Some(at) = field {

@@ -3,4 +3,5 @@ pub mod Emptying
 pub mod RegisterRoom
 pub mod Born
 pub mod Carried
+pub mod Made
 pub mod ShownBytes

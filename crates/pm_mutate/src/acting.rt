@@ -3,7 +3,7 @@ ghost use Rattle.pm_types.specs.declared.limits.TheConstants.{CLIENTS};
 ghost use Rattle.pm_view.specs.Commands.{is_act, is_new};
 ghost use Rattle.pm_view.specs.Law.{HeapLaw};
 ghost use Rattle.pm_view.specs.Objects.{KeepsObjects};
-ghost use Rattle.pm_space.specs.Shown.{view, KeepsRest};
+ghost use Rattle.pm_space.specs.Shown.{view, KeepsRest, MakesRow};
 ghost use Rattle.pm_mutate.specs.Picked.{IsRow};
 ghost use Rattle.pm_types.specs.Replies.{IsShortReply};
 ghost use Rattle.pm_mutate.specs.Acts.{Serves, IsStill, IsBirth, KeepsCourse, LeavesWhereShown};
@@ -32,9 +32,8 @@ fn run<F>(parts: &mut Parts<F>, alloc: Global, client: u32, cmd: &Cmd) -> Result
     requires client { client < CLIENTS }
     requires act { is_act cmd.now ≡ true }
     requires law { HeapLaw (view parts.old) }
-    ensures row { IfOk result (λ reply. IsRow (view parts.old) client cmd.now (reply, view parts.new)) }
-    ensures err { OnErr result (view parts.new ≡ view parts.old) }
-    ensures rest { KeepsRest parts.old parts.new }
+    ensures row { MakesRow parts.old parts.new result
+        (λ reply. IsRow (view parts.old) client cmd.now (reply, view parts.new)) }
 {
     // The number of the car that `new` would open is picked for every command.
     let _number = parts.cars.vacant();

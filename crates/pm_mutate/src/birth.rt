@@ -1,4 +1,4 @@
-ghost use Rattle.std.specs.Prelude.{◌≡◌, ◌≤◌, ◌<◌, ◌||◌, nat_lt, true, replicate, length, None, Some, IfOk, OnErr};
+ghost use Rattle.std.specs.Prelude.{◌≡◌, ◌≤◌, ◌<◌, ◌||◌, nat_lt, true, replicate, length, None, Some, IfOk};
 ghost use Rattle.std.specs.FinMap.{get};
 ghost use Rattle.pm_types.specs.declared.limits.TheConstants.{CLIENTS, REGISTERS, FIELDS, OBJECT_BYTES};
 ghost use Rattle.pm_types.specs.declared.source.RefSource.TheVariants.{Handle};
@@ -9,7 +9,7 @@ ghost use Rattle.pm_view.specs.Law.{HeapLaw};
 ghost use Rattle.pm_view.specs.Rows.{next_of, spread};
 ghost use Rattle.pm_space.specs.Linked.{sets_of, AreHoused, HasRoom, HasRoomFor};
 ghost use Rattle.pm_space.specs.Places.{FitsIn};
-ghost use Rattle.pm_space.specs.Shown.{view, HasBirthRoom, KeepsRest};
+ghost use Rattle.pm_space.specs.Shown.{view, HasBirthRoom, KeepsRest, MakesRow};
 ghost use Rattle.pm_mutate.specs.Births.{with_one_born, IsHeldNew, IsRowOfNew};
 
 use crate::placing::place_for;
@@ -83,9 +83,8 @@ fn hold_new<F>(
     requires fields { length object.fields ≤ FIELDS }
     requires bytes { length object.bytes ≤ OBJECT_BYTES }
     requires next { parts.old.next ≤ 4294967295 }
-    ensures ok { IfOk result (λ reply. IsHeldNew (view parts.old) client reg object (reply, view parts.new)) }
-    ensures err { OnErr result (view parts.new ≡ view parts.old) }
-    ensures rest { KeepsRest parts.old parts.new }
+    ensures row { MakesRow parts.old parts.new result
+        (λ reply. IsHeldNew (view parts.old) client reg object (reply, view parts.new)) }
 {
     let old = register(parts, client, reg);
     make_room(&mut parts.links, old, None)?;
@@ -119,9 +118,8 @@ pub fn new<F>(
 ) -> Result<Reply, NoMemory>
     requires client { client < CLIENTS }
     requires law { HeapLaw (view parts.old) }
-    ensures ok { IfOk result (λ reply. IsRowOfNew (view parts.old) client reg count bytes.now (reply, view parts.new)) }
-    ensures err { OnErr result (view parts.new ≡ view parts.old) }
-    ensures rest { KeepsRest parts.old parts.new }
+    ensures row { MakesRow parts.old parts.new result
+        (λ reply. IsRowOfNew (view parts.old) client reg count bytes.now (reply, view parts.new)) }
 {
     // For the proof alone: the number that a new car would get is one that no car has.
     let _number = parts.cars.vacant();

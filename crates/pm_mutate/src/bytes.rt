@@ -1,10 +1,10 @@
-ghost use Rattle.std.specs.Prelude.{◌≡◌, ◌<◌, ◌≤◌, ◌+◌, ◌↔◌, IsTrue, IfOk, OnOk, OnErr, length};
+ghost use Rattle.std.specs.Prelude.{◌≡◌, ◌<◌, ◌≤◌, ◌+◌, ◌↔◌, IsTrue, OnOk, OnErr, length};
 ghost use Rattle.pm_types.specs.declared.limits.TheConstants.{CLIENTS};
 ghost use Rattle.pm_cars.specs.Cars.{with_bytes};
 ghost use Rattle.pm_view.specs.Reading.{object_at};
 ghost use Rattle.pm_view.specs.Rows.{with_object, HasBytesAt};
 ghost use Rattle.pm_view.specs.Commands.{register, put_bytes, row_put};
-ghost use Rattle.pm_space.specs.Shown.{view, cars_of, KeepsRest};
+ghost use Rattle.pm_space.specs.Shown.{view, cars_of, MakesRow};
 
 use crate::reading::register;
 use pm_snap::Table;
@@ -33,10 +33,9 @@ fn ends_within(place: u32, count: usize, length: usize) -> bool
 
 // Bytes of the object at an address are changed.
 fn put_at<F>(parts: &mut Parts<F>, at: Addr, place: u32, bytes: &[u8]) -> Result<Reply, NoMemory>
-    ensures ok { IfOk result (λ reply. (reply, view parts.new) ≡ put_bytes (view parts.old) at place bytes.now
+    ensures row { MakesRow parts.old parts.new result
+        (λ reply. (reply, view parts.new) ≡ put_bytes (view parts.old) at place bytes.now
         (object_at (view parts.old).cars at)) }
-    ensures err { OnErr result (view parts.new ≡ view parts.old) }
-    ensures rest { KeepsRest parts.old parts.new }
 {
     let Some(object) = object_at(&parts.cars, at) else {
         return Ok(Reply::NoHandle);
@@ -57,10 +56,9 @@ pub fn put<F>(
     bytes: &[u8],
 ) -> Result<Reply, NoMemory>
     requires client { client < CLIENTS }
-    ensures ok { IfOk result (λ reply. (reply, view parts.new) ≡ row_put (view parts.old) place bytes.now
+    ensures row { MakesRow parts.old parts.new result
+        (λ reply. (reply, view parts.new) ≡ row_put (view parts.old) place bytes.now
         (register (view parts.old) client reg)) }
-    ensures err { OnErr result (view parts.new ≡ view parts.old) }
-    ensures rest { KeepsRest parts.old parts.new }
 {
     match register(parts, client, reg) {
         Some(held) => {

@@ -1,11 +1,11 @@
-ghost use Rattle.std.specs.Prelude.{◌≡◌, ◌<◌, ◌≤◌, ℕ, IfOk, OnOk, OnErr, None};
+ghost use Rattle.std.specs.Prelude.{◌≡◌, ◌<◌, ◌≤◌, ℕ, OnOk, None};
 ghost use Rattle.std.specs.FinMap.{get};
 ghost use Rattle.pm_types.specs.declared.limits.TheConstants.{CLIENTS, REGISTERS};
 ghost use Rattle.pm_types.specs.declared.source.RefSource.TheVariants.{Handle};
 ghost use Rattle.pm_view.specs.Rows.{spread};
 ghost use Rattle.pm_view.specs.Commands.{emptied, row_close};
 ghost use Rattle.pm_space.specs.Linked.{sets_of, queues_of, AreHoused, HasRoom, HasRoomFor, UsesRoom, told_by};
-ghost use Rattle.pm_space.specs.Shown.{view, KeepsRest};
+ghost use Rattle.pm_space.specs.Shown.{view, KeepsRest, MakesRow};
 ghost use Rattle.pm_mutate.specs.Closing.{stored_in};
 
 use pm_handles::Handles;
@@ -65,7 +65,8 @@ fn empty_registers<F>(parts: &mut Parts<F>, client: u32, count: u32)
     requires client { client < CLIENTS }
     requires count { count ≤ REGISTERS }
     requires housed { AreHoused (sets_of parts.old.links) parts.old.trains.trains }
-    requires room { (car : ℕ) → HasRoom parts.old.links car (stored_in (view parts.old).registers client count car) }
+    requires room { (car : ℕ) → HasRoom parts.old.links car
+        (stored_in (view parts.old).registers client count car) }
     ensures view { view parts.new ≡ emptied (view parts.old) client count }
     ensures rest { KeepsRest parts.old parts.new }
 {
@@ -78,9 +79,8 @@ fn empty_registers<F>(parts: &mut Parts<F>, client: u32, count: u32)
 pub fn close<F>(parts: &mut Parts<F>, alloc: Global, client: u32) -> Result<Reply, NoMemory>
     requires client { client < CLIENTS }
     requires housed { AreHoused (sets_of parts.old.links) parts.old.trains.trains }
-    ensures ok { IfOk result (λ reply. (reply, view parts.new) ≡ row_close (view parts.old) client) }
-    ensures err { OnErr result (view parts.new ≡ view parts.old) }
-    ensures rest { KeepsRest parts.old parts.new }
+    ensures row { MakesRow parts.old parts.new result
+        (λ reply. (reply, view parts.new) ≡ row_close (view parts.old) client) }
 {
     make_room_to_close(&mut parts.links, alloc, &parts.handles, client, REGISTERS)?;
     empty_registers(parts, client, REGISTERS);

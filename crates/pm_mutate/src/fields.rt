@@ -1,4 +1,4 @@
-ghost use Rattle.std.specs.Prelude.{◌≡◌, ◌<◌, IfOk, OnErr, Some};
+ghost use Rattle.std.specs.Prelude.{◌≡◌, ◌<◌, Some};
 ghost use Rattle.std.specs.Option.{option_map};
 ghost use Rattle.pm_types.specs.declared.limits.TheConstants.{CLIENTS};
 ghost use Rattle.pm_types.specs.declared.source.RefSource.TheVariants.{Field};
@@ -6,7 +6,7 @@ ghost use Rattle.pm_view.specs.Reading.{resolve, object_at};
 ghost use Rattle.pm_view.specs.Rows.{spread};
 ghost use Rattle.pm_view.specs.Commands.{register, field_at, set_field, row_store, row_clear, swap_field, named_in, object_held, row_swap};
 ghost use Rattle.pm_space.specs.Linked.{sets_of, AreHoused};
-ghost use Rattle.pm_space.specs.Shown.{view, KeepsRest};
+ghost use Rattle.pm_space.specs.Shown.{view, MakesRow};
 
 use crate::reading::{field_at, object_held, register};
 use pm_space::{Parts, resolve, spread};
@@ -20,9 +20,8 @@ fn set_field<F>(
     value: Option<Addr>,
 ) -> Result<Reply, NoMemory>
     requires housed { AreHoused (sets_of parts.old.links) parts.old.trains.trains }
-    ensures ok { IfOk result (λ reply. (reply, view parts.new) ≡ set_field (view parts.old) at index value) }
-    ensures err { OnErr result (view parts.new ≡ view parts.old) }
-    ensures rest { KeepsRest parts.old parts.new }
+    ensures row { MakesRow parts.old parts.new result
+        (λ reply. (reply, view parts.new) ≡ set_field (view parts.old) at index value) }
 {
     match field_at(&parts.cars, at, index) {
         Some(_) => {
@@ -43,10 +42,9 @@ pub fn store<F>(
 ) -> Result<Reply, NoMemory>
     requires client { client < CLIENTS }
     requires housed { AreHoused (sets_of parts.old.links) parts.old.trains.trains }
-    ensures ok { IfOk result (λ reply. (reply, view parts.new) ≡ row_store (view parts.old) index
+    ensures row { MakesRow parts.old parts.new result
+        (λ reply. (reply, view parts.new) ≡ row_store (view parts.old) index
         (register (view parts.old) client reg) (register (view parts.old) client value)) }
-    ensures err { OnErr result (view parts.new ≡ view parts.old) }
-    ensures rest { KeepsRest parts.old parts.new }
 {
     let Some(held) = register(parts, client, reg) else {
         return Ok(Reply::NoHandle);
@@ -63,10 +61,9 @@ pub fn store<F>(
 pub fn clear<F>(parts: &mut Parts<F>, client: u32, reg: Reg, index: u32) -> Result<Reply, NoMemory>
     requires client { client < CLIENTS }
     requires housed { AreHoused (sets_of parts.old.links) parts.old.trains.trains }
-    ensures ok { IfOk result (λ reply. (reply, view parts.new) ≡ row_clear (view parts.old) index
+    ensures row { MakesRow parts.old parts.new result
+        (λ reply. (reply, view parts.new) ≡ row_clear (view parts.old) index
         (register (view parts.old) client reg)) }
-    ensures err { OnErr result (view parts.new ≡ view parts.old) }
-    ensures rest { KeepsRest parts.old parts.new }
 {
     let Some(held) = register(parts, client, reg) else {
         return Ok(Reply::NoHandle);
@@ -96,11 +93,9 @@ fn swap_held<F>(
 ) -> Result<Reply, NoMemory>
     requires housed { AreHoused (sets_of parts.old.links) parts.old.trains.trains }
     requires field { field_at (object_at (view parts.old).cars at) index ≡ Some (Some stored) }
-    ensures ok { IfOk result (λ reply. (reply, view parts.new) ≡ swap_field (view parts.old) at index
-        (Some (Some stored)) (object_held (view parts.old) (Some stored))
-        (object_held (view parts.old) (Some old)) value) }
-    ensures err { OnErr result (view parts.new ≡ view parts.old) }
-    ensures rest { KeepsRest parts.old parts.new }
+    ensures row { MakesRow parts.old parts.new result
+        (λ reply. (reply, view parts.new) ≡ swap_field (view parts.old) at index (Some (Some stored))
+        (object_held (view parts.old) (Some stored)) (object_held (view parts.old) (Some old)) value) }
 {
     let Some(found) = id_held(parts, Some(stored)) else {
         return Ok(Reply::NoHandle);
@@ -124,11 +119,10 @@ fn swap_at<F>(
     value: Addr,
 ) -> Result<Reply, NoMemory>
     requires housed { AreHoused (sets_of parts.old.links) parts.old.trains.trains }
-    ensures ok { IfOk result (λ reply. let field = field_at (object_at (view parts.old).cars at) index in
-        (reply, view parts.new) ≡ swap_field (view parts.old) at index field (named_in (view parts.old) field)
-        (object_held (view parts.old) (Some old)) value) }
-    ensures err { OnErr result (view parts.new ≡ view parts.old) }
-    ensures rest { KeepsRest parts.old parts.new }
+    ensures row { MakesRow parts.old parts.new result
+        (λ reply. let field = field_at (object_at (view parts.old).cars at) index in
+        (reply, view parts.new) ≡ swap_field (view parts.old) at index field
+        (named_in (view parts.old) field) (object_held (view parts.old) (Some old)) value) }
 {
     match field_at(&parts.cars, at, index) {
         Some(Some(stored)) => swap_held(parts, at, index, stored, old, value),
@@ -149,10 +143,9 @@ pub fn swap<F>(
 ) -> Result<Reply, NoMemory>
     requires client { client < CLIENTS }
     requires housed { AreHoused (sets_of parts.old.links) parts.old.trains.trains }
-    ensures ok { IfOk result (λ reply. let v = view parts.old in (reply, view parts.new) ≡ row_swap v index
+    ensures row { MakesRow parts.old parts.new result
+        (λ reply. let v = view parts.old in (reply, view parts.new) ≡ row_swap v index
         (register v client reg) (register v client old) (register v client value)) }
-    ensures err { OnErr result (view parts.new ≡ view parts.old) }
-    ensures rest { KeepsRest parts.old parts.new }
 {
     let Some(held) = register(parts, client, reg) else {
         return Ok(Reply::NoHandle);

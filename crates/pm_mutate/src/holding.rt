@@ -1,4 +1,4 @@
-ghost use Rattle.std.specs.Prelude.{◌≡◌, ◌<◌, IfOk, OnOk, OnErr};
+ghost use Rattle.std.specs.Prelude.{◌≡◌, ◌<◌, OnOk, OnErr};
 ghost use Rattle.std.specs.FinMap.{get};
 ghost use Rattle.pm_types.specs.declared.limits.TheConstants.{CLIENTS};
 ghost use Rattle.pm_types.specs.declared.source.RefSource.TheVariants.{Handle};
@@ -6,7 +6,7 @@ ghost use Rattle.pm_view.specs.Reading.{object_at};
 ghost use Rattle.pm_view.specs.Rows.{spread};
 ghost use Rattle.pm_view.specs.Commands.{register, hold, row_copy, row_drop, row_find, row_load, load_field, field_at};
 ghost use Rattle.pm_space.specs.Linked.{sets_of, AreHoused};
-ghost use Rattle.pm_space.specs.Shown.{view, KeepsRest};
+ghost use Rattle.pm_space.specs.Shown.{view, KeepsRest, MakesRow};
 
 use crate::reading::{field_at, register};
 use pm_space::{Parts, object_at, resolve, spread};
@@ -33,10 +33,9 @@ fn set_register<F>(
 fn hold<F>(parts: &mut Parts<F>, client: u32, to: Reg, at: Addr) -> Result<Reply, NoMemory>
     requires client { client < CLIENTS }
     requires housed { AreHoused (sets_of parts.old.links) parts.old.trains.trains }
-    ensures ok { IfOk result (λ reply. (reply, view parts.new) ≡ hold (view parts.old) client to at
+    ensures row { MakesRow parts.old parts.new result
+        (λ reply. (reply, view parts.new) ≡ hold (view parts.old) client to at
         (object_at (view parts.old).cars at)) }
-    ensures err { OnErr result (view parts.new ≡ view parts.old) }
-    ensures rest { KeepsRest parts.old parts.new }
 {
     let Some(object) = object_at(&parts.cars, at) else {
         return Ok(Reply::NoHandle);
@@ -50,10 +49,9 @@ fn hold<F>(parts: &mut Parts<F>, client: u32, to: Reg, at: Addr) -> Result<Reply
 pub fn copy<F>(parts: &mut Parts<F>, client: u32, to: Reg, reg: Reg) -> Result<Reply, NoMemory>
     requires client { client < CLIENTS }
     requires housed { AreHoused (sets_of parts.old.links) parts.old.trains.trains }
-    ensures ok { IfOk result (λ reply. (reply, view parts.new) ≡ row_copy (view parts.old) client to
+    ensures row { MakesRow parts.old parts.new result
+        (λ reply. (reply, view parts.new) ≡ row_copy (view parts.old) client to
         (register (view parts.old) client reg)) }
-    ensures err { OnErr result (view parts.new ≡ view parts.old) }
-    ensures rest { KeepsRest parts.old parts.new }
 {
     match register(parts, client, reg) {
         Some(held) => {
@@ -68,10 +66,9 @@ pub fn copy<F>(parts: &mut Parts<F>, client: u32, to: Reg, reg: Reg) -> Result<R
 pub fn find<F>(parts: &mut Parts<F>, client: u32, to: Reg, name: &Name) -> Result<Reply, NoMemory>
     requires client { client < CLIENTS }
     requires housed { AreHoused (sets_of parts.old.links) parts.old.trains.trains }
-    ensures ok { IfOk result (λ reply. (reply, view parts.new) ≡ row_find (view parts.old) client to
+    ensures row { MakesRow parts.old parts.new result
+        (λ reply. (reply, view parts.new) ≡ row_find (view parts.old) client to
         (get (view parts.old).roots name.now)) }
-    ensures err { OnErr result (view parts.new ≡ view parts.old) }
-    ensures rest { KeepsRest parts.old parts.new }
 {
     match parts.roots.find(name) {
         Some((_, stored)) => {
@@ -91,9 +88,8 @@ fn load_field<F>(
 ) -> Result<Reply, NoMemory>
     requires client { client < CLIENTS }
     requires housed { AreHoused (sets_of parts.old.links) parts.old.trains.trains }
-    ensures ok { IfOk result (λ reply. (reply, view parts.new) ≡ load_field (view parts.old) client to field) }
-    ensures err { OnErr result (view parts.new ≡ view parts.old) }
-    ensures rest { KeepsRest parts.old parts.new }
+    ensures row { MakesRow parts.old parts.new result
+        (λ reply. (reply, view parts.new) ≡ load_field (view parts.old) client to field) }
 {
     match field {
         Some(Some(stored)) => {
@@ -118,10 +114,9 @@ pub fn load<F>(
 ) -> Result<Reply, NoMemory>
     requires client { client < CLIENTS }
     requires housed { AreHoused (sets_of parts.old.links) parts.old.trains.trains }
-    ensures ok { IfOk result (λ reply. (reply, view parts.new) ≡ row_load (view parts.old) client to index
+    ensures row { MakesRow parts.old parts.new result
+        (λ reply. (reply, view parts.new) ≡ row_load (view parts.old) client to index
         (register (view parts.old) client reg)) }
-    ensures err { OnErr result (view parts.new ≡ view parts.old) }
-    ensures rest { KeepsRest parts.old parts.new }
 {
     match register(parts, client, reg) {
         Some(held) => {
@@ -136,10 +131,9 @@ pub fn load<F>(
 pub fn forget<F>(parts: &mut Parts<F>, client: u32, reg: Reg) -> Result<Reply, NoMemory>
     requires client { client < CLIENTS }
     requires housed { AreHoused (sets_of parts.old.links) parts.old.trains.trains }
-    ensures ok { IfOk result (λ reply. (reply, view parts.new) ≡ row_drop (view parts.old) client reg
+    ensures row { MakesRow parts.old parts.new result
+        (λ reply. (reply, view parts.new) ≡ row_drop (view parts.old) client reg
         (register (view parts.old) client reg)) }
-    ensures err { OnErr result (view parts.new ≡ view parts.old) }
-    ensures rest { KeepsRest parts.old parts.new }
 {
     match register(parts, client, reg) {
         Some(_) => {

@@ -1,11 +1,11 @@
-ghost use Rattle.std.specs.Prelude.{◌≡◌, ◌<◌, IfOk, OnErr, Some, None};
+ghost use Rattle.std.specs.Prelude.{◌≡◌, ◌<◌, Some, None};
 ghost use Rattle.std.specs.FinMap.{get};
 ghost use Rattle.pm_types.specs.declared.limits.TheConstants.{CLIENTS};
 ghost use Rattle.pm_types.specs.declared.source.RefSource.TheVariants.{Root};
 ghost use Rattle.pm_view.specs.Rows.{spread};
 ghost use Rattle.pm_view.specs.Commands.{register, bind, row_root, row_unroot};
 ghost use Rattle.pm_space.specs.Linked.{sets_of, AreHoused};
-ghost use Rattle.pm_space.specs.Shown.{view, KeepsRest};
+ghost use Rattle.pm_space.specs.Shown.{view, MakesRow};
 ghost use Rattle.pm_mutate.specs.Picked.{IsForSomeRoot};
 
 use crate::reading::register;
@@ -16,10 +16,9 @@ use std::alloc::Global;
 /// `unroot`: a name is not bound any more.
 pub fn unroot<F>(parts: &mut Parts<F>, name: &Name) -> Result<Reply, NoMemory>
     requires housed { AreHoused (sets_of parts.old.links) parts.old.trains.trains }
-    ensures ok { IfOk result (λ reply. (reply, view parts.new) ≡ row_unroot (view parts.old) name.now
+    ensures row { MakesRow parts.old parts.new result
+        (λ reply. (reply, view parts.new) ≡ row_unroot (view parts.old) name.now
         (get (view parts.old).roots name.now)) }
-    ensures err { OnErr result (view parts.new ≡ view parts.old) }
-    ensures rest { KeepsRest parts.old parts.new }
 {
     let Some((number, at)) = parts.roots.find(name) else {
         return Ok(Reply::NoRoot);
@@ -46,10 +45,9 @@ fn bind_new<F>(
 ) -> Result<Reply, NoMemory>
     requires housed { AreHoused (sets_of parts.old.links) parts.old.trains.trains }
     requires unbound { get (view parts.old).roots name.now ≡ None }
-    ensures ok { IfOk result (λ reply. IsForSomeRoot (view parts.old)
+    ensures row { MakesRow parts.old parts.new result
+        (λ reply. IsForSomeRoot (view parts.old)
         (λ number. bind (view parts.old) name.now None number at) (reply, view parts.new)) }
-    ensures err { OnErr result (view parts.new ≡ view parts.old) }
-    ensures rest { KeepsRest parts.old parts.new }
 {
     if parts.roots.len() >= ROOTS as u64 {
         return Ok(Reply::TooManyRoots);
@@ -73,11 +71,10 @@ fn bind_new<F>(
 // Binds a name to an address; one that is bound keeps its number.
 fn bind<F>(parts: &mut Parts<F>, alloc: Global, name: &Name, at: Addr) -> Result<Reply, NoMemory>
     requires housed { AreHoused (sets_of parts.old.links) parts.old.trains.trains }
-    ensures ok { IfOk result (λ reply. IsForSomeRoot (view parts.old)
+    ensures row { MakesRow parts.old parts.new result
+        (λ reply. IsForSomeRoot (view parts.old)
         (λ number. bind (view parts.old) name.now (get (view parts.old).roots name.now) number at)
         (reply, view parts.new)) }
-    ensures err { OnErr result (view parts.new ≡ view parts.old) }
-    ensures rest { KeepsRest parts.old parts.new }
 {
     parts.roots.sound();
     match parts.roots.find(name) {
@@ -99,10 +96,9 @@ pub fn root<F>(
 ) -> Result<Reply, NoMemory>
     requires client { client < CLIENTS }
     requires housed { AreHoused (sets_of parts.old.links) parts.old.trains.trains }
-    ensures ok { IfOk result (λ reply. let v = view parts.old in IsForSomeRoot v
+    ensures row { MakesRow parts.old parts.new result
+        (λ reply. let v = view parts.old in IsForSomeRoot v
         (λ number. row_root v name.now number (register v client reg)) (reply, view parts.new)) }
-    ensures err { OnErr result (view parts.new ≡ view parts.old) }
-    ensures rest { KeepsRest parts.old parts.new }
 {
     match register(parts, client, reg) {
         Some(held) => {

@@ -14,7 +14,12 @@ select_train-requires g c =
     let v = view c.args.parts.now in
     oldest_has 0 c.args.train v.trains.trains c.requires.law.built.trains.rising (comes_where v (select c.args.train) c.requires.row).oldest
 
-pub returns-clause-ok : goal.returns-clause-ok
-returns-clause-ok g c =
-    let w = view c.select_train.new.parts in
-    made g.F.Fn c.args.parts.now.place (view c.args.parts.now) 0 w (Selected c.args.train) (select c.args.train) 0 c.requires.row tt tt (is_counted w (search rules) ∙ ap counted c.in_ok-select_train.ensures.ok) refl
+pub returns : goal.returns
+returns g c =
+    let w = view c.select_train.new.parts in record {
+      row = record {
+        ok = made g.F.Fn c.args.parts.now.place (view c.args.parts.now) 0 w (Selected c.args.train) (select c.args.train) 0 c.requires.row tt tt (is_counted w (search rules) ∙ ap counted c.in_ok-select_train.ensures.ok) refl;
+        err = tt;
+        rest = c.in_ok-select_train.ensures.rest;
+      };
+    }

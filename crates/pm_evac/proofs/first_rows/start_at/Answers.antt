@@ -12,10 +12,15 @@ use Rattle.pm_evac.proofs.first_rows.start_at.Goals as goal
 pub note-requires-clause-some : goal.note-requires-clause-some
 note-requires-clause-some g c = c.there_is_a_train_to_pick.ensures.noted (view c.args.parts.now) c.args.car c.args.at c.requires.law c.requires.row
 
-pub returns-clause-ok : goal.returns-clause-ok
-returns-clause-ok g c =
+pub returns : goal.returns
+returns g c =
     let v = view c.args.parts.now in
-    let noted = c.in_ok-anchored.ensures.ok in
-    let then : SpaceView = started v c.args.car c.args.at noted.picked in
-    made g.F.Fn c.args.parts.now.place v noted.picked _ (Started c.args.car c.in_ok-anchored.anchored) (start c.args.car c.args.at) 0 c.requires.row noted.chosen tt
-    ((λ i. record (noted.after i) { phase = Moving c.args.car }) ∙ is_counted then (search rules)) (ap (Started c.args.car) noted.answer)
+    let noted = c.in_ok-anchored.ensures.row.ok in
+    let then : SpaceView = started v c.args.car c.args.at noted.picked in record {
+      row = record {
+        ok = made g.F.Fn c.args.parts.now.place v noted.picked _ (Started c.args.car c.in_ok-anchored.anchored) (start c.args.car c.args.at) 0 c.requires.row noted.chosen tt
+            ((λ i. record (noted.after i) { phase = Moving c.args.car }) ∙ is_counted then (search rules)) (ap (Started c.args.car) noted.answer);
+        err = tt;
+        rest = record { frozen = c.in_ok-anchored.ensures.row.rest.frozen; place = c.in_ok-anchored.ensures.row.rest.place };
+      };
+    }

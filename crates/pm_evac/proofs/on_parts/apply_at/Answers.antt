@@ -7,7 +7,12 @@ use Rattle.pm_evac.proofs.Chosen.{made}
 use Rattle.pm_evac.proofs.Views.{is_counted}
 use Rattle.pm_evac.proofs.on_parts.apply_at.Goals as goal
 
-pub returns-clause-ok : goal.returns-clause-ok
-returns-clause-ok g c =
-    let w = view c.apply.new.parts in
-    made g.F.Fn c.args.parts.now.place (view c.args.parts.now) 0 w (Applied c.args.car) (apply c.args.car) 0 c.requires tt tt (is_counted w (search rules) ∙ ap counted c.in_ok-apply.ensures.ok) refl
+pub returns : goal.returns
+returns g c =
+    let w = view c.apply.new.parts in record {
+      row = record {
+        ok = made g.F.Fn c.args.parts.now.place (view c.args.parts.now) 0 w (Applied c.args.car) (apply c.args.car) 0 c.requires tt tt (is_counted w (search rules) ∙ ap counted c.in_ok-apply.ensures.ok) refl;
+        err = tt;
+        rest = c.in_ok-apply.ensures.rest;
+      };
+    }

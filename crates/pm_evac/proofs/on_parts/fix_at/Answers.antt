@@ -22,7 +22,12 @@ fix-requires-clause-car g c =
     let held = stale_held v c.args.car c.args.source c.args.to (comes_where v (fix c.args.car c.args.source c.args.to) c.requires.row).goes in
     remembers v c.args.car c.args.source held.0 held.1
 
-pub returns-clause-ok : goal.returns-clause-ok
-returns-clause-ok g c =
-    let w = view c.fix.new.parts in
-    made g.F.Fn c.args.parts.now.place (view c.args.parts.now) 0 w (Fixed c.args.car) (fix c.args.car c.args.source c.args.to) 0 c.requires.row tt tt (is_counted w (search rules) ∙ ap counted c.in_ok-fix.ensures.ok) refl
+pub returns : goal.returns
+returns g c =
+    let w = view c.fix.new.parts in record {
+      row = record {
+        ok = made g.F.Fn c.args.parts.now.place (view c.args.parts.now) 0 w (Fixed c.args.car) (fix c.args.car c.args.source c.args.to) 0 c.requires.row tt tt (is_counted w (search rules) ∙ ap counted c.in_ok-fix.ensures.ok) refl;
+        err = tt;
+        rest = c.in_ok-fix.ensures.rest;
+      };
+    }

@@ -14,8 +14,13 @@ train_of-train-requires g c =
     let v = view c.args.parts.now in
     swept_home v c.requires.law c.args.car (comes_where v (free c.args.car) c.requires.row).sweeping
 
-pub returns-clause-ok : goal.returns-clause-ok
-returns-clause-ok g c =
-    let v = view c.args.parts.now in
-    made g.F.Fn c.args.parts.now.place v 0 (view c.free.new.parts) (Freed c.args.car true) (free c.args.car) 0 c.requires.row tt tt
-    (c.in_ok-free.ensures.ok ∙ ap (λ o. freed v (unwrap_or o 0) c.args.car true) (sym c.train_of-train.ensures.train)) refl
+pub returns : goal.returns
+returns g c =
+    let v = view c.args.parts.now in record {
+      row = record {
+        ok = made g.F.Fn c.args.parts.now.place v 0 (view c.free.new.parts) (Freed c.args.car true) (free c.args.car) 0 c.requires.row tt tt
+            (c.in_ok-free.ensures.ok ∙ ap (λ o. freed v (unwrap_or o 0) c.args.car true) (sym c.train_of-train.ensures.train)) refl;
+        err = tt;
+        rest = c.in_ok-free.ensures.rest;
+      };
+    }

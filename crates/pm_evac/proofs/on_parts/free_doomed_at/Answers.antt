@@ -25,9 +25,14 @@ free-requires-clause-there g c =
     let is = comes_where v (free_doomed c.args.train c.args.car) c.requires.row in
     car_stands v c.requires.law c.args.car (ap is_some (first_home v.trains.trains c.args.train c.args.car c.requires.law.built.trains.single is.doomed.first))
 
-pub returns-clause-ok : goal.returns-clause-ok
-returns-clause-ok g c =
+pub returns : goal.returns
+returns g c =
     let v = view c.args.parts.now in
-    let last : (length c.cars.result.now == 1) ≡ (length (cars_of v.trains.trains c.args.train) == 1) = ap (λ o. length (unwrap_or o []) == 1) (sym c.cars.ensures) in
-    made g.F.Fn c.args.parts.now.place v 0 (view c.free.new.parts) (Freed c.args.car (length c.cars.result.now == 1)) (free_doomed c.args.train c.args.car) 0 c.requires.row tt tt
-    (c.in_ok-free.ensures.ok ∙ ap (freed v c.args.train c.args.car) last) (ap (Freed c.args.car) last)
+    let last : (length c.cars.result.now == 1) ≡ (length (cars_of v.trains.trains c.args.train) == 1) = ap (λ o. length (unwrap_or o []) == 1) (sym c.cars.ensures) in record {
+      row = record {
+        ok = made g.F.Fn c.args.parts.now.place v 0 (view c.free.new.parts) (Freed c.args.car (length c.cars.result.now == 1)) (free_doomed c.args.train c.args.car) 0 c.requires.row tt tt
+            (c.in_ok-free.ensures.ok ∙ ap (freed v c.args.train c.args.car) last) (ap (Freed c.args.car) last);
+        err = tt;
+        rest = c.in_ok-free.ensures.rest;
+      };
+    }

@@ -16,10 +16,15 @@ relocate-requires g c =
     let may = may_move_anchor v c.requires.law c.args.at c.args.train c.vacant-number.result vacant (comes_where v (move_anchor c.args.at c.args.train) c.requires.row) in
     record { law = c.requires.law; moving = may.moving; live = may.live; train = may.stands; apart = may.apart }
 
-pub returns-clause-ok : goal.returns-clause-ok
-returns-clause-ok g c =
+pub returns : goal.returns
+returns g c =
     let v = view c.args.parts.now in
     let moved = c.in_ok-id.ensures.ok in
-    let then = after v 0 moved.number (move_anchor c.args.at c.args.train) in
-    made g.F.Fn c.args.parts.now.place v 0 _ (Moved c.in_ok-id.id c.args.train) (move_anchor c.args.at c.args.train) moved.number c.requires.row tt moved.vacant
-    ((λ i. record (moved.after i) { anchor = c.clear.ensures i }) ∙ is_counted then (search rules)) (ap (λ id. Moved id c.args.train) c.in_ok-id.ensures.id)
+    let then = after v 0 moved.number (move_anchor c.args.at c.args.train) in record {
+      row = record {
+        ok = made g.F.Fn c.args.parts.now.place v 0 _ (Moved c.in_ok-id.id c.args.train) (move_anchor c.args.at c.args.train) moved.number c.requires.row tt moved.vacant
+            ((λ i. record (moved.after i) { anchor = c.clear.ensures i }) ∙ is_counted then (search rules)) (ap (λ id. Moved id c.args.train) c.in_ok-id.ensures.id);
+        err = tt;
+        rest = record { frozen = c.in_ok-id.ensures.rest.frozen; place = c.in_ok-id.ensures.rest.place };
+      };
+    }

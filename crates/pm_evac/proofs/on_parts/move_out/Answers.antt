@@ -21,9 +21,14 @@ relocate-requires g c =
     let may = may_move_out v c.requires.law c.args.at c.in_ok-train.train c.vacant-number.result vacant (comes_where v (move_out c.args.at) c.requires.row) picked in
     record { law = c.requires.law; moving = may.moving; live = may.live; train = may.stands; apart = may.apart }
 
-pub returns-clause-ok : goal.returns-clause-ok
-returns-clause-ok g c =
+pub returns : goal.returns
+returns g c =
     let w = view c.relocate.new.parts in
-    let moved = c.in_ok-id.ensures.ok in
-    made g.F.Fn c.args.parts.now.place (view c.args.parts.now) c.in_ok-train.train w (Moved c.in_ok-id.id c.in_ok-train.train) (move_out c.args.at) moved.number c.requires.row c.in_ok-train.ensures moved.vacant
-    (is_counted w (search rules) ∙ ap counted moved.after) (ap (λ id. Moved id c.in_ok-train.train) c.in_ok-id.ensures.id)
+    let moved = c.in_ok-id.ensures.ok in record {
+      row = record {
+        ok = made g.F.Fn c.args.parts.now.place (view c.args.parts.now) c.in_ok-train.train w (Moved c.in_ok-id.id c.in_ok-train.train) (move_out c.args.at) moved.number c.requires.row c.in_ok-train.ensures moved.vacant
+            (is_counted w (search rules) ∙ ap counted moved.after) (ap (λ id. Moved id c.in_ok-train.train) c.in_ok-id.ensures.id);
+        err = tt;
+        rest = c.in_ok-id.ensures.rest;
+      };
+    }

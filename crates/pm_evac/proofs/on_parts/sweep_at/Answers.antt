@@ -14,7 +14,12 @@ sweep-requires-clause-live g c =
     let v = view c.args.parts.now in
     lowest_lives v c.args.at.car c.args.at.slot (comes_where v (sweep c.args.at) c.requires.row).low
 
-pub returns-clause-ok : goal.returns-clause-ok
-returns-clause-ok g c =
-    let w = view c.sweep.new.parts in
-    made g.F.Fn c.args.parts.now.place (view c.args.parts.now) 0 w (Swept c.in_ok-id.id) (sweep c.args.at) 0 c.requires.row tt tt (is_counted w (search rules) ∙ ap counted c.in_ok-id.ensures.ok) (ap Swept c.in_ok-id.ensures.id)
+pub returns : goal.returns
+returns g c =
+    let w = view c.sweep.new.parts in record {
+      row = record {
+        ok = made g.F.Fn c.args.parts.now.place (view c.args.parts.now) 0 w (Swept c.in_ok-id.id) (sweep c.args.at) 0 c.requires.row tt tt (is_counted w (search rules) ∙ ap counted c.in_ok-id.ensures.ok) (ap Swept c.in_ok-id.ensures.id);
+        err = tt;
+        rest = c.in_ok-id.ensures.rest;
+      };
+    }

@@ -11,8 +11,8 @@ invariant_of-space g c =
     let space = c.prepared_row-row.new.space in
     let v = view space.parts in
     let w = view c.make.new.parts in
-    let ok = c.make.ensures.ok in
-    let err = c.make.ensures.err in
+    let ok = c.make.ensures.row.ok in
+    let err = c.make.ensures.row.err in
     record {
       kept = holds_after g.F.Fn space.parts.place v w HeapLaw c.make.result space.kept (λ new step event. c.an_event_that_was_made_keeps_all.ensures.law v new step space.kept event) ok err;
       still = holds_after g.F.Fn space.parts.place v w (λ (u : SpaceView). IsQuiet u space.quiet) c.make.result space.still c.prepared_row-row.ensures.kept.still ok err;
@@ -23,4 +23,4 @@ pub returns : goal.returns
 returns g c =
     let all = c.an_event_that_was_made_keeps_all.ensures in
     let space = c.prepared_row-row.new.space in
-    makes_found g.F.Fn c.args.space.now.parts space.parts c.make.new.parts c.prepared_row-row.ensures.parts space.kept c.make.result all.worlds all.places all.work all.rank all.sunk all.phase all.progress c.make.ensures.ok c.make.ensures.err c.make.ensures.rest
+    makes_found g.F.Fn c.args.space.now.parts space.parts c.make.new.parts c.prepared_row-row.ensures.parts space.kept c.make.result all.worlds all.places all.work all.rank all.sunk all.phase all.progress c.make.ensures.row.ok c.make.ensures.row.err c.make.ensures.row.rest

@@ -28,8 +28,8 @@ hold_in_room-requires-clause-old_room g c =
     subst (λ (links : Linked). HasRoomFor links (get c.bear-at.new.parts.handles (c.args.client, c.number.result))) (sym c.bear-at.ensures.links)
     (subst (HasRoomFor c.place_for.new.parts.links) held room)
 
-pub returns-clause-ok : goal.returns-clause-ok
-returns-clause-ok g c =
+pub returns : goal.returns
+returns g c =
     let v = view c.args.parts.now in
     let same = same_view v _ _ _ _ refl c.in_ok-make_room.ensures.sets c.in_ok-make_room.ensures.queues refl in
     let opened : IsOpenedFor (with_open_train v) (object_room c.args.object) (view c.place_for.new.parts) c.in_ok-car.car =
@@ -39,4 +39,13 @@ returns-clause-ok g c =
     let seen =
     born_seen v w c.in_ok-car.car c.args.object opened (view c.bear-at.new.parts) c.args.client c.number.result c.args.reg c.bear-at.result
     c.bear-at.ensures.view c.bear-at.ensures.place c.number.ensures.number in
-    (opened.number, is_vacant v w c.in_ok-car.car c.args.object opened, ap (λ (v : SpaceView). (Ident c.args.object.id, v)) (c.hold_in_room.ensures.view ∙ seen))
+    record {
+      row = record {
+        ok = (opened.number, is_vacant v w c.in_ok-car.car c.args.object opened, ap (λ (v : SpaceView). (Ident c.args.object.id, v)) (c.hold_in_room.ensures.view ∙ seen));
+        err = tt;
+        rest = record {
+          frozen = c.hold_in_room.ensures.rest.frozen ∙ c.bear-at.ensures.rest.frozen ∙ c.in_ok-car.ensures.rest.frozen;
+          place = c.hold_in_room.ensures.rest.place ∙ c.bear-at.ensures.rest.place ∙ c.in_ok-car.ensures.rest.place;
+        };
+      };
+    }

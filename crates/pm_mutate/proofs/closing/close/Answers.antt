@@ -6,7 +6,13 @@ use Rattle.pm_space.specs.Shown.{view}
 use Rattle.pm_space.proofs.OpenedCars.{same_view}
 use Rattle.pm_mutate.proofs.closing.close.Goals as goal
 
-pub returns-clause-ok : goal.returns-clause-ok
-returns-clause-ok g c =
+pub returns : goal.returns
+returns g c =
     let same = same_view (view c.args.parts.now) _ _ _ _ refl c.in_ok-make_room_to_close.ensures.sets c.in_ok-make_room_to_close.ensures.queues refl in
-    ap (λ v. (Done, v)) (c.empty_registers.ensures.view ∙ ap (λ v. emptied v c.args.client REGISTERS) same)
+    record {
+      row = record {
+        ok = ap (λ v. (Done, v)) (c.empty_registers.ensures.view ∙ ap (λ v. emptied v c.args.client REGISTERS) same);
+        err = tt;
+        rest = record { frozen = c.empty_registers.ensures.rest.frozen; place = c.empty_registers.ensures.rest.place };
+      };
+    }
