@@ -21,7 +21,8 @@ use Rattle.pm_events.specs.declared.stop.Stop.{Stop}
 use Rattle.pm_events.specs.declared.stop.Stop.TheVariants.{Memory as StopMemory, Writing as StopWriting, Device as StopDevice}
 use Rattle.pm_engine.specs.declared.tally.Tally.{Tally}
 use Rattle.pm_top.specs.declared.ended.Detail.{Detail}
-use Rattle.pm_top.specs.declared.ended.Detail.TheVariants.{Fine, Usage, Script, Dump as BadDump, Reading, Writing, Device, NotEmpty, Refused, Memory}
+use Rattle.pm_top.specs.declared.ended.Detail.TheVariants.{Fine, Usage, Script, Dump as BadDump, Reading, Writing, Device}
+use Rattle.pm_top.specs.declared.ended.Detail.TheVariants.{NotEmpty, Refused, Memory}
 
 -- the exit status of each end
 abbrev pub status_of : Detail → ℕ
@@ -41,7 +42,8 @@ abbrev pub refusal_line : OpenFault → List ℕ
 refusal_line NotAStore = codes "pmos: not a store\n"
 refusal_line (Version version) = codes "pmos: version " ++ decimal version ++ codes "\n"
 refusal_line (Damaged page kept found) =
-    codes "pmos: damaged page " ++ decimal page ++ codes " kept " ++ encode_lower kept ++ codes " found " ++ encode_lower found ++ codes "\n"
+    codes "pmos: damaged page " ++ decimal page ++ codes " kept " ++ encode_lower kept
+    ++ codes " found " ++ encode_lower found ++ codes "\n"
 refusal_line (Malformed page at) = codes "pmos: malformed page " ++ decimal page ++ codes " at " ++ decimal at ++ codes "\n"
 refusal_line (Disk before after) = codes "pmos: disk fault\n"
 refusal_line NoRoom = codes "pmos: no memory\n"

@@ -58,12 +58,14 @@ pub record ServesInOrder (lines : List Line) (detail : Detail) (journal : List E
   -- the events come in the order of the lines: of a first part of the commands it is told what was made before each, and
   -- where it is done of all
   pub ordered : events_asked lines ≤ greatest_count → IfSome tally (λ it. IsFirstPart (tally_of it).course (course_of 0 0 lines))
-  pub all_ordered : IsPast the_output detail → events_asked lines ≤ greatest_count → IfSome tally (λ it. (tally_of it).course ≡ course_of 0 0 lines)
+  pub all_ordered : IsPast the_output detail → events_asked lines ≤ greatest_count
+      → IfSome tally (λ it. (tally_of it).course ≡ course_of 0 0 lines)
   -- where memory runs out in a `settle`, something of the copy is left to be written, unless no event was made
-  pub short : RanShort detail → (done more : List Line) (client : ℕ) → lines ≡ done ++ Client client Settle ∷ more → events_asked done < greatest_count
-      → IfSome tally (λ it. IsShortIn (events_asked done) (tally_of it))
+  pub short : RanShort detail → (done more : List Line) (client : ℕ) → lines ≡ done ++ Client client Settle ∷ more
+      → events_asked done < greatest_count → IfSome tally (λ it. IsShortIn (events_asked done) (tally_of it))
   -- where it stopped
-  pub stopped : OnStop (stop_in detail) (events_asked lines ≤ greatest_count → IfSome tally (λ it. StopsAmong lines journal (tally_of it).steps (tally_of it).events))
+  pub stopped : OnStop (stop_in detail) (events_asked lines ≤ greatest_count
+      → IfSome tally (λ it. StopsAmong lines journal (tally_of it).steps (tally_of it).events))
 
 -- What a run answers of these lines, once they were read, in whichever order the clients' commands are asked.
 pub record ServesLines (lines : List Line) (detail : Detail) (journal : List Entry) (tally : Option Tally) : Type 0 where
@@ -138,5 +140,5 @@ pub record KeepsOrder (bytes : List ℕ) (detail : Detail) (journal : List Entry
       → IfSome tally (λ it. OnStop (stop_in detail) (StopsAmong lines journal (tally_of it).steps (tally_of it).events))
   -- where memory runs out in a `settle`, which is the event that was not made where so many were made as the lines before it
   -- ask for, something of the copy is left to be written, unless no event was made: a copy that was flushed whole settles
-  pub short : RanShort detail → (lines done more : List Line) (client : ℕ) → IsScript bytes lines → lines ≡ done ++ Client client Settle ∷ more
-      → IfSome tally (λ it. IsShortIn (events_asked done) (tally_of it))
+  pub short : RanShort detail → (lines done more : List Line) (client : ℕ) → IsScript bytes lines
+      → lines ≡ done ++ Client client Settle ∷ more → IfSome tally (λ it. IsShortIn (events_asked done) (tally_of it))

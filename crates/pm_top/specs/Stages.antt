@@ -1,7 +1,8 @@
 -- The stages that a run passes, in their order, and what each end says of them.
 use Rattle.std.specs.Prelude.{ℕ, ◌≤◌, true, false}
 use Rattle.pm_top.specs.declared.ended.Detail.{Detail}
-use Rattle.pm_top.specs.declared.ended.Detail.TheVariants.{Fine, Usage, Script, Dump as BadDump, Reading, Writing, Device, NotEmpty, Refused, Memory}
+use Rattle.pm_top.specs.declared.ended.Detail.TheVariants.{Fine, Usage, Script, Dump as BadDump, Reading, Writing, Device}
+use Rattle.pm_top.specs.declared.ended.Detail.TheVariants.{NotEmpty, Refused, Memory}
 
 -- no stage
 abbrev pub at_start : ℕ
