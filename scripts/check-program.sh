@@ -375,6 +375,63 @@ came=$?
 row "a copy that settles in threads" "0 0 ok 1,0 ok,0 begun 1,0 saved 1 settled" \
     "$came $(head -n 4 "$work/out" | paste -sd,) $(is_which "$work/store")"
 
+# A word behind FILE and MODE says to which train an object moves. If it is no PLACE, or stands elsewhere, nothing is done.
+counted() { sort "$1" | uniq -c | awk '{ times = $1; $1 = ""; print times " times" $0 }' | paste -sd,; }
+for place in first middle last; do
+    fresh
+    "$pmos" run "$work/store" serial "$place" <"$work/settle.script" >"$work/out"
+    echo "$? $(cmp -s "$work/out" "$work/settle.replies" && is_which "$work/store")"
+    fresh
+    "$pmos" run "$work/store" threads "$place" <"$work/settle.script" >"$work/out"
+    echo "$? $(is_which "$work/store")"
+done >"$work/ends"
+row "a PLACE, serial and in threads" "6 times 0 settled" "$(counted "$work/ends")"
+fresh
+for words in "run $work/store serial First" "run $work/store serial lasts" "run $work/store serial 1" \
+    "run $work/store threads middle first" "run $work/store last serial" "run $work/store last" \
+    "inspect $work/store last" "init $work/none last" "trial $work/store 1 1 last"; do
+    # shellcheck disable=SC2086
+    "$pmos" $words <"$work/settle.script" >"$work/out" 2>"$work/err"
+    echo "$? $(cat "$work/out" "$work/err") $(is_which "$work/store")"
+done >"$work/ends"
+[ -e "$work/none" ] && echo "a file is made" >>"$work/ends"
+row "a PLACE that is none" "9 times 1 pmos: usage made" "$(counted "$work/ends")"
+
+# An object that three trains name. Each opening opens a train, and what is born goes into it: so after four runs trains 1,
+# 2, 3 and 4 have one car each, and that has one object. Those of the trains 2, 3 and 4 have names, and each has a field
+# that holds object 1, which has no name any more. The fifth run opens train 5, and makes three events:
+#  1. The oldest train that has a car, train 1, is selected. It is not the open one.
+#  2. No change is queued, and fields of other trains name object 1. So train 1 is not given up, and its car begins to be
+#     emptied. There is no anchor, so object 1 becomes it, and its train is picked now: of trains 2, 3 and 4, whose objects
+#     name it. No name and no register does, so the open train is not among them. The first is train 2, the middle one is
+#     at place 3 / 2 = 1, from 0, which is train 3, and the last is train 4.
+#  3. No source names an object that has moved, and the anchor lies in the car: it moves to that train, and there it goes
+#     into the last car, as it fits.
+# So in the copy that settles then the car of that train has two objects, and train 1 has no car that has one. The report
+# opens that copy, and opening numbers the trains that still have objects from 1 on: trains 2, 3 and 4 are then 1, 2 and 3.
+# What is compared is each train's number with the number of objects in its car.
+cp "$work/made" "$work/base"
+grown=''
+printf '0 new 1 0 -\n0 root a 1\n0 save\n0 settle\n' | "$pmos" run "$work/base" serial >"$work/out" || grown+="first "
+for line in '0 root b 2' '0 root c 2' '0 root d 2\n0 unroot a'; do
+    printf '0 find 1 a\n0 new 2 1 -\n0 store 2 0 1\n%b\n0 save\n0 settle\n' "$line" |
+        "$pmos" run "$work/base" serial >"$work/out" || grown+="$line "
+done
+for place in '' first middle last; do
+    case $place in
+    middle) wanted="1:1 2:2 3:1" ;;
+    last) wanted="1:1 2:1 3:2" ;;
+    *) wanted="1:2 2:1 3:1" ;;
+    esac
+    cp "$work/base" "$work/store"
+    # shellcheck disable=SC2086
+    printf '! gc 3\n0 save\n0 settle\n' | "$pmos" run "$work/store" serial $place >"$work/out"
+    came="$grown$? $(tail -n 1 "$work/out")"
+    "$pmos" inspect "$work/store" </dev/null >"$work/out"
+    came+=", $? $(awk '$1 == "train" { train = $2 } $1 == "car" { print train ":" $3 }' "$work/out" | paste -sd' ')"
+    row "three trains: ${place:-no PLACE}" "0 end 3 0 4, 0 $wanted" "$came"
+done
+
 fresh
 "$pmos" run "$work/store" serial <"$work/long.script" 2>/dev/null | true
 row "a pipe that closes early" "4 settled" "${PIPESTATUS[0]} $(is_which "$work/store")"

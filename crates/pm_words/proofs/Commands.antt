@@ -5,22 +5,22 @@ use Rattle.pm_words.specs.declared.command.Command.{Command}
 use Rattle.pm_words.specs.declared.command.Command.TheVariants.{Init, Run, RunThreads, Inspect, Dump, Restore, Why, Make, Trial}
 use Rattle.pm_words.specs.Words.{IsNumber, IsTurns, AreMake, AreRun, AreRunThreads, AreTrial, AreWhy, Spells}
 
--- how many words follow the first, how many letters its first letter, and that letter
+-- how many letters of the first word follow its first one, and that letter
 tag : List (List ℕ) → ℕ
 tag [] = 0
-tag ([] ∷ words) = length words
-tag ((letter ∷ letters) ∷ words) = length words + 10 * length letters + 100 * letter
+tag ([] ∷ words) = 0
+tag ((letter ∷ letters) ∷ words) = length letters + 10 * letter
 
 tag_of : Command → ℕ
-tag_of Init = 10531
-tag_of Run = 11422
-tag_of RunThreads = 11422
-tag_of Inspect = 10561
-tag_of Dump = 10031
-tag_of Restore = 11461
-tag_of (Why id) = 11922
-tag_of (Make seed turns) = 10932
-tag_of (Trial seed turns) = 11643
+tag_of Init = 1053
+tag_of Run = 1142
+tag_of RunThreads = 1142
+tag_of Inspect = 1056
+tag_of Dump = 1003
+tag_of Restore = 1146
+tag_of (Why id) = 1192
+tag_of (Make seed turns) = 1093
+tag_of (Trial seed turns) = 1164
 
 tagged : (words : List (List ℕ)) (command : Command) → Spells words command → tag words ≡ tag_of command
 unfolding tag tag_of
@@ -73,7 +73,7 @@ why_same words i j a b =
 -- the order is told by the third word
 orders_differ : (words : List (List ℕ)) → AreRun words → AreRunThreads words → ⊥
 orders_differ words a b =
-    let same : codes "run" ∷ a.file ∷ codes "serial" ∷ [] ≡ codes "run" ∷ b.file ∷ codes "threads" ∷ [] = sym a.are ∙ b.are in
+    let same : codes "run" ∷ a.file ∷ codes "serial" ∷ a.rest ≡ codes "run" ∷ b.file ∷ codes "threads" ∷ b.rest = sym a.are ∙ b.are in
     let third : codes "serial" ≡ codes "threads" = cc same in
     let long : 6 ≡ 7 = ap length third in
     absurd (omega (arith, long))

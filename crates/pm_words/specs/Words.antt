@@ -1,6 +1,8 @@
 -- The words of the command line.
-use Rattle.std.specs.Prelude.{◌≡◌, ℕ, ◌^◌, ◌<◌, ◌≤◌, List, [], ◌∷◌, codes, decimal}
+use Rattle.std.specs.Prelude.{◌≡◌, ◌⊎◌, ℕ, ◌^◌, ◌<◌, ◌≤◌, List, [], ◌∷◌, codes, decimal}
 use Rattle.pm_types.specs.declared.limits.TheConstants.{MOST_TURNS}
+use Rattle.pm_words.specs.declared.chosen.Chosen.{Chosen}
+use Rattle.pm_words.specs.declared.chosen.Chosen.TheVariants.{First, Last, Middle}
 use Rattle.pm_words.specs.declared.command.Command.{Command}
 use Rattle.pm_words.specs.declared.command.Command.TheVariants.{Init, Run, RunThreads, Inspect, Dump, Restore, Why, Make, Trial}
 
@@ -32,17 +34,42 @@ pub record AreInit (words : List (List ℕ)) : Type 0 where
   pub is_file : IsFile file
   pub are : words ≡ codes "init" ∷ file ∷ []
 
--- `run FILE serial`
+-- the word is a MODE
+abbrev pub IsMode : List ℕ → Type 0
+IsMode word = (word ≡ codes "serial") ⊎ (word ≡ codes "threads")
+
+-- the word is the PLACE of this choice
+abbrev pub IsPlace : List ℕ → Chosen → Type 0
+IsPlace word First = word ≡ codes "first"
+IsPlace word Last = word ≡ codes "last"
+IsPlace word Middle = word ≡ codes "middle"
+
+-- the word is a PLACE
+pub record IsSomePlace (word : List ℕ) : Type 0 where
+  pub chosen : Chosen
+  pub is_place : IsPlace word chosen
+
+-- what may stand behind FILE and MODE of a run: no word, or one PLACE
+abbrev pub EndsRun : List (List ℕ) → Type 0
+EndsRun [] = Unit {0}
+EndsRun (word ∷ []) = IsSomePlace word
+EndsRun words = ⊥
+
+-- `run FILE serial`, or with a PLACE behind it
 pub record AreRun (words : List (List ℕ)) : Type 0 where
   pub file : List ℕ
+  pub rest : List (List ℕ)
   pub is_file : IsFile file
-  pub are : words ≡ codes "run" ∷ file ∷ codes "serial" ∷ []
+  pub ends : EndsRun rest
+  pub are : words ≡ codes "run" ∷ file ∷ codes "serial" ∷ rest
 
--- `run FILE threads`
+-- `run FILE threads`, or with a PLACE behind it
 pub record AreRunThreads (words : List (List ℕ)) : Type 0 where
   pub file : List ℕ
+  pub rest : List (List ℕ)
   pub is_file : IsFile file
-  pub are : words ≡ codes "run" ∷ file ∷ codes "threads" ∷ []
+  pub ends : EndsRun rest
+  pub are : words ≡ codes "run" ∷ file ∷ codes "threads" ∷ rest
 
 -- `inspect FILE`
 pub record AreInspect (words : List (List ℕ)) : Type 0 where
@@ -103,3 +130,21 @@ Spells words (Trial seed turns) = AreTrial words seed turns
 -- these are the words of no command
 abbrev pub SpellsNothing : List (List ℕ) → Type 0
 SpellsNothing words = (command : Command) → Spells words command → ⊥
+
+-- `run FILE MODE PLACE`, with the PLACE of this choice
+pub record HasPlace (words : List (List ℕ)) (chosen : Chosen) : Type 0 where
+  pub file : List ℕ
+  pub mode : List ℕ
+  pub place : List ℕ
+  pub is_file : IsFile file
+  pub is_mode : IsMode mode
+  pub is_place : IsPlace place chosen
+  pub are : words ≡ codes "run" ∷ file ∷ mode ∷ place ∷ []
+
+-- these are not the words of a run with a PLACE
+abbrev pub HasNoPlace : List (List ℕ) → Type 0
+HasNoPlace words = (chosen : Chosen) → HasPlace words chosen → ⊥
+
+-- the words choose so: by their PLACE, or the first if they have none
+abbrev pub Places : List (List ℕ) → Chosen → Type 0
+Places words chosen = HasPlace words chosen ⊎ ((chosen ≡ First) × HasNoPlace words)

@@ -3,9 +3,9 @@
 pub enum Command {
     /// `init FILE`: make an empty store.
     Init,
-    /// `run FILE serial`: run the script on the source, in the order of its lines.
+    /// `run FILE serial` or `run FILE serial PLACE`: run the script on the source, in the order of its lines.
     Run,
-    /// `run FILE threads`: run it in threads, each client's lines in their order.
+    /// `run FILE threads` or `run FILE threads PLACE`: run it in threads, each client's lines in their order.
     RunThreads,
     /// `inspect FILE`: write the report of a store.
     Inspect,

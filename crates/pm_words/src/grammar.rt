@@ -3,23 +3,27 @@ use clap::{Arg, Command};
 use pm_types::NoMemory;
 use std::alloc::Global;
 
-// The commands, each with its values.
-const COMMANDS: [(&str, &[&str]); 8] = [
-    ("init", &["FILE"]),
-    ("run", &["FILE", "ORDER"]),
-    ("inspect", &["FILE"]),
-    ("dump", &["FILE"]),
-    ("restore", &["FILE"]),
-    ("why", &["FILE", "ID"]),
-    ("make", &["SEED", "N"]),
-    ("trial", &["FILE", "SEED", "N"]),
+// The commands, each with the values that have to be given, and with those that may be.
+const COMMANDS: [(&str, &[&str], &[&str]); 8] = [
+    ("init", &["FILE"], &[]),
+    ("run", &["FILE", "MODE"], &["PLACE"]),
+    ("inspect", &["FILE"], &[]),
+    ("dump", &["FILE"], &[]),
+    ("restore", &["FILE"], &[]),
+    ("why", &["FILE", "ID"], &[]),
+    ("make", &["SEED", "N"], &[]),
+    ("trial", &["FILE", "SEED", "N"], &[]),
 ];
 
-// A command, and values that have to be given.
-fn command<'a>(alloc: Global, name: &'a str, values: &[&'a str]) -> Result<Command<'a>, NoMemory> {
-    let mut command = Command::new(alloc, name);
+// A command with these values more.
+fn with_values<'a>(
+    alloc: Global,
+    mut command: Command<'a>,
+    values: &[&'a str],
+    is_required: bool,
+) -> Result<Command<'a>, NoMemory> {
     for value in values {
-        command = command.arg(Arg::new(alloc, value).required(true))?;
+        command = command.arg(Arg::new(alloc, value).required(is_required))?;
     }
     Ok(command)
 }
@@ -29,8 +33,9 @@ fn grammar<'a>(alloc: Global) -> Result<Command<'a>, NoMemory> {
     let mut commands = Command::new(alloc, "pmos")
         .no_binary_name(true)
         .subcommand_required(true);
-    for (name, values) in COMMANDS {
-        commands = commands.subcommand(command(alloc, name, values)?)?;
+    for (name, required, optional) in COMMANDS {
+        let command = with_values(alloc, Command::new(alloc, name), required, true)?;
+        commands = commands.subcommand(with_values(alloc, command, optional, false)?)?;
     }
     Ok(commands)
 }

@@ -1,12 +1,13 @@
-ghost use Rattle.std.specs.Prelude.{◌≡◌, ◌<◌, ◌∷◌, [], ℕ, map, decimal, codes, IfSome, IfNone, true, false};
-ghost use Rattle.pm_words.specs.Words.{IsFile, IsIdentity, IsNumber, IsTurns, Spells, SpellsNothing};
+ghost use Rattle.std.specs.Prelude.{◌≡◌, ◌<◌, ◌∷◌, [], List, ℕ, map, decimal, codes, IfSome, IfNone, true, false};
+ghost use Rattle.pm_words.specs.Words.{EndsRun, IsFile, IsIdentity, IsNumber, IsTurns, Spells, SpellsNothing};
 
 use crate::command::Command;
+use crate::place::choice_of;
 use itoa::Buffer;
 use pm_types::MOST_TURNS;
 
 // Whether a word is a file's name: it is not empty, and does not begin with a dash.
-fn is_file(word: &str) -> bool
+pub(crate) fn is_file(word: &str) -> bool
     ensures yes { result ≡ true → IsFile word.now }
     ensures no { result ≡ false → IsFile word.now → ⊥ }
 {
@@ -106,6 +107,35 @@ fn of_why(file: &str, word: &str) -> Option<Command>
     Some(Command::Why { id })
 }
 
+// The command of `run`, FILE and MODE, whatever may stand behind them.
+fn of_run(file: &str, mode: &str) -> Option<Command>
+    ensures some { IfSome result (λ command. (rest : List (List ℕ)) → EndsRun rest
+        → Spells (codes "run" ∷ file.now ∷ mode.now ∷ rest) command) }
+    ensures none { IfNone result ((rest : List (List ℕ)) → SpellsNothing (codes "run" ∷ file.now ∷ mode.now ∷ rest)) }
+{
+    if !is_file(file) {
+        None
+    } else if mode == "serial" {
+        Some(Command::Run)
+    } else if mode == "threads" {
+        Some(Command::RunThreads)
+    } else {
+        None
+    }
+}
+
+// The command of `run` with a third word behind FILE and MODE.
+fn of_placed_run(file: &str, mode: &str, place: &str) -> Option<Command>
+    ensures some { IfSome result (Spells (codes "run" ∷ file.now ∷ mode.now ∷ place.now ∷ [])) }
+    ensures none { IfNone result (SpellsNothing (codes "run" ∷ file.now ∷ mode.now ∷ place.now ∷ [])) }
+{
+    if choice_of(place).is_some() {
+        of_run(file, mode)
+    } else {
+        None
+    }
+}
+
 // The command of three words.
 fn of_three(verb: &str, second: &str, third: &str) -> Option<Command>
     ensures some { IfSome result (Spells (verb.now ∷ second.now ∷ third.now ∷ [])) }
@@ -115,26 +145,38 @@ fn of_three(verb: &str, second: &str, third: &str) -> Option<Command>
         of_make(second, third)
     } else if verb == "why" {
         of_why(second, third)
-    } else if verb == "run" && is_file(second) && third == "serial" {
-        Some(Command::Run)
-    } else if verb == "run" && is_file(second) && third == "threads" {
-        Some(Command::RunThreads)
+    } else if verb == "run" {
+        of_run(second, third)
     } else {
         None
     }
 }
 
-// The command of four words.
-fn of_four(verb: &str, file: &str, first: &str, second: &str) -> Option<Command>
-    ensures some { IfSome result (Spells (verb.now ∷ file.now ∷ first.now ∷ second.now ∷ [])) }
-    ensures none { IfNone result (SpellsNothing (verb.now ∷ file.now ∷ first.now ∷ second.now ∷ [])) }
+// The command of four words of which the first is `trial`.
+fn of_trial(file: &str, first: &str, second: &str) -> Option<Command>
+    ensures some { IfSome result (Spells (codes "trial" ∷ file.now ∷ first.now ∷ second.now ∷ [])) }
+    ensures none { IfNone result (SpellsNothing (codes "trial" ∷ file.now ∷ first.now ∷ second.now ∷ [])) }
 {
-    if verb != "trial" || !is_file(file) {
+    if !is_file(file) {
         return None;
     }
     let seed = number(first)?;
     let turns = turns(second)?;
     Some(Command::Trial { seed, turns })
+}
+
+// The command of four words.
+fn of_four(verb: &str, file: &str, third: &str, fourth: &str) -> Option<Command>
+    ensures some { IfSome result (Spells (verb.now ∷ file.now ∷ third.now ∷ fourth.now ∷ [])) }
+    ensures none { IfNone result (SpellsNothing (verb.now ∷ file.now ∷ third.now ∷ fourth.now ∷ [])) }
+{
+    if verb == "trial" {
+        of_trial(file, third, fourth)
+    } else if verb == "run" {
+        of_placed_run(file, third, fourth)
+    } else {
+        None
+    }
 }
 
 /// The command of these words, or none where they are no command's.
@@ -145,7 +187,7 @@ pub(crate) fn command_of(words: &[&str]) -> Option<Command>
     match words {
         [verb, file] => of_two(verb, file),
         [verb, second, third] => of_three(verb, second, third),
-        [verb, file, first, second] => of_four(verb, file, first, second),
+        [verb, file, third, fourth] => of_four(verb, file, third, fourth),
         _ => None,
     }
 }

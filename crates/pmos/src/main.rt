@@ -2,20 +2,21 @@
 //! leaves all else to `pm_top`.
 #![tactic(auto)]
 
-ghost use Rattle.std.specs.Prelude.{◌≡◌, map, drop, string_bytes, IfOk, OnErr};
+ghost use Rattle.std.specs.Prelude.{◌≡◌, ◌<◌, length, map, drop, string_bytes, IfOk, OnErr};
 ghost use Rattle.std.specs.Process.{exit_status};
 ghost use Rattle.std.specs.Vec.Iter.{into_iter_items};
 ghost use Rattle.pm_top.specs.Ends.{detail_line};
 ghost use Rattle.pm_top.specs.Program.{Tells, TellsEnd};
-ghost use Rattle.pmos.specs.Main.{path_in, PerformsFrom};
+ghost use Rattle.pmos.specs.Main.{path_in, place_in, PerformsFrom};
 
 use pm_disk::Disk;
 use pm_file::FileDisk;
 use pm_io::{Sink, Source, StdSink, StdSource};
-use pm_place::Placement;
+use pm_place::{Placement, first_of, last_of, middle_of};
 use pm_top::{Detail, Ended, program, tell};
 use pm_turns::OpenGate;
 use pm_types::NoMemory;
+use pm_words::{Chosen, read_place};
 use std::alloc::{AllocError, Global};
 use std::env::{Args, Env};
 use std::io::{ErrorKind, Read, Write};
@@ -67,6 +68,18 @@ fn path_of<'a>(words: &[&'a str]) -> &'a str
     }
 }
 
+// The place in a list of trains of the one that is chosen.
+fn place_of(chosen: Chosen, trains: &[u64]) -> usize
+    requires { 0 < length trains.now }
+    ensures { result ≡ place_in chosen (length trains.now) }
+{
+    match chosen {
+        Chosen::First => first_of(trains),
+        Chosen::Last => last_of(trains),
+        Chosen::Middle => middle_of(trains),
+    }
+}
+
 // Runs the program over the file that the words name, over a reader and over a writer, and hands back what it left.
 fn run<R: AllocGlobal + Threads + Wait + Sync, I: Read + Drop, O: Write + Drop, E: Sink>(
     rt: &R,
@@ -87,8 +100,9 @@ fn run<R: AllocGlobal + Threads + Wait + Sync, I: Read + Drop, O: Write + Drop, 
     let disk = FileDisk::at(files, rt.alloc(), path_of(words))?;
     let source = StdSource::new(reader);
     let sink = StdSink::new(writer);
-    // Of the trains an object may move to it picks the first.
-    let place = Placement::new(|_: &[u64]| 0);
+    // Of the trains that an object may move to it picks the one that the words choose.
+    let chosen = read_place(words);
+    let place = Placement::new(move |trains: &[u64]| place_of(chosen, trains));
     // Between its turns no worker is held back.
     let gate = OpenGate;
     Ok(program(rt, words, disk, source, sink, errors, place, &gate))
