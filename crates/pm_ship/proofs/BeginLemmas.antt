@@ -22,7 +22,7 @@ use Rattle.pm_ship.specs.Begun.{BeginsOffered, MayBeOffered, idle}
 use Rattle.pm_ship.specs.Cars.{cars_kept}
 use Rattle.pm_ship.specs.Listing.{with_trains}
 use Rattle.pm_ship.specs.Offers.{Offer}
-use Rattle.pm_ship.specs.Reading.{offered}
+use Rattle.pm_ship.specs.Stores.{offered}
 use Rattle.pm_ship.proofs.CountLemmas.{left_counted}
 
 -- what is begun with these cars and roots is the copy of what is offered

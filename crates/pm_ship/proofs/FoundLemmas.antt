@@ -18,7 +18,7 @@ use Rattle.pm_graphs.specs.Reopening.{IsGraph}
 use Rattle.pm_reopen.specs.Opening.{IsUnopened}
 use Rattle.pm_reopen.proofs.OpenLaws.{graph_unopened, used_there}
 use Rattle.pm_ship.specs.declared.store.StoreRead.{StoreRead}
-use Rattle.pm_ship.specs.Reading.{IsReadOf, IsTakenFrom}
+use Rattle.pm_ship.specs.Stores.{IsReadOf, IsTakenFrom}
 use Rattle.pm_ship.specs.Offers.{IsFound}
 
 placed : (count : ℕ) (header : Header) → IsThere count header.first → is_placed count header ≡ true

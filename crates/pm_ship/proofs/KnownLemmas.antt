@@ -3,7 +3,7 @@ use Rattle.std.proofs.Common.{◌≡◌, ℕ, true, false, List, ap, sym, subst,
 use Rattle.pm_shadow.specs.State.{IsIdle, State, abandoned_in, known_by}
 use Rattle.pm_shadow.specs.Uses.{UsesOnlyListed}
 use Rattle.pm_shadow.proofs.CopyLemmas.{abandoned_idle, listed_idle}
-use Rattle.pm_ship.specs.Reading.{IsKnownFrom}
+use Rattle.pm_ship.specs.Stores.{IsKnownFrom}
 
 -- what was claimed or kept was given up
 pub abandoned_known : (s t : State) → t ≡ abandoned_in s → s.known ≡ true → IsKnownFrom s t

@@ -10,3 +10,6 @@ pub mod WriteLemmas
 pub mod StandbyLemmas
 pub mod OfferedLemmas
 pub mod KnownLemmas
+pub mod ShipLemmas
+pub mod HistoryLemmas
+pub mod DiskLemmas

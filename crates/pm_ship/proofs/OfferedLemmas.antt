@@ -20,7 +20,7 @@ use Rattle.pm_ship.specs.declared.standby.Standby.{Standby}
 use Rattle.pm_ship.specs.Begun.{MayBeOffered}
 use Rattle.pm_ship.specs.Listing.{with_trains}
 use Rattle.pm_ship.specs.Offers.{IsFound, IsOffered, Offer, copy_offered, offer_of}
-use Rattle.pm_ship.specs.Reading.{IsReadOf, IsStandby, offered}
+use Rattle.pm_ship.specs.Stores.{IsReadOf, IsStandby, offered}
 use Rattle.pm_ship.proofs.ListLemmas.{listed_paired, trains_counted}
 use Rattle.pm_ship.proofs.OfferLemmas.{accepted_alone, copy_alone, names_kept}
 

@@ -33,7 +33,7 @@ use Rattle.pm_ship.specs.declared.store.StoreRead.{StoreRead}
 use Rattle.pm_ship.specs.declared.standby.Standby.{Standby}
 use Rattle.pm_ship.specs.Begun.{idle}
 use Rattle.pm_ship.specs.Offers.{IsFound}
-use Rattle.pm_ship.specs.Reading.{IsKnownFrom, IsPackedFrom, IsReadOf, IsReady, IsStandby}
+use Rattle.pm_ship.specs.Stores.{IsKnownFrom, IsPackedFrom, IsReadOf, IsReady, IsStandby}
 
 all_on : (P : ℕ → Type 0) (cars : List KeptPage) → ((page : ℕ) → Contains (map (λ (kept : KeptPage). kept.page) cars) page → P page) → AllByRecursion (λ (kept : KeptPage). P kept.page) cars
 all_on P [] at = tt
@@ -42,7 +42,7 @@ all_on P (kept ∷ cars) at = (
   all_on P cars (λ page within. at page (Contains-append_right (kept.page ∷ []) (map (λ (kept : KeptPage). kept.page) cars) page within)),
 )
 
-ok_is : {a b : Graph} → ◌≡◌ {A = Result Graph OpenFault} (Ok a) (Ok b) → a ≡ b
+pub ok_is : {a b : Graph} → ◌≡◌ {A = Result Graph OpenFault} (Ok a) (Ok b) → a ≡ b
 ok_is same = cc
 
 current_keeps : (known : Bool) (use_ : PageUse) → use_ ≡ Current → keeps_by known use_ ≡ true

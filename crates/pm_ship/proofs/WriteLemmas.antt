@@ -1,7 +1,8 @@
 -- What is written beside the copy of a standby.
-use Rattle.std.proofs.Common.{◌≡◌, ◌⊎◌, inl, inr, ⊎_elim, ℕ, ◌+◌, ◌≤◌, Bool, true, false, List, [], ◌∷◌, Option, Some, None, refl, sym, ap, subst, ◌∙◌}
+use Rattle.std.proofs.Common.{◌≡◌, ◌⊎◌, inl, inr, ⊎_elim, ℕ, ◌+◌, ◌≤◌, Bool, true, false, List, [], ◌∷◌, Option, Some, None, Ok, Err, refl, sym, ap, subst, ◌∙◌}
 use Rattle.std.specs.List.{AllByRecursion}
 use Rattle.std.proofs.lemmas.Option.{same_Some}
+use Rattle.pm_base.specs.Counts.{Rose}
 use Rattle.pm_disk.specs.declared.disk.Disk.{Ghosts}
 use Rattle.pm_disk.specs.Made.{MadeMore}
 use Rattle.pm_disk.proofs.RunLemmas.{started, weaker}
@@ -23,13 +24,18 @@ use Rattle.pm_view.specs.View.{Cars}
 use Rattle.pm_law_saving.proofs.Publishing.{copy_held}
 use Rattle.pm_saving.specs.Progress.{Progress, Saving, copy_of}
 use Rattle.pm_saving.specs.Paging.{CarPage, NextPage, PartPage, left, left_of, next_page, with_next, written_on}
-use Rattle.pm_saving.specs.Tied.{HasCopy}
+use Rattle.pm_saving.specs.Tied.{HasCopy, IsTied}
+use Rattle.pm_save.specs.declared.fault.SaveFault.{SaveFault}
+use Rattle.pm_save.specs.declared.fault.SaveFault.TheVariants as saving
+use Rattle.pm_save.specs.Answers.{IfMemory, IsFaultOf, TellsOn}
 use Rattle.pm_save.specs.Settling.{IsLeftSo, SettlesPages, SparesEither, StandsThen, settling_syncs}
 use Rattle.pm_ship.specs.declared.fault.Shipped.{Shipped}
+use Rattle.pm_ship.specs.declared.fault.ShipFault.TheVariants.{Memory}
 use Rattle.pm_ship.specs.Begun.{BeginsOffered}
 use Rattle.pm_ship.specs.Cars.{cars_kept}
 use Rattle.pm_ship.specs.Offers.{Offer, copy_offered}
-use Rattle.pm_ship.specs.Writing.{HasOffered, IsBeside, IsLaid, LeavesCopy, LeavesEitherOf, SparesCopy}
+use Rattle.pm_ship.specs.Written.{HasOffered, IsBeside, IsLaid, LeavesCopy, LeavesEitherOf, SparesCopy}
+use Rattle.pm_ship.specs.Shipped.{LeavesWritten, saving_fault}
 
 -- ---- the pages that were free
 
@@ -76,7 +82,7 @@ module _ {E : Type 0} {e : Ghosts E} where
   -- ---- nothing was written
 
   -- each image now stands for the copy that the pages have
-  stands_now : (it : Pages E e) → (state it).failed ≡ false → (mine : Copy) (was image : List ℕ) → e.contents (disk_of it) ≡ Some was → HasCopy (state it) was mine → e.image (disk_of it) image
+  pub stands_now : (it : Pages E e) → (state it).failed ≡ false → (mine : Copy) (was image : List ℕ) → e.contents (disk_of it) ≡ Some was → HasCopy (state it) was mine → e.image (disk_of it) image
       → StandsForCopy image (state it).header.epoch mine
   stands_now it fine mine was image told has left = copy_held (state it) was image mine has ((current_kept it fine was told).each image left)
 
@@ -168,3 +174,27 @@ module _ {E : Type 0} {e : Ghosts E} where
             made = subst (λ (n : ℕ). MadeMore (n + (shutting (state before) + 2)) (settling_syncs (state before)) 0 (e.made (disk_of before)) (e.made (disk_of after))) (sym all)
                 (subst (λ (o : Option Progress). MadeMore (left_of o + (shutting (state before) + 2)) (settling_syncs (state before)) 0 (e.made (disk_of before)) (e.made (disk_of after))) begun.is_progress it.made);
           }
+
+  -- ---- what is left, whatever was answered
+
+  -- nothing was written, since memory ran out
+  pub none_written : (offer : Offer) (it : Pages E e) → (state it).failed ≡ false → ((left : List ℕ) → e.since (disk_of it) (e.moment (disk_of it)) left → e.image (disk_of it) left) → LeavesWritten offer it it (Err Memory)
+  none_written offer it fine now = record {
+    leaves = either_leaves offer it it (none_leaves it fine now);
+    spares = none_spared it fine now;
+    sound = fine;
+    told = λ bytes told. (bytes, told);
+    cause = refl;
+  }
+
+  -- it was not written whole
+  pub part_written : (offer : Offer) (before after : Pages E e) (old new : Saving) (frozen : Option Cars) (was is : ℕ) (fault : SaveFault) → was ≡ e.count (disk_of before) → is ≡ e.count (disk_of after) → LeavesEitherOf offer before after
+      → IfMemory (IsLeftSo e.contents e.moment e.since old new (state before) (state after) (disk_of before) (disk_of after)) fault → IfMemory (IsTied new frozen (state after) (e.contents (disk_of after))) fault
+      → TellsOn (e.contents (disk_of before)) (e.contents (disk_of after)) → IsFaultOf (e.count (disk_of before)) (e.count (disk_of after)) fault → LeavesWritten offer before after (Err (saving_fault was is fault))
+  part_written offer before after old new frozen was is saving.Disk was_is is_is leaves memory tied told rose = record { leaves = leaves; spares = tt; sound = tt; told = told; cause = (was_is, is_is, subst (λ (n : ℕ). Rose n is) (sym was_is) (subst (λ (n : ℕ). Rose (e.count (disk_of before)) n) (sym is_is) rose)) }
+  part_written offer before after old new frozen was is saving.Memory was_is is_is leaves memory tied told stays = record { leaves = leaves; spares = left_spared before after old new memory; sound = tied.sound; told = told; cause = stays }
+
+  -- it was
+  pub whole_written : (offer : Offer) (before after : Pages E e) (shipped : Shipped) → LeavesEitherOf offer before after → (state after).failed ≡ false → TellsOn (e.contents (disk_of before)) (e.contents (disk_of after))
+      → e.count (disk_of after) ≡ e.count (disk_of before) → LeavesWritten offer before after (Ok shipped)
+  whole_written offer before after shipped leaves sound told stays = record { leaves = leaves; spares = tt; sound = sound; told = told; cause = stays }

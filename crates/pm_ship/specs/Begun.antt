@@ -16,7 +16,7 @@ use Rattle.pm_ship.specs.declared.store.StoreRead.{StoreRead}
 use Rattle.pm_ship.specs.Cars.{cars_kept}
 use Rattle.pm_ship.specs.Counting.{IsCount}
 use Rattle.pm_ship.specs.Offers.{Offer, copy_offered}
-use Rattle.pm_ship.specs.Reading.{offered}
+use Rattle.pm_ship.specs.Stores.{offered}
 
 -- the copy of these cars is settled, and none is in progress
 abbrev pub idle : List KeptPage → Saving

@@ -2,8 +2,10 @@ pub mod Cars
 pub mod Listing
 pub mod Offers
 pub mod Counting
-pub mod Reading
-pub mod Comparing
+pub mod Stores
+pub mod SameLists
 pub mod Begun
-pub mod Writing
+pub mod Written
 pub mod Shipped
+pub mod Disks
+pub mod History

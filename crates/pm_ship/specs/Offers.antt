@@ -5,7 +5,7 @@ use Rattle.pm_disk.specs.Disk.{IfTold}
 use Rattle.pm_layout.specs.declared.header.Header.{Header}
 use Rattle.pm_model.specs.World.{Copy}
 use Rattle.pm_image.specs.Graphs.{Graph, entries_of}
-use Rattle.pm_image.specs.Stands.{opened}
+use Rattle.pm_image.specs.Stands.{Opened, opened}
 use Rattle.pm_shadow.specs.State.{State}
 use Rattle.pm_shadow.specs.Copies.{current_graph}
 use Rattle.pm_copies.specs.Accepted.{roots_in}
@@ -24,6 +24,10 @@ pub record Offer : Type 0 where
 -- what this graph behind this header has
 abbrev pub offer_of : Header → Graph → Offer
 offer_of header graph = record { epoch = header.epoch; next = header.next; list = listed_graph graph; roots = roots_in (entries_of graph.catalog) }
+
+-- what a store has in which this was found
+abbrev pub offer_in : Opened → Offer
+offer_in found = offer_of found.current.header found.graph
 
 -- the copy that it is
 abbrev pub copy_offered : Offer → Copy

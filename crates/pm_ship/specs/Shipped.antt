@@ -1,5 +1,5 @@
 -- What a ship promises.
-use Rattle.std.specs.Prelude.{◌≡◌, ◌⊎◌, ℕ, ◌<◌, ◌≤◌, List, Option, Some, Result, MatchResult}
+use Rattle.std.specs.Prelude.{◌≡◌, ◌⊎◌, ℕ, ◌<◌, ◌≤◌, false, List, Option, Some, Result, MatchResult, IfErr}
 use Rattle.pm_base.specs.Counts.{ShowsRise}
 use Rattle.pm_types.specs.declared.fault.OpenFault.{OpenFault}
 use Rattle.pm_types.specs.declared.fault.OpenFault.TheVariants.{NotAStore, Version, Damaged, Malformed}
@@ -8,39 +8,45 @@ use Rattle.pm_disk.specs.Disk.{IfTold, LeavesOnly}
 use Rattle.pm_disk.specs.declared.disk.Disk.{Ghosts}
 use Rattle.pm_model.specs.World.{Copy}
 use Rattle.pm_image.specs.Graphs.{Graph, images_of}
-use Rattle.pm_image.specs.Stands.{StandsForCopy}
+use Rattle.pm_image.specs.Stands.{Opened, StandsForCopy}
 use Rattle.pm_shadow.specs.State.{State}
+use Rattle.pm_shadow.specs.Copies.{current_graph}
 use Rattle.pm_shadow.specs.Pages.{disk_of, state}
 use Rattle.pm_shadow.specs.declared.pages.Pages.{Pages}
+use Rattle.pm_graphs.specs.Reopening.{IsGraphFault}
+use Rattle.pm_reopen.specs.Opening.{IsUnopened}
 use Rattle.pm_saving.specs.Tied.{HasCopy}
+use Rattle.pm_save.specs.declared.fault.SaveFault.{SaveFault}
+use Rattle.pm_save.specs.declared.fault.SaveFault.TheVariants as saving
+use Rattle.pm_save.specs.Answers.{TellsOn}
 use Rattle.pm_ship.specs.declared.fault.Shipped.{Shipped}
 use Rattle.pm_ship.specs.declared.fault.ShipFault.{ShipFault}
 use Rattle.pm_ship.specs.declared.fault.ShipFault.TheVariants.{From, To, Ahead, Foreign, Disk, OtherDisk, Memory}
 use Rattle.pm_ship.specs.Counting.{IsCount}
-use Rattle.pm_ship.specs.Offers.{AreSame, IsFound, IsOffered, Offer, offer_of}
-use Rattle.pm_ship.specs.Reading.{IsRefusedSo, IsStill}
-use Rattle.pm_ship.specs.Writing.{ChangesFew, HasOffered, MakesPages}
+use Rattle.pm_ship.specs.Offers.{AreSame, IsFound, IsOffered, Offer, offer_in, offer_of}
+use Rattle.pm_ship.specs.Stores.{IsReady, IsRefusedSo, IsStill}
+use Rattle.pm_ship.specs.Written.{ChangesFew, HasOffered, LeavesEitherOf, MakesPages, SparesCopy}
 
 -- ---- Ok
 
 -- the standby had what is offered, under the same number: nothing was written
-pub record HadIt (offer : Offer) (s : State) (mine : Graph) (was now : List ℕ) (written : ℕ) : Type 0 where
-  pub equal : s.header.epoch ≡ offer.epoch
-  pub same : AreSame offer (offer_of s.header mine)
+pub record HadIt (offer : Offer) (mine : Opened) (was now : List ℕ) (written : ℕ) : Type 0 where
+  pub equal : mine.current.header.epoch ≡ offer.epoch
+  pub same : AreSame offer (offer_in mine)
   pub none : written ≡ 0
   pub still : now ≡ was
 
 -- it had an earlier copy: those pages were written that it lacked, beside that copy, and a header
-pub record GotIt (offer : Offer) (s : State) (mine : Graph) (was now : List ℕ) (written : ℕ) : Type 0 where
-  pub later : s.header.epoch < offer.epoch
-  pub count : IsCount (images_of mine.cars) offer written
-  pub changes : ChangesFew s mine was now written
+pub record GotIt (offer : Offer) (mine : Opened) (was now : List ℕ) (written : ℕ) : Type 0 where
+  pub later : mine.current.header.epoch < offer.epoch
+  pub count : IsCount (images_of mine.graph.cars) offer written
+  pub changes : ChangesFew mine was now written
 
 -- The one or the other, where this graph is what opening found in the bytes before.
 pub record Ships (offer : Offer) (s : State) (was now : List ℕ) (written : ℕ) : Type 0 where
   pub mine : Graph
   pub found : IsFound s was mine
-  pub way : HadIt offer s mine was now written ⊎ GotIt offer s mine was now written
+  pub way : HadIt offer (current_graph s mine) was now written ⊎ GotIt offer (current_graph s mine) was now written
 
 module _ {E : Type 0} {e : Ghosts E} where
   -- What is offered is the standby's copy now.
@@ -80,6 +86,15 @@ IsStandbyFault offer s contents (Foreign number) = IsForeign offer s contents nu
 IsStandbyFault offer s contents (Disk before after) = ⊥
 IsStandbyFault offer s contents (OtherDisk before after) = Unit {0}
 IsStandbyFault offer s contents Memory = Unit {0}
+
+-- the disk failed
+abbrev pub IsOfDisk : OpenFault → Type 0
+IsOfDisk NotAStore = ⊥
+IsOfDisk (Version version) = ⊥
+IsOfDisk (Damaged page kept found) = ⊥
+IsOfDisk (Malformed page at) = ⊥
+IsOfDisk (unopened.Disk before after) = Unit {0}
+IsOfDisk unopened.Memory = ⊥
 
 -- what a fault of the pages of a standby is for a ship
 abbrev pub standby_fault : OpenFault → ShipFault
@@ -155,6 +170,47 @@ UnlessStopped (Disk before after) P = P
 UnlessStopped (OtherDisk before after) P = Unit {0}
 UnlessStopped Memory P = Unit {0}
 
+-- P holds, unless the standby's disk failed
+abbrev pub UnlessFails : Result Shipped ShipFault → Type 0 → Type 0
+UnlessFails result P = MatchResult result (λ _. P) (λ fault. UnlessOther fault P)
+
+-- what a fault of saving the copy is for a ship, with these counts before and after
+abbrev pub saving_fault : ℕ → ℕ → SaveFault → ShipFault
+saving_fault before after saving.Disk = OtherDisk before after
+saving_fault before after saving.Memory = Memory
+
+-- ---- the standby, whatever is answered
+
+module _ {E : Type 0} {e : Ghosts E} where
+  -- the count of its disk stands still, or rose as is told
+  abbrev pub ShowsStandby : Pages E e → Pages E e → Result Shipped ShipFault → Type 0
+  ShowsStandby before after result =
+      MatchResult result (λ _. e.count (disk_of after) ≡ e.count (disk_of before)) (IsStandbyCause (e.count (disk_of before)) (e.count (disk_of after)))
+
+  -- the same pages may be shipped to again, where the disk told its contents before
+  abbrev pub MayGoAgain : Pages E e → Pages E e → Type 0
+  MayGoAgain before after = (was : List ℕ) → e.contents (disk_of before) ≡ Some was → IsReady (state after) (e.contents (disk_of after))
+
+  -- What writing leaves: at every moment between each image stands for its copy or for what is offered, and for its copy
+  -- alone where memory ran out.
+  pub record LeavesWritten (offer : Offer) (before after : Pages E e) (result : Result Shipped ShipFault) : Type 0 where
+    pub leaves : LeavesEitherOf offer before after
+    pub spares : IfErr result (λ fault. UnlessOther fault (SparesCopy before after))
+    pub sound : UnlessFails result ((state after).failed ≡ false)
+    pub told : TellsOn (e.contents (disk_of before)) (e.contents (disk_of after))
+    pub cause : ShowsStandby before after result
+
+  -- What a ship leaves: the same, and where it was refused nothing was written.
+  pub record LeavesStandby (offer : Offer) (before after : Pages E e) (result : Result Shipped ShipFault) : Type 0 where
+    pub leaves : LeavesEitherOf offer before after
+    pub still : IfErr result (λ fault. UnlessStopped fault (IsStill before after))
+    pub spares : IfErr result (λ fault. UnlessOther fault (SparesCopy before after))
+    pub again : UnlessFails result (MayGoAgain before after)
+    pub told : TellsOn (e.contents (disk_of before)) (e.contents (disk_of after))
+    pub cause : ShowsStandby before after result
+
+-- ---- both stores
+
 module _ {D E : Type 0} {d : Ghosts D} {e : Ghosts E} where
   -- what the first store has was shipped
   abbrev pub ShipsFirst : Pages D d → Pages E e → Pages E e → Shipped → Type 0
@@ -182,3 +238,10 @@ module _ {D E : Type 0} {d : Ghosts D} {e : Ghosts E} where
       (mine theirs : Copy) (was bytes : List ℕ) → e.contents (disk_of before) ≡ Some was → HasCopy (state before) was mine
       → d.contents (disk_of from) ≡ Some bytes → StandsForCopy bytes (state from).header.epoch theirs
       → LeavesOnly e.moment e.since (disk_of before) (disk_of after) (λ image. StandsForCopy image (state before).header.epoch mine ⊎ StandsForCopy image (state from).header.epoch theirs)
+
+-- Why nothing was shipped to a standby that was not attached for this fault: it is the fault, where its disk failed or the
+-- first store is one; or a fault of the first store, behind the header of these pages. The counts are those of its disk.
+abbrev pub TellsFirst : State → Option (List ℕ) → ℕ → ℕ → OpenFault → ShipFault → Type 0
+TellsFirst s contents before after fault told =
+    ((told ≡ standby_fault fault) × (after ≡ before) × (IsOfDisk fault ⊎ IsOpened s contents))
+    ⊎ ((first : OpenFault) × (told ≡ first_fault first) × (IsOfDisk fault → ⊥) × IfTold contents (λ bytes. IsUnopened s bytes first) × IsGraphFault before after first)

@@ -1,5 +1,5 @@
 //! A standby, and the pages of its copy.
-ghost use Rattle.std.specs.Prelude.{◌≡◌, false, All, Contains, IfOk, OnOk, OnErr};
+ghost use Rattle.std.specs.Prelude.{◌≡◌, false, All, Contains, IfOk, IfErr, OnOk, OnErr};
 ghost use Rattle.std.specs.List.{AllByRecursion};
 ghost use Rattle.std.specs.FinSet as set;
 ghost use Rattle.pm_types.specs.declared.limits.TheConstants.{FIELDS};
@@ -10,14 +10,18 @@ ghost use Rattle.pm_shadow.specs.Copies.{AreUsed};
 ghost use Rattle.pm_shadow.specs.Pages.{state, disk_of};
 ghost use Rattle.pm_shadow.specs.State.{IsListable};
 ghost use Rattle.pm_shadow.specs.Uses.{UsesOnlyListed};
-ghost use Rattle.pm_ship.specs.Reading.{IsKnownFrom, IsPackedFrom};
+ghost use Rattle.pm_shadow.specs.Runs.{OnlyLooks};
+ghost use Rattle.pm_graphs.specs.Reopening.{IsGraphFault};
+ghost use Rattle.pm_reopen.specs.Opening.{IsUnopened};
+ghost use Rattle.pm_ship.specs.Stores.{IsKnownFrom, IsPackedFrom, IsReadOf, IsReady, IsStandby};
 
 use crate::index::index_of;
-use crate::store::StoreRead;
+use crate::store::{StoreRead, read_store};
 use pm_disk::Disk;
+use pm_law_copies::accepted_cars_have_pages;
 use pm_settled::{PackedPages, pack_cars};
 use pm_shadow::Pages;
-use pm_types::{Addr, Name, NoMemory};
+use pm_types::{Addr, Name, NoMemory, OpenFault};
 use std::alloc::Global;
 use std::collections::BTreeMap;
 
@@ -80,4 +84,49 @@ pub(crate) fn know_pages<E: Disk>(
     }
     pages.commit_list(alloc, used)?;
     Ok(())
+}
+
+/// What was read of a standby is taken: its cars are packed, and its pages are known from then on.
+fn take_standby<E: Disk>(
+    alloc: Global,
+    pages: &mut Pages<E>,
+    read: StoreRead,
+) -> Result<Standby, NoMemory>
+    requires read { IsReadOf (state pages.old) (E.contents (disk_of pages.old)) read }
+    requires ready { IsReady (state pages.old) (E.contents (disk_of pages.old)) }
+    ensures taken { IfOk result (IsStandby (state pages.old) (state pages.new) (E.contents (disk_of pages.old))) }
+    ensures state_err { OnErr result (state pages.new ≡ state pages.old) }
+    ensures still { disk_of pages.new ≡ disk_of pages.old }
+{
+    accepted_cars_have_pages();
+    pages.keep_their_header();
+    let (standby, used) = pack_store(alloc, read)?;
+    know_pages(alloc, pages, &used)?;
+    Ok(standby)
+}
+
+/// Reads the standby behind these pages, which are known from then on. Nothing is written.
+///
+/// # Errors
+///
+/// Those of `read_store`. The pages are as they were then.
+pub(crate) fn read_standby<E: Disk>(
+    alloc: Global,
+    pages: &mut Pages<E>,
+) -> Result<Standby, OpenFault>
+    requires { IsReady (state pages.old) (E.contents (disk_of pages.old)) }
+    ensures read { IfOk result (IsStandby (state pages.old) (state pages.new) (E.contents (disk_of pages.old))) }
+    ensures fault { IfErr result (λ fault. IfTold (E.contents (disk_of pages.old)) (λ bytes.
+        IsUnopened (state pages.old) bytes fault)) }
+    ensures cause { IfErr result (IsGraphFault (E.count (disk_of pages.old)) (E.count (disk_of pages.new))) }
+    ensures count { OnOk result (E.count (disk_of pages.new) ≡ E.count (disk_of pages.old)) }
+    ensures state_err { OnErr result (state pages.new ≡ state pages.old) }
+    ensures looks { OnlyLooks E.contents E.image E.moment E.since (disk_of pages.old) (disk_of pages.new) }
+    ensures made { E.made (disk_of pages.new) ≡ E.made (disk_of pages.old) }
+{
+    let read = read_store(alloc, pages)?;
+    let Ok(standby) = take_standby(alloc, pages, read) else {
+        return Err(OpenFault::Memory);
+    };
+    Ok(standby)
 }

@@ -9,7 +9,7 @@ ghost use Rattle.pm_graphs.specs.Reopening.{IsGraphFault};
 ghost use Rattle.pm_reopen.specs.Opening.{IsUnopened};
 ghost use Rattle.pm_ship.specs.Listing.{trains_in};
 ghost use Rattle.pm_ship.specs.Offers.{IsFound};
-ghost use Rattle.pm_ship.specs.Reading.{IsReadOf, IsTakenFrom};
+ghost use Rattle.pm_ship.specs.Stores.{IsReadOf, IsTakenFrom};
 
 use crate::entries::part_entries;
 use pm_disk::Disk;

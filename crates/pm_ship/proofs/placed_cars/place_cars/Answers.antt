@@ -6,7 +6,7 @@ use Rattle.pm_save.specs.Planned.{IsPlanned}
 use Rattle.pm_save.proofs.PlanLemmas.{planned_behind}
 use Rattle.pm_ship.specs.Listing.{with_trains}
 use Rattle.pm_ship.proofs.ListLemmas.{trains_more}
-use Rattle.pm_ship.proofs.placing.place_cars.Goals as goal
+use Rattle.pm_ship.proofs.placed_cars.place_cars.Goals as goal
 
 pub loop-index-preserved : goal.loop-index-preserved
 loop-index-preserved c =

@@ -1,7 +1,7 @@
 //! Whether two stores have the same copy.
 ghost use Rattle.std.specs.Prelude.{◌≡◌, ◌↔◌, IsTrue};
 ghost use Rattle.pm_image.specs.Graphs.{images_of};
-ghost use Rattle.pm_ship.specs.Comparing.{HaveSameLists};
+ghost use Rattle.pm_ship.specs.SameLists.{HaveSameLists};
 
 use crate::standby::Standby;
 use crate::store::StoreRead;

@@ -8,9 +8,9 @@ use Rattle.pm_model.specs.World.{Copy}
 use Rattle.pm_image.specs.declared.settled.KeptPage.{KeptPage}
 use Rattle.pm_image.specs.Graphs.{Graph, images_of, used_pages}
 use Rattle.pm_image.specs.Opening.{page_count, page_of}
-use Rattle.pm_image.specs.Stands.{StandsForCopy}
-use Rattle.pm_shadow.specs.State.{State, other}
-use Rattle.pm_shadow.specs.Copies.{KeepsGraph}
+use Rattle.pm_image.specs.Stands.{Opened, StandsForCopy}
+use Rattle.pm_shadow.specs.State.{other}
+use Rattle.pm_shadow.specs.Copies.{KeepsGraph, current_graph}
 use Rattle.pm_shadow.specs.Images.{shutting}
 use Rattle.pm_shadow.specs.Pages.{disk_of, state}
 use Rattle.pm_shadow.specs.declared.pages.Pages.{Pages}
@@ -25,14 +25,14 @@ pub record IsBeside (mine : Graph) (page : ℕ) : Type 0 where
   pub from_2 : 2 ≤ page
   pub apart : Contains (used_pages mine) page → ⊥
 
--- Of the pages that there were only so many are others, each beside the copy on this graph and none twice, and that of
--- the other header.
-pub record ChangesFew (s : State) (mine : Graph) (was now : List ℕ) (written : ℕ) : Type 0 where
+-- Of the pages that there were only so many are others, each beside the copy that was found there and none twice, and that
+-- of the other header.
+pub record ChangesFew (mine : Opened) (was now : List ℕ) (written : ℕ) : Type 0 where
   pub pages : List ℕ
   pub count : length pages ≡ written
   pub apart : AreApart pages
-  pub beside : AllByRecursion (IsBeside mine) pages
-  pub only : (page : ℕ) → page < page_count was → (page ≡ other s.slot → ⊥) → (Contains pages page → ⊥) → page_of now page ≡ page_of was page
+  pub beside : AllByRecursion (IsBeside mine.graph) pages
+  pub only : (page : ℕ) → page < page_count was → (page ≡ other mine.current.slot → ⊥) → (Contains pages page → ⊥) → page_of now page ≡ page_of was page
 
 module _ {E : Type 0} {e : Ghosts E} where
   -- at every moment between, each image stands for the copy that the pages had
@@ -77,5 +77,5 @@ module _ {E : Type 0} {e : Ghosts E} where
     pub has : HasOffered offer before after
     pub count : IsCount (images_of settled) offer shipped.written
     pub changes : (mine : Graph) (was now : List ℕ) → e.contents (disk_of before) ≡ Some was → KeepsGraph (state before) was mine
-        → e.contents (disk_of after) ≡ Some now → ChangesFew (state before) mine was now shipped.written
+        → e.contents (disk_of after) ≡ Some now → ChangesFew (current_graph (state before) mine) was now shipped.written
     pub made : MakesPages shipped.written before after

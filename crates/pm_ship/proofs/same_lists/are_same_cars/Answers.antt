@@ -1,7 +1,7 @@
 use Rattle.std.proofs.Common.{sym, ap, ◌∙◌, arith}
 use Rattle.pm_image.specs.declared.settled.KeptPage.{KeptPage}
 use Rattle.pm_ship.proofs.SameLemmas.{same_at, same_long}
-use Rattle.pm_ship.proofs.comparing.are_same_cars.Goals as goal
+use Rattle.pm_ship.proofs.same_lists.are_same_cars.Goals as goal
 
 pub returns-then-not-is_same_car : goal.returns-then-not-is_same_car
 returns-then-not-is_same_car c = (

@@ -1,9 +1,9 @@
 use Rattle.std.proofs.Common.{map, refl}
 use Rattle.pm_law_layout.specs.Plans.{root_entry}
-use Rattle.pm_ship.specs.Reading.{offered}
+use Rattle.pm_ship.specs.Stores.{offered}
 use Rattle.pm_ship.proofs.BeginLemmas.{begins_offered, frozen_offered, planned_offered, within_offered}
 use Rattle.pm_ship.proofs.CarLemmas.{found_alone}
-use Rattle.pm_ship.proofs.writing.begin.Goals as goal
+use Rattle.pm_ship.proofs.next_copy.begin.Goals as goal
 
 pub new-requires : goal.new-requires
 new-requires c =

@@ -2,7 +2,7 @@ use Rattle.std.proofs.Common.{take}
 use Rattle.pm_image.specs.Graphs.{images_of}
 use Rattle.pm_save.specs.Planned.{IsPlanned}
 use Rattle.pm_ship.specs.Listing.{with_trains}
-use Rattle.pm_ship.proofs.placing.place_cars.Given as goal
+use Rattle.pm_ship.proofs.placed_cars.place_cars.Given as goal
 
 -- the cars so far
 abbrev pub invariant-loop-index : goal.invariant-loop-index
