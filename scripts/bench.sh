@@ -4,6 +4,7 @@
 # - a store of 7,000 and of 28,000 objects of 200 bytes that are all reached: the first save and settle, and opening, each
 #   beside `dd` and `sha256sum` of as many pages; memory beside the bytes of the objects;
 # - a second settle after one `put`: how many pages it writes, and how long it takes beside the first;
+# - shipping them to a new standby, beside `cp` and two `sha256sum`; again; and after one `put`;
 # - the report of these stores, their dump, a store that is restored of it, and why their first object is kept, which is a
 #   path through all of them;
 # - scripts of 16,384 and of 65,536 lines of mixed commands;
@@ -101,6 +102,15 @@ for count in (7000, 28000):
     once, _ = timed(run(store), put, lambda: copied(kept, store))
     again, _ = timed(run(store), put + b"0 save\n0 settle\n", lambda: copied(kept, store))
     grown = os.path.getsize(store) // PAGE - 3 - pages
+    standby, shipped = f"{work}/standby.pmos", f"{work}/shipped.pmos"
+    ship = [pmos, "ship", kept, standby]
+    ships, most = timed(ship, b"", lambda: fresh(standby))
+    copied(standby, shipped)
+    same, _ = timed(ship)
+    later, _ = timed([pmos, "ship", store, standby], b"", lambda: copied(shipped, standby))
+    with open(f"{work}/replies", "rb") as replies:
+        line_told = replies.read().decode().strip()
+    plain, _ = timed(["sh", "-c", f"cp {kept} {work}/copy && sha256sum {kept} && sha256sum {work}/copy"])
     first, second = both - without, again - once
     data = count * 200
     print(f"  {count:6d} objects, {pages} pages; dd with fsync {dd:.3f} s, sha256sum {sha:.3f} s")
@@ -111,6 +121,7 @@ for count in (7000, 28000):
     print(f"    restoring it {restore - empty:.3f} s, {(restore - empty) / (report - empty):.1f} of the report and {(restore - empty) / first:.1f} of the first save and settle (3 and 1.5 at most); {(restored - empty_memory) / text:.1f} bytes for one of the text (2.5 at most)")
     print(f"    why the first object is kept, a path of {count} steps, {why - empty:.3f} s, {(why - empty) / (opening - empty):.1f} of opening; {(walked - opened) / count:.0f} bytes an object more than opening")
     print(f"    second save and settle after one put {second:.3f} s, {second / first:.2f} of the first (0.10 at most); the file grew by {grown} pages")
+    print(f"    shipping it to a new standby {ships:.3f} s, {ships / plain:.1f} of cp and two sha256sum (2 at most), {(most - empty_memory) / (opened - empty_memory):.1f} times the memory of opening it; again {same:.3f} s; after the put, which wrote '{line_told}', {later:.3f} s")
     print(f"    memory {(memory - empty_memory) / data:.1f} of the objects' bytes with the copy, {(graph - empty_memory) / data:.1f} without (5 at most), {(opened - empty_memory) / data:.1f} opened")
 
 def line(i):

@@ -1,7 +1,7 @@
 #!/usr/bin/env bash
 # Runs the program on real files and streams: closed streams, a full device, files that cannot be had, two runs at
-# once, a pipe that closes early, a run that is killed behind a settle, a script that is too long, little memory, and the
-# report, a script that is made and a trial beside what other programs find. It prints a table of what was wanted and
+# once, a pipe that closes early, a run that is killed behind a settle, a standby, a script that is too long, little memory,
+# and the report, a script that is made and a trial beside what other programs find. It prints a table of what was wanted and
 # what came, and ends with 0 where they are the same on every line. What the machine lacks is skipped, and its line says so.
 #
 # It takes the program that 'rt ci' or 'rt run' built, or the one that PMOS names; where there is neither, it builds one
@@ -179,6 +179,56 @@ head -c 268435457 /dev/zero | "$pmos" restore "$work/restored" 2>"$work/err"
 came="${PIPESTATUS[1]} $(cat "$work/err")"
 [ -e "$work/restored" ] && came+=", a file"
 row "restore, of a byte over 256 MiB" "2 pmos: script too long" "$came"
+
+# A standby. It lacks the car and the catalog of the first store, which come to lie on the same pages, so that both files
+# are the same then; the second ship has nothing to write. The standby replies as the first store does.
+fresh_standby() { rm -f "$work/standby" && cp "$work/made" "$work/standby"; }
+ship() { "$pmos" ship "$@" </dev/null >"$work/out" 2>"$work/err"; }
+cp "$work/settled" "$work/store"
+fresh_standby
+ship "$work/store" "$work/standby"
+came="$? $(cat "$work/out" "$work/err")"
+ship "$work/store" "$work/standby"
+came+=", $? $(cat "$work/out" "$work/err"), $(is_which "$work/store") $(is_which "$work/standby")"
+row "a store is shipped, twice" "0 shipped 1 2, 0 shipped 1 0, settled settled" "$came"
+"$pmos" run "$work/standby" serial <"$work/find.script" >"$work/out"
+row "  the replies of the standby" "0 the same" "$? $(cmp -s "$work/out" "$work/find.replies" && echo the same || echo others)"
+fresh_standby
+ship "$work/standby" "$work/store"
+row "a standby that is ahead" "6 pmos: standby ahead 1 0, made settled" \
+    "$? $(cat "$work/out" "$work/err"), $(is_which "$work/standby") $(is_which "$work/store")"
+
+# A file is one store alone: it is locked as the first store, so it cannot be had as the other one. A file that is missing is
+# made by the first call of its disk, and has no byte then. A folder is no file.
+ship "$work/store" "$work/store"
+row "a store is shipped to itself" "5 pmos: standby disk fault, settled" "$? $(cat "$work/out" "$work/err"), $(is_which "$work/store")"
+ship "$work/store" "$work/missing"
+came="$? $(cat "$work/out" "$work/err")"
+[ -f "$work/missing" ] && came+=", a file of $(wc -c <"$work/missing") bytes"
+row "OTHER is missing" "6 pmos: standby not a store, a file of 0 bytes" "$came"
+rm -f "$work/missing"
+ship "$work/missing" "$work/standby"
+came="$? $(cat "$work/out" "$work/err")"
+[ -f "$work/missing" ] && came+=", a file of $(wc -c <"$work/missing") bytes"
+row "FILE is missing" "6 pmos: not a store, a file of 0 bytes, made" "$came, $(is_which "$work/standby")"
+rm -f "$work/missing"
+ship "$work/store" "$work/folder"
+came="$? $(cat "$work/out" "$work/err")"
+ship "$work/folder" "$work/standby"
+row "OTHER, FILE is a folder" "5 pmos: standby disk fault, 5 pmos: disk fault, settled made" \
+    "$came, $? $(cat "$work/out" "$work/err"), $(is_which "$work/store") $(is_which "$work/standby")"
+for words in "$work/store" "$work/store $work/standby $work/standby" "-s $work/standby" "$work/store -s"; do
+    # shellcheck disable=SC2086
+    ship $words
+    echo "$? $(cat "$work/out" "$work/err") $(is_which "$work/store") $(is_which "$work/standby")"
+done | uniq >"$work/ends"
+row "ship, of one file, three, an option" "1 pmos: usage settled made" "$(paste -sd, "$work/ends")"
+if [ -c /dev/full ]; then
+    "$pmos" ship "$work/store" "$work/standby" </dev/null >/dev/full 2>"$work/err"
+    row "ship: a full device" "4 pmos: write fault, settled" "$? $(cat "$work/err"), $(is_which "$work/standby")"
+else
+    row "ship: a full device" "4 pmos: write fault, settled" "skipped: no /dev/full"
+fi
 
 # A script that is made, beside the one that this short program makes by the same rule.
 if lacks python3 || lacks sha256sum; then

@@ -15,6 +15,7 @@ use crate::shown::{push_first, push_last, push_named, push_run, push_run_in_line
 use crate::spelling::{bytes, counted, first_word, number, numbered, push_lines, written_out};
 use std::alloc::Global;
 use std::fmt::Write;
+use std::mem;
 use std::sync::Wait;
 use std::thread::Threads;
 
@@ -23,6 +24,8 @@ use std::thread::Threads;
 pub(crate) struct Case {
     /// The bytes that the next run finds on the disk.
     disk: Vec<u8>,
+    /// Those on the other disk.
+    other: Vec<u8>,
     /// With what the next run begins, where a step has said something of it.
     setting: Option<Setting>,
     /// The script with which a disk is looked at that failed.
@@ -130,10 +133,11 @@ fn push_images<R: AllocGlobal + Threads + Wait + Sync>(
 }
 
 impl Case {
-    /// A case that has just begun: an empty disk, and no run.
+    /// A case that has just begun: two empty disks, and no run.
     pub(crate) fn new(alloc: Global) -> Case {
         Case {
             disk: Vec::new(alloc),
+            other: Vec::new(alloc),
             setting: None,
             look: Vec::new(alloc),
             last: None,
@@ -158,23 +162,26 @@ impl Case {
         push_lines(&mut setting.script, lines)
     }
 
-    // The setting so far; the next run begins anew.
+    // The setting so far, with the other disk's bytes; the next run begins anew.
     fn take_setting(&mut self, alloc: Global) -> Result<Setting, Fault> {
-        match self.setting.take() {
-            Some(setting) => Ok(setting),
-            None => Setting::new(alloc, RUN),
-        }
+        let mut setting = match self.setting.take() {
+            Some(setting) => setting,
+            None => Setting::new(alloc, RUN)?,
+        };
+        setting.other = self.other.to_vec(alloc)?;
+        Ok(setting)
     }
 
-    // The disk is what the last run left.
-    fn keep_disk(&mut self, alloc: Global) -> Result<(), Fault> {
+    // The disks are what the last run left.
+    fn keep_disks(&mut self, alloc: Global) -> Result<(), Fault> {
         let run = ended(&self.last)?;
         self.changed = run.disk.contents() != self.disk.as_slice();
         self.disk = run.disk.contents().to_vec(alloc)?;
+        self.other = run.other.contents().to_vec(alloc)?;
         Ok(())
     }
 
-    // Runs with the setting so far and these lines; the disk is what the run leaves.
+    // Runs with the setting so far and these lines; the disks are what the run leaves.
     fn go<R: AllocGlobal + Threads + Wait + Sync>(
         &mut self,
         rt: &R,
@@ -184,7 +191,7 @@ impl Case {
         self.push_script(alloc, lines)?;
         let setting = self.take_setting(alloc)?;
         self.last = Some(run_on(rt, self.disk.as_slice(), setting)?);
-        self.keep_disk(alloc)
+        self.keep_disks(alloc)
     }
 
     // The script so far, and these lines; the next run begins anew.
@@ -256,6 +263,12 @@ impl Case {
         Ok(())
     }
 
+    // How many calls the other disk of the next run passes on.
+    fn set_other_fuse(&mut self, alloc: Global, text: &str) -> Result<(), Fault> {
+        self.setting(alloc)?.other_passes = number(text)?;
+        Ok(())
+    }
+
     // With what a disk is looked at from here on.
     fn set_look(&mut self, alloc: Global, text: &str) -> Result<(), Fault> {
         let mut script = Vec::new(alloc);
@@ -294,6 +307,24 @@ impl Case {
     ) -> Result<(), Fault> {
         self.disk = named(rt, &self.last, text)?;
         Ok(())
+    }
+
+    // The other disk is the one of that name.
+    fn lay_other<R: AllocGlobal + Threads + Wait + Sync>(
+        &mut self,
+        rt: &R,
+        text: &str,
+    ) -> Result<(), Fault> {
+        self.other = named(rt, &self.last, text)?;
+        Ok(())
+    }
+
+    // The two disks change places, and so do those that the last run left.
+    fn swap_disks(&mut self) {
+        mem::swap(&mut self.disk, &mut self.other);
+        if let Some(run) = &mut self.last {
+            mem::swap(&mut run.disk, &mut run.other);
+        }
     }
 
     // Adds what the last run wrote, the text of its end, and its status.
@@ -469,13 +500,14 @@ impl Case {
         match step {
             "fuse" => self.set_fuse(rt, text),
             "disk-fails" => self.set_disk_fails(rt, text),
+            "other-fuse" => self.set_other_fuse(alloc, text),
             "source-fails" => self.set_source_fails(alloc, text),
             "sink-fails" => self.set_sink_fails(alloc, text),
             _ => self.lay_step(rt, step, text, out),
         }
     }
 
-    // A step that changes the disk's bytes, or another one.
+    // A step that changes the bytes of the disks, or another one.
     fn lay_step<R: AllocGlobal + Threads + Wait + Sync>(
         &mut self,
         rt: &R,
@@ -485,6 +517,8 @@ impl Case {
     ) -> Result<(), Fault> {
         match step {
             "disk" => self.lay_disk(rt, text),
+            "other" => self.lay_other(rt, text),
+            "swap" => Ok(self.swap_disks()),
             "patch" => patch(rt.alloc(), self.disk.as_mut_slice(), text),
             "digest" => put_digest_of(self.disk.as_mut_slice(), text),
             "seal" => seal(self.disk.as_mut_slice(), text),

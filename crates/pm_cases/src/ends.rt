@@ -16,7 +16,8 @@ pub(crate) fn counts(end: &Detail) -> Option<(u64, u64)> {
     match end {
         Detail::Reading { before, after }
         | Detail::Writing { before, after }
-        | Detail::Device { before, after, .. } => Some((*before, *after)),
+        | Detail::Device { before, after, .. }
+        | Detail::OtherDevice { before, after } => Some((*before, *after)),
         _ => None,
     }
 }

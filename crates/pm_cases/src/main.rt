@@ -1,4 +1,4 @@
-//! `pm_cases`: reads cases from standard input, runs each over a disk, a source and a sink in memory through the
+//! `pm_cases`: reads cases from standard input, runs each over two disks, a source and a sink in memory through the
 //! program's top call, and prints what that gave. `docs/TESTS.md` says how a case is written.
 #![tactic(auto)]
 

@@ -1,4 +1,4 @@
-//! The program over a disk, a source and a sink in memory.
+//! The program over two disks, a source and a sink in memory.
 
 use crate::fault::Fault;
 use pm_disk::MemDisk;
@@ -11,8 +11,8 @@ use std::alloc::Global;
 use std::sync::Wait;
 use std::thread::Threads;
 
-/// How the program ended over a disk, a source and a sink in memory.
-pub(crate) type Run = Ended<MemDisk, MemSource, MemSink>;
+/// How the program ended over two disks, a source and a sink in memory.
+pub(crate) type Run = Ended<MemDisk, MemDisk, MemSource, MemSink>;
 
 /// With what a run begins, beside the disk's bytes.
 #[derive(Drop)]
@@ -25,6 +25,10 @@ pub(crate) struct Setting {
     pub(crate) piece: usize,
     /// How many calls the disk passes on, before it fails each one.
     pub(crate) passes: u64,
+    /// The bytes of the other disk.
+    pub(crate) other: Vec<u8>,
+    /// How many calls that one passes on.
+    pub(crate) other_passes: u64,
     /// Which calls fail, by their numbers from 1.
     pub(crate) disk_fails: Vec<u64>,
     pub(crate) source_fails: Vec<u64>,
@@ -32,24 +36,27 @@ pub(crate) struct Setting {
 }
 
 impl Setting {
-    /// No script, nothing that fails, and pieces of 4 bytes.
+    /// No script, nothing that fails, pieces of 4 bytes, and no byte on the other disk.
     pub(crate) fn new(alloc: Global, words: &str) -> Result<Setting, Fault> {
         Ok(Setting {
             words: String::from_str(alloc, words)?,
             script: Vec::new(alloc),
             piece: 4,
             passes: u64::MAX,
+            other: Vec::new(alloc),
+            other_passes: u64::MAX,
             disk_fails: Vec::new(alloc),
             source_fails: Vec::new(alloc),
             sink_fails: Vec::new(alloc),
         })
     }
 
-    /// The same words, script and pieces, and nothing that fails.
+    /// The same words, script, pieces and other disk, and nothing that fails.
     pub(crate) fn again(&self, alloc: Global) -> Result<Setting, Fault> {
         let mut setting = Setting::new(alloc, self.words.as_str())?;
         setting.script = self.script.to_vec(alloc)?;
         setting.piece = self.piece;
+        setting.other = self.other.to_vec(alloc)?;
         Ok(setting)
     }
 }
@@ -81,14 +88,15 @@ fn words_of(alloc: Global, text: &str) -> Result<Vec<&str>, Fault> {
     Ok(words)
 }
 
-// The end of a run, with the disk in memory in place of the one with a fuse over it.
-fn without_fuse(ended: Ended<FuseDisk<MemDisk>, MemSource, MemSink>) -> Run {
+// The end of a run, with each disk in memory in place of the one with a fuse over it.
+fn without_fuses(ended: Ended<FuseDisk<MemDisk>, FuseDisk<MemDisk>, MemSource, MemSink>) -> Run {
     Ended {
         status: ended.status,
         detail: ended.detail,
         journal: ended.journal,
         tally: ended.tally,
         disk: ended.disk.into_inner(),
+        other: ended.other.into_inner(),
         source: ended.source,
         sink: ended.sink,
     }
@@ -102,10 +110,12 @@ fn run_words<R: AllocGlobal + Threads + Wait + Sync>(
     setting: Setting,
 ) -> Run {
     let disk = FuseDisk::new(MemDisk::new(disk, setting.disk_fails), setting.passes);
+    let other = MemDisk::new(setting.other, Vec::new(rt.alloc()));
+    let other = FuseDisk::new(other, setting.other_passes);
     let source = MemSource::new(setting.script, setting.piece.max(1), setting.source_fails);
     let sink = MemSink::new(rt.alloc(), setting.sink_fails);
     let placement = Placement::new(|_: &[u64]| 0);
-    without_fuse(pmos(rt, words, disk, source, sink, placement, &OpenGate))
+    without_fuses(pmos(rt, words, disk, other, source, sink, placement, &OpenGate))
 }
 
 /// Runs the program over a disk with these bytes.

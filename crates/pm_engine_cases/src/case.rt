@@ -1,19 +1,23 @@
 //! A case: its steps, one a line.
 
 use crate::fault::Fault;
-use crate::spelling::{push_bytes, script, written_out};
+use crate::spelling::{first_word, patch, push_bytes, script, written_out};
+use crate::standby::{push_ship, push_ships};
 use crate::stopping::{opening, push_calls, push_failing, push_fused, push_stops, push_whole};
 use pm_disk::MemDisk;
 use pm_script::Script;
 use pm_shadow::init;
 use std::alloc::Global;
 use std::fmt::Write;
+use std::mem;
 
 /// What a case has come to.
 #[derive(Drop)]
 pub(crate) struct Case {
     /// The bytes that the next run finds on the disk.
     disk: Vec<u8>,
+    /// Those of the other disk.
+    other: Vec<u8>,
     /// With what each image is looked at.
     look: Script,
 }
@@ -28,10 +32,11 @@ fn new_store(alloc: Global) -> Result<Vec<u8>, Fault> {
 }
 
 impl Case {
-    /// A case that has just begun: a new store, and no look.
+    /// A case that has just begun: a new store on either disk, and no look.
     pub(crate) fn new(alloc: Global) -> Result<Case, Fault> {
         Ok(Case {
             disk: new_store(alloc)?,
+            other: new_store(alloc)?,
             look: script(alloc, "")?,
         })
     }
@@ -42,6 +47,34 @@ impl Case {
         let disk = push_whole(alloc, &self.disk, lines.as_slice(), out)?;
         self.disk = disk.contents().to_vec(alloc)?;
         Ok(disk)
+    }
+
+    // The store of the disk is shipped to that of the other one, which is what the ship leaves.
+    fn ship(&mut self, alloc: Global, out: &mut String) -> Result<(), Fault> {
+        let standby = push_ship(alloc, &self.disk, &self.other, out)?;
+        self.other = standby.contents().to_vec(alloc)?;
+        Ok(())
+    }
+
+    // A step on the bytes of the two disks.
+    fn disk_step(
+        &mut self,
+        alloc: Global,
+        step: &str,
+        text: &str,
+        out: &mut String,
+    ) -> Result<(), Fault> {
+        match step {
+            "at" => push_bytes(&self.disk, text, out),
+            "patch" => patch(alloc, self.disk.as_mut_slice(), text),
+            "other" => {
+                mem::swap(&mut self.disk, &mut self.other);
+                Ok(())
+            }
+            "ship" => self.ship(alloc, out),
+            "ships" => push_ships(alloc, &self.disk, &self.other, self.look.as_slice(), out),
+            _ => Err(Fault::Step),
+        }
     }
 
     // A step: its first word, and what follows.
@@ -79,8 +112,7 @@ impl Case {
                 let look = self.look.as_slice();
                 push_stops(alloc, &self.disk, lines.as_slice(), look, out)?;
             }
-            "at" => push_bytes(&self.disk, text, out)?,
-            _ => return Err(Fault::Step),
+            _ => self.disk_step(alloc, step, text, out)?,
         }
         Ok(())
     }
@@ -97,9 +129,7 @@ impl Case {
             return Ok(());
         }
         let line = written_out(alloc, line)?;
-        let Some((step, text)) = line.as_str().split_once(' ') else {
-            return Err(Fault::Step);
-        };
+        let (step, text) = first_word(line.as_str());
         if step == "case" {
             *self = Case::new(alloc)?;
             writeln!(out, "case {text}")?;

@@ -1,11 +1,12 @@
 //! `pm_engine_cases`: reads cases from standard input, runs lines over an engine on a disk in memory, stops that at each
-//! call of the disk, and prints what that gave. `docs/TESTS.md` says how a case is written.
+//! call of the disk, ships the store to a standby, and prints what that gave. `docs/TESTS.md` says how a case is written.
 #![tactic(auto)]
 
 mod case;
 mod fault;
 mod running;
 mod spelling;
+mod standby;
 mod stopping;
 
 use case::Case;

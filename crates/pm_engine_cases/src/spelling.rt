@@ -6,6 +6,14 @@ use pm_types::{PAGE_BYTES, SOURCE_BYTES};
 use std::alloc::Global;
 use std::fmt::Write;
 
+/// A word, and what follows it behind one space.
+pub(crate) fn first_word(text: &str) -> (&str, &str) {
+    match text.split_once(' ') {
+        Some(parts) => parts,
+        None => (text, ""),
+    }
+}
+
 // A number in decimal.
 fn number(text: &str) -> Result<u64, Fault> {
     match text.parse::<u64>() {
@@ -71,6 +79,17 @@ fn place_in(page: u64, at: u64) -> Option<u64> {
     page.checked_mul(PAGE_BYTES as u64)?.checked_add(at)
 }
 
+// `PAGE:BYTE`: that place of a disk.
+fn place(text: &str) -> Result<u64, Fault> {
+    let Some((page, at)) = text.split_once(':') else {
+        return Err(Fault::Number);
+    };
+    match place_in(number(page)?, number(at)?) {
+        Some(place) => Ok(place),
+        None => Err(Fault::Number),
+    }
+}
+
 // The bytes from a place on.
 fn part(bytes: &[u8], from: u64, count: u64) -> Option<&[u8]> {
     let end = from.checked_add(count)?;
@@ -79,16 +98,8 @@ fn part(bytes: &[u8], from: u64, count: u64) -> Option<&[u8]> {
 
 /// `PAGE:BYTE COUNT`: so many bytes of a disk from there on, in hexadecimal.
 pub(crate) fn push_bytes(disk: &[u8], text: &str, out: &mut String) -> Result<(), Fault> {
-    let Some((place, count)) = text.split_once(' ') else {
-        return Err(Fault::Number);
-    };
-    let Some((page, at)) = place.split_once(':') else {
-        return Err(Fault::Number);
-    };
-    let Some(from) = place_in(number(page)?, number(at)?) else {
-        return Err(Fault::Number);
-    };
-    let Some(bytes) = part(disk, from, number(count)?) else {
+    let (from, count) = first_word(text);
+    let Some(bytes) = part(disk, place(from)?, number(count)?) else {
         return Err(Fault::Number);
     };
     for byte in bytes {
@@ -96,4 +107,24 @@ pub(crate) fn push_bytes(disk: &[u8], text: &str, out: &mut String) -> Result<()
     }
     out.push('\n')?;
     Ok(())
+}
+
+// Writes bytes over those that stand at a place.
+fn put(disk: &mut [u8], from: usize, bytes: &[u8]) -> Result<(), Fault> {
+    for (index, byte) in bytes.iter().enumerate() {
+        match disk.get_mut(from.saturating_add(index)) {
+            Some(found) => *found = *byte,
+            None => return Err(Fault::Number),
+        }
+    }
+    Ok(())
+}
+
+/// `PAGE:BYTE HEX`: these bytes of a disk, in hexadecimal, stand from there on.
+pub(crate) fn patch(alloc: Global, disk: &mut [u8], text: &str) -> Result<(), Fault> {
+    let (from, digits) = first_word(text);
+    match hex::decode(alloc, digits) {
+        Ok(bytes) => put(disk, place(from)? as usize, bytes.as_slice()),
+        Err(_) => Err(Fault::Number),
+    }
 }

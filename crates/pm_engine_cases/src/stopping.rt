@@ -13,8 +13,8 @@ use std::fmt::Write;
 // More writes than this have too many images.
 const MOST_WRITES: u64 = 10;
 
-// A disk with these bytes that fails the calls of these numbers.
-fn disk_of(alloc: Global, bytes: &[u8], fails: Vec<u64>) -> Result<MemDisk, Fault> {
+/// A disk with these bytes that fails the calls of these numbers.
+pub(crate) fn disk_of(alloc: Global, bytes: &[u8], fails: Vec<u64>) -> Result<MemDisk, Fault> {
     Ok(MemDisk::new(bytes.to_vec(alloc)?, fails))
 }
 
@@ -66,9 +66,9 @@ fn note(texts: &mut BTreeMap<String, u64>, text: String) -> Result<(), Fault> {
     Ok(())
 }
 
-// Adds what the look gives on each image that a crash leaves after so many calls of a disk, none of which failed, and of
-// how many images.
-fn push_images(
+/// Adds what the look gives on each image that a crash leaves after so many calls of a disk, none of which failed, and of
+/// how many images.
+pub(crate) fn push_images(
     alloc: Global,
     disk: &MemDisk,
     made: usize,

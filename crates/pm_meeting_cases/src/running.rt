@@ -9,14 +9,14 @@ use pm_turns::{Gate, OpenGate};
 use std::sync::Wait;
 use std::thread::Threads;
 
-/// How the program ended over a disk, a source and a sink in memory.
-pub(crate) type Run = Ended<MemDisk, MemSource, MemSink>;
+/// How the program ended over two disks, a source and a sink in memory.
+pub(crate) type Run = Ended<MemDisk, MemDisk, MemSource, MemSink>;
 
 // Three commands of each of two clients, three steps of the collector and three flush events.
 const SCRIPT: &[u8] =
     b"0 new 1 0 -\n0 new 1 0 -\n0 new 1 0 -\n1 new 1 0 -\n1 new 1 0 -\n1 new 1 0 -\n! gc 3\n! flush 3\n";
 
-// Runs the program with these words and this script.
+// Runs the program with these words and this script. The other disk is empty.
 fn run_words<R: AllocGlobal + Threads + Wait + Sync, G: Gate + Sync>(
     rt: &R,
     words: &[&str],
@@ -25,12 +25,14 @@ fn run_words<R: AllocGlobal + Threads + Wait + Sync, G: Gate + Sync>(
     gate: &G,
 ) -> Run {
     let alloc = rt.alloc();
+    let other = MemDisk::new(Vec::new(alloc), Vec::new(alloc));
     let source = MemSource::new(script, 4096, Vec::new(alloc));
     let sink = MemSink::new(alloc, Vec::new(alloc));
     pmos(
         rt,
         words,
         disk,
+        other,
         source,
         sink,
         Placement::new(|_: &[u64]| 0),

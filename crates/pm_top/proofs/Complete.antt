@@ -12,8 +12,8 @@ use Rattle.pm_dump.specs.Dump.{Dump as Dumped}
 use Rattle.pm_words.specs.declared.command.Command.{Command}
 use Rattle.pm_words.specs.declared.command.Command.TheVariants.{Init, Run, RunThreads, Inspect, Dump, Restore, Why, Make, Trial}
 use Rattle.pm_top.specs.declared.ended.Detail.{Detail}
-use Rattle.pm_top.specs.declared.ended.Detail.TheVariants.{Fine, Usage, Script, Dump as BadDump, Reading, Writing, Device, NotEmpty, Refused, Memory}
-use Rattle.pm_top.specs.declared.ended.Ended.{Ended}
+use Rattle.pm_top.specs.declared.ended.Detail.TheVariants.{Fine, Usage, Script, Dump as BadDump, Reading, Writing, Device, NotEmpty, Refused, Standby, Ahead, Foreign, OtherDevice, Memory}
+use Rattle.pm_top.specs.declared.ended.Alone.{Alone as Ended}
 use Rattle.pm_top.specs.Ends.{ShowsReading, ShowsWriting, ShowsDevice, status_of}
 use Rattle.pm_top.specs.Stages.{IsPast, the_words}
 use Rattle.pm_top.specs.Journals.{IsScriptEnd}
@@ -28,7 +28,7 @@ use Rattle.pm_top.proofs.Restored.{no_dump_fault}
 abbrev pub IsComplete : Detail → Type 0
 IsComplete detail = (status_of detail ≡ 0) ⊎ (status_of detail ≡ 7)
 
-rises : (before after was now : ℕ) → ShowsRise before after was now → Rose was now
+pub rises : (before after was now : ℕ) → ShowsRise before after was now → Rose was now
 rises before after was now shown = subst (λ (n : ℕ). Rose n now) shown.0 (subst (λ (n : ℕ). Rose before n) shown.1 shown.2)
 
 -- ---- what a command with its needs may end with
@@ -39,6 +39,10 @@ MayEnd Usage = ⊥
 MayEnd (Script fault) = ⊥
 MayEnd (BadDump fault) = ⊥
 MayEnd (NotEmpty bytes) = ⊥
+MayEnd (Standby fault) = ⊥
+MayEnd (Ahead to from) = ⊥
+MayEnd (Foreign number) = ⊥
+MayEnd (OtherDevice before after) = ⊥
 MayEnd (Refused fault) = ⊥
 MayEnd detail = Unit {0}
 
@@ -52,6 +56,10 @@ may_once (Reading before after) = hlevel props
 may_once (Writing before after) = hlevel props
 may_once (Device before after opened) = hlevel props
 may_once (NotEmpty bytes) = hlevel props
+may_once (Standby fault) = hlevel props
+may_once (Ahead to from) = hlevel props
+may_once (Foreign number) = hlevel props
+may_once (OtherDevice before after) = hlevel props
 may_once (Refused fault) = hlevel props
 may_once (Memory opened) = hlevel props
 
@@ -68,6 +76,10 @@ module _ {D : Type 0} (d : disk.Ghosts D) where
       let some = makes.0 in
       let zero : n ≡ 0 = makes.1 [] empty in
       absurd (omega (arith, some, zero))
+  make_ends start end (Standby fault) makes empty = makes
+  make_ends start end (Ahead to from) makes empty = makes
+  make_ends start end (Foreign number) makes empty = makes
+  make_ends start end (OtherDevice before after) makes empty = makes
   make_ends start end (Refused fault) makes empty = makes
   make_ends start end (Memory opened) makes empty = tt
 
@@ -81,6 +93,10 @@ run_ends told read store script (Reading before after) journal past bad refused 
 run_ends told read store script (Writing before after) journal past bad refused = tt
 run_ends told read store script (Device before after opened) journal past bad refused = tt
 run_ends told read store script (NotEmpty bytes) journal past bad refused = absurd (omega (arith, past))
+run_ends told read store script (Standby fault) journal past bad refused = absurd (omega (arith, past))
+run_ends told read store script (Ahead to from) journal past bad refused = absurd (omega (arith, past))
+run_ends told read store script (Foreign number) journal past bad refused = absurd (omega (arith, past))
+run_ends told read store script (OtherDevice before after) journal past bad refused = absurd (omega (arith, past))
 run_ends told read store script (Refused fault) journal past bad refused = never_shut store.bytes store.number store.copy fault store.stands refused
 run_ends told read store script (Memory opened) journal past bad refused = tt
 
@@ -93,6 +109,10 @@ telling_ends told store (Reading before after) ends refused = tt
 telling_ends told store (Writing before after) ends refused = tt
 telling_ends told store (Device before after opened) ends refused = tt
 telling_ends told store (NotEmpty bytes) ends refused = ends
+telling_ends told store (Standby fault) ends refused = ends
+telling_ends told store (Ahead to from) ends refused = ends
+telling_ends told store (Foreign number) ends refused = ends
+telling_ends told store (OtherDevice before after) ends refused = ends
 telling_ends told store (Refused fault) ends refused = never_shut store.bytes store.number store.copy fault store.stands refused
 telling_ends told store (Memory opened) ends refused = tt
 
@@ -105,6 +125,10 @@ make_script_ends (Reading before after) ends = tt
 make_script_ends (Writing before after) ends = tt
 make_script_ends (Device before after opened) ends = tt
 make_script_ends (NotEmpty bytes) ends = ends
+make_script_ends (Standby fault) ends = ends
+make_script_ends (Ahead to from) ends = ends
+make_script_ends (Foreign number) ends = ends
+make_script_ends (OtherDevice before after) ends = ends
 make_script_ends (Refused fault) ends = ends
 make_script_ends (Memory opened) ends = tt
 
@@ -119,6 +143,10 @@ module _ {D : Type 0} (d : disk.Ghosts D) where
   restore_ends read holds dump start end (Writing before after) ends refuses leaves empty = tt
   restore_ends read holds dump start end (Device before after opened) ends refuses leaves empty = tt
   restore_ends read holds dump start end (NotEmpty n) ends refuses leaves empty = make_ends d start end (NotEmpty n) leaves empty
+  restore_ends read holds dump start end (Standby fault) ends refuses leaves empty = ends
+  restore_ends read holds dump start end (Ahead to from) ends refuses leaves empty = ends
+  restore_ends read holds dump start end (Foreign number) ends refuses leaves empty = ends
+  restore_ends read holds dump start end (OtherDevice before after) ends refuses leaves empty = ends
   restore_ends read holds dump start end (Refused fault) ends refuses leaves empty = ends
   restore_ends read holds dump start end (Memory opened) ends refuses leaves empty = tt
 
@@ -132,6 +160,10 @@ trial_ends (Reading before after) ends = ends
 trial_ends (Writing before after) ends = tt
 trial_ends (Device before after opened) ends = tt
 trial_ends (NotEmpty bytes) ends = ends
+trial_ends (Standby fault) ends = ends
+trial_ends (Ahead to from) ends = ends
+trial_ends (Foreign number) ends = ends
+trial_ends (OtherDevice before after) ends = ends
 trial_ends (Refused fault) ends = tt
 trial_ends (Memory opened) ends = tt
 
@@ -147,6 +179,10 @@ stands_done (Reading before after) a b c d e f may reading writing device source
 stands_done (Writing before after) a b c d e f may reading writing device source sink disk = absurd (sink (rises before after c d writing))
 stands_done (Device before after opened) a b c d e f may reading writing device source sink disk = absurd (disk (rises before after e f device))
 stands_done (NotEmpty bytes) a b c d e f may reading writing device source sink disk = absurd may
+stands_done (Standby fault) a b c d e f may reading writing device source sink disk = absurd may
+stands_done (Ahead to from) a b c d e f may reading writing device source sink disk = absurd may
+stands_done (Foreign number) a b c d e f may reading writing device source sink disk = absurd may
+stands_done (OtherDevice before after) a b c d e f may reading writing device source sink disk = absurd may
 stands_done (Refused fault) a b c d e f may reading writing device source sink disk = absurd may
 stands_done (Memory opened) a b c d e f may reading writing device source sink disk = inr refl
 

@@ -10,8 +10,8 @@ use Rattle.pm_io.specs.declared.sink.Sink as sink
 use Rattle.pm_shadow.specs.Init.{IsInitFault}
 use Rattle.pm_reopen.specs.Refused.{IsOpenFault}
 use Rattle.pm_top.specs.declared.ended.Detail.{Detail}
-use Rattle.pm_top.specs.declared.ended.Detail.TheVariants.{Fine, Usage, Script, Dump as BadDump, Reading, Writing, Device, NotEmpty, Refused, Memory}
-use Rattle.pm_top.specs.declared.ended.Ended.{Ended}
+use Rattle.pm_top.specs.declared.ended.Detail.TheVariants.{Fine, Usage, Script, Dump as BadDump, Reading, Writing, Device, NotEmpty, Refused, Standby, Ahead, Foreign, OtherDevice, Memory}
+use Rattle.pm_top.specs.declared.ended.Alone.{Alone as Ended}
 use Rattle.pm_top.specs.Ends.{ShowsReading, ShowsDevice, not_opened, not_made}
 use Rattle.pm_top.specs.Stages.{IsPast, unreached, the_words, the_events, the_output}
 use Rattle.pm_top.specs.Commands.{ShowsCauses}
@@ -45,6 +45,10 @@ late_past (Writing before after) late = omega arith
 late_past (Device before after false) late = absurd (omega arith)
 late_past (Device before after true) late = omega arith
 late_past (NotEmpty bytes) late = absurd (omega arith)
+late_past (Standby fault) late = absurd (omega arith)
+late_past (Ahead to from) late = absurd (omega arith)
+late_past (Foreign number) late = absurd (omega arith)
+late_past (OtherDevice before after) late = absurd (omega arith)
 late_past (Refused fault) late = absurd (omega arith)
 late_past (Memory false) late = absurd (omega arith)
 late_past (Memory true) late = omega arith

@@ -9,6 +9,7 @@ pub mod Scripts
 pub mod Unread
 pub mod Faults
 pub mod Complete
+pub mod Shipping
 pub mod Performing
 pub mod Restored
 pub mod Programs

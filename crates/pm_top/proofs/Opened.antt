@@ -16,7 +16,7 @@ use Rattle.pm_reopen.specs.Refused.{IsRefusal}
 use Rattle.pm_script.specs.declared.fault.ScriptFault.{ScriptFault}
 use Rattle.pm_script.specs.declared.fault.ScriptFault.TheVariants.{Line as BadLine, TooManyLines, TooLong, Memory as ScriptMemory}
 use Rattle.pm_top.specs.declared.ended.Detail.{Detail}
-use Rattle.pm_top.specs.declared.ended.Detail.TheVariants.{Fine, Usage, Script, Dump as BadDump, Reading, Writing, Device, NotEmpty, Refused, Memory}
+use Rattle.pm_top.specs.declared.ended.Detail.TheVariants.{Fine, Usage, Script, Dump as BadDump, Reading, Writing, Device, NotEmpty, Refused, Standby, Ahead, Foreign, OtherDevice, Memory}
 use Rattle.pm_top.specs.Ends.{not_opened, not_read}
 use Rattle.pm_top.specs.Stages.{IsPast, unreached, the_store, the_events}
 use Rattle.pm_top.specs.Disks.{IsLastOf, IsOfRun, IsRefusedFor, LeavesDisk}
@@ -31,6 +31,10 @@ stopped_for bytes (Reading before after) is = tt
 stopped_for bytes (Writing before after) is = tt
 stopped_for bytes (Device before after opened) is = tt
 stopped_for bytes (NotEmpty n) is = tt
+stopped_for bytes (Standby fault) is = tt
+stopped_for bytes (Ahead to from) is = tt
+stopped_for bytes (Foreign number) is = tt
+stopped_for bytes (OtherDevice before after) is = tt
 stopped_for bytes (Refused fault) is = absurd (omega arith)
 stopped_for bytes (Memory opened) is = tt
 

@@ -14,8 +14,8 @@ use Rattle.pm_tell.specs.Told.{Telling, Reports, Dumps, GivesPath}
 use Rattle.pm_words.specs.declared.command.Command.{Command}
 use Rattle.pm_words.specs.declared.command.Command.TheVariants.{Init, Run, RunThreads, Inspect, Dump, Restore, Why, Make, Trial}
 use Rattle.pm_top.specs.declared.ended.Detail.{Detail}
-use Rattle.pm_top.specs.declared.ended.Detail.TheVariants.{Fine, Usage, Script, Dump as BadDump, Reading, Writing, Device, NotEmpty, Refused, Memory}
-use Rattle.pm_top.specs.declared.ended.Ended.{Ended}
+use Rattle.pm_top.specs.declared.ended.Detail.TheVariants.{Fine, Usage, Script, Dump as BadDump, Reading, Writing, Device, NotEmpty, Refused, Standby, Ahead, Foreign, OtherDevice, Memory}
+use Rattle.pm_top.specs.declared.ended.Alone.{Alone as Ended}
 use Rattle.pm_top.specs.declared.writes.Writes.{Writes}
 use Rattle.pm_top.specs.declared.writes.Writes.TheVariants.{Replies, Digest}
 use Rattle.pm_top.specs.Stages.{IsPast, unreached, the_words, the_script}
@@ -100,6 +100,10 @@ module _ {D S K : Type 0} (d : disk.Ghosts D) (k : sink.Ghosts K) where
       by (Writing before after) journal past reached refused = tt
       by (Device before after opened) journal past reached refused = tt
       by (NotEmpty n) journal past reached refused = absurd (omega (arith, past))
+      by (Standby fault) journal past reached refused = absurd (omega (arith, past))
+      by (Ahead to from) journal past reached refused = absurd (omega (arith, past))
+      by (Foreign number) journal past reached refused = absurd (omega (arith, past))
+      by (OtherDevice before after) journal past reached refused = absurd (omega (arith, past))
       by (Refused fault) journal past reached refused = tt
       by (Memory opened) journal past reached refused = tt
 

@@ -41,7 +41,7 @@ use Rattle.pm_events.specs.Running.{IsFresh, RunsOnDisk}
 use Rattle.pm_serial.specs.Writing.{tail_of}
 use Rattle.pm_serial.specs.Ordered.{StopsAmong, course_of}
 use Rattle.pm_top.specs.declared.ended.Detail.{Detail}
-use Rattle.pm_top.specs.declared.ended.Ended.{Ended}
+use Rattle.pm_top.specs.declared.ended.Alone.{Alone as Ended}
 use Rattle.pm_top.specs.declared.writes.Writes.{Writes}
 use Rattle.pm_top.specs.Ends.{RanShort, stop_in, ended_by}
 use Rattle.pm_top.specs.Stages.{IsPast, unreached, the_events, the_output}

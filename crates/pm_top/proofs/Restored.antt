@@ -31,8 +31,8 @@ use Rattle.pm_dump.specs.Answers.{IsDumpFault}
 use Rattle.pm_dump.proofs.DumpLaws.{not_both, one_fault}
 use Rattle.pm_restore.specs.Restored.{IsRestored, LeavesEither, LeavesEmpty}
 use Rattle.pm_top.specs.declared.ended.Detail.{Detail}
-use Rattle.pm_top.specs.declared.ended.Detail.TheVariants.{Fine, Usage, Script, Dump as BadDump, Reading, Writing, Device, NotEmpty, Refused, Memory}
-use Rattle.pm_top.specs.declared.ended.Ended.{Ended}
+use Rattle.pm_top.specs.declared.ended.Detail.TheVariants.{Fine, Usage, Script, Dump as BadDump, Reading, Writing, Device, NotEmpty, Refused, Standby, Ahead, Foreign, OtherDevice, Memory}
+use Rattle.pm_top.specs.declared.ended.Alone.{Alone as Ended}
 use Rattle.pm_top.specs.Ends.{IsOfScript, ShowsDevice, ShowsReading, no_dump, not_made, not_settled}
 use Rattle.pm_top.specs.Disks.{LeavesMade, LeavesRestored, LeavesSettled}
 use Rattle.pm_top.specs.Dumps.{EndsSettling, EndsUnrestored, HasDump, IsDumpEnd, IsReadWhole, RefusesBytes}
@@ -87,6 +87,10 @@ taken_bytes bytes dump detail ends short spelled sound = record {
     by (Writing before after) ends = tt
     by (Device before after opened) ends = tt
     by (NotEmpty n) ends = tt
+    by (Standby fault) ends = tt
+    by (Ahead to from) ends = tt
+    by (Foreign number) ends = tt
+    by (OtherDevice before after) ends = tt
     by (Refused fault) ends = tt
     by (Memory opened) ends = tt
 
@@ -143,6 +147,10 @@ module _ {D : Type 0} (d : disk.Ghosts D) where
   then_settled dump start made end (Writing before after) ends calls store settles = absurd ends
   then_settled dump start made end (Device before after opened) ends calls store settles = inr (record { made = made; calls = calls; store = store; settles = settles })
   then_settled dump start made end (NotEmpty n) ends calls store settles = absurd settles
+  then_settled dump start made end (Standby fault) ends calls store settles = absurd settles
+  then_settled dump start made end (Ahead to from) ends calls store settles = absurd settles
+  then_settled dump start made end (Foreign number) ends calls store settles = absurd settles
+  then_settled dump start made end (OtherDevice before after) ends calls store settles = absurd settles
   then_settled dump start made end (Refused fault) ends calls store settles = absurd ends
   then_settled dump start made end (Memory opened) ends calls store settles = inr (record { made = made; calls = calls; store = store; settles = settles })
 
@@ -162,6 +170,10 @@ module _ {D : Type 0} (d : disk.Ghosts D) where
   uncalled_restored dump start (Writing before after) ends same = refl
   uncalled_restored dump start (Device before after opened) ends same = absurd ends
   uncalled_restored dump start (NotEmpty n) ends same = absurd ends
+  uncalled_restored dump start (Standby fault) ends same = absurd ends
+  uncalled_restored dump start (Ahead to from) ends same = absurd ends
+  uncalled_restored dump start (Foreign number) ends same = absurd ends
+  uncalled_restored dump start (OtherDevice before after) ends same = absurd ends
   uncalled_restored dump start (Refused fault) ends same = refl
   uncalled_restored dump start (Memory opened) ends same = inl (refl, same)
 
@@ -176,6 +188,10 @@ ends_restored (Reading before after) ends = tt
 ends_restored (Writing before after) ends = ends
 ends_restored (Device before after opened) ends = tt
 ends_restored (NotEmpty n) ends = tt
+ends_restored (Standby fault) ends = absurd ends
+ends_restored (Ahead to from) ends = absurd ends
+ends_restored (Foreign number) ends = absurd ends
+ends_restored (OtherDevice before after) ends = absurd ends
 ends_restored (Refused fault) ends = ends
 ends_restored (Memory opened) ends = tt
 
@@ -188,6 +204,10 @@ ends_unrestored (Reading before after) ends = tt
 ends_unrestored (Writing before after) ends = ends
 ends_unrestored (Device before after opened) ends = tt
 ends_unrestored (NotEmpty n) ends = tt
+ends_unrestored (Standby fault) ends = absurd ends
+ends_unrestored (Ahead to from) ends = absurd ends
+ends_unrestored (Foreign number) ends = absurd ends
+ends_unrestored (OtherDevice before after) ends = absurd ends
 ends_unrestored (Refused fault) ends = ends
 ends_unrestored (Memory opened) ends = tt
 
@@ -201,6 +221,10 @@ none_read (Reading before after) ends has = has
 none_read (Writing before after) ends has = has
 none_read (Device before after opened) ends has = ends
 none_read (NotEmpty n) ends has = ends
+none_read (Standby fault) ends has = ends
+none_read (Ahead to from) ends has = ends
+none_read (Foreign number) ends has = ends
+none_read (OtherDevice before after) ends has = ends
 none_read (Refused fault) ends has = has
 none_read (Memory opened) ends has = has
 
@@ -217,6 +241,10 @@ module _ {D S K : Type 0} (d : disk.Ghosts D) (s : source.Ghosts S) (k : sink.Gh
   causes_restored disk end source left sink it (Writing before after) ends read device past = absurd ends
   causes_restored disk end source left sink it (Device before after opened) ends read device past = record { reading = read; writing = tt; device = device; rule = tt; opened = ends; reads = past }
   causes_restored disk end source left sink it (NotEmpty n) ends read device past = record { reading = read; writing = refl; device = device; rule = tt; opened = tt; reads = past }
+  causes_restored disk end source left sink it (Standby fault) ends read device past = absurd ends
+  causes_restored disk end source left sink it (Ahead to from) ends read device past = absurd ends
+  causes_restored disk end source left sink it (Foreign number) ends read device past = absurd ends
+  causes_restored disk end source left sink it (OtherDevice before after) ends read device past = absurd ends
   causes_restored disk end source left sink it (Refused fault) ends read device past = absurd ends
   causes_restored disk end source left sink it (Memory opened) ends read device past = record { reading = read; writing = tt; device = device; rule = tt; opened = ends; reads = past }
 
@@ -237,6 +265,10 @@ module _ {D S K : Type 0} (d : disk.Ghosts D) (s : source.Ghosts S) (k : sink.Gh
   causes_unrestored disk source left sink it (Writing before after) ends shown = absurd ends
   causes_unrestored disk source left sink it (Device before after opened) ends shown = absurd ends
   causes_unrestored disk source left sink it (NotEmpty n) ends shown = absurd ends
+  causes_unrestored disk source left sink it (Standby fault) ends shown = absurd ends
+  causes_unrestored disk source left sink it (Ahead to from) ends shown = absurd ends
+  causes_unrestored disk source left sink it (Foreign number) ends shown = absurd ends
+  causes_unrestored disk source left sink it (OtherDevice before after) ends shown = absurd ends
   causes_unrestored disk source left sink it (Refused fault) ends shown = absurd ends
   causes_unrestored disk source left sink it (Memory opened) ends shown = record { reading = shown; writing = tt; device = refl; rule = tt; opened = ends; reads = refl }
 

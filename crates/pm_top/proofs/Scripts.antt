@@ -23,8 +23,8 @@ use Rattle.pm_events.specs.declared.stop.Stop.{Stop}
 use Rattle.pm_events.specs.Causes.{OnStop}
 use Rattle.pm_serial.specs.Ordered.{StopsAmong, course_of}
 use Rattle.pm_top.specs.declared.ended.Detail.{Detail}
-use Rattle.pm_top.specs.declared.ended.Detail.TheVariants.{Fine, Usage, Script, Dump as BadDump, Reading, Writing, Device, NotEmpty, Refused, Memory}
-use Rattle.pm_top.specs.declared.ended.Ended.{Ended}
+use Rattle.pm_top.specs.declared.ended.Detail.TheVariants.{Fine, Usage, Script, Dump as BadDump, Reading, Writing, Device, NotEmpty, Refused, Standby, Ahead, Foreign, OtherDevice, Memory}
+use Rattle.pm_top.specs.declared.ended.Alone.{Alone as Ended}
 use Rattle.pm_top.specs.Ends.{not_read, stop_in}
 use Rattle.pm_top.specs.Stages.{IsPast, unreached, the_words, the_script, the_store, the_output}
 use Rattle.pm_top.specs.Journals.{EndsFor, IsScriptEnd, KeepsOrder, MakesAll, ReadsScript, ServesInOrder, ServesLines}
@@ -44,6 +44,10 @@ tried_read bytes (Reading before after) tried = tt
 tried_read bytes (Writing before after) tried = tt
 tried_read bytes (Device before after opened) tried = tt
 tried_read bytes (NotEmpty n) tried = tt
+tried_read bytes (Standby fault) tried = tt
+tried_read bytes (Ahead to from) tried = tt
+tried_read bytes (Foreign number) tried = tt
+tried_read bytes (OtherDevice before after) tried = tt
 tried_read bytes (Refused fault) tried = tt
 tried_read bytes (Memory opened) tried = tt
 

@@ -13,7 +13,7 @@ use Rattle.pm_engine.specs.Shown.{tally_of}
 use Rattle.pm_parts.specs.Asked.{requests_asked}
 use Rattle.pm_serial.specs.Writing.{tail_of}
 use Rattle.pm_top.specs.declared.ended.Detail.{Detail}
-use Rattle.pm_top.specs.declared.ended.Ended.{Ended}
+use Rattle.pm_top.specs.declared.ended.Alone.{Alone as Ended}
 use Rattle.pm_top.specs.declared.writes.Writes.{Writes}
 use Rattle.pm_top.specs.Ends.{stop_in}
 use Rattle.pm_top.specs.Stages.{IsPast, unreached, the_words, the_store, the_events, the_output}

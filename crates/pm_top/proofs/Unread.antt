@@ -5,8 +5,8 @@ use Rattle.pm_disk.specs.declared.disk.Disk as disk
 use Rattle.pm_io.specs.declared.source.Source as source
 use Rattle.pm_io.specs.declared.sink.Sink as sink
 use Rattle.pm_top.specs.declared.ended.Detail.{Detail}
-use Rattle.pm_top.specs.declared.ended.Detail.TheVariants.{Fine, Usage, Script, Dump as BadDump, Reading, Writing, Device, NotEmpty, Refused, Memory}
-use Rattle.pm_top.specs.declared.ended.Ended.{Ended}
+use Rattle.pm_top.specs.declared.ended.Detail.TheVariants.{Fine, Usage, Script, Dump as BadDump, Reading, Writing, Device, NotEmpty, Refused, Standby, Ahead, Foreign, OtherDevice, Memory}
+use Rattle.pm_top.specs.declared.ended.Alone.{Alone as Ended}
 use Rattle.pm_top.specs.Ends.{ShowsReading}
 use Rattle.pm_top.specs.Stages.{IsPast, the_words, the_script, the_store}
 use Rattle.pm_top.specs.Disks.{IsRefusedFor}
@@ -24,6 +24,10 @@ ends_unread (Reading before after) ends = omega arith
 ends_unread (Writing before after) ends = absurd ends
 ends_unread (Device before after opened) ends = absurd ends
 ends_unread (NotEmpty bytes) ends = absurd ends
+ends_unread (Standby fault) ends = absurd ends
+ends_unread (Ahead to from) ends = absurd ends
+ends_unread (Foreign number) ends = absurd ends
+ends_unread (OtherDevice before after) ends = absurd ends
 ends_unread (Refused fault) ends = absurd ends
 ends_unread (Memory opened) ends = subst (λ (o : Bool). IsPast the_words (Memory o)) (sym ends) (omega arith)
 
@@ -36,6 +40,10 @@ script_unread (Reading before after) ends past = absurd (omega (arith, past))
 script_unread (Writing before after) ends past = ends
 script_unread (Device before after opened) ends past = ends
 script_unread (NotEmpty bytes) ends past = ends
+script_unread (Standby fault) ends past = ends
+script_unread (Ahead to from) ends past = ends
+script_unread (Foreign number) ends past = ends
+script_unread (OtherDevice before after) ends past = ends
 script_unread (Refused fault) ends past = ends
 script_unread (Memory opened) ends past = let none : IsPast the_script (Memory false) = subst (λ (o : Bool). IsPast the_script (Memory o)) ends past in absurd (omega (arith, none))
 
@@ -51,6 +59,10 @@ refused_unread bytes (Reading before after) ends = tt
 refused_unread bytes (Writing before after) ends = tt
 refused_unread bytes (Device before after opened) ends = tt
 refused_unread bytes (NotEmpty n) ends = tt
+refused_unread bytes (Standby fault) ends = tt
+refused_unread bytes (Ahead to from) ends = tt
+refused_unread bytes (Foreign number) ends = tt
+refused_unread bytes (OtherDevice before after) ends = tt
 refused_unread bytes (Refused fault) ends = absurd ends
 refused_unread bytes (Memory opened) ends = tt
 
@@ -78,5 +90,9 @@ module _ {D S K : Type 0} (d : disk.Ghosts D) (s : source.Ghosts S) (k : sink.Gh
   causes_unread disk source left sink it (Writing before after) ends shown = absurd ends
   causes_unread disk source left sink it (Device before after opened) ends shown = absurd ends
   causes_unread disk source left sink it (NotEmpty bytes) ends shown = absurd ends
+  causes_unread disk source left sink it (Standby fault) ends shown = absurd ends
+  causes_unread disk source left sink it (Ahead to from) ends shown = absurd ends
+  causes_unread disk source left sink it (Foreign number) ends shown = absurd ends
+  causes_unread disk source left sink it (OtherDevice before after) ends shown = absurd ends
   causes_unread disk source left sink it (Refused fault) ends shown = absurd ends
   causes_unread disk source left sink it (Memory opened) ends shown = record { reading = shown; writing = tt; device = refl; rule = tt; opened = ends; reads = refl }

@@ -25,7 +25,7 @@ use Rattle.pm_words.specs.declared.command.Command.TheVariants.{Init, Run, RunTh
 use Rattle.pm_top.specs.declared.ended.Detail.{Detail}
 use Rattle.pm_top.specs.declared.ended.Detail.TheVariants.{Fine, Script, Dump as BadDump, Reading, Writing, Device}
 use Rattle.pm_top.specs.declared.ended.Detail.TheVariants.{NotEmpty, Refused, Memory}
-use Rattle.pm_top.specs.declared.ended.Ended.{Ended}
+use Rattle.pm_top.specs.declared.ended.Alone.{Alone as Ended}
 use Rattle.pm_top.specs.declared.writes.Writes.{Writes}
 use Rattle.pm_top.specs.declared.writes.Writes.TheVariants.{Replies, Digest}
 use Rattle.pm_top.specs.Ends.{RanShort, ShowsReading, ShowsWriting, ShowsDevice, ShowsOpened, NamesRule, stop_in}

@@ -13,6 +13,9 @@ use Rattle.pm_dump.specs.declared.fault.DumpFault.{DumpFault}
 use Rattle.pm_dump.specs.declared.fault.DumpFault.TheVariants as dump_fault
 use Rattle.pm_save.specs.declared.fault.SaveFault.{SaveFault}
 use Rattle.pm_save.specs.declared.fault.SaveFault.TheVariants as save_fault
+use Rattle.pm_ship.specs.declared.fault.Shipped.{Shipped}
+use Rattle.pm_ship.specs.declared.fault.ShipFault.{ShipFault}
+use Rattle.pm_ship.specs.declared.fault.ShipFault.TheVariants as ship_fault
 use Rattle.pm_script.specs.declared.fault.Cause.{Cause}
 use Rattle.pm_script.specs.declared.fault.Cause.TheVariants as cause
 use Rattle.pm_script.specs.declared.fault.ScriptFault.{ScriptFault}
@@ -22,7 +25,7 @@ use Rattle.pm_events.specs.declared.stop.Stop.TheVariants.{Memory as StopMemory,
 use Rattle.pm_engine.specs.declared.tally.Tally.{Tally}
 use Rattle.pm_top.specs.declared.ended.Detail.{Detail}
 use Rattle.pm_top.specs.declared.ended.Detail.TheVariants.{Fine, Usage, Script, Dump as BadDump, Reading, Writing, Device}
-use Rattle.pm_top.specs.declared.ended.Detail.TheVariants.{NotEmpty, Refused, Memory}
+use Rattle.pm_top.specs.declared.ended.Detail.TheVariants.{NotEmpty, Refused, Standby, Ahead, Foreign, OtherDevice, Memory}
 
 -- the exit status of each end
 abbrev pub status_of : Detail → ℕ
@@ -35,18 +38,29 @@ status_of (Writing before after) = 4
 status_of (Device before after opened) = 5
 status_of (NotEmpty bytes) = 6
 status_of (Refused fault) = 6
+status_of (Standby fault) = 6
+status_of (Ahead to from) = 6
+status_of (Foreign number) = 6
+status_of (OtherDevice before after) = 5
 status_of (Memory opened) = 7
 
--- the text of a refusal, on standard error
-abbrev pub refusal_line : OpenFault → List ℕ
-refusal_line NotAStore = codes "pmos: not a store\n"
-refusal_line (Version version) = codes "pmos: version " ++ decimal version ++ codes "\n"
-refusal_line (Damaged page kept found) =
-    codes "pmos: damaged page " ++ decimal page ++ codes " kept " ++ encode_lower kept
+-- the text of a refusal, on standard error, behind these words
+abbrev pub refused_so : List ℕ → OpenFault → List ℕ
+refused_so front NotAStore = front ++ codes "not a store\n"
+refused_so front (Version version) = front ++ codes "version " ++ decimal version ++ codes "\n"
+refused_so front (Damaged page kept found) =
+    front ++ codes "damaged page " ++ decimal page ++ codes " kept " ++ encode_lower kept
     ++ codes " found " ++ encode_lower found ++ codes "\n"
-refusal_line (Malformed page at) = codes "pmos: malformed page " ++ decimal page ++ codes " at " ++ decimal at ++ codes "\n"
-refusal_line (Disk before after) = codes "pmos: disk fault\n"
-refusal_line NoRoom = codes "pmos: no memory\n"
+refused_so front (Malformed page at) = front ++ codes "malformed page " ++ decimal page ++ codes " at " ++ decimal at ++ codes "\n"
+refused_so front (Disk before after) = front ++ codes "disk fault\n"
+refused_so front NoRoom = front ++ codes "no memory\n"
+
+-- that of a store, and that of a standby
+abbrev pub refusal_line : OpenFault → List ℕ
+refusal_line fault = refused_so (codes "pmos: ") fault
+
+abbrev pub standby_line : OpenFault → List ℕ
+standby_line fault = refused_so (codes "pmos: standby ") fault
 
 -- the word for what is wrong with a line
 abbrev pub cause_word : Cause → List ℕ
@@ -77,6 +91,10 @@ abbrev pub dump_line : DumpFault → List ℕ
 dump_line (dump_fault.Line number cause) = codes "pmos: dump line " ++ decimal number ++ codes " " ++ dump_word cause ++ codes "\n"
 dump_line dump_fault.Memory = codes "pmos: no memory\n"
 
+-- the line that tells what was shipped
+abbrev pub shipped_line : Shipped → List ℕ
+shipped_line shipped = codes "shipped " ++ decimal shipped.epoch ++ codes " " ++ decimal shipped.written ++ codes "\n"
+
 -- the text of each end, on standard error
 abbrev pub detail_line : Detail → List ℕ
 detail_line Fine = []
@@ -88,6 +106,10 @@ detail_line (Writing before after) = codes "pmos: write fault\n"
 detail_line (Device before after opened) = codes "pmos: disk fault\n"
 detail_line (NotEmpty bytes) = codes "pmos: not empty " ++ decimal bytes ++ codes "\n"
 detail_line (Refused fault) = refusal_line fault
+detail_line (Standby fault) = standby_line fault
+detail_line (Ahead to from) = codes "pmos: standby ahead " ++ decimal to ++ codes " " ++ decimal from ++ codes "\n"
+detail_line (Foreign number) = codes "pmos: standby foreign " ++ decimal number ++ codes "\n"
+detail_line (OtherDevice before after) = codes "pmos: standby disk fault\n"
 detail_line (Memory opened) = codes "pmos: no memory\n"
 
 -- the source's count of faults rose where the source failed, and else stands still
@@ -108,6 +130,11 @@ abbrev pub ShowsDevice : Detail → ℕ → ℕ → Type 0
 ShowsDevice (Device before after opened) count_before count_after = ShowsRise before after count_before count_after
 ShowsDevice detail count_before count_after = count_after ≡ count_before
 
+-- that of the standby's disk rose where that failed, and else stands still
+abbrev pub ShowsOther : Detail → ℕ → ℕ → Type 0
+ShowsOther (OtherDevice before after) count_before count_after = ShowsRise before after count_before count_after
+ShowsOther detail count_before count_after = count_after ≡ count_before
+
 -- a store is refused by a rule of its bytes: a disk that fails and want of memory are ends of their own, and there is no
 -- store that is sound and yet not opened
 abbrev pub IsOfStore : OpenFault → Type 0
@@ -127,6 +154,7 @@ IsOfDump fault = Unit {0}
 
 abbrev pub NamesRule : Detail → Type 0
 NamesRule (Refused fault) = IsOfStore fault
+NamesRule (Standby fault) = IsOfStore fault
 NamesRule (Script fault) = IsOfScript fault
 NamesRule (BadDump fault) = IsOfDump fault
 NamesRule detail = Unit {0}
@@ -187,3 +215,13 @@ abbrev pub not_made : InitFault → Detail
 not_made (NotEmptied bytes) = NotEmpty bytes
 not_made (InitDisk before after) = Device before after false
 not_made InitMemory = Memory false
+
+-- how the program ends where nothing is shipped
+abbrev pub not_shipped : ShipFault → Detail
+not_shipped (ship_fault.From fault) = Refused fault
+not_shipped (ship_fault.To fault) = Standby fault
+not_shipped (ship_fault.Ahead to from) = Ahead to from
+not_shipped (ship_fault.Foreign number) = Foreign number
+not_shipped (ship_fault.Disk before after) = Device before after false
+not_shipped (ship_fault.OtherDisk before after) = OtherDevice before after
+not_shipped ship_fault.Memory = Memory false

@@ -11,7 +11,7 @@ use Rattle.pm_serving.specs.Images.{IsTold}
 use Rattle.pm_engine.specs.declared.engine.Engine.{Engine}
 use Rattle.pm_engine.specs.Shown.{disk_in, opened_disk, serving, tally_of}
 use Rattle.pm_serial.specs.Writing.{tail_of}
-use Rattle.pm_top.specs.declared.ended.Ended.{Ended}
+use Rattle.pm_top.specs.declared.ended.Alone.{Alone as Ended}
 use Rattle.pm_top.specs.declared.writes.Writes.{Writes}
 use Rattle.pm_top.specs.Ends.{stop_in}
 use Rattle.pm_top.specs.Stages.{unreached, the_events}

@@ -1,5 +1,6 @@
 pub mod Stages
 pub mod Ends
+pub mod Alone
 pub mod Journals
 pub mod Disks
 pub mod Dumps
@@ -8,4 +9,5 @@ pub mod Wrote
 pub mod Engines
 pub mod Commands
 pub mod Needs
+pub mod Ships
 pub mod Program

@@ -6,13 +6,15 @@ use Rattle.pm_io.specs.declared.source.Source as source
 use Rattle.pm_io.specs.declared.sink.Sink as sink
 use Rattle.pm_output.specs.Writing.{PutsAll, PutsPart}
 use Rattle.pm_words.specs.declared.command.Command.{Command}
-use Rattle.pm_words.specs.Words.{Spells, SpellsNothing}
+use Rattle.pm_words.specs.Words.{AreShip, SpellsAlone, SpellsNothing}
 use Rattle.pm_top.specs.declared.ended.Detail.{Detail}
 use Rattle.pm_top.specs.declared.ended.Detail.TheVariants.{Usage, Memory}
 use Rattle.pm_top.specs.declared.ended.Ended.{Ended}
-use Rattle.pm_top.specs.Ends.{status_of, detail_line}
+use Rattle.pm_top.specs.Alone.{alone}
+use Rattle.pm_top.specs.Ends.{ShowsOther, status_of, detail_line}
 use Rattle.pm_top.specs.Commands.{ShowsCauses, IsUntouched, Does}
 use Rattle.pm_top.specs.Needs.{HasNeeds, NothingFails}
+use Rattle.pm_top.specs.Ships.{MayShip, ShipsStore}
 
 module _ {E : Type 0} (e : sink.Ghosts E) where
   -- This line was written to the sink and nothing else, or, where the sink failed, a first part of it.
@@ -26,15 +28,19 @@ module _ {E : Type 0} (e : sink.Ghosts E) where
     pub is_status : status ≡ status_of detail
     pub told : Tells old new (detail_line detail)
 
-module _ {D S K : Type 0} (d : disk.Ghosts D) (s : source.Ghosts S) (k : sink.Ghosts K) where
-  -- The program ended so, with a status, a journal, a tally and what is left of disk, source and sink: all holds of this
-  -- end that holds of the top call.
-  pub record Performs (words : List (List ℕ)) (disk : D) (source : S) (sink : K) (ended : Ended D S K) : Type 0 where
+module _ {D E S K : Type 0} (d : disk.Ghosts D) (e : disk.Ghosts E) (s : source.Ghosts S) (k : sink.Ghosts K) where
+  -- The program ended so, with a status, a journal, a tally and what is left of both disks, source and sink: all holds of
+  -- this end that holds of the top call.
+  pub record Performs (words : List (List ℕ)) (disk : D) (other : E) (source : S) (sink : K) (ended : Ended D E S K) : Type 0 where
     pub is_status : ended.status ≡ status_of ended.detail
     pub usage : ended.detail ≡ Usage → SpellsNothing words
     pub refused : SpellsNothing words → (ended.detail ≡ Usage) ⊎ (ended.detail ≡ Memory false)
-    pub untouched : SpellsNothing words → IsUntouched disk source sink ended
-    pub causes : ShowsCauses d s k disk source sink ended
-    pub does : (command : Command) → Spells words command → Does d s k command disk source sink ended
-    pub complete : (command : Command) → Spells words command → HasNeeds d s command disk source
-        → NothingFails d s k disk source sink ended → (ended.status ≡ 0) ⊎ (ended.status ≡ 7)
+    pub untouched : SpellsNothing words → IsUntouched disk source sink (alone ended) × (ended.other ≡ other)
+    pub causes : ShowsCauses d s k disk source sink (alone ended)
+    pub other_causes : ShowsOther ended.detail (e.count other) (e.count ended.other)
+    pub does : (command : Command) → SpellsAlone words command → Does d s k command disk source sink (alone ended) × (ended.other ≡ other)
+    pub complete : (command : Command) → SpellsAlone words command → HasNeeds d s command disk source
+        → NothingFails d s k disk source sink (alone ended) → (ended.status ≡ 0) ⊎ (ended.status ≡ 7)
+    pub ships : AreShip words → ShipsStore d e k disk other source sink ended
+    pub ship_complete : AreShip words → MayShip d e disk other → NothingFails d s k disk source sink (alone ended)
+        → (Rose (e.count other) (e.count ended.other) → ⊥) → (ended.status ≡ 0) ⊎ (ended.status ≡ 7)

@@ -2,7 +2,7 @@
 use Rattle.std.specs.Prelude.{ℕ, ◌≤◌, true, false}
 use Rattle.pm_top.specs.declared.ended.Detail.{Detail}
 use Rattle.pm_top.specs.declared.ended.Detail.TheVariants.{Fine, Usage, Script, Dump as BadDump, Reading, Writing, Device}
-use Rattle.pm_top.specs.declared.ended.Detail.TheVariants.{NotEmpty, Refused, Memory}
+use Rattle.pm_top.specs.declared.ended.Detail.TheVariants.{NotEmpty, Refused, Standby, Ahead, Foreign, OtherDevice, Memory}
 
 -- no stage
 abbrev pub at_start : ℕ
@@ -47,6 +47,10 @@ behind (Writing before after) = the_store
 behind (Device before after false) = the_script
 behind (Device before after true) = the_store
 behind (NotEmpty bytes) = at_start
+behind (Standby fault) = at_start
+behind (Ahead to from) = at_start
+behind (Foreign number) = at_start
+behind (OtherDevice before after) = at_start
 behind (Refused fault) = the_script
 behind (Memory false) = the_words
 behind (Memory true) = the_store
@@ -62,6 +66,10 @@ unreached (Writing before after) = at_end
 unreached (Device before after false) = the_events
 unreached (Device before after true) = the_output
 unreached (NotEmpty bytes) = the_events
+unreached (Standby fault) = the_events
+unreached (Ahead to from) = the_events
+unreached (Foreign number) = the_events
+unreached (OtherDevice before after) = the_events
 unreached (Refused fault) = the_events
 unreached (Memory false) = the_events
 unreached (Memory true) = the_output

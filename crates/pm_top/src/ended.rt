@@ -45,6 +45,22 @@ pub enum Detail {
     NotEmpty(u64),
     /// The store was not opened, by the rule that its bytes fail. Status 6.
     Refused(OpenFault),
+    /// Nothing was shipped, by the rule that the standby's bytes fail. Status 6.
+    Standby(OpenFault),
+    /// Nothing was shipped: the standby's copy has a later number than the first store's. Status 6.
+    Ahead {
+        /// The number of the standby's copy.
+        to: u32,
+        /// The number of the first store's copy.
+        from: u32,
+    },
+    /// Nothing was shipped: the standby has another copy under this number, which is the first store's. Status 6.
+    Foreign(u32),
+    /// The standby's disk failed: its count of faults rose, from `before` to `after`. Status 5.
+    OtherDevice {
+        before: u64,
+        after: u64,
+    },
     /// Memory ran out. Status 7. `opened` tells whether a store had been opened for a run: then there is a tally.
     Memory {
         opened: bool,
@@ -52,9 +68,9 @@ pub enum Detail {
 }
 
 /// What the program leaves: its status, how it ended, the journal of its commands, what the engine came to, and the
-/// disk, the source and the sink.
+/// disk, the other disk, the source and the sink.
 #[derive(Drop)]
-pub struct Ended<D: Disk, S: Source, K: Sink> {
+pub struct Ended<D: Disk, E: Disk, S: Source, K: Sink> {
     /// The status with which the program ends: 0 to 7.
     pub status: u8,
     pub detail: Detail,
@@ -63,8 +79,52 @@ pub struct Ended<D: Disk, S: Source, K: Sink> {
     /// What the engine came to. It is there where a store was opened for a script.
     pub tally: Option<Tally>,
     pub disk: D,
+    /// The disk of the standby, which `ship` alone calls.
+    pub other: E,
     pub source: S,
     pub sink: K,
+}
+
+/// The same without the other disk: what a command leaves that touches one disk at most.
+#[derive(Drop)]
+pub struct Alone<D: Disk, S: Source, K: Sink> {
+    pub status: u8,
+    pub detail: Detail,
+    pub journal: Vec<Entry>,
+    pub tally: Option<Tally>,
+    pub disk: D,
+    pub source: S,
+    pub sink: K,
+}
+
+impl<D: Disk, S: Source, K: Sink> Alone<D, S, K> {
+    ghost use Rattle.pm_top.specs.Alone.{alone};
+
+    /// With the other disk beside it.
+    pub(crate) fn beside<E: Disk>(self, other: E) -> Ended<D, E, S, K>
+        ensures alone { alone result ≡ self }
+        ensures other { result.other ≡ other }
+    {
+        let Alone {
+            status,
+            detail,
+            journal,
+            tally,
+            disk,
+            source,
+            sink,
+        } = self;
+        Ended {
+            status,
+            detail,
+            journal,
+            tally,
+            disk,
+            other,
+            source,
+            sink,
+        }
+    }
 }
 
 impl Detail {
@@ -79,8 +139,12 @@ impl Detail {
             Detail::Script(_) | Detail::Dump(_) => 2,
             Detail::Reading { .. } => 3,
             Detail::Writing { .. } => 4,
-            Detail::Device { .. } => 5,
-            Detail::NotEmpty(_) | Detail::Refused(_) => 6,
+            Detail::Device { .. } | Detail::OtherDevice { .. } => 5,
+            Detail::NotEmpty(_)
+            | Detail::Refused(_)
+            | Detail::Standby(_)
+            | Detail::Ahead { .. }
+            | Detail::Foreign(_) => 6,
             Detail::Memory { .. } => 7,
         }
     }
@@ -134,7 +198,7 @@ pub(crate) fn end_with<D: Disk, S: Source, K: Sink>(
     disk: D,
     source: S,
     sink: K,
-) -> Ended<D, S, K>
+) -> Alone<D, S, K>
     ensures status { result.status ≡ status_of detail }
     ensures detail { result.detail ≡ detail }
     ensures journal { result.journal ≡ journal }
@@ -143,7 +207,7 @@ pub(crate) fn end_with<D: Disk, S: Source, K: Sink>(
     ensures source { result.source ≡ source }
     ensures sink { result.sink ≡ sink }
 {
-    Ended {
+    Alone {
         status: detail.status(),
         detail,
         journal,
@@ -161,7 +225,7 @@ pub(crate) fn end_unopened<D: Disk, S: Source, K: Sink>(
     disk: D,
     source: S,
     sink: K,
-) -> Ended<D, S, K>
+) -> Alone<D, S, K>
     ensures status { result.status ≡ status_of detail }
     ensures detail { result.detail ≡ detail }
     ensures journal { result.journal.items ≡ [] }

@@ -1,7 +1,8 @@
 //! The whole program but for its outermost shell: it reads the words, does what the command asks for, and tells how it
 //! ended. It makes a store; runs a script over a store's copy, in the order of its lines or in threads, and writes the
 //! replies; writes the report of a store, its dump, or a path in it; makes a store of a dump; writes a script that is made
-//! from a seed; or runs that script and writes the digest of the replies.
+//! from a seed; runs that script and writes the digest of the replies; or brings a standby to the last settled copy of a
+//! store.
 #![tactic(auto)]
 
 mod ended;
@@ -13,6 +14,7 @@ mod reading;
 mod restoring;
 mod running;
 mod shell;
+mod standby;
 mod telling;
 mod texting;
 mod texts;
@@ -20,7 +22,7 @@ mod together;
 mod top;
 mod writes;
 
-pub use ended::{Detail, Ended};
+pub use ended::{Alone, Detail, Ended};
 pub use laws::{a_run_stays_closed, ends_lie_between_stages};
 pub use shell::{program, tell};
 pub use texts::detail_text;

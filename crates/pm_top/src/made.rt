@@ -10,7 +10,7 @@ use crate::ended::end_unopened;
 use crate::running::run_bytes;
 use crate::texting::write_text;
 use crate::writes::Writes;
-use crate::{Detail, Ended};
+use crate::{Alone, Detail};
 use pm_disk::Disk;
 use pm_io::{Sink, Source};
 use pm_make::{a_seed_gives_a_script, make};
@@ -36,7 +36,7 @@ pub(crate) fn make_script<D: Disk, S: Source, K: Sink>(
     disk: D,
     source: S,
     mut sink: K,
-) -> Ended<D, S, K>
+) -> Alone<D, S, K>
     requires { turns ≤ MOST_TURNS }
     ensures status { result.status ≡ status_of result.detail }
     ensures causes { ShowsCauses D.Disk S.Source K.Sink disk source sink result }
@@ -58,7 +58,7 @@ pub(crate) fn try_script<D: Disk, F: Fn(&[u64]) -> usize + Drop, S: Source, K: S
     place: Placement<F>,
     source: S,
     sink: K,
-) -> Ended<D, S, K>
+) -> Alone<D, S, K>
     requires turns { turns ≤ MOST_TURNS }
     requires chooser { IsChooser F.Fn place }
     ensures status { result.status ≡ status_of result.detail }

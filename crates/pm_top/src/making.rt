@@ -4,7 +4,7 @@ ghost use Rattle.pm_top.specs.Ends.{status_of, not_made};
 ghost use Rattle.pm_top.specs.Commands.{ShowsCauses, MakesStore};
 
 use crate::ended::end_unopened;
-use crate::{Detail, Ended};
+use crate::{Alone, Detail};
 use pm_disk::Disk;
 use pm_io::{Sink, Source};
 use pm_shadow::init;
@@ -32,7 +32,7 @@ pub(crate) fn make_store<D: Disk, S: Source, K: Sink>(
     mut disk: D,
     source: S,
     sink: K,
-) -> Ended<D, S, K>
+) -> Alone<D, S, K>
     ensures status { result.status ≡ status_of result.detail }
     ensures causes { ShowsCauses D.Disk S.Source K.Sink disk source sink result }
     ensures makes { MakesStore D.Disk disk source sink result }

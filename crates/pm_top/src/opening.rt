@@ -10,7 +10,7 @@ ghost use Rattle.pm_top.specs.Wrote.{AcknowledgesFor};
 ghost use Rattle.pm_top.specs.Commands.{ShowsCauses, RunsStore};
 ghost use Rattle.pm_top.specs.Engines.{RunsEngine};
 
-use crate::Ended;
+use crate::Alone;
 use crate::ended::{end_unopened, end_with, ended_by, not_opened};
 use crate::writes::{Writes, write_lines};
 use pm_disk::Disk;
@@ -29,7 +29,7 @@ fn run_engine<D: Disk, F: Fn(&[u64]) -> usize + Drop, S: Source, K: Sink>(
     mut engine: Engine<D, F>,
     source: S,
     mut sink: K,
-) -> Ended<D, S, K>
+) -> Alone<D, S, K>
     requires clients { AreLines lines.items }
     requires fresh { IsFresh (serving engine) }
     requires chooser { IsChooser F.Fn (chooser engine) }
@@ -60,7 +60,7 @@ pub(crate) fn open_and_run<D: Disk, F: Fn(&[u64]) -> usize + Drop, S: Source, K:
     place: Placement<F>,
     source: S,
     sink: K,
-) -> Ended<D, S, K>
+) -> Alone<D, S, K>
     requires clients { AreLines lines.items }
     requires chooser { IsChooser F.Fn place }
     ensures status { result.status ≡ status_of result.detail }

@@ -17,7 +17,7 @@ ghost use Rattle.pm_top.specs.Commands.{RestoresStore, ShowsCauses};
 
 use crate::ended::end_unopened;
 use crate::making::not_made;
-use crate::{Detail, Ended};
+use crate::{Alone, Detail};
 use pm_disk::Disk;
 use pm_dump::{Dump, DumpFault, read_dump};
 use pm_io::{ReadAll, Sink, Source, read_all};
@@ -139,7 +139,7 @@ pub(crate) fn restore_store<D: Disk, S: Source, K: Sink>(
     disk: D,
     mut source: S,
     sink: K,
-) -> Ended<D, S, K>
+) -> Alone<D, S, K>
     ensures status { result.status ≡ status_of result.detail }
     ensures causes { ShowsCauses D.Disk S.Source K.Sink disk source sink result }
     ensures restores { RestoresStore D.Disk S.Source K.Sink disk source sink result }

@@ -6,7 +6,7 @@ ghost use Rattle.pm_top.specs.Stages.{IsPast, unreached, the_words, the_script};
 ghost use Rattle.pm_top.specs.Journals.{KeepsOrder, ReadsScript};
 ghost use Rattle.pm_top.specs.Commands.{ShowsCauses, RunsStore, RunsScript};
 
-use crate::Ended;
+use crate::Alone;
 use crate::ended::end_unopened;
 use crate::opening::open_and_run;
 use crate::reading::{not_read, read_lines, read_source};
@@ -26,7 +26,7 @@ pub(crate) fn run_bytes<D: Disk, F: Fn(&[u64]) -> usize + Drop, S: Source, K: Si
     place: Placement<F>,
     source: S,
     sink: K,
-) -> Ended<D, S, K>
+) -> Alone<D, S, K>
     requires bytes { length bytes.items ≤ SOURCE_BYTES }
     requires chooser { IsChooser F.Fn place }
     ensures status { result.status ≡ status_of result.detail }
@@ -59,7 +59,7 @@ pub(crate) fn run_source<D: Disk, F: Fn(&[u64]) -> usize + Drop, S: Source, K: S
     place: Placement<F>,
     mut source: S,
     sink: K,
-) -> Ended<D, S, K>
+) -> Alone<D, S, K>
     requires chooser { IsChooser F.Fn place }
     ensures status { result.status ≡ status_of result.detail }
     ensures runs { RunsScript D.Disk S.Source K.Sink disk source sink result }

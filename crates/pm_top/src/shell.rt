@@ -27,32 +27,35 @@ pub fn tell<E: Sink>(errors: &mut E, detail: &Detail)
     }
 }
 
-/// Does what the program does, over any disk, streams and sink for errors, and hands back what it was lent, with the
+/// Does what the program does, over any disks, streams and sink for errors, and hands back what it was lent, with the
 /// status with which it ends: 0 to 7. The replies go to `sink` alone, and to `errors` the line of the end, where the
 /// status is not 0. As `pmos` it waits for threads where a script is run in them, and else for nobody.
 pub fn program<
     R: AllocGlobal + Threads + Wait + Sync,
     D: Disk + Drop + Send,
+    E: Disk + Drop + Send,
     S: Source,
     K: Sink,
     F: Fn(&[u64]) -> usize + Drop + Send,
-    E: Sink,
+    W: Sink,
     G: Gate + Sync,
 >(
     rt: &R,
     words: &[&str],
     disk: D,
+    other: E,
     source: S,
     sink: K,
-    errors: &mut E,
+    errors: &mut W,
     place: Placement<F>,
     gate: &G,
-) -> Ended<D, S, K>
+) -> Ended<D, E, S, K>
     requires chooser { IsChooser F.Fn place }
-    ensures told { Tells E.Sink errors.old errors.new (detail_line result.detail) }
-    ensures performs { Performs D.Disk S.Source K.Sink (map (λ word. word.now) words.now) disk source sink result }
+    ensures told { Tells W.Sink errors.old errors.new (detail_line result.detail) }
+    ensures performs { Performs D.Disk E.Disk S.Source K.Sink (map (λ word. word.now) words.now) disk other source sink
+        result }
 {
-    let ended = pmos(rt, words, disk, source, sink, place, gate);
+    let ended = pmos(rt, words, disk, other, source, sink, place, gate);
     tell(errors, &ended.detail);
     ended
 }

@@ -5,7 +5,7 @@ ghost use Rattle.pm_top.specs.Commands.{ShowsCauses, TellsStore};
 
 use crate::ended::{end_unopened, not_opened};
 use crate::texting::write_text;
-use crate::{Detail, Ended};
+use crate::{Alone, Detail};
 use pm_disk::Disk;
 use pm_io::{Sink, Source};
 use pm_tell::{Teller, tell_store};
@@ -18,7 +18,7 @@ pub(crate) fn write_told<D: Disk, S: Source, K: Sink, T: Teller>(
     disk: D,
     source: S,
     mut sink: K,
-) -> Ended<D, S, K>
+) -> Alone<D, S, K>
     ensures status { result.status ≡ status_of result.detail }
     ensures causes { ShowsCauses D.Disk S.Source K.Sink disk source sink result }
     ensures tells { TellsStore D.Disk K.Sink (T.says teller.now) disk source sink result }

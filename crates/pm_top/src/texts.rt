@@ -2,12 +2,13 @@
 ghost use Rattle.std.specs.Prelude.{◌≡◌, ◌≤◌, ◌++◌, length, IfOk, codes, decimal};
 ghost use Rattle.pm_script.specs.declared.fault.ScriptFault.TheVariants as script_fault;
 ghost use Rattle.pm_dump.specs.declared.fault.DumpFault.TheVariants as dump_fault;
-ghost use Rattle.pm_top.specs.Ends.{cause_word, detail_line, dump_line, dump_word, refusal_line, script_line};
+ghost use Rattle.pm_top.specs.Ends.{cause_word, detail_line, dump_line, dump_word, refused_so, script_line, shipped_line};
 
 use crate::Detail;
 use pm_dump::{DumpCause, DumpFault};
 use pm_output::line::{Line, append, append_digest, append_number, line_with};
 use pm_script::{Cause, ScriptFault};
+use pm_ship::Shipped;
 use pm_types::{NoMemory, OpenFault};
 use std::alloc::Global;
 
@@ -97,11 +98,13 @@ fn dump_fault_of(fault: &DumpFault) -> Line
     }
 }
 
-// The line of a page that is damaged.
-fn damaged_line(page: u64, kept: &[u8; 32], found: &[u8; 32]) -> Line
-    ensures { result.items ≡ refusal_line (OpenFault.Damaged page kept.now found.now) }
+// The line of a page that is damaged, behind these words.
+fn damaged_line(front: &[u8], page: u64, kept: &[u8; 32], found: &[u8; 32]) -> Line
+    requires { length front.now ≤ 16 }
+    ensures { result.items ≡ refused_so front.now (OpenFault.Damaged page kept.now found.now) }
 {
-    let mut line = line_with(b"pmos: damaged page ");
+    let mut line = line_with(front);
+    append(&mut line, b"damaged page ");
     append_number(&mut line, page);
     append(&mut line, b" kept ");
     append_digest(&mut line, kept);
@@ -112,10 +115,12 @@ fn damaged_line(page: u64, kept: &[u8; 32], found: &[u8; 32]) -> Line
 }
 
 // The line of a page that is malformed.
-fn malformed_line(page: u64, at: u32) -> Line
-    ensures { result.items ≡ refusal_line (OpenFault.Malformed page at) }
+fn malformed_line(front: &[u8], page: u64, at: u32) -> Line
+    requires { length front.now ≤ 16 }
+    ensures { result.items ≡ refused_so front.now (OpenFault.Malformed page at) }
 {
-    let mut line = line_with(b"pmos: malformed page ");
+    let mut line = line_with(front);
+    append(&mut line, b"malformed page ");
     append_number(&mut line, page);
     append(&mut line, b" at ");
     append_number(&mut line, u64::from(at));
@@ -123,18 +128,66 @@ fn malformed_line(page: u64, at: u32) -> Line
     line
 }
 
-// The line of a store that is refused.
-fn refusal_of(fault: &OpenFault) -> Line
-    ensures { result.items ≡ refusal_line fault.now }
+// The line of a store of another version.
+fn version_line(front: &[u8], version: u32) -> Line
+    requires { length front.now ≤ 16 }
+    ensures { result.items ≡ refused_so front.now (OpenFault.Version version) }
+{
+    let mut line = line_with(front);
+    append(&mut line, b"version ");
+    append_number(&mut line, u64::from(version));
+    append(&mut line, b"\n");
+    line
+}
+
+// A line of these words behind those.
+fn worded_line(front: &[u8], words: &[u8]) -> Line
+    requires front { length front.now ≤ 16 }
+    requires words { length words.now ≤ 128 }
+    ensures { result.items ≡ front.now ++ words.now }
+{
+    let mut line = line_with(front);
+    append(&mut line, words);
+    line
+}
+
+// The line of a store that is refused, behind these words.
+fn refusal_of(front: &[u8], fault: &OpenFault) -> Line
+    requires { length front.now ≤ 16 }
+    ensures { result.items ≡ refused_so front.now fault.now }
 {
     match fault {
-        OpenFault::NotAStore => line_with(b"pmos: not a store\n"),
-        OpenFault::Version(version) => numbered_line(b"pmos: version ", u64::from(*version)),
-        OpenFault::Damaged { page, kept, found } => damaged_line(*page, kept, found),
-        OpenFault::Malformed { page, at } => malformed_line(*page, *at),
-        OpenFault::Disk { .. } => line_with(b"pmos: disk fault\n"),
-        OpenFault::Memory => line_with(b"pmos: no memory\n"),
+        OpenFault::NotAStore => worded_line(front, b"not a store\n"),
+        OpenFault::Version(version) => version_line(front, *version),
+        OpenFault::Damaged { page, kept, found } => damaged_line(front, *page, kept, found),
+        OpenFault::Malformed { page, at } => malformed_line(front, *page, *at),
+        OpenFault::Disk { .. } => worded_line(front, b"disk fault\n"),
+        OpenFault::Memory => worded_line(front, b"no memory\n"),
     }
+}
+
+// The line of a standby whose copy has a later number than the first store's.
+fn ahead_line(to: u32, from: u32) -> Line
+    ensures { result.items ≡ codes "pmos: standby ahead " ++ decimal to ++ codes " " ++ decimal from ++ codes "\n" }
+{
+    let mut line = line_with(b"pmos: standby ahead ");
+    append_number(&mut line, u64::from(to));
+    append(&mut line, b" ");
+    append_number(&mut line, u64::from(from));
+    append(&mut line, b"\n");
+    line
+}
+
+/// The line that tells what was shipped: the number of the copy, and how many pages were written. It takes no memory.
+pub(crate) fn shipped_line(shipped: &Shipped) -> Line
+    ensures { result.items ≡ shipped_line shipped.now }
+{
+    let mut line = line_with(b"shipped ");
+    append_number(&mut line, u64::from(shipped.epoch));
+    append(&mut line, b" ");
+    append_number(&mut line, shipped.written);
+    append(&mut line, b"\n");
+    line
 }
 
 /// The line of an end. It takes no memory.
@@ -150,7 +203,11 @@ pub(crate) fn line_of(detail: &Detail) -> Line
         Detail::Writing { .. } => line_with(b"pmos: write fault\n"),
         Detail::Device { .. } => line_with(b"pmos: disk fault\n"),
         Detail::NotEmpty(bytes) => numbered_line(b"pmos: not empty ", *bytes),
-        Detail::Refused(fault) => refusal_of(fault),
+        Detail::Refused(fault) => refusal_of(b"pmos: ", fault),
+        Detail::Standby(fault) => refusal_of(b"pmos: standby ", fault),
+        Detail::Ahead { to, from } => ahead_line(*to, *from),
+        Detail::Foreign(number) => numbered_line(b"pmos: standby foreign ", u64::from(*number)),
+        Detail::OtherDevice { .. } => line_with(b"pmos: standby disk fault\n"),
         Detail::Memory { .. } => line_with(b"pmos: no memory\n"),
     }
 }

@@ -10,7 +10,7 @@ ghost use Rattle.pm_top.specs.Journals.{ServesLines};
 ghost use Rattle.pm_top.specs.Commands.{ShowsCauses, RunsStore, RunsTogether};
 ghost use Rattle.pm_top.specs.Engines.{RunsEngine};
 
-use crate::Ended;
+use crate::Alone;
 use crate::ended::{end_unopened, end_with, ended_by, not_opened};
 use crate::reading::read_source;
 use pm_disk::Disk;
@@ -46,7 +46,7 @@ fn run_engine<
     source: S,
     mut sink: K,
     gate: &G,
-) -> Ended<D, S, K>
+) -> Alone<D, S, K>
     requires fresh { IsFresh (serving engine) }
     requires chooser { IsChooser F.Fn (chooser engine) }
     requires count { disk_before ≡ D.count (disk_in engine) }
@@ -84,7 +84,7 @@ fn open_and_run<
     source: S,
     sink: K,
     gate: &G,
-) -> Ended<D, S, K>
+) -> Alone<D, S, K>
     requires chooser { IsChooser F.Fn place }
     ensures status { result.status ≡ status_of result.detail }
     ensures source { result.source ≡ source }
@@ -117,7 +117,7 @@ pub(crate) fn run_together<
     mut source: S,
     sink: K,
     gate: &G,
-) -> Ended<D, S, K>
+) -> Alone<D, S, K>
     requires chooser { IsChooser F.Fn place }
     ensures status { result.status ≡ status_of result.detail }
     ensures runs { RunsTogether D.Disk S.Source K.Sink disk source sink result }

@@ -1,26 +1,30 @@
 //! All that the program does but for its shell.
 ghost use Rattle.std.specs.Prelude.{◌≡◌, ◌⊎◌, false, map};
-ghost use Rattle.pm_words.specs.declared.command.Command.{Command as Asked};
-ghost use Rattle.pm_words.specs.Words.{Spells, SpellsNothing};
+ghost use Rattle.pm_base.specs.Counts.{Rose};
+ghost use Rattle.pm_words.specs.declared.command.Command.{Command as One};
+ghost use Rattle.pm_words.specs.Words.{AreShip, SpellsAlone, SpellsNothing};
 ghost use Rattle.pm_place.specs.Choosers.{IsChooser};
-ghost use Rattle.pm_top.specs.Ends.{status_of};
+ghost use Rattle.pm_top.specs.Alone.{alone};
+ghost use Rattle.pm_top.specs.Ends.{ShowsOther, status_of};
 ghost use Rattle.pm_top.specs.Commands.{ShowsCauses, IsUntouched, MayPerform, Does};
 ghost use Rattle.pm_top.specs.Needs.{HasNeeds, NothingFails};
+ghost use Rattle.pm_top.specs.Ships.{MayShip, ShipsStore};
 
 use crate::ended::end_unopened;
 use crate::made::{make_script, try_script};
 use crate::making::make_store;
 use crate::restoring::restore_store;
 use crate::running::run_source;
+use crate::standby::ship_store;
 use crate::telling::write_told;
 use crate::together::{images_since_now, run_together};
-use crate::{Detail, Ended};
+use crate::{Alone, Detail, Ended};
 use pm_disk::Disk;
 use pm_io::{Sink, Source};
 use pm_place::Placement;
 use pm_tell::{DumpText, ReportText, WhyText};
 use pm_turns::Gate;
-use pm_words::{Command, read_words, words_spell_one_command};
+use pm_words::{Asked, Command, read_words, words_spell_one_command};
 use std::alloc::Global;
 use std::sync::Wait;
 use std::thread::Threads;
@@ -42,7 +46,7 @@ fn perform<
     sink: K,
     place: Placement<F>,
     gate: &G,
-) -> Ended<D, S, K>
+) -> Alone<D, S, K>
     requires may { MayPerform command }
     requires chooser { IsChooser F.Fn place }
     ensures status { result.status ≡ status_of result.detail }
@@ -96,12 +100,16 @@ fn perform<
 /// `trial FILE SEED N` runs that script as `run FILE serial` does, and writes the SHA-256 of the text of the replies in
 /// place of that text. The source is not called.
 ///
+/// `ship FILE OTHER` brings the store of the other disk to the last settled copy of that of the first, and writes how many
+/// pages that took. The first store is not written. No other command calls the other disk.
+///
 /// An object moves to the train that the chooser of `place` picks.
 ///
-/// What the disk and the source hold and what the sink has is said where they tell it.
+/// What the disks and the source hold and what the sink has is said where they tell it.
 pub fn pmos<
     R: AllocGlobal + Threads + Wait + Sync,
     D: Disk + Drop + Send,
+    E: Disk + Drop + Send,
     S: Source,
     K: Sink,
     F: Fn(&[u64]) -> usize + Drop + Send,
@@ -110,40 +118,55 @@ pub fn pmos<
     rt: &R,
     words: &[&str],
     disk: D,
+    other: E,
     source: S,
     sink: K,
     place: Placement<F>,
     gate: &G,
-) -> Ended<D, S, K>
+) -> Ended<D, E, S, K>
     requires chooser { IsChooser F.Fn place }
     ensures status { result.status ≡ status_of result.detail }
 
     // Whatever the words are, an end has its cause, which is the first. Want of memory alone may come at any time.
-    ensures causes { ShowsCauses D.Disk S.Source K.Sink disk source sink result }
+    ensures causes { ShowsCauses D.Disk S.Source K.Sink disk source sink (alone result) }
+    ensures other_causes { ShowsOther result.detail (E.count other) (E.count result.other) }
 
-    // Words that are no command's are refused, and no others, and all is as it was.
+    // Words that ask for nothing are refused, and no others, and all is as it was.
     ensures usage { result.detail ≡ Detail.Usage → SpellsNothing (map (λ word. word.now) words.now) }
     ensures refused { SpellsNothing (map (λ word. word.now) words.now)
         → (result.detail ≡ Detail.Usage) ⊎ (result.detail ≡ Detail.Memory false) }
     ensures untouched { SpellsNothing (map (λ word. word.now) words.now)
-        → IsUntouched disk source sink result }
+        → IsUntouched disk source sink (alone result) × (result.other ≡ other) }
 
-    // What each command does.
-    ensures does { (command : Asked) → Spells (map (λ word. word.now) words.now) command
-        → Does D.Disk S.Source K.Sink command disk source sink result }
+    // What each command does. The other disk is called by none of them.
+    ensures does { (command : One) → SpellsAlone (map (λ word. word.now) words.now) command
+        → Does D.Disk S.Source K.Sink command disk source sink (alone result) × (result.other ≡ other) }
 
     // With what it needs a command is done, or memory ran out, unless disk, source or sink fails.
-    ensures complete { (command : Asked) → Spells (map (λ word. word.now) words.now) command
+    ensures complete { (command : One) → SpellsAlone (map (λ word. word.now) words.now) command
         → HasNeeds D.Disk S.Source command disk source
-        → NothingFails D.Disk S.Source K.Sink disk source sink result
+        → NothingFails D.Disk S.Source K.Sink disk source sink (alone result)
         → (result.status ≡ 0) ⊎ (result.status ≡ 7) }
+
+    // What a ship does, and what it needs.
+    ensures ships { AreShip (map (λ word. word.now) words.now)
+        → ShipsStore D.Disk E.Disk K.Sink disk other source sink result }
+    ensures ship_complete { AreShip (map (λ word. word.now) words.now) → MayShip D.Disk E.Disk disk other
+        → NothingFails D.Disk S.Source K.Sink disk source sink (alone result)
+        → (Rose (E.count other) (E.count result.other) → ⊥) → (result.status ≡ 0) ⊎ (result.status ≡ 7) }
 {
     words_spell_one_command();
     images_since_now(&disk);
+    images_since_now(&other);
     let alloc = rt.alloc();
     match read_words(alloc, words) {
-        Ok(Some(command)) => perform(rt, alloc, command, disk, source, sink, place, gate),
-        Ok(None) => end_unopened(alloc, Detail::Usage, disk, source, sink),
-        Err(_) => end_unopened(alloc, Detail::Memory { opened: false }, disk, source, sink),
+        Ok(Some(Asked::Alone(command))) => {
+            perform(rt, alloc, command, disk, source, sink, place, gate).beside(other)
+        }
+        Ok(Some(Asked::Ship)) => ship_store(alloc, disk, other, source, sink),
+        Ok(None) => end_unopened(alloc, Detail::Usage, disk, source, sink).beside(other),
+        Err(_) => end_unopened(alloc, Detail::Memory { opened: false }, disk, source, sink).beside(
+            other,
+        ),
     }
 }

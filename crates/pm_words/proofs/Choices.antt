@@ -1,5 +1,5 @@
 -- Words choose one train and no other.
-use Rattle.std.proofs.Common.{◌≡◌, ◌⊎◌, inl, inr, ℕ, List, [], ◌∷◌, length, refl, ap, sym, ◌∙◌, arith, codes}
+use Rattle.std.proofs.Common.{◌≡◌, inl, inr, ℕ, List, [], ◌∷◌, length, refl, ap, sym, ◌∙◌, arith, codes}
 use Rattle.pm_words.specs.declared.chosen.Chosen.{Chosen}
 use Rattle.pm_words.specs.declared.chosen.Chosen.TheVariants.{First, Last, Middle}
 use Rattle.pm_words.specs.Words.{IsPlace, HasPlace, Places}

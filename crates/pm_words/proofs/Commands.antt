@@ -1,9 +1,11 @@
--- Words are those of one command at most.
+-- Words ask for one thing at most.
 use Rattle.std.proofs.Common.{◌≡◌, ℕ, ◌+◌, ◌*◌, List, [], ◌∷◌, length, refl, ap, ap₂, sym, ◌∙◌, arith, codes}
 use Rattle.std.proofs.lemmas.Fmt.{decimal_injective}
+use Rattle.pm_words.specs.declared.asked.Asked.{Asked}
+use Rattle.pm_words.specs.declared.asked.Asked.TheVariants.{Alone, Ship}
 use Rattle.pm_words.specs.declared.command.Command.{Command}
 use Rattle.pm_words.specs.declared.command.Command.TheVariants.{Init, Run, RunThreads, Inspect, Dump, Restore, Why, Make, Trial}
-use Rattle.pm_words.specs.Words.{IsNumber, IsTurns, AreMake, AreRun, AreRunThreads, AreTrial, AreWhy, Spells}
+use Rattle.pm_words.specs.Words.{IsNumber, IsTurns, AreMake, AreRun, AreRunThreads, AreTrial, AreShip, AreWhy, Spells, SpellsAlone, SpellsNoneAlone, SpellsNothing}
 
 -- how many letters of the first word follow its first one, and that letter
 tag : List (List ℕ) → ℕ
@@ -22,7 +24,7 @@ tag_of (Why id) = 1192
 tag_of (Make seed turns) = 1093
 tag_of (Trial seed turns) = 1164
 
-tagged : (words : List (List ℕ)) (command : Command) → Spells words command → tag words ≡ tag_of command
+tagged : (words : List (List ℕ)) (command : Command) → SpellsAlone words command → tag words ≡ tag_of command
 unfolding tag tag_of
 tagged words Init are = ap tag are.are
 tagged words Run are = ap tag are.are
@@ -78,7 +80,7 @@ orders_differ words a b =
     let long : 6 ≡ 7 = ap length third in
     absurd (omega (arith, long))
 
-pub one_command : (words : List (List ℕ)) (one other : Command) → Spells words one → Spells words other → one ≡ other
+one_command : (words : List (List ℕ)) (one other : Command) → SpellsAlone words one → SpellsAlone words other → one ≡ other
 unfolding tag_of
 one_command words Init Init a b = refl
 one_command words Run Run a b = refl
@@ -92,3 +94,34 @@ one_command words (Why i) (Why j) a b = why_same words i j a b
 one_command words (Make s n) (Make t m) a b = make_same words s n t m a b
 one_command words (Trial s n) (Trial t m) a b = trial_same words s n t m a b
 one_command words one other a b = let same : tag_of one ≡ tag_of other = sym (tagged words one a) ∙ tagged words other b in absurd (omega (arith, same))
+
+tagged_ship : (words : List (List ℕ)) → AreShip words → tag words ≡ 1153
+unfolding tag
+tagged_ship words are = ap tag are.are
+
+apart : (command : Command) → tag_of command ≡ 1153 → ⊥
+unfolding tag_of
+apart Init same = absurd (omega (arith, same))
+apart Run same = absurd (omega (arith, same))
+apart RunThreads same = absurd (omega (arith, same))
+apart Inspect same = absurd (omega (arith, same))
+apart Dump same = absurd (omega (arith, same))
+apart Restore same = absurd (omega (arith, same))
+apart (Why id) same = absurd (omega (arith, same))
+apart (Make seed turns) same = absurd (omega (arith, same))
+apart (Trial seed turns) same = absurd (omega (arith, same))
+
+-- no command has the words of a ship
+ship_apart : (words : List (List ℕ)) (command : Command) → SpellsAlone words command → AreShip words → ⊥
+ship_apart words command a b = apart command (sym (tagged words command a) ∙ tagged_ship words b)
+
+pub one_asked : (words : List (List ℕ)) (one other : Asked) → Spells words one → Spells words other → one ≡ other
+one_asked words (Alone one) (Alone other) a b = ap Alone (one_command words one other a b)
+one_asked words (Alone one) Ship a b = absurd (ship_apart words one a b)
+one_asked words Ship (Alone other) a b = absurd (ship_apart words other b a)
+one_asked words Ship Ship a b = refl
+
+-- words that ask for no command and no ship ask for nothing
+pub nothing_asked : (words : List (List ℕ)) → (AreShip words → ⊥) → SpellsNoneAlone words → SpellsNothing words
+nothing_asked words no_ship none (Alone command) are = none command are
+nothing_asked words no_ship none Ship are = no_ship are

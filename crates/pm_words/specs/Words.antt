@@ -1,6 +1,8 @@
 -- The words of the command line.
 use Rattle.std.specs.Prelude.{◌≡◌, ◌⊎◌, ℕ, ◌^◌, ◌<◌, ◌≤◌, List, [], ◌∷◌, codes, decimal}
 use Rattle.pm_types.specs.declared.limits.TheConstants.{MOST_TURNS}
+use Rattle.pm_words.specs.declared.asked.Asked.{Asked}
+use Rattle.pm_words.specs.declared.asked.Asked.TheVariants.{Alone, Ship}
 use Rattle.pm_words.specs.declared.chosen.Chosen.{Chosen}
 use Rattle.pm_words.specs.declared.chosen.Chosen.TheVariants.{First, Last, Middle}
 use Rattle.pm_words.specs.declared.command.Command.{Command}
@@ -116,20 +118,37 @@ pub record AreTrial (words : List (List ℕ)) (seed turns : ℕ) : Type 0 where
   pub are : words ≡ codes "trial" ∷ file ∷ first ∷ second ∷ []
 
 -- these are the words of this command
-abbrev pub Spells : List (List ℕ) → Command → Type 0
-Spells words Init = AreInit words
-Spells words Run = AreRun words
-Spells words RunThreads = AreRunThreads words
-Spells words Inspect = AreInspect words
-Spells words Dump = AreDump words
-Spells words Restore = AreRestore words
-Spells words (Why id) = AreWhy words id
-Spells words (Make seed turns) = AreMake words seed turns
-Spells words (Trial seed turns) = AreTrial words seed turns
+abbrev pub SpellsAlone : List (List ℕ) → Command → Type 0
+SpellsAlone words Init = AreInit words
+SpellsAlone words Run = AreRun words
+SpellsAlone words RunThreads = AreRunThreads words
+SpellsAlone words Inspect = AreInspect words
+SpellsAlone words Dump = AreDump words
+SpellsAlone words Restore = AreRestore words
+SpellsAlone words (Why id) = AreWhy words id
+SpellsAlone words (Make seed turns) = AreMake words seed turns
+SpellsAlone words (Trial seed turns) = AreTrial words seed turns
 
 -- these are the words of no command
+abbrev pub SpellsNoneAlone : List (List ℕ) → Type 0
+SpellsNoneAlone words = (command : Command) → SpellsAlone words command → ⊥
+
+-- `ship FILE OTHER`
+pub record AreShip (words : List (List ℕ)) : Type 0 where
+  pub file : List ℕ
+  pub other : List ℕ
+  pub is_file : IsFile file
+  pub is_other : IsFile other
+  pub are : words ≡ codes "ship" ∷ file ∷ other ∷ []
+
+-- these are the words of what is asked
+abbrev pub Spells : List (List ℕ) → Asked → Type 0
+Spells words (Alone command) = SpellsAlone words command
+Spells words Ship = AreShip words
+
+-- these words ask for nothing
 abbrev pub SpellsNothing : List (List ℕ) → Type 0
-SpellsNothing words = (command : Command) → Spells words command → ⊥
+SpellsNothing words = (asked : Asked) → Spells words asked → ⊥
 
 -- `run FILE MODE PLACE`, with the PLACE of this choice
 pub record HasPlace (words : List (List ℕ)) (chosen : Chosen) : Type 0 where

@@ -1,4 +1,4 @@
-/// What the words of the command line ask for.
+/// A command that touches one file at most.
 #[derive(Clone, Copy, Debug, PartialEq, Eq)]
 pub enum Command {
     /// `init FILE`: make an empty store.

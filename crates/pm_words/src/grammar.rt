@@ -4,7 +4,7 @@ use pm_types::NoMemory;
 use std::alloc::Global;
 
 // The commands, each with the values that have to be given, and with those that may be.
-const COMMANDS: [(&str, &[&str], &[&str]); 8] = [
+const COMMANDS: [(&str, &[&str], &[&str]); 9] = [
     ("init", &["FILE"], &[]),
     ("run", &["FILE", "MODE"], &["PLACE"]),
     ("inspect", &["FILE"], &[]),
@@ -13,6 +13,7 @@ const COMMANDS: [(&str, &[&str], &[&str]); 8] = [
     ("why", &["FILE", "ID"], &[]),
     ("make", &["SEED", "N"], &[]),
     ("trial", &["FILE", "SEED", "N"], &[]),
+    ("ship", &["FILE", "OTHER"], &[]),
 ];
 
 // A command with these values more.

@@ -1,6 +1,7 @@
 ghost use Rattle.std.specs.Prelude.{◌≡◌, ◌<◌, ◌∷◌, [], List, ℕ, map, decimal, codes, IfSome, IfNone, true, false};
-ghost use Rattle.pm_words.specs.Words.{EndsRun, IsFile, IsIdentity, IsNumber, IsTurns, Spells, SpellsNothing};
+ghost use Rattle.pm_words.specs.Words.{AreShip, EndsRun, IsFile, IsIdentity, IsNumber, IsTurns, Spells, SpellsAlone, SpellsNoneAlone, SpellsNothing};
 
+use crate::asked::Asked;
 use crate::command::Command;
 use crate::place::choice_of;
 use itoa::Buffer;
@@ -67,8 +68,8 @@ fn identity(word: &str) -> Option<u32>
 
 // The command of two words.
 fn of_two(verb: &str, file: &str) -> Option<Command>
-    ensures some { IfSome result (Spells (verb.now ∷ file.now ∷ [])) }
-    ensures none { IfNone result (SpellsNothing (verb.now ∷ file.now ∷ [])) }
+    ensures some { IfSome result (SpellsAlone (verb.now ∷ file.now ∷ [])) }
+    ensures none { IfNone result (SpellsNoneAlone (verb.now ∷ file.now ∷ [])) }
 {
     if !is_file(file) {
         None
@@ -87,8 +88,8 @@ fn of_two(verb: &str, file: &str) -> Option<Command>
 
 // The command of three words of which the first is `make`.
 fn of_make(first: &str, second: &str) -> Option<Command>
-    ensures some { IfSome result (Spells (codes "make" ∷ first.now ∷ second.now ∷ [])) }
-    ensures none { IfNone result (SpellsNothing (codes "make" ∷ first.now ∷ second.now ∷ [])) }
+    ensures some { IfSome result (SpellsAlone (codes "make" ∷ first.now ∷ second.now ∷ [])) }
+    ensures none { IfNone result (SpellsNoneAlone (codes "make" ∷ first.now ∷ second.now ∷ [])) }
 {
     let seed = number(first)?;
     let turns = turns(second)?;
@@ -97,8 +98,8 @@ fn of_make(first: &str, second: &str) -> Option<Command>
 
 // The command of three words of which the first is `why`.
 fn of_why(file: &str, word: &str) -> Option<Command>
-    ensures some { IfSome result (Spells (codes "why" ∷ file.now ∷ word.now ∷ [])) }
-    ensures none { IfNone result (SpellsNothing (codes "why" ∷ file.now ∷ word.now ∷ [])) }
+    ensures some { IfSome result (SpellsAlone (codes "why" ∷ file.now ∷ word.now ∷ [])) }
+    ensures none { IfNone result (SpellsNoneAlone (codes "why" ∷ file.now ∷ word.now ∷ [])) }
 {
     if !is_file(file) {
         return None;
@@ -110,8 +111,8 @@ fn of_why(file: &str, word: &str) -> Option<Command>
 // The command of `run`, FILE and MODE, whatever may stand behind them.
 fn of_run(file: &str, mode: &str) -> Option<Command>
     ensures some { IfSome result (λ command. (rest : List (List ℕ)) → EndsRun rest
-        → Spells (codes "run" ∷ file.now ∷ mode.now ∷ rest) command) }
-    ensures none { IfNone result ((rest : List (List ℕ)) → SpellsNothing (codes "run" ∷ file.now ∷ mode.now ∷ rest)) }
+        → SpellsAlone (codes "run" ∷ file.now ∷ mode.now ∷ rest) command) }
+    ensures none { IfNone result ((rest : List (List ℕ)) → SpellsNoneAlone (codes "run" ∷ file.now ∷ mode.now ∷ rest)) }
 {
     if !is_file(file) {
         None
@@ -126,8 +127,8 @@ fn of_run(file: &str, mode: &str) -> Option<Command>
 
 // The command of `run` with a third word behind FILE and MODE.
 fn of_placed_run(file: &str, mode: &str, place: &str) -> Option<Command>
-    ensures some { IfSome result (Spells (codes "run" ∷ file.now ∷ mode.now ∷ place.now ∷ [])) }
-    ensures none { IfNone result (SpellsNothing (codes "run" ∷ file.now ∷ mode.now ∷ place.now ∷ [])) }
+    ensures some { IfSome result (SpellsAlone (codes "run" ∷ file.now ∷ mode.now ∷ place.now ∷ [])) }
+    ensures none { IfNone result (SpellsNoneAlone (codes "run" ∷ file.now ∷ mode.now ∷ place.now ∷ [])) }
 {
     if choice_of(place).is_some() {
         of_run(file, mode)
@@ -138,8 +139,8 @@ fn of_placed_run(file: &str, mode: &str, place: &str) -> Option<Command>
 
 // The command of three words.
 fn of_three(verb: &str, second: &str, third: &str) -> Option<Command>
-    ensures some { IfSome result (Spells (verb.now ∷ second.now ∷ third.now ∷ [])) }
-    ensures none { IfNone result (SpellsNothing (verb.now ∷ second.now ∷ third.now ∷ [])) }
+    ensures some { IfSome result (SpellsAlone (verb.now ∷ second.now ∷ third.now ∷ [])) }
+    ensures none { IfNone result (SpellsNoneAlone (verb.now ∷ second.now ∷ third.now ∷ [])) }
 {
     if verb == "make" {
         of_make(second, third)
@@ -154,8 +155,8 @@ fn of_three(verb: &str, second: &str, third: &str) -> Option<Command>
 
 // The command of four words of which the first is `trial`.
 fn of_trial(file: &str, first: &str, second: &str) -> Option<Command>
-    ensures some { IfSome result (Spells (codes "trial" ∷ file.now ∷ first.now ∷ second.now ∷ [])) }
-    ensures none { IfNone result (SpellsNothing (codes "trial" ∷ file.now ∷ first.now ∷ second.now ∷ [])) }
+    ensures some { IfSome result (SpellsAlone (codes "trial" ∷ file.now ∷ first.now ∷ second.now ∷ [])) }
+    ensures none { IfNone result (SpellsNoneAlone (codes "trial" ∷ file.now ∷ first.now ∷ second.now ∷ [])) }
 {
     if !is_file(file) {
         return None;
@@ -167,8 +168,8 @@ fn of_trial(file: &str, first: &str, second: &str) -> Option<Command>
 
 // The command of four words.
 fn of_four(verb: &str, file: &str, third: &str, fourth: &str) -> Option<Command>
-    ensures some { IfSome result (Spells (verb.now ∷ file.now ∷ third.now ∷ fourth.now ∷ [])) }
-    ensures none { IfNone result (SpellsNothing (verb.now ∷ file.now ∷ third.now ∷ fourth.now ∷ [])) }
+    ensures some { IfSome result (SpellsAlone (verb.now ∷ file.now ∷ third.now ∷ fourth.now ∷ [])) }
+    ensures none { IfNone result (SpellsNoneAlone (verb.now ∷ file.now ∷ third.now ∷ fourth.now ∷ [])) }
 {
     if verb == "trial" {
         of_trial(file, third, fourth)
@@ -179,10 +180,10 @@ fn of_four(verb: &str, file: &str, third: &str, fourth: &str) -> Option<Command>
     }
 }
 
-/// The command of these words, or none where they are no command's.
-pub(crate) fn command_of(words: &[&str]) -> Option<Command>
-    ensures some { IfSome result (Spells (map (λ word. word.now) words.now)) }
-    ensures none { IfNone result (SpellsNothing (map (λ word. word.now) words.now)) }
+// The command of these words, or none where they are no command's.
+fn command_of(words: &[&str]) -> Option<Command>
+    ensures some { IfSome result (SpellsAlone (map (λ word. word.now) words.now)) }
+    ensures none { IfNone result (SpellsNoneAlone (map (λ word. word.now) words.now)) }
 {
     match words {
         [verb, file] => of_two(verb, file),
@@ -190,4 +191,36 @@ pub(crate) fn command_of(words: &[&str]) -> Option<Command>
         [verb, file, third, fourth] => of_four(verb, file, third, fourth),
         _ => None,
     }
+}
+
+// Whether three words are those of `ship` with the names of two files.
+fn is_ship_of(verb: &str, file: &str, other: &str) -> bool
+    ensures yes { result ≡ true → AreShip (verb.now ∷ file.now ∷ other.now ∷ []) }
+    ensures no { result ≡ false → AreShip (verb.now ∷ file.now ∷ other.now ∷ []) → ⊥ }
+{
+    verb == "ship" && is_file(file) && is_file(other)
+}
+
+// Whether the words are those of `ship`.
+fn is_ship(words: &[&str]) -> bool
+    ensures yes { result ≡ true → AreShip (map (λ word. word.now) words.now) }
+    ensures no { result ≡ false → AreShip (map (λ word. word.now) words.now) → ⊥ }
+{
+    match words {
+        [verb, file, other] => is_ship_of(verb, file, other),
+        _ => false,
+    }
+}
+
+/// What these words ask for, or none where they ask for nothing.
+#[tactic(auto, using(crate::proofs::Commands::nothing_asked))]
+pub(crate) fn asked_of(words: &[&str]) -> Option<Asked>
+    ensures some { IfSome result (Spells (map (λ word. word.now) words.now)) }
+    ensures none { IfNone result (SpellsNothing (map (λ word. word.now) words.now)) }
+{
+    if is_ship(words) {
+        return Some(Asked::Ship);
+    }
+    let command = command_of(words)?;
+    Some(Asked::Alone(command))
 }

@@ -1,9 +1,9 @@
 ghost use Rattle.std.specs.Prelude.{map, IfOk, IfSome, IfNone};
 ghost use Rattle.pm_words.specs.Words.{Spells, SpellsNothing};
 
-use crate::command::Command;
+use crate::asked::Asked;
 use crate::grammar::is_taken;
-use crate::reader::command_of;
+use crate::reader::asked_of;
 use pm_types::NoMemory;
 use std::alloc::Global;
 
@@ -20,8 +20,8 @@ fn is_withheld(words: &[&str]) -> bool {
             .any(|word| word.is_empty() || word.as_bytes()[0] == b'-')
 }
 
-/// The command of these words, or none where they are no command's.
-pub fn read_words(alloc: Global, words: &[&str]) -> Result<Option<Command>, NoMemory>
+/// What these words ask for, or none where they ask for nothing.
+pub fn read_words(alloc: Global, words: &[&str]) -> Result<Option<Asked>, NoMemory>
     ensures some { IfOk result (λ read. IfSome read (Spells (map (λ word. word.now) words.now))) }
     ensures none { IfOk result (λ read. IfNone read (SpellsNothing (map (λ word. word.now) words.now))) }
 {
@@ -29,5 +29,5 @@ pub fn read_words(alloc: Global, words: &[&str]) -> Result<Option<Command>, NoMe
     if !is_withheld(words) {
         is_taken(alloc, words)?;
     }
-    Ok(command_of(words))
+    Ok(asked_of(words))
 }

@@ -7,7 +7,7 @@ ghost use Rattle.std.specs.Process.{exit_status};
 ghost use Rattle.std.specs.Vec.Iter.{into_iter_items};
 ghost use Rattle.pm_top.specs.Ends.{detail_line};
 ghost use Rattle.pm_top.specs.Program.{Tells, TellsEnd};
-ghost use Rattle.pmos.specs.Main.{path_in, place_in, PerformsFrom};
+ghost use Rattle.pmos.specs.Main.{IsOtherPath, path_in, place_in, PerformsFrom};
 
 use pm_disk::Disk;
 use pm_file::FileDisk;
@@ -68,6 +68,16 @@ fn path_of<'a>(words: &[&'a str]) -> &'a str
     }
 }
 
+// The other file's name: the third word of a ship, or nothing.
+fn other_path_of<'a>(words: &[&'a str]) -> &'a str
+    ensures { IsOtherPath (map (λ word. word.now) words.now) result.now }
+{
+    match words {
+        [verb, _, other, ..] => { if *verb == "ship" { *other } else { "" } }
+        _ => "",
+    }
+}
+
 // The place in a list of trains of the one that is chosen.
 fn place_of(chosen: Chosen, trains: &[u64]) -> usize
     requires { 0 < length trains.now }
@@ -88,16 +98,19 @@ fn run<R: AllocGlobal + Threads + Wait + Sync, I: Read + Drop, O: Write + Drop, 
     reader: I,
     writer: O,
     errors: &mut E,
-) -> Result<Ended<FileDisk<HostRuntime>, StdSource<I>, StdSink<O>>, NoMemory>
+) -> Result<Ended<FileDisk<HostRuntime>, FileDisk<HostRuntime>, StdSource<I>, StdSink<O>>, NoMemory>
     ensures told { IfOk result (λ ended. Tells E.Sink errors.old errors.new (detail_line ended.detail)) }
     ensures untold { OnErr result (errors.new ≡ errors.old) }
     ensures performs { IfOk result (λ ended. PerformsFrom
-        ⟦<FileDisk<HostRuntime> as Disk>⟧ ⟦<StdSource<I> as Source>⟧ ⟦<StdSink<O> as Sink>⟧
-        (λ disk source sink. (⟦<FileDisk<HostRuntime> as Disk>⟧.count disk ≡ 0)
+        ⟦<FileDisk<HostRuntime> as Disk>⟧ ⟦<FileDisk<HostRuntime> as Disk>⟧ ⟦<StdSource<I> as Source>⟧ ⟦<StdSink<O> as Sink>⟧
+        (λ disk other source sink. (⟦<FileDisk<HostRuntime> as Disk>⟧.count disk ≡ 0)
+        × (⟦<FileDisk<HostRuntime> as Disk>⟧.count other ≡ 0)
         × (source.known ≡ I.remaining reader) × (sink.known ≡ O.contents writer))
         (map (λ word. word.now) words.now) ended) }
 {
     let disk = FileDisk::at(files, rt.alloc(), path_of(words))?;
+    // No command but `ship` calls it, so no file of no name is opened.
+    let other = FileDisk::at(files, rt.alloc(), other_path_of(words))?;
     let source = StdSource::new(reader);
     let sink = StdSink::new(writer);
     // Of the trains that an object may move to it picks the one that the words choose.
@@ -105,7 +118,7 @@ fn run<R: AllocGlobal + Threads + Wait + Sync, I: Read + Drop, O: Write + Drop, 
     let place = Placement::new(move |trains: &[u64]| place_of(chosen, trains));
     // Between its turns no worker is held back.
     let gate = OpenGate;
-    Ok(program(rt, words, disk, source, sink, errors, place, &gate))
+    Ok(program(rt, words, disk, other, source, sink, errors, place, &gate))
 }
 
 // Runs the program over the words, of which the texts are lent.
@@ -116,12 +129,13 @@ fn run_words<R: AllocGlobal + Threads + Wait + Sync, I: Read + Drop, O: Write + 
     reader: I,
     writer: O,
     errors: &mut E,
-) -> Result<Ended<FileDisk<HostRuntime>, StdSource<I>, StdSink<O>>, NoMemory>
+) -> Result<Ended<FileDisk<HostRuntime>, FileDisk<HostRuntime>, StdSource<I>, StdSink<O>>, NoMemory>
     ensures told { IfOk result (λ ended. Tells E.Sink errors.old errors.new (detail_line ended.detail)) }
     ensures untold { OnErr result (errors.new ≡ errors.old) }
     ensures performs { IfOk result (λ ended. PerformsFrom
-        ⟦<FileDisk<HostRuntime> as Disk>⟧ ⟦<StdSource<I> as Source>⟧ ⟦<StdSink<O> as Sink>⟧
-        (λ disk source sink. (⟦<FileDisk<HostRuntime> as Disk>⟧.count disk ≡ 0)
+        ⟦<FileDisk<HostRuntime> as Disk>⟧ ⟦<FileDisk<HostRuntime> as Disk>⟧ ⟦<StdSource<I> as Source>⟧ ⟦<StdSink<O> as Sink>⟧
+        (λ disk other source sink. (⟦<FileDisk<HostRuntime> as Disk>⟧.count disk ≡ 0)
+        × (⟦<FileDisk<HostRuntime> as Disk>⟧.count other ≡ 0)
         × (source.known ≡ I.remaining reader) × (sink.known ≡ O.contents writer))
         (map string_bytes words.now) ended) }
 {

@@ -5,3 +5,6 @@ use Rattle.pmos.proofs.run.Goals as goal
 
 pub program-requires-send-D : goal.program-requires-send-D
 program-requires-send-D g c κs lives = param_send 1 _ (arg_send _ no _ real_disk_send)
+
+pub program-requires-send-E : goal.program-requires-send-E
+program-requires-send-E g c κs lives = param_send 2 _ (arg_send _ no _ real_disk_send)

@@ -1,6 +1,6 @@
 use Rattle.std.proofs.Common.{◌<◌, true, false, arith}
 use Rattle.pm_top.specs.declared.ended.Detail.{Detail}
-use Rattle.pm_top.specs.declared.ended.Detail.TheVariants.{Fine, Usage, Script, Dump as BadDump, Reading, Writing, Device, NotEmpty, Refused, Memory}
+use Rattle.pm_top.specs.declared.ended.Detail.TheVariants.{Fine, Usage, Script, Dump as BadDump, Reading, Writing, Device, NotEmpty, Refused, Standby, Ahead, Foreign, OtherDevice, Memory}
 use Rattle.pm_top.specs.Stages.{behind, unreached}
 use Rattle.pm_top.proofs.laws.ends_lie_between_stages.Goals as goal
 
@@ -14,6 +14,10 @@ between (Writing before after) = omega arith
 between (Device before after false) = omega arith
 between (Device before after true) = omega arith
 between (NotEmpty bytes) = omega arith
+between (Standby fault) = omega arith
+between (Ahead to from) = omega arith
+between (Foreign number) = omega arith
+between (OtherDevice before after) = omega arith
 between (Refused fault) = omega arith
 between (Memory false) = omega arith
 between (Memory true) = omega arith

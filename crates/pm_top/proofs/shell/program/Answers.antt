@@ -9,6 +9,9 @@ returns-clause-performs g c =
       refused = e.refused;
       untouched = e.untouched;
       causes = e.causes;
+      other_causes = e.other_causes;
       does = e.does;
       complete = e.complete;
+      ships = e.ships;
+      ship_complete = e.ship_complete;
     }
