@@ -54,6 +54,7 @@ impl<R: StoreFiles + Drop> FileDisk<R> {
         ensures contents { IfOk result (λ disk. ⟦<FileDisk<R> as Disk>⟧.contents disk ≡ R.lies rt path.now) }
         ensures images { IfOk result (λ disk. SameImages (R.leaves rt path.now)
             (⟦<FileDisk<R> as Disk>⟧.image disk)) }
+        ensures path { IfOk result (λ disk. string_bytes disk.path ≡ path.now) }
     {
         Ok(FileDisk {
             rt,
