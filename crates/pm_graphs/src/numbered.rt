@@ -1,18 +1,18 @@
 //! Values at numbers.
 
-ghost use Rattle.std.specs.Prelude.{◌≡◌, OnOk, OnErr};
+ghost use Rattle.std.specs.Prelude.{◌≡◌, IfOk, OnOk, OnErr};
 ghost use Rattle.std.specs.Option.{option_copied};
 ghost use Rattle.std.specs.FinMap as map;
 
 use pm_types::NoMemory;
 use std::alloc::Global;
-use std::collections::BTreeMap;
+use std::collections::HashMap;
 use std::marker::Model;
 
 /// Values at numbers, seen as a finite map.
 #[derive(Drop)]
 pub struct Numbered<T> {
-    values: BTreeMap<u64, T>,
+    values: HashMap<u64, T>,
 }
 
 impl<T> Model for Numbered<T> {
@@ -28,13 +28,13 @@ impl<T> Model for Numbered<T> {
 }
 
 impl<T> Numbered<T> {
-    /// No number has a value.
-    pub fn new(alloc: Global) -> Self
-        ensures { result ≡ map.empty }
+    /// No number has a value, and there is room for so many values.
+    pub fn with_room(alloc: Global, many: usize) -> Result<Self, NoMemory>
+        ensures { IfOk result (λ made. made ≡ map.empty) }
     {
-        Numbered {
-            values: BTreeMap::new(alloc),
-        }
+        Ok(Numbered {
+            values: HashMap::with_capacity(alloc, many)?,
+        })
     }
 
     /// The value of a number, if it has one.

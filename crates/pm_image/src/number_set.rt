@@ -3,13 +3,13 @@ ghost use Rattle.std.specs.FinSet as set;
 
 use pm_types::NoMemory;
 use std::alloc::Global;
-use std::collections::BTreeSet;
+use std::collections::HashSet;
 use std::marker::Model;
 
 /// Numbers that were met: identities, cars or pages. It is seen as a finite set.
 #[derive(Drop)]
 pub struct NumberSet {
-    numbers: BTreeSet<u64>,
+    numbers: HashSet<u64>,
 }
 
 impl Model for NumberSet {
@@ -30,7 +30,7 @@ impl NumberSet {
         ensures { result ≡ set.empty }
     {
         NumberSet {
-            numbers: BTreeSet::new(alloc),
+            numbers: HashSet::new(alloc),
         }
     }
 

@@ -42,7 +42,6 @@ use Rattle.pm_law_graphs.proofs.Found.{opened_spelled}
 use Rattle.pm_law_graphs.proofs.Lists.{all_back, all_front}
 use Rattle.pm_law_copies.proofs.Lists.{all_weaker}
 use Rattle.pm_law_copies.proofs.Naming.{all_named}
-use Rattle.pm_law_copies.proofs.Objects.{told}
 use Rattle.pm_law_copies.proofs.Objects as heaps
 use Rattle.pm_law_copies.proofs.CopyOf.{root_of_copy}
 use Rattle.pm_law_copies.proofs.Found.{graph_listed}

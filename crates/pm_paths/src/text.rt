@@ -1,6 +1,6 @@
 ghost use Rattle.std.specs.Prelude.{◌≡◌, ◌++◌, IfOk, OnOk};
 ghost use Rattle.std.specs.List.{flat_map};
-ghost use Rattle.pm_paths.specs.PathText.{RootLine, FieldLine, path_line_text, step_line, path_text_of};
+ghost use Rattle.pm_paths.specs.PathText.{RootLine, path_line_text, step_line, path_text_of};
 
 use crate::path::{Path, PathStep};
 use pm_types::{Id, Name, NoMemory};

@@ -1,5 +1,8 @@
 -- Lists that are gone through from their ends.
-use Rattle.std.proofs.Common.{◌≡◌, ℕ, zero, suc, ◌+◌, ◌-◌, ◌<◌, ◌≤◌, List, [], ◌∷◌, ◌++◌, length, map, drop, get_or, refl, ap, ◌∙◌, arith, append_assoc}
+use Rattle.std.proofs.Common.{◌≡◌, ℕ, zero, suc, ◌+◌, ◌-◌, ◌<◌, ◌≤◌, List, [], ◌∷◌, ◌++◌, length, map, take, drop, get_or, refl, sym, ap, ◌∙◌, arith, append_assoc}
+use Rattle.std.proofs.Math.ListN.{set}
+use Rattle.std.proofs.lemmas.Grind.{take-set_at}
+use Rattle.std.proofs.lemmas.List.{drop-set-lt}
 use Rattle.pm_graphs.proofs.Lists.{drop_here}
 
 -- the elements from the one before on are that one and the others
@@ -27,3 +30,12 @@ last_taken f all done left front x is last =
 pub none_long : {X : Type 0} (xs : List X) → length xs ≡ 0 → xs ≡ []
 none_long [] none = refl
 none_long (x ∷ xs) none = absurd (omega (arith, none))
+
+-- the first of those that are still to come was put in its place
+pub put_next : {X : Type 0} (f : X → X) (xs : List X) (i : ℕ) (x y : X) → i < length xs → x ≡ get_or xs i x → y ≡ f x
+    → take (i + 1) (set xs i y) ++ map f (drop (i + 1) (set xs i y)) ≡ take i xs ++ map f (drop i xs)
+put_next f xs i x y inside is put =
+    ap (λ done. done ++ map f (drop (i + 1) (set xs i y))) (take-set_at xs i (i + 1) y refl inside)
+    ∙ append_assoc (take i xs) (y ∷ []) (map f (drop (i + 1) (set xs i y)))
+    ∙ (λ k. take i xs ++ put k ∷ map f (drop-set-lt (i + 1) xs i y (omega arith) k))
+    ∙ ap (λ left. take i xs ++ map f left) (sym (drop_here xs i x inside is))

@@ -49,7 +49,7 @@ fn moved_to(slot: &Slot) -> Option<Addr>
 fn lead_slots(alloc: Global, slots: &[(u32, Slot)]) -> Result<SlotLeads, NoMemory>
     ensures { IfOk result (λ leads. leads ≡ lead_slots slots.now) }
 {
-    let mut leads = SlotLeads::new(alloc);
+    let mut leads = SlotLeads::with_room(alloc, slots.len())?;
     let mut left = slots.len();
     while left > 0 {
         left -= 1;
@@ -63,7 +63,7 @@ fn lead_slots(alloc: Global, slots: &[(u32, Slot)]) -> Result<SlotLeads, NoMemor
 pub(crate) fn lead_cars(alloc: Global, cars: &[KeptPage]) -> Result<Leads, NoMemory>
     ensures { IfOk result (λ leads. leads ≡ lead_cars cars.now) }
 {
-    let mut leads = Leads::new(alloc);
+    let mut leads = Leads::with_room(alloc, cars.len())?;
     let mut left = cars.len();
     while left > 0 {
         left -= 1;

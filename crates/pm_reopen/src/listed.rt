@@ -11,7 +11,7 @@ use crate::build;
 use crate::leading::lead_cars;
 use crate::opened_cars::open_cars;
 use crate::opened_roots::open_roots;
-use pm_image::{CatEntry, KeptPage};
+use pm_image::{CatEntry, Settled};
 use pm_law_copies::opening_builds_a_space;
 use pm_place::Placement;
 use pm_space::Space;
@@ -19,7 +19,7 @@ use pm_types::NoMemory;
 use std::alloc::Global;
 
 /// The space that opening makes of what a catalog lists: its entries, the cars of those that list one, in their order,
-/// and the next identity. No rule of opening refuses them.
+/// whose objects are moved into it, and the next identity. No rule of opening refuses them.
 ///
 /// Every address is followed through at most one Moved slot, what had moved is Gone, and cars without an object go;
 /// cars and slots keep their numbers, and trains are numbered from 1. Of these cars and roots a space is built. Time and
@@ -32,18 +32,18 @@ pub fn build_listed<F: Drop>(
     alloc: Global,
     place: Placement<F>,
     entries: &[CatEntry],
-    cars: &[KeptPage],
+    cars: Settled,
     next: u64,
 ) -> Result<Space<F>, NoMemory>
-    requires paired { images (listed_in entries.now (images_of cars.now)) ≡ images_of cars.now }
-    requires accepted { IsAccepted (listed_in entries.now (images_of cars.now)) entries.now next }
-    ensures view { IfOk result (λ space. IsOpened (listed_in entries.now (images_of cars.now)) entries.now next
+    requires paired { images (listed_in entries.now (images_of cars)) ≡ images_of cars }
+    requires accepted { IsAccepted (listed_in entries.now (images_of cars)) entries.now next }
+    ensures view { IfOk result (λ space. IsOpened (listed_in entries.now (images_of cars)) entries.now next
         (view space.parts)) }
     ensures frozen { IfOk result (λ space. space.parts.cars.frozen ≡ None) }
     ensures place { IfOk result (λ space. space.parts.place ≡ place) }
 {
     opening_builds_a_space();
-    let leads = lead_cars(alloc, cars)?;
+    let leads = lead_cars(alloc, cars.as_slice())?;
     let opened = open_cars(alloc, &leads, entries, cars)?;
     let roots = open_roots(alloc, &leads, entries)?;
     let space = build(alloc, place, opened, roots, next)?;

@@ -1,7 +1,8 @@
 //! The cars that a catalog lists, as they are opened, with their trains numbered from 1.
 
-ghost use Rattle.std.specs.Prelude.{◌≡◌, [], ◌∷◌, List, None, drop, map, IfOk, OnOk};
+ghost use Rattle.std.specs.Prelude.{◌≡◌, [], ◌∷◌, List, None, map, IfOk, OnOk};
 ghost use Rattle.std.specs.List.{AllByRecursion};
+ghost use Rattle.std.specs.Vec.Iter.{into_iter_items};
 ghost use Rattle.pm_image.specs.declared.catalog.CatEntry.{CatEntry};
 ghost use Rattle.pm_image.specs.Graphs.{images_of};
 ghost use Rattle.pm_copies.specs.Listed.{Listed};
@@ -14,9 +15,10 @@ use crate::CarList;
 use crate::leading::Leads;
 use crate::opened_car::open_car;
 use pm_cars::Car;
-use pm_image::{CarImage, CatEntry, KeptPage};
+use pm_image::{CarImage, CatEntry, KeptPage, Settled};
 use pm_types::{NoMemory, Slot};
 use std::alloc::Global;
+use std::vec::IntoIter;
 
 /// The train of the car that was opened last.
 #[derive(Clone, Copy)]
@@ -34,8 +36,6 @@ struct OpenedCars {
     cars: Vec<(u64, Car)>,
     /// The train of the last of these.
     last: Option<LastTrain>,
-    /// How many cars were looked at.
-    place: usize,
 }
 
 // Whether one of the slots has an object.
@@ -73,13 +73,12 @@ fn open_image(
     leads: &Leads,
     opened: &mut OpenedCars,
     train: u64,
-    image: &CarImage,
+    image: CarImage,
 ) -> Result<(), NoMemory>
-    requires car { IsAcceptedCar image.now }
-    ensures cars { OnOk result ((others : List Listed)
+    requires car { IsAcceptedCar image }
+    ensures { OnOk result ((others : List Listed)
         → listed_on leads.now (map placed_of opened.new.cars.items) opened.new.last others
-        ≡ listed_on leads.now (map placed_of opened.old.cars.items) opened.old.last ((train, image.now) ∷ others)) }
-    ensures place { OnOk result (opened.new.place ≡ opened.old.place) }
+        ≡ listed_on leads.now (map placed_of opened.old.cars.items) opened.old.last ((train, image) ∷ others)) }
 {
     if !has_object(image.slots.as_slice()) {
         return Ok(());
@@ -94,51 +93,51 @@ fn open_image(
     Ok(())
 }
 
-// Opens the car that an entry lists, which is the next one, behind the others.
+// Opens the car that an entry lists, which is the first that is left, behind the others.
 fn open_entry(
     alloc: Global,
     leads: &Leads,
     opened: &mut OpenedCars,
     entry: &CatEntry,
-    cars: &[KeptPage],
+    left: &mut IntoIter<KeptPage>,
 ) -> Result<(), NoMemory>
-    requires cars { AllByRecursion IsAcceptedCar (images_of cars.now) }
-    ensures { OnOk result ((others : List CatEntry)
+    requires left { AllByRecursion IsAcceptedCar (images_of (into_iter_items left.old)) }
+    ensures cars { OnOk result ((others : List CatEntry)
         → listed_on leads.now (map placed_of opened.new.cars.items) opened.new.last
-        (listed_in others (images_of (drop opened.new.place cars.now)))
+        (listed_in others (images_of (into_iter_items left.new)))
         ≡ listed_on leads.now (map placed_of opened.old.cars.items) opened.old.last
-        (listed_in (entry.now ∷ others) (images_of (drop opened.old.place cars.now)))) }
+        (listed_in (entry.now ∷ others) (images_of (into_iter_items left.old)))) }
+    ensures left { OnOk result (AllByRecursion IsAcceptedCar (images_of (into_iter_items left.new))) }
 {
     let CatEntry::Car { train, .. } = entry else {
         return Ok(());
     };
-    if opened.place >= cars.len() {
+    let Some(kept) = left.next() else {
         return Ok(());
-    }
-    open_image(alloc, leads, opened, *train, &cars[opened.place].image)?;
-    opened.place += 1;
-    Ok(())
+    };
+    let KeptPage { image, .. } = kept;
+    open_image(alloc, leads, opened, *train, image)
 }
 
-/// The cars that entries list and that have an object, in their order: the addresses of all are followed through these
-/// maps. Their trains are numbered from 1.
+/// The cars that entries list and that have an object, in their order: their objects are moved, and the addresses of all
+/// are followed through these maps. Their trains are numbered from 1.
 pub(crate) fn open_cars(
     alloc: Global,
     leads: &Leads,
     entries: &[CatEntry],
-    cars: &[KeptPage],
+    cars: Settled,
 ) -> Result<CarList, NoMemory>
-    requires cars { AllByRecursion IsAcceptedCar (images_of cars.now) }
+    requires cars { AllByRecursion IsAcceptedCar (images_of cars) }
     ensures { IfOk result (λ list. list
-        ≡ listed_on leads.now [] None (listed_in entries.now (images_of cars.now))) }
+        ≡ listed_on leads.now [] None (listed_in entries.now (images_of cars))) }
 {
     let mut opened = OpenedCars {
         cars: Vec::new(alloc),
         last: None,
-        place: 0,
     };
+    let mut left = cars.into_vec().into_iter();
     for entry in entries {
-        open_entry(alloc, leads, &mut opened, entry, cars)?;
+        open_entry(alloc, leads, &mut opened, entry, &mut left)?;
     }
     Ok(CarList::from_vec(opened.cars))
 }

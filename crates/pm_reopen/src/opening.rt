@@ -19,10 +19,10 @@ ghost use Rattle.pm_reopen.specs.Opening.{OpensStore, MakesSpace, IsUnfrozen, Kn
 use crate::build_listed;
 use pm_disk::Disk;
 use pm_graphs::{Chain, flatten, read_graph, with_cars};
-use pm_image::KeptPage;
+use pm_image::Settled;
 use pm_law_copies::accepted_cars_have_pages;
 use pm_place::Placement;
-use pm_settled::{PackedPages, pack_cars};
+use pm_settled::{PackedPages, pack_each};
 use pm_shadow::Pages;
 use pm_space::Space;
 use pm_types::{NoMemory, OpenFault};
@@ -33,19 +33,19 @@ fn build_graph<F: Drop>(
     alloc: Global,
     place: Placement<F>,
     chain: Chain,
-    cars: &[KeptPage],
+    cars: Settled,
     next: u64,
 ) -> Result<(Space<F>, Vec<u64>), NoMemory>
-    requires paired { images (listed_in (entries_of chain) (images_of cars.now)) ≡ images_of cars.now }
-    requires accepted { IsAccepted (listed_in (entries_of chain) (images_of cars.now)) (entries_of chain) next }
-    ensures view { IfOk result (λ made. IsOpened (listed_in (entries_of chain) (images_of cars.now))
+    requires paired { images (listed_in (entries_of chain) (images_of cars)) ≡ images_of cars }
+    requires accepted { IsAccepted (listed_in (entries_of chain) (images_of cars)) (entries_of chain) next }
+    ensures view { IfOk result (λ made. IsOpened (listed_in (entries_of chain) (images_of cars))
         (entries_of chain) next
         (view made.0.parts)) }
     ensures unfrozen { IfOk result (λ made. IsUnfrozen made.0.parts place) }
-    ensures pages { IfOk result (λ made. made.1.items ≡ used_pages (record { catalog = chain; cars = cars.now })) }
+    ensures pages { IfOk result (λ made. made.1.items ≡ used_pages (record { catalog = chain; cars = cars })) }
 {
     let (numbers, entries) = flatten(alloc, chain)?;
-    let used = with_cars(numbers, cars)?;
+    let used = with_cars(numbers, cars.as_slice())?;
     let space = build_listed(alloc, place, entries.as_slice(), cars, next)?;
     Ok((space, used))
 }
@@ -118,11 +118,11 @@ pub fn open_space<D: Disk, F: Drop>(
         });
     }
     let (chain, cars) = read_graph(alloc, pages)?;
-    let built = build_graph(alloc, place, chain, cars.as_slice(), header.next);
-    let Ok((space, used)) = built else {
+    let Ok(packed) = pack_each(alloc, cars.as_slice()) else {
         return Err(OpenFault::Memory);
     };
-    let Ok(packed) = pack_cars(alloc, cars) else {
+    let built = build_graph(alloc, place, chain, cars, header.next);
+    let Ok((space, used)) = built else {
         return Err(OpenFault::Memory);
     };
     let known = know_pages(alloc, pages, used.as_slice());

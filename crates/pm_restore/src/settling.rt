@@ -1,5 +1,5 @@
 //! Settling a dump as copy 1 of a new store.
-ghost use Rattle.std.specs.Prelude.{◌≡◌, OnOk, ◌+◌};
+ghost use Rattle.std.specs.Prelude.{OnOk, ◌+◌};
 ghost use Rattle.pm_disk.specs.Made.{MadeAtMost};
 ghost use Rattle.pm_dump.specs.Sound.{IsSoundDump};
 ghost use Rattle.pm_saving.specs.Paging.{left};

@@ -97,3 +97,19 @@ pub fn pack_cars(alloc: Global, cars: Settled) -> Result<PackedPages, NoMemory>
     }
     Ok(Items::from_vec(packed))
 }
+
+/// The same cars, packed; they stay as they are.
+///
+/// # Errors
+///
+/// `NoMemory` where memory ran out.
+pub fn pack_each(alloc: Global, cars: &[KeptPage]) -> Result<PackedPages, NoMemory>
+    requires { AllByRecursion (HasCarPage (one_car FIELDS) set.empty) (images_of cars.now) }
+    ensures { IfOk result (λ packed. packed ≡ cars.now) }
+{
+    let mut packed = Vec::with_capacity(alloc, cars.len())?;
+    for kept in cars {
+        packed.push_reserved(PackedPage::pack(alloc, kept)?);
+    }
+    Ok(Items::from_vec(packed))
+}

@@ -14,7 +14,7 @@ use Rattle.pm_image.specs.Opening.{open_gate, is_open, page_count, page_of}
 use Rattle.pm_image.specs.Blank.{blank_catalog, blank_catalog_page, blank_header, blank_store, header_page}
 use Rattle.pm_image.proofs.BlankLaws.{blank_current}
 use Rattle.pm_shadow.specs.declared.page_use.PageUse.{PageUse}
-use Rattle.pm_shadow.specs.declared.page_use.PageUse.TheVariants.{Free, Current, Claimed, Kept}
+use Rattle.pm_shadow.specs.declared.page_use.PageUse.TheVariants.{Free, Current}
 use Rattle.pm_shadow.specs.Uses.{UsesOnlyListed, new_uses}
 use Rattle.pm_shadow.specs.State.{State, new_store}
 use Rattle.pm_shadow.specs.Images.{Heads, Holds, IsSoundState}

@@ -1,6 +1,5 @@
 //! The call that brings a standby to the last settled copy of a first store.
 ghost use Rattle.std.specs.Prelude.{◌≡◌, false, IfOk, IfErr};
-ghost use Rattle.pm_disk.specs.Disk.{IfTold};
 ghost use Rattle.pm_shadow.specs.Pages.{state, disk_of};
 ghost use Rattle.pm_graphs.specs.Reading.{Looked};
 ghost use Rattle.pm_save.specs.Answers.{TellsOn};

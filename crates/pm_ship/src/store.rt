@@ -1,13 +1,10 @@
 //! What is read of a store.
-ghost use Rattle.std.specs.Prelude.{◌≡◌, false, true, Contains, IfOk, IfErr, OnOk, OnErr};
+ghost use Rattle.std.specs.Prelude.{◌≡◌, false, true, Contains, IfOk, IfErr, OnOk};
 ghost use Rattle.pm_disk.specs.Disk.{IfTold};
-ghost use Rattle.pm_image.specs.Graphs.{entries_of, used_pages};
 ghost use Rattle.pm_shadow.specs.Pages.{state, disk_of};
-ghost use Rattle.pm_copies.specs.Accepted.{roots_in};
 ghost use Rattle.pm_graphs.specs.Reading.{IsReadWhole, IsThere, Looked, page_numbers};
 ghost use Rattle.pm_graphs.specs.Reopening.{IsGraphFault};
 ghost use Rattle.pm_reopen.specs.Opening.{IsUnopened};
-ghost use Rattle.pm_ship.specs.Listing.{trains_in};
 ghost use Rattle.pm_ship.specs.Offers.{IsFound};
 ghost use Rattle.pm_ship.specs.Stores.{IsReadOf, IsTakenFrom};
 
