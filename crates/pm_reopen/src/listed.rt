@@ -46,6 +46,7 @@ pub fn build_listed<F: Drop>(
     let leads = lead_cars(alloc, cars.as_slice())?;
     let opened = open_cars(alloc, &leads, entries, cars)?;
     let roots = open_roots(alloc, &leads, entries)?;
+    drop(leads);
     let space = build(alloc, place, opened, roots, next)?;
     Ok(space)
 }
