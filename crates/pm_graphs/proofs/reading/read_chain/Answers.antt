@@ -1,4 +1,4 @@
-use Rattle.std.proofs.Common.{rules, [], ◌∷◌, Contains, ◌≡◌, ◌+◌, ◌-◌, ◌≤◌, ◌^◌, ◌++◌, ℕ, Some, None, Ok, sym, ap, subst, ◌∙◌, arith}
+use Rattle.std.proofs.Common.{rules, [], ◌∷◌, Contains, ◌≡◌, ◌+◌, ◌-◌, ◌≤◌, ◌^◌, ◌++◌, ℕ, Some, None, Ok, refl, sym, ap, subst, ◌∙◌, arith}
 use Rattle.std.proofs.lemmas.Result.{err_from_is_err_and}
 use Rattle.std.proofs.lemmas.List.Elements.{Contains-append_left}
 use Rattle.std.proofs.lemmas.List.{append-nil}
@@ -89,3 +89,21 @@ returns-clause-gives g c bytes told =
     let low = c.loop-test.false in
     let few : c.args.pages.now.count ≤ 2 ^ 64 = search rules in
     absurd (never_long store c.args.pages.now.header few c.requires.first (chain_long store l.counter l.met l.page l.kept l.chain.items (catalog_of store c.args.pages.now.header) (omega arith) (l.invariant.so_far bytes told)))
+
+pub loop-init : goal.loop-init
+loop-init g c = record {
+  looked = search rules;
+  counted = refl;
+  so_far = search rules;
+  there = search rules;
+  sound = search rules;
+  begun = search rules;
+  follow = search rules;
+  roots = search rules;
+}
+
+pub returns-in_err-push-clause-looked : goal.returns-in_err-push-clause-looked
+returns-in_err-push-clause-looked g c = looked_then c.args.pages.now c.loop.pages c.read_link.new.pages c.loop.invariant.looked c.in_ok-read.ensures.looked
+
+pub returns-then-next-eq0-clause-looked : goal.returns-then-next-eq0-clause-looked
+returns-then-next-eq0-clause-looked g c = looked_then c.args.pages.now c.loop.pages c.read_link.new.pages c.loop.invariant.looked c.in_ok-read.ensures.looked
