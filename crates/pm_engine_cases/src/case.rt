@@ -1,7 +1,8 @@
 //! A case: its steps, one a line.
 
+use crate::chosen::{Chosen, read_chosen};
 use crate::fault::Fault;
-use crate::spelling::{first_word, patch, push_bytes, script, written_out};
+use crate::spelling::{first_word, number, patch, push_bytes, push_last, script, written_out};
 use crate::standby::{push_ship, push_ships};
 use crate::stopping::{opening, push_calls, push_failing, push_fused, push_stops, push_whole};
 use pm_disk::MemDisk;
@@ -20,6 +21,8 @@ pub(crate) struct Case {
     other: Vec<u8>,
     /// With what each image is looked at.
     look: Script,
+    /// Which train an object moves to.
+    chosen: Chosen,
 }
 
 // The bytes of a store that has just been made.
@@ -32,21 +35,41 @@ fn new_store(alloc: Global) -> Result<Vec<u8>, Fault> {
 }
 
 impl Case {
-    /// A case that has just begun: a new store on either disk, and no look.
+    /// A case that has just begun: a new store on either disk, no look, and the first train is chosen.
     pub(crate) fn new(alloc: Global) -> Result<Case, Fault> {
         Ok(Case {
             disk: new_store(alloc)?,
             other: new_store(alloc)?,
             look: script(alloc, "")?,
+            chosen: Chosen::First,
         })
     }
 
     // Runs the lines; the disk is what the run leaves.
     fn go(&mut self, alloc: Global, text: &str, out: &mut String) -> Result<MemDisk, Fault> {
         let lines = script(alloc, text)?;
-        let disk = push_whole(alloc, &self.disk, lines.as_slice(), out)?;
+        let disk = push_whole(alloc, &self.disk, lines.as_slice(), self.chosen, out)?;
         self.disk = disk.contents().to_vec(alloc)?;
         Ok(disk)
+    }
+
+    // Runs the lines behind a number, and adds that many of the last answers.
+    fn go_and_push_last(
+        &mut self,
+        alloc: Global,
+        text: &str,
+        out: &mut String,
+    ) -> Result<(), Fault> {
+        let (count, lines) = first_word(text);
+        let mut whole = String::new(alloc);
+        self.go(alloc, lines, &mut whole)?;
+        push_last(whole.as_str(), number(count)?, out)
+    }
+
+    // The train that is chosen is the one of this name.
+    fn choose(&mut self, text: &str) -> Result<(), Fault> {
+        self.chosen = read_chosen(text)?;
+        Ok(())
     }
 
     // The store of the disk is shipped to that of the other one, which is what the ship leaves.
@@ -56,7 +79,7 @@ impl Case {
         Ok(())
     }
 
-    // A step on the bytes of the two disks.
+    // A step that opens no store by an engine.
     fn disk_step(
         &mut self,
         alloc: Global,
@@ -66,6 +89,7 @@ impl Case {
     ) -> Result<(), Fault> {
         match step {
             "at" => push_bytes(&self.disk, text, out),
+            "place" => self.choose(text),
             "patch" => patch(alloc, self.disk.as_mut_slice(), text),
             "other" => {
                 mem::swap(&mut self.disk, &mut self.other);
@@ -93,6 +117,7 @@ impl Case {
             "run" => {
                 self.go(alloc, text, out)?;
             }
+            "last" => self.go_and_push_last(alloc, text, out)?,
             "calls" => {
                 let first = opening(alloc, &self.disk)?;
                 let disk = self.go(alloc, text, out)?;
@@ -101,16 +126,16 @@ impl Case {
             "look" => self.look = script(alloc, text)?,
             "fails" => {
                 let lines = script(alloc, text)?;
-                push_failing(alloc, &self.disk, lines.as_slice(), out)?;
+                push_failing(alloc, &self.disk, lines.as_slice(), self.chosen, out)?;
             }
             "fuses" => {
                 let lines = script(alloc, text)?;
-                push_fused(alloc, &self.disk, lines.as_slice(), out)?;
+                push_fused(alloc, &self.disk, lines.as_slice(), self.chosen, out)?;
             }
             "stops" => {
                 let lines = script(alloc, text)?;
                 let look = self.look.as_slice();
-                push_stops(alloc, &self.disk, lines.as_slice(), look, out)?;
+                push_stops(alloc, &self.disk, lines.as_slice(), look, self.chosen, out)?;
             }
             _ => self.disk_step(alloc, step, text, out)?,
         }

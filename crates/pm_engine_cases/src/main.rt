@@ -3,6 +3,7 @@
 #![tactic(auto)]
 
 mod case;
+mod chosen;
 mod fault;
 mod running;
 mod spelling;

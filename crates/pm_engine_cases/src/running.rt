@@ -4,6 +4,7 @@ ghost use Rattle.std.specs.Prelude.{◌≡◌};
 ghost use Rattle.pm_place.specs.Choosers.{IsChooser};
 ghost use Rattle.pm_engine.specs.Shown.{chooser};
 
+use crate::chosen::{Chosen, place_of};
 use crate::fault::Fault;
 use pm_disk::Disk;
 use pm_engine::{Engine, Tally};
@@ -187,16 +188,18 @@ fn push_tally(tally: &Tally, out: &mut String) -> Result<(), Fault> {
     Ok(())
 }
 
-// Opens the store of a disk, and runs the lines over it.
+// Opens the store of a disk, and runs the lines over it. An object moves to the train that is chosen.
 fn push_opened<D: Disk + Drop>(
     alloc: Global,
     disk: D,
     number: u32,
     lines: &[Line],
     after: AfterFault,
+    chosen: Chosen,
     out: &mut String,
 ) -> Result<D, Fault> {
-    match Engine::open_store(alloc, disk, Placement::new(|_: &[u64]| 0)) {
+    let place = Placement::new(move |trains: &[u64]| place_of(chosen, trains));
+    match Engine::open_store(alloc, disk, place) {
         Ok(engine) => push_served(alloc, engine, number, lines, after, out),
         Err((disk, fault)) => {
             write!(out, "{fault}")?;
@@ -212,17 +215,19 @@ fn number_of<D: Disk>(alloc: Global, disk: D) -> Result<(D, u32), (D, OpenFault)
     Ok((pages.into_disk(), number))
 }
 
-/// Opens the store of a disk, and runs the lines over it. It adds the number of the copy that was found, the replies and
-/// the flush events, or why there is no store, with ` / ` between them. The disk is handed back.
+/// Opens the store of a disk, and runs the lines over it; an object moves to the train that is chosen. It adds the number
+/// of the copy that was found, the replies and what each event answered, or why there is no store, with ` / ` between them.
+/// The disk is handed back.
 pub(crate) fn push_run<D: Disk + Drop>(
     alloc: Global,
     disk: D,
     lines: &[Line],
     after: AfterFault,
+    chosen: Chosen,
     out: &mut String,
 ) -> Result<D, Fault> {
     match number_of(alloc, disk) {
-        Ok((disk, number)) => push_opened(alloc, disk, number, lines, after, out),
+        Ok((disk, number)) => push_opened(alloc, disk, number, lines, after, chosen, out),
         Err((disk, fault)) => {
             write!(out, "{fault}")?;
             Ok(disk)

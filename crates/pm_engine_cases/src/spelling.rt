@@ -14,8 +14,8 @@ pub(crate) fn first_word(text: &str) -> (&str, &str) {
     }
 }
 
-// A number in decimal.
-fn number(text: &str) -> Result<u64, Fault> {
+/// A number in decimal.
+pub(crate) fn number(text: &str) -> Result<u64, Fault> {
     match text.parse::<u64>() {
         Ok(number) => Ok(number),
         Err(_) => Err(Fault::Number),
@@ -72,6 +72,21 @@ pub(crate) fn script(alloc: Global, text: &str) -> Result<Script, Fault> {
         Ok(script) => Ok(script),
         Err(_) => Err(Fault::Script),
     }
+}
+
+/// Adds the last ones of what ` / ` stands between in a text, this number at most.
+pub(crate) fn push_last(text: &str, count: u64, out: &mut String) -> Result<(), Fault> {
+    let parts = text.split(" / ").count() as u64;
+    let passed = parts.saturating_sub(count);
+    for (place, part) in text.split(" / ").enumerate() {
+        if place as u64 > passed {
+            out.push_str(" / ")?;
+        }
+        if place as u64 >= passed {
+            out.push_str(part)?;
+        }
+    }
+    Ok(())
 }
 
 // Byte `at` of a page.

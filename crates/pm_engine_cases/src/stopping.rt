@@ -1,5 +1,6 @@
 //! What a crash leaves.
 
+use crate::chosen::Chosen;
 use crate::fault::Fault;
 use crate::running::{AfterFault, push_run};
 use pm_disk::{DiskCall, MemDisk};
@@ -23,7 +24,7 @@ pub(crate) fn opening(alloc: Global, bytes: &[u8]) -> Result<usize, Fault> {
     let disk = disk_of(alloc, bytes, Vec::new(alloc))?;
     let mut text = String::new(alloc);
     Ok(
-        push_run(alloc, disk, &[], AfterFault::End, &mut text)?
+        push_run(alloc, disk, &[], AfterFault::End, Chosen::First, &mut text)?
             .calls()
             .len(),
     )
@@ -34,10 +35,11 @@ pub(crate) fn push_whole(
     alloc: Global,
     bytes: &[u8],
     lines: &[Line],
+    chosen: Chosen,
     out: &mut String,
 ) -> Result<MemDisk, Fault> {
     let disk = disk_of(alloc, bytes, Vec::new(alloc))?;
-    let disk = push_run(alloc, disk, lines, AfterFault::End, out)?;
+    let disk = push_run(alloc, disk, lines, AfterFault::End, chosen, out)?;
     out.push('\n')?;
     Ok(disk)
 }
@@ -88,6 +90,7 @@ pub(crate) fn push_images(
             disk_of(alloc, &image, Vec::new(alloc))?,
             look,
             AfterFault::End,
+            Chosen::First,
             &mut text,
         )?;
         note(&mut texts, text)?;
@@ -105,11 +108,14 @@ pub(crate) fn push_stops(
     bytes: &[u8],
     lines: &[Line],
     look: &[Line],
+    chosen: Chosen,
     out: &mut String,
 ) -> Result<(), Fault> {
     let opening = opening(alloc, bytes)?;
     let mut whole = String::new(alloc);
-    let calls = push_whole(alloc, bytes, lines, &mut whole)?.calls().len();
+    let calls = push_whole(alloc, bytes, lines, chosen, &mut whole)?
+        .calls()
+        .len();
     for after in 0..=calls.saturating_sub(opening) {
         let made = opening.saturating_add(after);
         let mut text = String::new(alloc);
@@ -119,6 +125,7 @@ pub(crate) fn push_stops(
             disk_of(alloc, bytes, fails)?,
             lines,
             AfterFault::End,
+            chosen,
             &mut text,
         )?;
         writeln!(out, "after {after}: {text}")?;
@@ -134,11 +141,12 @@ fn push_failing_at(
     bytes: &[u8],
     lines: &[Line],
     number: usize,
+    chosen: Chosen,
     out: &mut String,
 ) -> Result<(), Fault> {
     let fails = vec![in alloc; number as u64]?;
     let disk = disk_of(alloc, bytes, fails)?;
-    push_run(alloc, disk, lines, AfterFault::GoOn, out)?;
+    push_run(alloc, disk, lines, AfterFault::GoOn, chosen, out)?;
     out.push('\n')?;
     Ok(())
 }
@@ -149,15 +157,18 @@ pub(crate) fn push_failing(
     alloc: Global,
     bytes: &[u8],
     lines: &[Line],
+    chosen: Chosen,
     out: &mut String,
 ) -> Result<(), Fault> {
     let opening = opening(alloc, bytes)?;
     let mut whole = String::new(alloc);
-    let calls = push_whole(alloc, bytes, lines, &mut whole)?.calls().len();
+    let calls = push_whole(alloc, bytes, lines, chosen, &mut whole)?
+        .calls()
+        .len();
     for made in opening..calls {
         let number = made.saturating_add(1);
         write!(out, "call {}: ", number.saturating_sub(opening))?;
-        push_failing_at(alloc, bytes, lines, number, out)?;
+        push_failing_at(alloc, bytes, lines, number, chosen, out)?;
     }
     Ok(())
 }
@@ -169,10 +180,11 @@ fn push_fused_at(
     bytes: &[u8],
     lines: &[Line],
     passes: usize,
+    chosen: Chosen,
     out: &mut String,
 ) -> Result<(), Fault> {
     let disk = FuseDisk::new(disk_of(alloc, bytes, Vec::new(alloc))?, passes as u64);
-    push_run(alloc, disk, lines, AfterFault::GoOn, out)?;
+    push_run(alloc, disk, lines, AfterFault::GoOn, chosen, out)?;
     out.push('\n')?;
     Ok(())
 }
@@ -183,14 +195,17 @@ pub(crate) fn push_fused(
     alloc: Global,
     bytes: &[u8],
     lines: &[Line],
+    chosen: Chosen,
     out: &mut String,
 ) -> Result<(), Fault> {
     let opening = opening(alloc, bytes)?;
     let mut whole = String::new(alloc);
-    let calls = push_whole(alloc, bytes, lines, &mut whole)?.calls().len();
+    let calls = push_whole(alloc, bytes, lines, chosen, &mut whole)?
+        .calls()
+        .len();
     for passes in opening..calls {
         write!(out, "after {}: ", passes.saturating_sub(opening))?;
-        push_fused_at(alloc, bytes, lines, passes, out)?;
+        push_fused_at(alloc, bytes, lines, passes, chosen, out)?;
     }
     Ok(())
 }
