@@ -1,12 +1,15 @@
 //! The program over two disks, a source and a sink in memory.
 
+ghost use Rattle.std.specs.Prelude.{◌<◌, length};
+
 use crate::fault::Fault;
 use pm_disk::MemDisk;
 use pm_fuse::FuseDisk;
 use pm_io::{MemSink, MemSource};
-use pm_place::Placement;
+use pm_place::{Placement, first_of, last_of, middle_of};
 use pm_top::{Ended, pmos};
 use pm_turns::OpenGate;
+use pm_words::{Chosen, read_place};
 use std::alloc::Global;
 use std::sync::Wait;
 use std::thread::Threads;
@@ -102,7 +105,19 @@ fn without_fuses(ended: Ended<FuseDisk<MemDisk>, FuseDisk<MemDisk>, MemSource, M
     }
 }
 
-// Runs the program with these words.
+// The place in a list of trains of the one that is chosen.
+fn place_of(chosen: Chosen, trains: &[u64]) -> usize
+    requires { 0 < length trains.now }
+    ensures { result < length trains.now }
+{
+    match chosen {
+        Chosen::First => first_of(trains),
+        Chosen::Last => last_of(trains),
+        Chosen::Middle => middle_of(trains),
+    }
+}
+
+// Runs the program with these words. As `main` does, it takes from them which train an object moves to.
 fn run_words<R: AllocGlobal + Threads + Wait + Sync>(
     rt: &R,
     words: &[&str],
@@ -114,8 +129,9 @@ fn run_words<R: AllocGlobal + Threads + Wait + Sync>(
     let other = FuseDisk::new(other, setting.other_passes);
     let source = MemSource::new(setting.script, setting.piece.max(1), setting.source_fails);
     let sink = MemSink::new(rt.alloc(), setting.sink_fails);
-    let placement = Placement::new(|_: &[u64]| 0);
-    without_fuses(pmos(rt, words, disk, other, source, sink, placement, &OpenGate))
+    let chosen = read_place(words);
+    let place = Placement::new(move |trains: &[u64]| place_of(chosen, trains));
+    without_fuses(pmos(rt, words, disk, other, source, sink, place, &OpenGate))
 }
 
 /// Runs the program over a disk with these bytes.
