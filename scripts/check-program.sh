@@ -457,9 +457,10 @@ row "a PLACE that is none" "9 times 1 pmos: usage made" "$(counted "$work/ends")
 #     at place 3 / 2 = 1, from 0, which is train 3, and the last is train 4.
 #  3. No source names an object that has moved, and the anchor lies in the car: it moves to that train, and there it goes
 #     into the last car, as it fits.
-# So in the copy that settles then the car of that train has two objects, and train 1 has no car that has one. The report
-# opens that copy, and opening numbers the trains that still have objects from 1 on: trains 2, 3 and 4 are then 1, 2 and 3.
-# What is compared is each train's number with the number of objects in its car.
+# So in the copy that settles then the car of that train has two objects, and car 1 none. The report opens that copy: car 1
+# is gone, and the trains that still have objects are numbered from 1 on: the cars 2, 3 and 4 are in the trains 1, 2 and 3.
+# An object of one field takes 29 bytes, object 1 takes 17, and a car's head 14. Each car remembers the name of its own
+# object, and that of object 1 the fields of the two others as well; the third field lies in that car itself.
 cp "$work/made" "$work/base"
 grown=''
 printf '0 new 1 0 -\n0 root a 1\n0 save\n0 settle\n' | "$pmos" run "$work/base" serial >"$work/out" || grown+="first "
@@ -467,20 +468,65 @@ for line in '0 root b 2' '0 root c 2' '0 root d 2\n0 unroot a'; do
     printf '0 find 1 a\n0 new 2 1 -\n0 store 2 0 1\n%b\n0 save\n0 settle\n' "$line" |
         "$pmos" run "$work/base" serial >"$work/out" || grown+="$line "
 done
+# The report of the store, beside what is wanted: 'as wanted', or the report.
+reported() {
+    "$pmos" inspect "$work/store" </dev/null >"$work/report$1"
+    echo "$? $(cmp -s "$work/report$1" "$work/wanted" && echo as wanted || paste -sd, "$work/report$1")"
+}
+differing() { for place in first middle last; do cksum <"$work/report.$place"; done | sort -u | wc -l; }
+one="1 0 43 1 0" two="2 0 60 3 0"
 for place in '' first middle last; do
     case $place in
-    middle) wanted="1:1 2:2 3:1" ;;
-    last) wanted="1:1 2:1 3:2" ;;
-    *) wanted="1:2 2:1 3:1" ;;
+    middle) cars=("$one" "$two" "$one") ;;
+    last) cars=("$one" "$one" "$two") ;;
+    *) cars=("$two" "$one" "$one") ;;
     esac
+    printf '%s\n' "store 5 5 3" "train 1 1" "car 2 ${cars[0]}" "train 2 1" "car 3 ${cars[1]}" "train 3 1" "car 4 ${cars[2]}" \
+        "train 4 0" "total 4 3 4" >"$work/wanted"
     cp "$work/base" "$work/store"
     # shellcheck disable=SC2086
     printf '! gc 3\n0 save\n0 settle\n' | "$pmos" run "$work/store" serial $place >"$work/out"
     came="$grown$? $(tail -n 1 "$work/out")"
-    "$pmos" inspect "$work/store" </dev/null >"$work/out"
-    came+=", $? $(awk '$1 == "train" { train = $2 } $1 == "car" { print train ":" $3 }' "$work/out" | paste -sd' ')"
-    row "three trains: ${place:-no PLACE}" "0 end 3 0 4, 0 $wanted" "$came"
+    row "three trains: ${place:-no PLACE}" "0 end 3 0 4, 0 as wanted" "$came, $(reported ".$place")"
 done
+row "  reports that differ" "3" "$(differing)"
+
+# The same in one run. A train takes 1,024 births, so objects 1, 1,025, 2,049 and 3,073 are born in the trains 1 to 4. The
+# last three have names, and fields that hold object 1, which has neither a name nor a register once all registers are
+# empty. A car takes 962 objects of 17 bytes, or one of 29 and 961 of 17: the trains 1, 2 and 3 have the cars 1 and 2, 3
+# and 4, 5 and 6, of 962 and 62 objects, and train 4 has car 7. Of events there are:
+#  - one that selects train 1, which is not the open one;
+#  - 967 that apply the changes in the queue of car 1: of register 2, which is given object 1; of register 3, which is
+#    given 961 objects of that car and then one of car 2; of three fields; and of register 2, which is emptied;
+#  - 63 that apply those of car 2, of register 3: it is given 62 objects there and then one of train 2;
+#  - one that begins with car 1, and notes object 1 as the anchor, for the train that is picked of 2, 3 and 4;
+#  - one that moves it to that train's last car: 4, 6 or 7.
+# No object is gone. The report finds 961 objects in car 1, and the rest as above.
+{
+    echo '0 new 2 0 -'
+    for register in 4 5 6; do
+        printf '0 new 3 0 -\n%.0s' {1..1023}
+        echo "0 new $register 1 -"
+    done
+    printf '0 store %s 0 2\n' 4 5 6
+    printf '0 root a 4\n0 root b 5\n0 root c 6\n0 close\n! gc 1033\n0 save\n0 settle\n'
+} >"$work/trains.script"
+rest="62 0 1068 0 0" more="63 0 1085 3 0"
+for place in first middle last; do
+    case $place in
+    first) cars=("$more" "$rest" "$one") ;;
+    middle) cars=("$rest" "$more" "$one") ;;
+    last) cars=("$rest" "$rest" "$two") ;;
+    esac
+    printf '%s\n' "store 1 3074 3" "train 1 2" "car 1 961 0 16351 0 0" "car 2 $rest" \
+        "train 2 2" "car 3 962 0 16380 1 0" "car 4 ${cars[0]}" "train 3 2" "car 5 962 0 16380 1 0" "car 6 ${cars[1]}" \
+        "train 4 1" "car 7 ${cars[2]}" "train 5 0" "total 5 7 3073" >"$work/wanted"
+    fresh
+    "$pmos" run "$work/store" serial "$place" <"$work/trains.script" >"$work/out"
+    came="$? $(tail -n 1 "$work/out")"
+    row "1,024 births a train: $place" "0 end 1033 0 3073, 0 as wanted" "$came, $(reported ".$place")"
+done
+row "  reports that differ" "3" "$(differing)"
 
 fresh
 "$pmos" run "$work/store" serial <"$work/long.script" 2>/dev/null | true

@@ -1,7 +1,8 @@
 #!/usr/bin/env bash
 # Makes a store, runs the first script on it and then the second. Then it shows what a crash leaves: the third script ends
 # with a copy that is written and not settled, and the second one finds the copy of before; and a copy of the file that was
-# taken before the first settle holds the empty copy. A standby gets the copy that settled, and replies as the store does.
+# taken before the first settle holds the empty copy. A standby gets the copy that settled, is given nothing more by a second
+# ship, and replies as the store does.
 # The collector takes away what nothing reaches any more. Then come a list from which an element is taken out, with the
 # reports of its store, two clients, and a trial of a script that is made from a seed. It takes the program that was proved
 # and built, where there is one, and else builds one without proof.
@@ -52,9 +53,12 @@ echo
 echo "On the copy of the file that was taken before the first settle:"
 show examples/second.script before.pmos
 echo
-echo "A standby: a second store gets the copy that settled, 'pmos ship store.pmos standby.pmos', and replies alike:"
+echo "A standby: a second store gets the copy that settled, 'pmos ship store.pmos standby.pmos': its number, and how many"
+echo "pages were written. The same again has nothing to write. On the standby the replies are those of the store:"
 "$pmos" init "$work/standby.pmos"
-"$pmos" ship "$work/store.pmos" "$work/standby.pmos" | sed 's/^/    /'
+for _ in 1 2; do
+    "$pmos" ship "$work/store.pmos" "$work/standby.pmos" | sed 's/^/    /'
+done
 show examples/second.script standby.pmos
 echo
 echo "The collector, on the store that holds the copy:"
