@@ -6,7 +6,7 @@ use Rattle.pm_io.specs.declared.sink.Sink as sink
 use Rattle.pm_top.specs.declared.ended.Ended.{Ended}
 use Rattle.pmos.specs.Main.{PerformsFrom}
 
-module _ {D E S K F : Type 0} (d : disk.Ghosts D) (e : disk.Ghosts E) (s : source.Ghosts S) (k : sink.Ghosts K) (start : D → E → S → K → Type 0) where
+module _ {D E S K F : Type 0} (d : disk.Ghosts D) (e : disk.Ghosts E) (s : source.Ghosts S) (k : sink.Ghosts K) (start : List (List ℕ) → D → E → S → K → Type 0) where
   pub same_words : (outcome : Result (Ended D E S K) F) (words others : List (List ℕ)) → words ≡ others
       → IfOk outcome (λ ended. PerformsFrom d e s k start words ended) → IfOk outcome (λ ended. PerformsFrom d e s k start others ended)
   same_words outcome words others same performs =

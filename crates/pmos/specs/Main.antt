@@ -25,12 +25,12 @@ place_in Last many = many - 1
 place_in Middle many = many / 2
 
 module _ {D E S K : Type 0} (d : disk.Ghosts D) (e : disk.Ghosts E) (s : source.Ghosts S) (k : sink.Ghosts K) where
-  -- There are two disks, a source and a sink that stand so at the start, over which the program performed what these words
-  -- ask for, and ended so.
-  pub record PerformsFrom (start : D → E → S → K → Type 0) (words : List (List ℕ)) (ended : Ended D E S K) : Type 0 where
+  -- There are two disks, a source and a sink that stand so at the start, by these words, over which the program performed
+  -- what the words ask for, and ended so.
+  pub record PerformsFrom (start : List (List ℕ) → D → E → S → K → Type 0) (words : List (List ℕ)) (ended : Ended D E S K) : Type 0 where
     pub disk : D
     pub other : E
     pub source : S
     pub sink : K
-    pub starts : start disk other source sink
+    pub starts : start words disk other source sink
     pub performs : Performs d e s k words disk other source sink ended

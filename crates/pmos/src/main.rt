@@ -103,7 +103,8 @@ fn run<R: AllocGlobal + Threads + Wait + Sync, I: Read + Drop, O: Write + Drop, 
     ensures untold { OnErr result (errors.new ≡ errors.old) }
     ensures performs { IfOk result (λ ended. PerformsFrom
         ⟦<FileDisk<HostRuntime> as Disk>⟧ ⟦<FileDisk<HostRuntime> as Disk>⟧ ⟦<StdSource<I> as Source>⟧ ⟦<StdSink<O> as Sink>⟧
-        (λ disk other source sink. (⟦<FileDisk<HostRuntime> as Disk>⟧.count disk ≡ 0)
+        (λ words disk other source sink. (string_bytes disk.path ≡ path_in words) × IsOtherPath words (string_bytes other.path)
+        × (⟦<FileDisk<HostRuntime> as Disk>⟧.count disk ≡ 0)
         × (⟦<FileDisk<HostRuntime> as Disk>⟧.count other ≡ 0)
         × (source.known ≡ I.remaining reader) × (sink.known ≡ O.contents writer))
         (map (λ word. word.now) words.now) ended) }
@@ -134,7 +135,8 @@ fn run_words<R: AllocGlobal + Threads + Wait + Sync, I: Read + Drop, O: Write + 
     ensures untold { OnErr result (errors.new ≡ errors.old) }
     ensures performs { IfOk result (λ ended. PerformsFrom
         ⟦<FileDisk<HostRuntime> as Disk>⟧ ⟦<FileDisk<HostRuntime> as Disk>⟧ ⟦<StdSource<I> as Source>⟧ ⟦<StdSink<O> as Sink>⟧
-        (λ disk other source sink. (⟦<FileDisk<HostRuntime> as Disk>⟧.count disk ≡ 0)
+        (λ words disk other source sink. (string_bytes disk.path ≡ path_in words) × IsOtherPath words (string_bytes other.path)
+        × (⟦<FileDisk<HostRuntime> as Disk>⟧.count disk ≡ 0)
         × (⟦<FileDisk<HostRuntime> as Disk>⟧.count other ≡ 0)
         × (source.known ≡ I.remaining reader) × (sink.known ≡ O.contents writer))
         (map string_bytes words.now) ended) }
