@@ -37,6 +37,30 @@ pub fn ask<D: Disk, F: Drop>(
     engine.client(alloc, client, cmd)
 }
 
+/// The same for a command that is given up: it is not copied, and is let go where no entry is appended.
+///
+/// # Errors
+///
+/// `Memory`: world and journal are as they were. `Disk`, for `settle` alone: the disk failed, and the engine is stopped.
+pub fn give<D: Disk, F: Drop>(
+    alloc: Global,
+    engine: &mut Engine<D, F>,
+    client: u32,
+    cmd: Cmd,
+) -> Result<Reply, EngineFault>
+    requires client { client < CLIENTS }
+    requires room { 0 < room engine.old }
+    requires running { (serving engine.old).stopped ≡ None }
+    ensures adds { OnOk result (Adds client cmd (serving engine.old) (serving engine.new)) }
+    ensures stays { OnErr result (KeepsCounts (serving engine.old) (serving engine.new)) }
+    ensures short { IsShort cmd (serving engine.old) (serving engine.new) (stop_after result) }
+    ensures engine { EngineGoesOn engine.old engine.new (stop_after result) }
+    ensures call { AnswersClient client cmd engine.old engine.new result }
+{
+    engine.keep_their_images();
+    engine.give(alloc, client, cmd)
+}
+
 /// Makes an event of the collector, and answers what it did.
 ///
 /// # Errors

@@ -5,5 +5,5 @@
 mod event;
 mod stop;
 
-pub use event::{ask, collect_once, flush_once};
+pub use event::{ask, collect_once, flush_once, give};
 pub use stop::{Stop, stop_after};

@@ -17,7 +17,7 @@ use crate::kind::Kind;
 use crate::telling::tell_reply;
 use pm_disk::Disk;
 use pm_engine::Engine;
-use pm_events::{Stop, ask, collect_once, flush_once, stop_after};
+use pm_events::{Stop, collect_once, flush_once, give, stop_after};
 use pm_io::Sink;
 use pm_output::Output;
 use pm_types::Cmd;
@@ -28,18 +28,18 @@ fn ask_engine<D: Disk, F: Drop>(
     alloc: Global,
     engine: &mut Engine<D, F>,
     client: u32,
-    cmd: &Cmd,
+    cmd: Cmd,
 ) -> Result<(), Stop>
     requires client { client < CLIENTS }
     requires room { 0 < room engine.old }
     requires running { (serving engine.old).stopped ≡ None }
-    ensures adds { OnOk result (Adds client cmd.now (serving engine.old) (serving engine.new)) }
+    ensures adds { OnOk result (Adds client cmd (serving engine.old) (serving engine.new)) }
     ensures stays { OnErr result (KeepsCounts (serving engine.old) (serving engine.new)) }
-    ensures short { IsShort cmd.now (serving engine.old) (serving engine.new) (why result) }
+    ensures short { IsShort cmd (serving engine.old) (serving engine.new) (why result) }
     ensures engine { EngineGoesOn engine.old engine.new (why result) }
     ensures unwritten { IsGathered (why result) }
 {
-    stop_after(ask(alloc, engine, client, cmd))
+    stop_after(give(alloc, engine, client, cmd))
 }
 
 /// Answers a client's command, for whose entry there is room, and gathers its reply. One that says that a copy settled is
@@ -48,14 +48,14 @@ pub(crate) fn answer_client<D: Disk, F: Drop, K: Sink>(
     alloc: Global,
     engine: &mut Engine<D, F>,
     client: u32,
-    cmd: &Cmd,
+    cmd: Cmd,
     output: &mut Output,
     sink: &mut K,
 ) -> Result<(), Stop>
     requires client { client < CLIENTS }
     requires room { 0 < room engine.old }
     requires running { (serving engine.old).stopped ≡ None }
-    ensures answers { AnswersPart (record { client = client; cmd = cmd.now } ∷ []) 1 0
+    ensures answers { AnswersPart (record { client = client; cmd = cmd } ∷ []) 1 0
         (serving engine.old) (serving engine.new) (why result) }
     ensures course { TellsPart (made_now (serving engine.old) ∷ [])
         (serving engine.old) (serving engine.new) (why result) }
@@ -64,7 +64,7 @@ pub(crate) fn answer_client<D: Disk, F: Drop, K: Sink>(
     ensures saved { KeepsSaved K.Sink sink.old sink.new (gathered output.old)
         (serving engine.old).journal (serving engine.new).journal (why result) }
     ensures stops { OnStop (why result)
-        (StopsLine (says.Client client cmd.now) (serving engine.old) (serving engine.new) (why result)) }
+        (StopsLine (says.Client client cmd) (serving engine.old) (serving engine.new) (why result)) }
     ensures engine { EngineGoesOn engine.old engine.new (why result) }
     ensures sink { SinkGoesOn K.written K.count sink.old sink.new
         (gathered output.old) (gathered output.new)

@@ -42,20 +42,20 @@ fn next_line(left: &mut VecDeque<Line>) -> Option<Line>
 // Runs a line, for whose entry there is room.
 fn run_line<D: Disk, F: Fn(&[u64]) -> usize + Drop, K: Sink>(
     alloc: Global,
-    line: &Line,
+    line: Line,
     engine: &mut Engine<D, F>,
     output: &mut Output,
     sink: &mut K,
 ) -> Result<(), Stop>
-    requires client { IsFirst (first_of line.now) }
-    requires room { length (request_of line.now) ≤ room engine.old }
+    requires client { IsFirst (first_of line) }
+    requires room { length (request_of line) ≤ room engine.old }
     requires running { (serving engine.old).stopped ≡ None }
     requires chooser { IsChooser F.Fn (chooser engine.old) }
-    ensures answers { AnswersPart (request_of line.now) (events_of line.now) (steps_of line.now)
+    ensures answers { AnswersPart (request_of line) (events_of line) (steps_of line)
         (serving engine.old) (serving engine.new) (why result) }
-    ensures course { TellsLine line.now (serving engine.old) (serving engine.new) (why result) }
+    ensures course { TellsLine line (serving engine.old) (serving engine.new) (why result) }
     ensures stops { OnStop (why result)
-        (StopsLine line.now (serving engine.old) (serving engine.new) (why result)) }
+        (StopsLine line (serving engine.old) (serving engine.new) (why result)) }
     ensures engine { EngineGoesOn engine.old engine.new (why result) }
     ensures sink { SinkGoesOn K.written K.count sink.old sink.new
         (gathered output.old) (gathered output.new)
@@ -64,9 +64,9 @@ fn run_line<D: Disk, F: Fn(&[u64]) -> usize + Drop, K: Sink>(
         (serving engine.old).journal (serving engine.new).journal (why result) }
 {
     match line {
-        Line::Client { client, cmd } => answer_client(alloc, engine, *client, cmd, output, sink),
-        Line::Gc(count) => make_events(alloc, engine, Kind::Collect, *count),
-        Line::Flush(count) => make_events(alloc, engine, Kind::Flush, *count),
+        Line::Client { client, cmd } => answer_client(alloc, engine, client, cmd, output, sink),
+        Line::Gc(count) => make_events(alloc, engine, Kind::Collect, count),
+        Line::Flush(count) => make_events(alloc, engine, Kind::Flush, count),
     }
 }
 
@@ -99,8 +99,7 @@ pub(crate) fn run_all<D: Disk, F: Fn(&[u64]) -> usize + Drop, K: Sink>(
     engine.keep_their_images();
     let mut left = VecDeque::from(lines);
     while let Some(line) = next_line(&mut left) {
-        let ran = run_line(alloc, &line, engine, output, sink);
-        drop(line);
+        let ran = run_line(alloc, line, engine, output, sink);
         match ran {
             Ok(()) => {}
             Err(stop) => return Err(stop),

@@ -16,11 +16,11 @@ impl<D: Disk, F: Drop> Works<D, F> {
     ghost use Rattle.pm_engine.specs.Working.{Answers, FailsSo, IsLeft, IsTiedIn, LeavesDisk, MayLeave, StaysStill, place_in, saving_in, state_in};
 
     /// Answers a command that calls no disk: every one but `settle`. After want of memory all is as it was.
-    fn answer_still(&mut self, alloc: Global, client: u32, cmd: &Cmd) -> Result<Reply, NoMemory>
+    fn answer_still(&mut self, alloc: Global, client: u32, cmd: Cmd) -> Result<Reply, NoMemory>
         requires client { client < CLIENTS }
-        requires other { is_settle cmd.now ≡ false }
+        requires other { is_settle cmd ≡ false }
         requires tied { IsTiedIn self.old }
-        ensures answers { IfOk result (Answers client cmd.now self.old self.new) }
+        ensures answers { IfOk result (Answers client cmd self.old self.new) }
         ensures tied { IsTiedIn self.new }
         ensures err { OnErr result (IsLeft self.old self.new) }
         ensures still { StaysStill self.old self.new }
@@ -43,15 +43,15 @@ impl<D: Disk, F: Drop> Works<D, F> {
         &mut self,
         alloc: Global,
         client: u32,
-        cmd: &Cmd,
+        cmd: Cmd,
     ) -> Result<Reply, SaveFault>
         requires client { client < CLIENTS }
         requires tied { IsTiedIn self.old }
-        ensures answers { IfOk result (Answers client cmd.now self.old self.new) }
+        ensures answers { IfOk result (Answers client cmd self.old self.new) }
         ensures tied { UnlessDisk result (IsTiedIn self.new) }
-        ensures fails { FailsSo (is_settle cmd.now) self.old self.new result }
-        ensures settle { is_settle cmd.now ≡ true → MayLeave self.old self.new result }
-        ensures other { is_settle cmd.now ≡ false → LeavesDisk self.old self.new result }
+        ensures fails { FailsSo (is_settle cmd) self.old self.new result }
+        ensures settle { is_settle cmd ≡ true → MayLeave self.old self.new result }
+        ensures other { is_settle cmd ≡ false → LeavesDisk self.old self.new result }
         ensures causes { IsCausedBy (settling_writes (saving_in self.old) (state_in self.old))
             (settling_syncs (state_in self.old)) self.old.pages self.new.pages result }
         ensures place { place_in self.new ≡ place_in self.old }

@@ -81,22 +81,21 @@ impl<D: Disk, F: Drop> Works<D, F> {
         self.events = self.events.saturating_add(1);
     }
 
-    /// A command on the space. Its entry is made ready before it, so that only the reply of `data` is copied after it,
-    /// which leaves the space as it is. After want of memory all is as it was.
-    pub(crate) fn act(&mut self, alloc: Global, client: u32, cmd: &Cmd) -> Result<Reply, NoMemory>
+    /// A command on the space, which goes into its entry. The entry's room is taken before it, so that only the reply of
+    /// `data` is copied after it, which leaves the space as it is. After want of memory all is as it was.
+    pub(crate) fn act(&mut self, alloc: Global, client: u32, cmd: Cmd) -> Result<Reply, NoMemory>
         requires client { client < CLIENTS }
-        requires act { is_act cmd.now ≡ true }
+        requires act { is_act cmd ≡ true }
         requires tied { IsTiedIn self.old }
-        ensures acts { IfOk result (Acts client cmd.now self.old self.new) }
+        ensures acts { IfOk result (Acts client cmd self.old self.new) }
         ensures tied { IsTiedIn self.new }
         ensures err { OnErr result (IsLeft self.old self.new) }
         ensures pages { self.new.pages ≡ self.old.pages }
         ensures place { place_in self.new ≡ place_in self.old }
     {
         self.journal.reserve(1)?;
-        let kept = cmd.copy(alloc)?;
-        let (reply, told) = act_and_copy_reply(&mut self.space, alloc, client, cmd)?;
-        self.append(client, kept, told);
+        let (reply, told) = act_and_copy_reply(&mut self.space, alloc, client, &cmd)?;
+        self.append(client, cmd, told);
         Ok(reply)
     }
 }

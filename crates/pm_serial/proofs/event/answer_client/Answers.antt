@@ -15,7 +15,7 @@ use Rattle.pm_serial.proofs.Journals.{pushed_last, text_grown}
 use Rattle.pm_serial.proofs.event.answer_client.Goals as goal
 
 pub returns-in-Ok-tell_reply-clause-answers : goal.returns-in-Ok-tell_reply-clause-answers
-returns-in-Ok-tell_reply-clause-answers g c = answers_one c.args.client c.args.cmd.now (serving c.args.engine.now) (serving c.ask_engine.new.engine) c.in-Ok.ensures.adds
+returns-in-Ok-tell_reply-clause-answers g c = answers_one c.args.client c.args.cmd (serving c.args.engine.now) (serving c.ask_engine.new.engine) c.in-Ok.ensures.adds
 
 pub returns-in-Ok-tell_reply-clause-course : goal.returns-in-Ok-tell_reply-clause-course
 returns-in-Ok-tell_reply-clause-course g c =
@@ -35,7 +35,7 @@ returns-in-Ok-tell_reply-clause-sink g c =
 
 pub returns-in-Err-tell_reply-clause-answers : goal.returns-in-Err-tell_reply-clause-answers
 returns-in-Err-tell_reply-clause-answers g c =
-    answers_stopped _ 1 0 (serving c.args.engine.now) (serving c.ask_engine.new.engine) Writing (answers_one c.args.client c.args.cmd.now (serving c.args.engine.now) (serving c.ask_engine.new.engine) c.in-Ok.ensures.adds)
+    answers_stopped _ 1 0 (serving c.args.engine.now) (serving c.ask_engine.new.engine) Writing (answers_one c.args.client c.args.cmd (serving c.args.engine.now) (serving c.ask_engine.new.engine) c.in-Ok.ensures.adds)
 
 pub returns-in-Err-tell_reply-clause-course : goal.returns-in-Err-tell_reply-clause-course
 returns-in-Err-tell_reply-clause-course g c =
@@ -43,8 +43,8 @@ returns-in-Err-tell_reply-clause-course g c =
 
 pub returns-in-Err-tell_reply-clause-stops : goal.returns-in-Err-tell_reply-clause-stops
 returns-in-Err-tell_reply-clause-stops g c =
-    stops_behind c.args.client c.args.cmd.now (serving c.args.engine.now) (serving c.ask_engine.new.engine)
-    (answers_one c.args.client c.args.cmd.now (serving c.args.engine.now) (serving c.ask_engine.new.engine) c.in-Ok.ensures.adds)
+    stops_behind c.args.client c.args.cmd (serving c.args.engine.now) (serving c.ask_engine.new.engine)
+    (answers_one c.args.client c.args.cmd (serving c.args.engine.now) (serving c.ask_engine.new.engine) c.in-Ok.ensures.adds)
 
 pub returns-in-Err-tell_reply-clause-sink : goal.returns-in-Err-tell_reply-clause-sink
 returns-in-Err-tell_reply-clause-sink g c =
@@ -66,7 +66,7 @@ returns-in-Err-clause-course g c = tells_nothing (made_now (serving c.args.engin
 
 pub returns-in-Err-clause-stops : goal.returns-in-Err-clause-stops
 returns-in-Err-clause-stops g c =
-    stops_before c.args.client c.args.cmd.now (serving c.args.engine.now) (serving c.ask_engine.new.engine) c.in-Err.stop c.in-Err.ensures.stays c.in-Err.ensures.short
+    stops_before c.args.client c.args.cmd (serving c.args.engine.now) (serving c.ask_engine.new.engine) c.in-Err.stop c.in-Err.ensures.stays c.in-Err.ensures.short
 
 pub returns-in-Err-clause-sink : goal.returns-in-Err-clause-sink
 returns-in-Err-clause-sink g c =

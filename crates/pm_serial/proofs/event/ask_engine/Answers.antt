@@ -6,16 +6,16 @@ use Rattle.pm_events.specs.Causes.{why}
 use Rattle.pm_serial.proofs.event.ask_engine.Goals as goal
 
 pub returns-clause-adds : goal.returns-clause-adds
-returns-clause-adds g c = went_on (Adds c.args.client c.args.cmd.now (serving c.args.engine.now) (serving c.ask.new.engine)) c.ask.result c.stop_after.result c.stop_after.ensures c.ask.ensures.adds
+returns-clause-adds g c = went_on (Adds c.args.client c.args.cmd (serving c.args.engine.now) (serving c.give.new.engine)) c.give.result c.stop_after.result c.stop_after.ensures c.give.ensures.adds
 
 pub returns-clause-stays : goal.returns-clause-stays
-returns-clause-stays g c = stopped (KeepsCounts (serving c.args.engine.now) (serving c.ask.new.engine)) c.ask.result c.stop_after.result c.stop_after.ensures c.ask.ensures.stays
+returns-clause-stays g c = stopped (KeepsCounts (serving c.args.engine.now) (serving c.give.new.engine)) c.give.result c.stop_after.result c.stop_after.ensures c.give.ensures.stays
 
 pub returns-clause-short : goal.returns-clause-short
-returns-clause-short g c = subst (IsShort c.args.cmd.now (serving c.args.engine.now) (serving c.ask.new.engine)) (sym c.stop_after.ensures) c.ask.ensures.short
+returns-clause-short g c = subst (IsShort c.args.cmd (serving c.args.engine.now) (serving c.give.new.engine)) (sym c.stop_after.ensures) c.give.ensures.short
 
 pub returns-clause-engine : goal.returns-clause-engine
-returns-clause-engine g c = subst (EngineGoesOn c.args.engine.now c.ask.new.engine) (sym c.stop_after.ensures) c.ask.ensures.engine
+returns-clause-engine g c = subst (EngineGoesOn c.args.engine.now c.give.new.engine) (sym c.stop_after.ensures) c.give.ensures.engine
 
 pub returns-clause-unwritten : goal.returns-clause-unwritten
-returns-clause-unwritten g c = unwritten c.ask.result (why c.stop_after.result) c.stop_after.ensures
+returns-clause-unwritten g c = unwritten c.give.result (why c.stop_after.result) c.stop_after.ensures

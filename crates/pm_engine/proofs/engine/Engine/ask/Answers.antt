@@ -27,7 +27,7 @@ pub invariant_of-self : goal.invariant_of-self
 invariant_of-self g c =
     let self = c.args.self.now in
     let new = c.answer.new.self in
-    let told : Told c.args.cmd.now self.works new = record {
+    let told : Told c.args.cmd self.works new = record {
       heap = self.works.space.kept;
       tied = c.in-Ok.ensures.tied;
       still = λ other. (c.answer.ensures.other other).still;
@@ -37,8 +37,8 @@ invariant_of-self g c =
       only_now = g.met.D.Disk.only_now (disk_at self.works);
     } in
     record {
-      sound = ask_sound self.opening self.stopped self.works c.requires.running self.sound new c.args.client c.args.cmd.now c.in-Ok.reply told c.in-Ok.ensures.answers;
-      bounded = bounds_asked self.opening self.stopped self.works new c.requires.running self.works.space.kept self.sound self.bounded c.args.client c.args.cmd.now c.in-Ok.reply c.in-Ok.ensures.answers;
+      sound = ask_sound self.opening self.stopped self.works c.requires.running self.sound new c.args.client c.args.cmd c.in-Ok.reply told c.in-Ok.ensures.answers;
+      bounded = bounds_asked self.opening self.stopped self.works new c.requires.running self.works.space.kept self.sound self.bounded c.args.client c.args.cmd c.in-Ok.reply c.in-Ok.ensures.answers;
       counted = counted_still self.opening.count (g.D.Disk.count (disk_at self.works)) (g.D.Disk.count (disk_at new)) self.counted c.in-Ok.ensures.causes.cause;
     }
 
@@ -58,7 +58,7 @@ pub invariant_of-self-in-Err-Disk : goal.invariant_of-self-in-Err-Disk
 invariant_of-self-in-Err-Disk g c =
     let self = c.args.self.now in
     let new = c.answer.new.self in
-    let fault = subst (λ (fault : SaveFault). IsFaultFor (is_settle c.args.cmd.now) self.works fault) c.in-Err-Disk.field-0-is c.in-Err-Disk.ensures.fails.fault in
+    let fault = subst (λ (fault : SaveFault). IsFaultFor (is_settle c.args.cmd) self.works fault) c.in-Err-Disk.field-0-is c.in-Err-Disk.ensures.fails.fault in
     let begun = progress_of (saving_in self.works).progress fault.1 in
     let rose = subst (λ (fault : SaveFault). IsFaultOf (g.D.Disk.count (disk_at self.works)) (g.D.Disk.count (disk_at new)) fault) c.in-Err-Disk.field-0-is c.in-Err-Disk.ensures.causes.cause in
     record {
@@ -71,7 +71,7 @@ pub returns-in-Ok-clause-call : goal.returns-in-Ok-clause-call
 returns-in-Ok-clause-call g c =
     let self = c.args.self.now in
     let new = c.answer.new.self in
-    let told : Told c.args.cmd.now self.works new = record {
+    let told : Told c.args.cmd self.works new = record {
       heap = self.works.space.kept;
       tied = c.in-Ok.ensures.tied;
       still = λ other. (c.answer.ensures.other other).still;
@@ -83,27 +83,27 @@ returns-in-Ok-clause-call g c =
     let sound = c.in-Ok.self-1-own.given.0 in
     let bounded = c.in-Ok.self-1-own.given.1.0 in
     let counted = c.in-Ok.self-1-own.given.1.1.0 in
-    let serves = ask_serves self.opening self.stopped self.works c.requires.running self.sound new c.args.client c.args.cmd.now c.in-Ok.reply told c.in-Ok.ensures.answers in
+    let serves = ask_serves self.opening self.stopped self.works c.requires.running self.sound new c.args.client c.args.cmd c.in-Ok.reply told c.in-Ok.ensures.answers in
     record {
       serves = serves;
       fails = tt;
       running = record { running = c.requires.running; count = c.in-Ok.ensures.causes.cause };
       reopen = tt;
       still = λ other. record { disk = (c.answer.ensures.other other).still.disk; none = tt };
-      leaves = λ none. leaves_answered self.opening self.stopped self.works none self.sound new c.args.cmd.now c.in-Ok.reply (g.met.D.Disk.only_now (disk_at self.works)) (λ other. (c.answer.ensures.other other).still) (λ settles. (c.answer.ensures.settle settles).leaves);
-      settled = settled_all self new sound bounded counted c.requires.running c.args.client c.args.cmd.now c.in-Ok.reply serves c.in-Ok.ensures.answers;
+      leaves = λ none. leaves_answered self.opening self.stopped self.works none self.sound new c.args.cmd c.in-Ok.reply (g.met.D.Disk.only_now (disk_at self.works)) (λ other. (c.answer.ensures.other other).still) (λ settles. (c.answer.ensures.settle settles).leaves);
+      settled = settled_all self new sound bounded counted c.requires.running c.args.client c.args.cmd c.in-Ok.reply serves c.in-Ok.ensures.answers;
       short = tt;
-      shown = short_of c.args.client c.args.cmd.now self.works new c.in-Ok.reply c.in-Ok.ensures.answers;
-      copies = λ other. copies_of self.opening self.stopped self.works new c.args.client c.args.cmd.now c.in-Ok.reply other c.in-Ok.ensures.answers;
+      shown = short_of c.args.client c.args.cmd self.works new c.in-Ok.reply c.in-Ok.ensures.answers;
+      copies = λ other. copies_of self.opening self.stopped self.works new c.args.client c.args.cmd c.in-Ok.reply other c.in-Ok.ensures.answers;
       lasts = λ _. tt;
-      idle = idle_of self.opening self.stopped self.works new c.args.cmd.now (λ other. (c.answer.ensures.other other).still) (λ settles. (c.answer.ensures.settle settles).leaves);
-      dropped = dropped_all self new sound bounded counted c.args.client c.args.cmd.now c.in-Ok.reply c.in-Ok.ensures.answers;
+      idle = idle_of self.opening self.stopped self.works new c.args.cmd (λ other. (c.answer.ensures.other other).still) (λ settles. (c.answer.ensures.settle settles).leaves);
+      dropped = dropped_all self new sound bounded counted c.args.client c.args.cmd c.in-Ok.reply c.in-Ok.ensures.answers;
       made = c.in-Ok.ensures.causes.made;
       past = c.in-Ok.ensures.causes.made.past;
-      space = space_of c.args.client c.args.cmd.now self.works new c.in-Ok.reply c.in-Ok.ensures.answers;
-      work = work_of c.args.client c.args.cmd.now self.works new c.in-Ok.reply c.in-Ok.ensures.answers;
-      bound = kept_of c.args.client c.args.cmd.now self.works new c.in-Ok.reply c.in-Ok.ensures.answers;
-      room = room_of c.args.client c.args.cmd.now self.works new c.in-Ok.reply c.in-Ok.ensures.answers;
+      space = space_of c.args.client c.args.cmd self.works new c.in-Ok.reply c.in-Ok.ensures.answers;
+      work = work_of c.args.client c.args.cmd self.works new c.in-Ok.reply c.in-Ok.ensures.answers;
+      bound = kept_of c.args.client c.args.cmd self.works new c.in-Ok.reply c.in-Ok.ensures.answers;
+      room = room_of c.args.client c.args.cmd self.works new c.in-Ok.reply c.in-Ok.ensures.answers;
     }
 
 pub returns-in-Err-Memory-clause-call : goal.returns-in-Err-Memory-clause-call
@@ -119,18 +119,18 @@ returns-in-Err-Memory-clause-call g c =
       running = tt;
       reopen = tt;
       still = λ other. record { disk = (c.answer.ensures.other other).still.disk; none = tt };
-      leaves = λ none. settled_alone self.opening self.stopped self.works none self.sound new c.args.cmd.now (Err Memory) so.spares;
+      leaves = λ none. settled_alone self.opening self.stopped self.works none self.sound new c.args.cmd (Err Memory) so.spares;
       settled = tt;
       short = λ settles. subst (λ (fault : SaveFault). IfMemory (IsShort self.works new) fault) arm.field-0-is (subst (λ (result : Result Reply SaveFault). OnMemory result (IsShort self.works new)) arm.is (c.answer.ensures.settle settles).short);
       shown = tt;
       copies = λ _. tt;
       lasts = λ other. left_alone self.opening self.stopped self.works new (subst (λ (result : Result Reply SaveFault). OnErr result (IsLeft self.works new)) arm.is (c.answer.ensures.other other).left);
-      idle = idle_of self.opening self.stopped self.works new c.args.cmd.now (λ other. (c.answer.ensures.other other).still) (λ settles. (c.answer.ensures.settle settles).leaves);
+      idle = idle_of self.opening self.stopped self.works new c.args.cmd (λ other. (c.answer.ensures.other other).still) (λ settles. (c.answer.ensures.settle settles).leaves);
       dropped = tt;
       made = arm.ensures.causes.made;
       past = arm.ensures.causes.made.past;
       space = tt;
-      work = still_works (view_in self.works) (view_in new) (raises c.args.cmd.now) arm.ensures.fails.rests.view;
+      work = still_works (view_in self.works) (view_in new) (raises c.args.cmd) arm.ensures.fails.rests.view;
       bound = kept_still (view_in self.works) (view_in new) arm.ensures.fails.rests.view;
       room = arm.ensures.fails.rests.nothing.room;
     }
@@ -140,7 +140,7 @@ returns-in-Err-Disk-clause-call g c =
     let self = c.args.self.now in
     let new = c.answer.new.self in
     let arm = c.in-Err-Disk in
-    let fault = subst (λ (fault : SaveFault). IsFaultFor (is_settle c.args.cmd.now) self.works fault) arm.field-0-is arm.ensures.fails.fault in
+    let fault = subst (λ (fault : SaveFault). IsFaultFor (is_settle c.args.cmd) self.works fault) arm.field-0-is arm.ensures.fails.fault in
     let rose = subst (λ (fault : SaveFault). IsFaultOf (g.D.Disk.count (disk_at self.works)) (g.D.Disk.count (disk_at new)) fault) arm.field-0-is arm.ensures.causes.cause in
     let begun = progress_of (saving_in self.works).progress fault.1 in
     record {
@@ -154,18 +154,18 @@ returns-in-Err-Disk-clause-call g c =
       running = tt;
       reopen = tt;
       still = λ other. absurd (true_false (sym fault.0 ∙ other));
-      leaves = λ none. leaves_failed self.opening self.stopped self.works none self.sound new c.args.cmd.now c.faults-before.result c.faults-after.result fault.0 begun.0 begun.1 (c.answer.ensures.settle fault.0).leaves;
+      leaves = λ none. leaves_failed self.opening self.stopped self.works none self.sound new c.args.cmd c.faults-before.result c.faults-after.result fault.0 begun.0 begun.1 (c.answer.ensures.settle fault.0).leaves;
       settled = tt;
       short = tt;
       shown = tt;
       copies = λ _. tt;
       lasts = λ _. tt;
-      idle = idle_of self.opening self.stopped self.works new c.args.cmd.now (λ other. (c.answer.ensures.other other).still) (λ settles. (c.answer.ensures.settle settles).leaves);
+      idle = idle_of self.opening self.stopped self.works new c.args.cmd (λ other. (c.answer.ensures.other other).still) (λ settles. (c.answer.ensures.settle settles).leaves);
       dropped = tt;
       made = arm.ensures.causes.made;
       past = arm.ensures.causes.made.past;
       space = tt;
-      work = still_works (view_in self.works) (view_in new) (raises c.args.cmd.now) arm.ensures.fails.rests.view;
+      work = still_works (view_in self.works) (view_in new) (raises c.args.cmd) arm.ensures.fails.rests.view;
       bound = kept_still (view_in self.works) (view_in new) arm.ensures.fails.rests.view;
       room = arm.ensures.fails.rests.nothing.room;
     }

@@ -13,7 +13,7 @@ pub returns-clause-acts : goal.returns-clause-acts
 returns-clause-acts g c =
     let old = view c.args.self.now.space.parts in
     let client = c.args.client in
-    let cmd = c.args.cmd.now in
+    let cmd = c.args.cmd in
     let reply = c.in_ok-reply.reply in
     let told = c.in_ok-reply.ensures in
     let same = sym (ap (λ (s : Space g.row.F.Denot). view s.parts) c.append.ensures.store.space) in

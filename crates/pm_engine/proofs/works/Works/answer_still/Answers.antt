@@ -37,9 +37,9 @@ pub returns-in_default : goal.returns-in_default
 returns-in_default g c =
     let old = c.args.self.now in
     let new = c.act.new.self in
-    let is = acts c.args.cmd.now c.in_default.not-Save c.in_default.not-Unsave c.in_default.not-Watch c.requires.other in
+    let is = acts c.args.cmd c.in_default.not-Save c.in_default.not-Unsave c.in_default.not-Watch c.requires.other in
     record {
-      answers = answers_as c.args.client c.args.cmd.now old new c.act.result is c.act.ensures.acts;
+      answers = answers_as c.args.client c.args.cmd old new c.act.result is c.act.ensures.acts;
       tied = c.act.ensures.tied;
       err = c.act.ensures.err;
       still = record { disk = ap disk_of c.act.ensures.pages; lasts = pages_last old new c.act.ensures.pages };
