@@ -1,8 +1,7 @@
 //! Calls of the anchor.
 
-use crate::calls::{Called, push_calls};
-use crate::fault::{Fault, refuse};
-use crate::spelling::{address, first_word, number, push_value};
+use crate::spelling::{Calls, address};
+use pm_case_text::{CallsOf, Fault, first_word, number, push_calls, push_value, refuse};
 use pm_guard::Guard;
 use std::alloc::Global;
 
@@ -24,9 +23,9 @@ fn push_call(guard: &mut Guard, text: &str, out: &mut String) -> Result<(), Faul
     push_value(&guard.anchor(), out)
 }
 
-impl Called for Guard {
-    fn call(&mut self, _alloc: Global, text: &str, out: &mut String) -> Result<(), Fault> {
-        push_call(self, text, out)
+impl CallsOf<Guard> for Calls {
+    fn call(_alloc: Global, called: &mut Guard, text: &str, out: &mut String) -> Result<(), Fault> {
+        push_call(called, text, out)
     }
 }
 
@@ -34,5 +33,5 @@ impl Called for Guard {
 /// of them the anchor.
 pub(crate) fn push_anchor(alloc: Global, text: &str, out: &mut String) -> Result<(), Fault> {
     let mut guard = Guard::new();
-    push_calls(alloc, &mut guard, text, out)
+    push_calls::<Calls, _>(alloc, &mut guard, text, out)
 }

@@ -2,11 +2,9 @@
 
 ghost use Rattle.std.specs.Prelude.{◌<◌, length};
 
-use crate::fault::{Fault, refuse};
-use crate::spelling::{first_word, number};
+use pm_case_text::{Fault, first_word, number, push_number, refuse};
 use pm_place::{Placement, first_of, last_of, middle_of};
 use std::alloc::Global;
-use std::fmt::Write;
 
 // The train that a chooser picks, which is `first`, `last`, `middle`, or the closure `second`.
 fn picked(chooser: &str, trains: &[u64]) -> Result<u64, Fault>
@@ -64,9 +62,8 @@ fn push_picked(chooser: &str, trains: &[u64], out: &mut String) -> Result<(), Fa
     if trains.is_empty() {
         return Err(refuse("no train"));
     }
-    let train = picked(chooser, trains)?;
-    writeln!(out, "{train}")?;
-    Ok(())
+    push_number(picked(chooser, trains)?, out)?;
+    Ok(out.push('\n')?)
 }
 
 /// `CHOOSER N ..`: the train that it picks of these.

@@ -3,9 +3,7 @@
 #![tactic(auto)]
 
 mod anchors;
-mod calls;
 mod choosers;
-mod fault;
 mod queues;
 mod registers;
 mod roots;
@@ -15,22 +13,14 @@ mod tables;
 
 use anchors::push_anchor;
 use choosers::push_pick;
-use fault::{Fault, refuse};
+use pm_case_text::{Fault, first_word, is_silent, push_case, push_refused, refuse};
 use queues::{push_long_queue, push_queue};
 use registers::push_registers;
 use roots::{push_all_names, push_roots};
 use sets::{push_long_set, push_set};
-use spelling::first_word;
-use std::alloc::Global;
-use std::fmt::Write;
+use std::alloc::{AllocError, Global};
 use std::io::{self, BufRead, BufReader};
 use tables::push_table;
-
-// Adds the name of a case.
-fn push_case(text: &str, out: &mut String) -> Result<(), Fault> {
-    writeln!(out, "case {text}")?;
-    Ok(())
-}
 
 // A step: its first word, and what follows.
 fn push_step(alloc: Global, step: &str, text: &str, out: &mut String) -> Result<(), Fault> {
@@ -59,7 +49,7 @@ fn push_small(alloc: Global, step: &str, text: &str, out: &mut String) -> Result
 
 // Takes a line of the input, and adds what it gives. A line that begins with `#`, and one that is empty, say nothing.
 fn take(alloc: Global, line: &str, out: &mut String) -> Result<(), Fault> {
-    if line.is_empty() || line.starts_with('#') {
+    if is_silent(line) {
         return Ok(());
     }
     let (step, text) = first_word(line);
@@ -67,12 +57,11 @@ fn take(alloc: Global, line: &str, out: &mut String) -> Result<(), Fault> {
 }
 
 // Takes a line, and adds what it gives, or why it was not done.
-fn push_line(alloc: Global, line: &str, out: &mut String) -> io::Result<()> {
-    if let Err(fault) = take(alloc, line, out) {
-        let reason = fault.reason;
-        writeln!(out, "? {reason}: {line}")?;
+fn push_line(alloc: Global, line: &str, out: &mut String) -> Result<(), AllocError> {
+    match take(alloc, line, out) {
+        Ok(()) => Ok(()),
+        Err(fault) => push_refused(fault, line, out),
     }
-    Ok(())
 }
 
 fn main(rt: HostRuntime) -> io::Result<()> {

@@ -1,8 +1,7 @@
 //! Calls of a queue of changes.
 
-use crate::calls::{Called, push_calls};
-use crate::fault::{Fault, refuse};
-use crate::spelling::{first_word, push_same, push_value, small, source};
+use crate::spelling::{Calls, push_same, source};
+use pm_case_text::{CallsOf, Fault, first_word, push_calls, push_value, refuse, small};
 use pm_delta::Queue;
 use pm_types::{Change, RefSource};
 use std::alloc::Global;
@@ -41,16 +40,16 @@ fn push_call(queue: &mut Queue, text: &str, out: &mut String) -> Result<(), Faul
     }
 }
 
-impl Called for Queue {
-    fn call(&mut self, _alloc: Global, text: &str, out: &mut String) -> Result<(), Fault> {
-        push_call(self, text, out)
+impl CallsOf<Queue> for Calls {
+    fn call(_alloc: Global, called: &mut Queue, text: &str, out: &mut String) -> Result<(), Fault> {
+        push_call(called, text, out)
     }
 }
 
 /// `CALLS`: the calls, between ` / `, of a new queue: `push SOURCE SLOT`, `pop`, `front` and `len`.
 pub(crate) fn push_queue(alloc: Global, text: &str, out: &mut String) -> Result<(), Fault> {
     let mut queue = Queue::new(alloc);
-    push_calls(alloc, &mut queue, text, out)
+    push_calls::<Calls, _>(alloc, &mut queue, text, out)
 }
 
 // The change of a root to a slot.

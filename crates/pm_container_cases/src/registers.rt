@@ -3,9 +3,8 @@
 ghost use Rattle.std.specs.Prelude.{◌<◌};
 ghost use Rattle.pm_types.specs.declared.limits.TheConstants.{CLIENTS, REGISTERS};
 
-use crate::calls::{Called, push_calls};
-use crate::fault::{Fault, refuse};
-use crate::spelling::{address, first_word, push_value, small};
+use crate::spelling::{Calls, address};
+use pm_case_text::{CallsOf, Fault, first_word, push_calls, push_value, refuse, small};
 use pm_handles::Handles;
 use pm_types::{Addr, CLIENTS, REGISTERS};
 use std::alloc::Global;
@@ -47,9 +46,14 @@ fn push_call(handles: &mut Handles, text: &str, out: &mut String) -> Result<(), 
     push_there(handles, client, register, value, out)
 }
 
-impl Called for Handles {
-    fn call(&mut self, _alloc: Global, text: &str, out: &mut String) -> Result<(), Fault> {
-        push_call(self, text, out)
+impl CallsOf<Handles> for Calls {
+    fn call(
+        _alloc: Global,
+        called: &mut Handles,
+        text: &str,
+        out: &mut String,
+    ) -> Result<(), Fault> {
+        push_call(called, text, out)
     }
 }
 
@@ -58,5 +62,5 @@ impl Called for Handles {
 pub(crate) fn push_registers(alloc: Global, text: &str, out: &mut String) -> Result<(), Fault> {
     let mut handles = Handles::new(alloc)?;
     handles.sound();
-    push_calls(alloc, &mut handles, text, out)
+    push_calls::<Calls, _>(alloc, &mut handles, text, out)
 }

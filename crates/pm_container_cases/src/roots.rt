@@ -1,12 +1,13 @@
 //! Calls of the named roots.
 
-use crate::calls::{Called, push_calls};
-use crate::fault::{Fault, refuse};
-use crate::spelling::{address, first_word, name, number, numbered, push_value};
+use crate::spelling::{Calls, address, name};
+use pm_case_text::{
+    CallsOf, Fault, counted, first_word, number, numbered, push_calls, push_number, push_text,
+    push_value, refuse,
+};
 use pm_roots::Roots;
 use pm_types::{Addr, ROOTS};
 use std::alloc::Global;
-use std::fmt::Write;
 
 // `NAME CAR:SLOT`: binds the name.
 fn push_bound(alloc: Global, roots: &mut Roots, text: &str, out: &mut String) -> Result<(), Fault> {
@@ -32,11 +33,11 @@ fn push_nth(roots: &Roots, place: u64, out: &mut String) -> Result<(), Fault> {
         return Err(refuse("no root"));
     }
     let (name, number, at) = roots.nth(place);
-    match str::from_utf8(name.as_slice()) {
-        Ok(text) => write!(out, "{text} {number} {at:?}")?,
-        Err(_) => return Err(refuse("no text")),
-    }
-    Ok(())
+    push_text(name.as_slice(), out)?;
+    out.push(' ')?;
+    push_number(number, out)?;
+    out.push(' ')?;
+    push_value(&at, out)
 }
 
 // Makes a call that changes nothing, and adds what it answers.
@@ -60,9 +61,9 @@ fn push_call(alloc: Global, roots: &mut Roots, text: &str, out: &mut String) -> 
     }
 }
 
-impl Called for Roots {
-    fn call(&mut self, alloc: Global, text: &str, out: &mut String) -> Result<(), Fault> {
-        push_call(alloc, self, text, out)
+impl CallsOf<Roots> for Calls {
+    fn call(alloc: Global, called: &mut Roots, text: &str, out: &mut String) -> Result<(), Fault> {
+        push_call(alloc, called, text, out)
     }
 }
 
@@ -71,12 +72,12 @@ impl Called for Roots {
 pub(crate) fn push_roots(alloc: Global, text: &str, out: &mut String) -> Result<(), Fault> {
     let mut roots = Roots::new(alloc);
     roots.sound();
-    push_calls(alloc, &mut roots, text, out)
+    push_calls::<Calls, _>(alloc, &mut roots, text, out)
 }
 
 // Binds the name of a number to slot 0 of car 1.
 fn bind_number(alloc: Global, roots: &mut Roots, number: usize) -> Result<(), Fault> {
-    let text = format!(in alloc; "n{number}")?;
+    let text = counted(alloc, "n%", number as u64)?;
     let name = name(alloc, text.as_str())?;
     match roots.bind(name, Addr { car: 1, slot: 0 }) {
         Ok(_) => Ok(()),
@@ -97,5 +98,5 @@ fn bind_all(alloc: Global, roots: &mut Roots) -> Result<(), Fault> {
 pub(crate) fn push_all_names(alloc: Global, text: &str, out: &mut String) -> Result<(), Fault> {
     let mut roots = Roots::new(alloc);
     bind_all(alloc, &mut roots)?;
-    push_calls(alloc, &mut roots, text, out)
+    push_calls::<Calls, _>(alloc, &mut roots, text, out)
 }

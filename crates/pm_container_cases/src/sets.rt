@@ -1,8 +1,7 @@
 //! Calls of a remembered set.
 
-use crate::calls::{Called, push_calls};
-use crate::fault::{Fault, refuse};
-use crate::spelling::{first_word, push_same, push_value, small, source};
+use crate::spelling::{Calls, push_same, source};
+use pm_case_text::{CallsOf, Fault, first_word, push_calls, push_value, refuse, small};
 use pm_remset::Remset;
 use pm_types::{Addr, RefSource};
 use std::alloc::Global;
@@ -59,9 +58,9 @@ fn push_call(alloc: Global, set: &mut Remset, text: &str, out: &mut String) -> R
     }
 }
 
-impl Called for Remset {
-    fn call(&mut self, alloc: Global, text: &str, out: &mut String) -> Result<(), Fault> {
-        push_call(alloc, self, text, out)
+impl CallsOf<Remset> for Calls {
+    fn call(alloc: Global, called: &mut Remset, text: &str, out: &mut String) -> Result<(), Fault> {
+        push_call(alloc, called, text, out)
     }
 }
 
@@ -69,7 +68,7 @@ impl Called for Remset {
 /// `at-or-after SOURCE`, `of SLOT`, `next-of SLOT`, `next-not-of SLOT` and `len`.
 pub(crate) fn push_set(alloc: Global, text: &str, out: &mut String) -> Result<(), Fault> {
     let mut set = Remset::new(alloc);
-    push_calls(alloc, &mut set, text, out)
+    push_calls::<Calls, _>(alloc, &mut set, text, out)
 }
 
 // A remembered set, and a plain map beside it.

@@ -1,39 +1,11 @@
 //! How the words of a case are spelled.
 
-use crate::fault::{Fault, refuse};
+use pm_case_text::{Fault, number, refuse, small};
 use pm_types::{Addr, Name, RefSource};
 use std::alloc::Global;
-use std::fmt::{Debug, Write};
 
-/// A word, and what follows it behind one space.
-pub(crate) fn first_word(text: &str) -> (&str, &str) {
-    match text.split_once(' ') {
-        Some(parts) => parts,
-        None => (text, ""),
-    }
-}
-
-/// A number in decimal.
-pub(crate) fn number(text: &str) -> Result<u64, Fault> {
-    match text.parse::<u64>() {
-        Ok(number) => Ok(number),
-        Err(_) => Err(refuse("no number")),
-    }
-}
-
-/// A number of 32 bits in decimal.
-pub(crate) fn small(text: &str) -> Result<u32, Fault> {
-    match text.parse::<u32>() {
-        Ok(number) => Ok(number),
-        Err(_) => Err(refuse("no number")),
-    }
-}
-
-/// A number, and what follows it.
-pub(crate) fn numbered(text: &str) -> Result<(u64, &str), Fault> {
-    let (first, rest) = first_word(text);
-    Ok((number(first)?, rest))
-}
+/// How the calls of a case are spelled.
+pub(crate) struct Calls;
 
 /// `CAR:SLOT`.
 pub(crate) fn address(text: &str) -> Result<Addr, Fault> {
@@ -84,12 +56,6 @@ pub(crate) fn name(alloc: Global, text: &str) -> Result<Name, Fault> {
         Ok(name) => Ok(name),
         Err(_) => Err(refuse("no name")),
     }
-}
-
-/// Adds a value as it is printed.
-pub(crate) fn push_value<T: Debug>(value: &T, out: &mut String) -> Result<(), Fault> {
-    write!(out, "{value:?}")?;
-    Ok(())
 }
 
 /// Adds a line: whether something is as it should be.

@@ -1,8 +1,7 @@
 //! Calls of a table that may be frozen.
 
-use crate::calls::{Called, push_calls};
-use crate::fault::{Fault, refuse};
-use crate::spelling::{first_word, number, numbered, push_value};
+use crate::spelling::Calls;
+use pm_case_text::{CallsOf, Fault, first_word, number, numbered, push_calls, push_value, refuse};
 use pm_snap::{Keep, Table};
 use pm_types::NoMemory;
 use std::alloc::Global;
@@ -88,9 +87,14 @@ fn push_call(table: &mut Table<Held>, text: &str, out: &mut String) -> Result<()
     }
 }
 
-impl Called for Table<Held> {
-    fn call(&mut self, _alloc: Global, text: &str, out: &mut String) -> Result<(), Fault> {
-        push_call(self, text, out)
+impl CallsOf<Table<Held>> for Calls {
+    fn call(
+        _alloc: Global,
+        called: &mut Table<Held>,
+        text: &str,
+        out: &mut String,
+    ) -> Result<(), Fault> {
+        push_call(called, text, out)
     }
 }
 
@@ -98,5 +102,5 @@ impl Called for Table<Held> {
 /// `get KEY`, `frozen KEY` and `vacant`.
 pub(crate) fn push_table(alloc: Global, text: &str, out: &mut String) -> Result<(), Fault> {
     let mut table = Table::new(alloc);
-    push_calls(alloc, &mut table, text, out)
+    push_calls::<Calls, _>(alloc, &mut table, text, out)
 }

@@ -4,18 +4,11 @@ ghost use Rattle.std.specs.FinSet as set;
 ghost use Rattle.pm_types.specs.declared.limits.TheConstants.{FIELDS};
 ghost use Rattle.pm_image.specs.CarPages.{HasCarPage, one_car};
 
-use crate::fault::{Fault, refuse};
-use crate::spelling::{number, numbered};
-use pm_image::{CarImage, NumberSet, PageFault, read_car, read_car_in, write_car};
+use pm_case_text::{Fault, number, numbered, push_value_line, refuse};
+use pm_image::{CarImage, NumberSet, read_car, read_car_in, write_car};
 use pm_types::{FIELDS, OLD_FIELDS, PAGE_BYTES};
 use std::alloc::Global;
 use std::fmt::Write;
-
-// Adds why no page was read.
-pub(crate) fn push_fault(fault: PageFault, out: &mut String) -> Result<(), Fault> {
-    writeln!(out, "{fault:?}")?;
-    Ok(())
-}
 
 // Adds the number of a car, how many slots it lists, and whether it is written so again.
 fn push_found(alloc: Global, page: &[u8], car: &CarImage, out: &mut String) -> Result<(), Fault>
@@ -39,7 +32,7 @@ pub(crate) fn push_car(alloc: Global, page: &[u8], out: &mut String) -> Result<(
     }
     match read_car(alloc, page, FIELDS) {
         Ok(car) => push_found(alloc, page, &car, out),
-        Err(fault) => push_fault(fault, out),
+        Err(fault) => push_value_line(&fault, out),
     }
 }
 
@@ -58,7 +51,7 @@ pub(crate) fn push_slots(alloc: Global, page: &[u8], out: &mut String) -> Result
     }
     match read_car(alloc, page, FIELDS) {
         Ok(car) => push_all(&car, out),
-        Err(fault) => push_fault(fault, out),
+        Err(fault) => push_value_line(&fault, out),
     }
 }
 
@@ -69,7 +62,7 @@ pub(crate) fn push_old_car(alloc: Global, page: &[u8], out: &mut String) -> Resu
     }
     match read_car(alloc, page, OLD_FIELDS) {
         Ok(_) => Ok(out.push_str("a car\n")?),
-        Err(fault) => push_fault(fault, out),
+        Err(fault) => push_value_line(&fault, out),
     }
 }
 
@@ -98,7 +91,7 @@ fn push_read_in(
     }
     match read_car_in(alloc, page, FIELDS, number, next, met) {
         Ok(_) => push_met(met, out),
-        Err(fault) => push_fault(fault, out),
+        Err(fault) => push_value_line(&fault, out),
     }
 }
 

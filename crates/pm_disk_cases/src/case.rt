@@ -3,15 +3,15 @@
 use crate::cars::{push_car, push_car_in, push_old_car, push_slots};
 use crate::catalogs::{push_catalog, push_catalog_in, push_entries};
 use crate::disks::push_disk;
-use crate::fault::{Fault, refuse};
 use crate::fuses::push_fuse;
 use crate::headers::{push_digest, push_header, seal};
 use crate::slots::{push_old_cut, push_old_slot, push_slot, push_slot_end};
-use crate::spelling::{bytes, first_word, numbered, written_out};
 use crate::streams::{push_reader, push_sink, push_source, push_writer};
+use pm_case_text::{
+    Count, Fault, first_word, is_silent, patch, push_case, raw_bytes, refuse, written_out,
+};
 use pm_types::PAGE_BYTES;
 use std::alloc::Global;
-use std::fmt::Write;
 
 /// What a case has come to.
 #[derive(Drop)]
@@ -20,29 +20,11 @@ pub(crate) struct Case {
     bytes: Vec<u8>,
 }
 
-// Writes bytes over those that stand at a place.
-fn put(all: &mut [u8], at: usize, bytes: &[u8]) -> Result<(), Fault> {
-    for (index, byte) in bytes.iter().enumerate() {
-        match all.get_mut(at.saturating_add(index)) {
-            Some(found) => *found = *byte,
-            None => return Err(refuse("past the end")),
-        }
-    }
-    Ok(())
-}
-
-// `PLACE HEX`: these bytes stand at that place.
-fn patch(alloc: Global, all: &mut Vec<u8>, text: &str) -> Result<(), Fault> {
-    let (at, digits) = numbered(text)?;
-    let put_there = bytes(alloc, digits)?;
-    put(all.as_mut_slice(), at as usize, put_there.as_slice())
-}
-
 // The bytes, with a patch where there is one.
 fn patched(alloc: Global, all: &[u8], text: &str) -> Result<Vec<u8>, Fault> {
     let mut copy = all.to_vec(alloc)?;
     if !text.is_empty() {
-        patch(alloc, &mut copy, text)?;
+        patch(alloc, copy.as_mut_slice(), text)?;
     }
     Ok(copy)
 }
@@ -90,13 +72,12 @@ impl Case {
     // Begins the case of this name.
     fn begin(&mut self, alloc: Global, name: &str, out: &mut String) -> Result<(), Fault> {
         self.bytes = Vec::new(alloc);
-        writeln!(out, "case {name}")?;
-        Ok(())
+        push_case(name, out)
     }
 
     // The bytes are these, and zeros behind them up to so many.
     fn lay(&mut self, alloc: Global, text: &str, count: usize) -> Result<(), Fault> {
-        self.bytes = bytes(alloc, text)?;
+        self.bytes = raw_bytes(alloc, text)?;
         if self.bytes.len() < count {
             self.bytes.resize(count, 0)?;
         }
@@ -114,7 +95,7 @@ impl Case {
         match step {
             "bytes" => self.lay(alloc, text, 0),
             "page" => self.lay(alloc, text, PAGE_BYTES),
-            "put" => patch(alloc, &mut self.bytes, text),
+            "put" => patch(alloc, self.bytes.as_mut_slice(), text),
             "seal" => seal(self.bytes.as_mut_slice()),
             _ => push_read(alloc, self.bytes.as_slice(), step, text, out),
         }
@@ -162,10 +143,10 @@ impl Case {
         line: &str,
         out: &mut String,
     ) -> Result<(), Fault> {
-        if line.is_empty() || line.starts_with('#') {
+        if is_silent(line) {
             return Ok(());
         }
-        let line = written_out(alloc, line)?;
+        let line = written_out(alloc, line, Count::Bytes)?;
         let (step, text) = first_word(line.as_str());
         self.step(alloc, step, text, out)
     }

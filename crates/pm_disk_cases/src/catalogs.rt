@@ -3,9 +3,7 @@
 ghost use Rattle.std.specs.Prelude.{None};
 ghost use Rattle.pm_image.specs.CatalogPages.{HasCatalogPage, nothing_met};
 
-use crate::cars::push_fault;
-use crate::fault::{Fault, refuse};
-use crate::spelling::{number, numbered, push_bytes};
+use pm_case_text::{Fault, number, numbered, push_bytes, push_value_line, refuse};
 use pm_image::{CatEntry, CatalogPage, Met, read_catalog, read_catalog_in, write_catalog};
 use pm_types::PAGE_BYTES;
 use std::alloc::Global;
@@ -35,7 +33,7 @@ pub(crate) fn push_catalog(alloc: Global, page: &[u8], out: &mut String) -> Resu
     }
     match read_catalog(alloc, page) {
         Ok(read) => push_found(alloc, page, &read, out),
-        Err(fault) => push_fault(fault, out),
+        Err(fault) => push_value_line(&fault, out),
     }
 }
 
@@ -75,7 +73,7 @@ pub(crate) fn push_entries(alloc: Global, page: &[u8], out: &mut String) -> Resu
     }
     match read_catalog(alloc, page) {
         Ok(read) => push_all(alloc, &read, out),
-        Err(fault) => push_fault(fault, out),
+        Err(fault) => push_value_line(&fault, out),
     }
 }
 
@@ -92,7 +90,7 @@ fn push_read_in(
     }
     match read_catalog_in(alloc, page, count, met) {
         Ok(read) => Ok(writeln!(out, "entries {}", read.entries.as_slice().len())?),
-        Err(fault) => push_fault(fault, out),
+        Err(fault) => push_value_line(&fault, out),
     }
 }
 

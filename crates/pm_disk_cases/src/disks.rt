@@ -1,8 +1,10 @@
 //! Calls of a disk.
 
-use crate::calls::{Called, push_calls};
-use crate::fault::{Fault, refuse};
-use crate::spelling::{bytes, first_word, number, numbered, numbers, push_bytes, push_number};
+use crate::spelling::{Calls, numbers};
+use pm_case_text::{
+    CallsOf, Fault, first_word, number, numbered, push_bytes, push_calls, push_number, raw_bytes,
+    refuse,
+};
 use pm_disk::{Disk, DiskFailed, MemDisk, Moments, write_in_order};
 use std::alloc::Global;
 
@@ -57,7 +59,7 @@ fn push_written<D: Disk>(
     out: &mut String,
 ) -> Result<(), Fault> {
     let (at, digits) = numbered(text)?;
-    let from = bytes(alloc, digits)?;
+    let from = raw_bytes(alloc, digits)?;
     write(disk, at, from.as_slice(), out)
 }
 
@@ -106,7 +108,7 @@ fn push_both(alloc: Global, disk: &mut MemDisk, text: &str, out: &mut String) ->
     let (first_at, rest) = numbered(text)?;
     let (first, rest) = first_word(rest);
     let (second_at, second) = numbered(rest)?;
-    let (first, second) = (bytes(alloc, first)?, bytes(alloc, second)?);
+    let (first, second) = (raw_bytes(alloc, first)?, raw_bytes(alloc, second)?);
     write_both(
         disk,
         first_at,
@@ -150,15 +152,20 @@ fn push_part(alloc: Global, disk: &mut MemDisk, text: &str, out: &mut String) ->
     }
 }
 
-impl Called for MemDisk {
-    fn call(&mut self, alloc: Global, text: &str, out: &mut String) -> Result<(), Fault> {
-        push_part(alloc, self, text, out)
+impl CallsOf<MemDisk> for Calls {
+    fn call(
+        alloc: Global,
+        called: &mut MemDisk,
+        text: &str,
+        out: &mut String,
+    ) -> Result<(), Fault> {
+        push_part(alloc, called, text, out)
     }
 }
 
 /// A disk that holds these bytes, and that fails the calls of these numbers. It may be sent to another thread.
 pub(crate) fn disk_of(alloc: Global, held: &str, fails: &str) -> Result<MemDisk, Fault> {
-    let disk = MemDisk::new(bytes(alloc, held)?, numbers(alloc, fails)?);
+    let disk = MemDisk::new(raw_bytes(alloc, held)?, numbers(alloc, fails)?);
     is_sent(&disk);
     is_sent(&Moments::new());
     Ok(disk)
@@ -170,5 +177,5 @@ pub(crate) fn push_disk(alloc: Global, text: &str, out: &mut String) -> Result<(
     let (held, rest) = first_word(text);
     let (fails, calls) = first_word(rest);
     let mut disk = disk_of(alloc, held, fails)?;
-    push_calls(alloc, &mut disk, calls, out)
+    push_calls::<Calls, _>(alloc, &mut disk, calls, out)
 }

@@ -1,9 +1,8 @@
 //! Calls of a disk with a fuse, over a disk in memory.
 
-use crate::calls::{Called, push_calls};
 use crate::disks::{disk_of, is_sent, push_call, push_told};
-use crate::fault::Fault;
-use crate::spelling::{first_word, numbered, push_number};
+use crate::spelling::Calls;
+use pm_case_text::{CallsOf, Fault, first_word, numbered, push_calls, push_number};
 use pm_disk::{Disk, MemDisk};
 use pm_fuse::FuseDisk;
 use std::alloc::Global;
@@ -31,9 +30,14 @@ fn push_part(
     }
 }
 
-impl Called for FuseDisk<MemDisk> {
-    fn call(&mut self, alloc: Global, text: &str, out: &mut String) -> Result<(), Fault> {
-        push_part(alloc, self, text, out)
+impl CallsOf<FuseDisk<MemDisk>> for Calls {
+    fn call(
+        alloc: Global,
+        called: &mut FuseDisk<MemDisk>,
+        text: &str,
+        out: &mut String,
+    ) -> Result<(), Fault> {
+        push_part(alloc, called, text, out)
     }
 }
 
@@ -51,5 +55,5 @@ pub(crate) fn push_fuse(alloc: Global, text: &str, out: &mut String) -> Result<(
     let (fails, rest) = first_word(rest);
     let (passes, calls) = numbered(rest)?;
     let mut disk = fused(disk_of(alloc, held, fails)?, passes);
-    push_calls(alloc, &mut disk, calls, out)
+    push_calls::<Calls, _>(alloc, &mut disk, calls, out)
 }

@@ -2,15 +2,14 @@
 
 ghost use Rattle.pm_layout.specs.Headers.{HasHeaderSpelling};
 
-use crate::fault::{Fault, refuse};
-use crate::spelling::{bytes, push_bytes};
+use pm_case_text::{Fault, push_bytes, push_value_line, raw_bytes, refuse};
 use pm_layout::{Header, HeaderFault, digest, read_header, write_header};
 use std::alloc::Global;
 use std::fmt::Write;
 
 /// `HEX`: the digest of these bytes.
 pub(crate) fn push_digest(alloc: Global, text: &str, out: &mut String) -> Result<(), Fault> {
-    let made = digest(bytes(alloc, text)?.as_slice());
+    let made = digest(raw_bytes(alloc, text)?.as_slice());
     push_bytes(alloc, &made, out)?;
     Ok(out.push('\n')?)
 }
@@ -76,7 +75,7 @@ fn push_digests(
 fn push_fault(alloc: Global, fault: &HeaderFault, out: &mut String) -> Result<(), Fault> {
     match fault {
         HeaderFault::Digest { kept, found } => push_digests(alloc, kept, found, out),
-        _ => Ok(writeln!(out, "{fault:?}")?),
+        _ => push_value_line(fault, out),
     }
 }
 

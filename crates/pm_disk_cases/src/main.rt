@@ -2,12 +2,10 @@
 //! what that gave. `docs/TESTS.md` says how a case is written.
 #![tactic(auto)]
 
-mod calls;
 mod cars;
 mod case;
 mod catalogs;
 mod disks;
-mod fault;
 mod fuses;
 mod headers;
 mod slots;
@@ -15,17 +13,21 @@ mod spelling;
 mod streams;
 
 use case::Case;
-use std::alloc::Global;
-use std::fmt::Write;
+use pm_case_text::push_refused;
+use std::alloc::{AllocError, Global};
 use std::io::{self, BufRead, BufReader};
 
 // Takes a line, and adds what it gives, or why it was not done.
-fn push_line(alloc: Global, case: &mut Case, line: &str, out: &mut String) -> io::Result<()> {
-    if let Err(fault) = case.take(alloc, line, out) {
-        let reason = fault.reason;
-        writeln!(out, "? {reason}: {line}")?;
+fn push_line(
+    alloc: Global,
+    case: &mut Case,
+    line: &str,
+    out: &mut String,
+) -> Result<(), AllocError> {
+    match case.take(alloc, line, out) {
+        Ok(()) => Ok(()),
+        Err(fault) => push_refused(fault, line, out),
     }
-    Ok(())
 }
 
 fn main(rt: HostRuntime) -> io::Result<()> {

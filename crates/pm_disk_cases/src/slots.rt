@@ -4,18 +4,11 @@ ghost use Rattle.std.specs.Prelude.{◌≤◌};
 ghost use Rattle.pm_types.specs.declared.limits.TheConstants.{FIELDS};
 ghost use Rattle.pm_layout.specs.Spelling.{HasSpelling};
 
-use crate::fault::{Fault, refuse};
-use crate::spelling::number;
-use pm_layout::{LayoutFault, read_slot, size, write_slot};
+use pm_case_text::{Fault, number, push_value_line, refuse};
+use pm_layout::{read_slot, size, write_slot};
 use pm_types::{FIELDS, OLD_FIELDS, Slot};
 use std::alloc::Global;
 use std::fmt::Write;
-
-// Adds why no slot was read.
-fn push_fault(fault: LayoutFault, out: &mut String) -> Result<(), Fault> {
-    writeln!(out, "{fault:?}")?;
-    Ok(())
-}
 
 // Whether the slot, written behind the bytes that stand before it, gives the bytes up to this place.
 fn is_again(alloc: Global, all: &[u8], at: usize, slot: &Slot, next: usize) -> Result<bool, Fault>
@@ -66,7 +59,7 @@ pub(crate) fn push_slot(
     }
     match read_slot(alloc, all, at, FIELDS) {
         Ok((slot, next)) => push_found(alloc, all, at, &slot, next, out),
-        Err(fault) => push_fault(fault, out),
+        Err(fault) => push_value_line(&fault, out),
     }
 }
 
@@ -76,7 +69,7 @@ fn push_end(alloc: Global, all: &[u8], most: u32, out: &mut String) -> Result<()
 {
     match read_slot(alloc, all, 0, most) {
         Ok((_, next)) => Ok(writeln!(out, "next {next}")?),
-        Err(fault) => push_fault(fault, out),
+        Err(fault) => push_value_line(&fault, out),
     }
 }
 

@@ -1,9 +1,9 @@
 //! Calls of streams: in memory, and over readers and writers.
 
-use crate::calls::{Called, push_calls};
-use crate::fault::{Fault, refuse};
-use crate::spelling::{
-    bytes, first_word, number, numbered, numbers, push_bytes, push_number, push_value,
+use crate::spelling::{Calls, numbers};
+use pm_case_text::{
+    CallsOf, Fault, first_word, number, numbered, push_bytes, push_calls, push_number, push_value,
+    raw_bytes, refuse,
 };
 use pm_io::{Failed, MemSink, MemSource, Sink, Source, StdSink, StdSource, read_all};
 use std::alloc::Global;
@@ -37,9 +37,14 @@ fn push_source_call(
     }
 }
 
-impl Called for MemSource {
-    fn call(&mut self, alloc: Global, text: &str, out: &mut String) -> Result<(), Fault> {
-        push_source_call(alloc, self, text, out)
+impl CallsOf<MemSource> for Calls {
+    fn call(
+        alloc: Global,
+        called: &mut MemSource,
+        text: &str,
+        out: &mut String,
+    ) -> Result<(), Fault> {
+        push_source_call(alloc, called, text, out)
     }
 }
 
@@ -50,8 +55,8 @@ pub(crate) fn push_source(alloc: Global, text: &str, out: &mut String) -> Result
     let (piece, rest) = numbered(rest)?;
     let (fails, calls) = first_word(rest);
     let piece = (piece as usize).max(1);
-    let mut source = MemSource::new(bytes(alloc, held)?, piece, numbers(alloc, fails)?);
-    push_calls(alloc, &mut source, calls, out)
+    let mut source = MemSource::new(raw_bytes(alloc, held)?, piece, numbers(alloc, fails)?);
+    push_calls::<Calls, _>(alloc, &mut source, calls, out)
 }
 
 // Puts bytes into a sink.
@@ -61,7 +66,7 @@ fn push_put<S: Sink>(
     text: &str,
     out: &mut String,
 ) -> Result<(), Fault> {
-    let from = bytes(alloc, text)?;
+    let from = raw_bytes(alloc, text)?;
     push_done(sink.put(from.as_slice()), out)
 }
 
@@ -81,9 +86,14 @@ fn push_sink_call<S: Sink>(
     }
 }
 
-impl Called for MemSink {
-    fn call(&mut self, alloc: Global, text: &str, out: &mut String) -> Result<(), Fault> {
-        push_sink_call(alloc, self, text, out)
+impl CallsOf<MemSink> for Calls {
+    fn call(
+        alloc: Global,
+        called: &mut MemSink,
+        text: &str,
+        out: &mut String,
+    ) -> Result<(), Fault> {
+        push_sink_call(alloc, called, text, out)
     }
 }
 
@@ -102,7 +112,7 @@ fn push_sink_state(alloc: Global, sink: &MemSink, out: &mut String) -> Result<()
 pub(crate) fn push_sink(alloc: Global, text: &str, out: &mut String) -> Result<(), Fault> {
     let (fails, calls) = first_word(text);
     let mut sink = MemSink::new(alloc, numbers(alloc, fails)?);
-    push_calls(alloc, &mut sink, calls, out)?;
+    push_calls::<Calls, _>(alloc, &mut sink, calls, out)?;
     push_sink_state(alloc, &sink, out)?;
     Ok(out.push('\n')?)
 }
@@ -189,7 +199,7 @@ fn push_takes<S: Source>(
 /// bytes came, what the four bytes are, which begin as `2d2d2d2d`, and the count of failed calls.
 pub(crate) fn push_reader(alloc: Global, text: &str, out: &mut String) -> Result<(), Fault> {
     let (held, times) = first_word(text);
-    let held = bytes(alloc, held)?;
+    let held = raw_bytes(alloc, held)?;
     let mut source = StdSource::new(Reader {
         calls: 0,
         text: held.as_slice(),
@@ -197,9 +207,14 @@ pub(crate) fn push_reader(alloc: Global, text: &str, out: &mut String) -> Result
     push_takes(alloc, &mut source, number(times)?, out)
 }
 
-impl<'a> Called for StdSink<&'a mut Writer> {
-    fn call(&mut self, alloc: Global, text: &str, out: &mut String) -> Result<(), Fault> {
-        push_sink_call(alloc, self, text, out)
+impl<'a> CallsOf<StdSink<&'a mut Writer>> for Calls {
+    fn call(
+        alloc: Global,
+        called: &mut StdSink<&'a mut Writer>,
+        text: &str,
+        out: &mut String,
+    ) -> Result<(), Fault> {
+        push_sink_call(alloc, called, text, out)
     }
 }
 
@@ -211,7 +226,7 @@ fn push_over(
     out: &mut String,
 ) -> Result<(), Fault> {
     let mut sink = StdSink::new(writer);
-    push_calls(alloc, &mut sink, calls, out)
+    push_calls::<Calls, _>(alloc, &mut sink, calls, out)
 }
 
 /// `N CALLS`: the calls, between ` / `, of a sink over a writer to which N calls were made before, that is as the

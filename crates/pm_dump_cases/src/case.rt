@@ -1,7 +1,7 @@
 //! A line of the input: a case's name, or a step.
 
-use crate::fault::Fault;
 use crate::spelling::lines;
+use pm_case_text::{Fault, first_word, is_silent, push_case, refuse};
 use pm_dump::{Dump, DumpCause, DumpFault, read_dump};
 use pm_types::SOURCE_BYTES;
 use std::alloc::Global;
@@ -24,7 +24,7 @@ fn push_fault(fault: DumpFault, out: &mut String) -> Result<(), Fault> {
             writeln!(out, "line {number} {}", cause_word(cause))?;
             Ok(())
         }
-        DumpFault::Memory => Err(Fault::Memory),
+        DumpFault::Memory => Err(refuse("no memory")),
     }
 }
 
@@ -62,7 +62,7 @@ fn push_all(dump: &Dump, out: &mut String) -> Result<(), Fault> {
 // Reads bytes, and adds what they say.
 fn push_read(alloc: Global, bytes: &[u8], whole: bool, out: &mut String) -> Result<(), Fault> {
     if bytes.len() > SOURCE_BYTES {
-        return Err(Fault::TooLong);
+        return Err(refuse("too long"));
     }
     match read_dump(alloc, bytes) {
         Ok(dump) => {
@@ -76,6 +76,7 @@ fn push_read(alloc: Global, bytes: &[u8], whole: bool, out: &mut String) -> Resu
 // A step: its first word, and what follows.
 fn push_step(alloc: Global, word: &str, text: &str, out: &mut String) -> Result<(), Fault> {
     match word {
+        "case" => push_case(text, out),
         // The text is read.
         "read" => push_read(alloc, lines(alloc, text)?.as_slice(), false, out),
         // It is read, and all that it says is told.
@@ -86,22 +87,15 @@ fn push_step(alloc: Global, word: &str, text: &str, out: &mut String) -> Result<
             bytes.pop();
             push_read(alloc, bytes.as_slice(), false, out)
         }
-        _ => Err(Fault::Step),
+        _ => Err(refuse("no such step")),
     }
 }
 
 /// Takes a line, and adds what it prints.
 pub(crate) fn take(alloc: Global, line: &str, out: &mut String) -> Result<(), Fault> {
-    if line.is_empty() || line.starts_with('#') {
+    if is_silent(line) {
         return Ok(());
     }
-    let (word, text) = match line.split_once(' ') {
-        Some(parts) => parts,
-        None => (line, ""),
-    };
-    if word == "case" {
-        writeln!(out, "{line}")?;
-        return Ok(());
-    }
+    let (word, text) = first_word(line);
     push_step(alloc, word, text, out)
 }

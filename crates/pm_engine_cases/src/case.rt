@@ -1,15 +1,16 @@
 //! A case: its steps, one a line.
 
 use crate::chosen::{Chosen, read_chosen};
-use crate::fault::Fault;
-use crate::spelling::{first_word, number, patch, push_bytes, push_last, script, written_out};
+use crate::spelling::{push_bytes_at, push_last, script};
 use crate::standby::{push_ship, push_ships};
 use crate::stopping::{opening, push_calls, push_failing, push_fused, push_stops, push_whole};
+use pm_case_text::{
+    Count, Fault, first_word, is_silent, number, patch, push_case, refuse, written_out,
+};
 use pm_disk::MemDisk;
-use pm_script::Script;
+use pm_script::{Line, Script};
 use pm_shadow::init;
 use std::alloc::Global;
-use std::fmt::Write;
 use std::mem;
 
 /// What a case has come to.
@@ -30,7 +31,7 @@ fn new_store(alloc: Global) -> Result<Vec<u8>, Fault> {
     let mut disk = MemDisk::new(Vec::new(alloc), Vec::new(alloc));
     match init(alloc, &mut disk) {
         Ok(()) => Ok(disk.contents().to_vec(alloc)?),
-        Err(_) => Err(Fault::Memory),
+        Err(_) => Err(refuse("no memory")),
     }
 }
 
@@ -88,7 +89,7 @@ impl Case {
         out: &mut String,
     ) -> Result<(), Fault> {
         match step {
-            "at" => push_bytes(&self.disk, text, out),
+            "at" => push_bytes_at(&self.disk, text, out),
             "place" => self.choose(text),
             "patch" => patch(alloc, self.disk.as_mut_slice(), text),
             "other" => {
@@ -97,8 +98,68 @@ impl Case {
             }
             "ship" => self.ship(alloc, out),
             "ships" => push_ships(alloc, &self.disk, &self.other, self.look.as_slice(), out),
-            _ => Err(Fault::Step),
+            _ => Err(refuse("no such step")),
         }
+    }
+
+    // Begins the case of this name.
+    fn begin(&mut self, alloc: Global, name: &str, out: &mut String) -> Result<(), Fault> {
+        *self = Case::new(alloc)?;
+        push_case(name, out)
+    }
+
+    // Runs the lines, and adds what that gives, a line.
+    fn run(&mut self, alloc: Global, text: &str, out: &mut String) -> Result<(), Fault> {
+        self.go(alloc, text, out)?;
+        Ok(())
+    }
+
+    // Runs the lines, and prints nothing.
+    fn run_unseen(&mut self, alloc: Global, text: &str) -> Result<(), Fault> {
+        let mut unseen = String::new(alloc);
+        self.run(alloc, text, &mut unseen)
+    }
+
+    // Runs the lines, and adds the calls of the disk after those of the opening too.
+    fn go_and_push_calls(
+        &mut self,
+        alloc: Global,
+        text: &str,
+        out: &mut String,
+    ) -> Result<(), Fault> {
+        let first = opening(alloc, &self.disk)?;
+        let disk = self.go(alloc, text, out)?;
+        push_calls(&disk, first, out)
+    }
+
+    // With these lines each image is looked at.
+    fn set_look(&mut self, alloc: Global, text: &str) -> Result<(), Fault> {
+        self.look = script(alloc, text)?;
+        Ok(())
+    }
+
+    // A step that leaves the disk as it is, where the lines are known, or another one.
+    fn stop_step(
+        &self,
+        alloc: Global,
+        step: &str,
+        lines: &[Line],
+        out: &mut String,
+    ) -> Result<(), Fault> {
+        match step {
+            "fails" => push_failing(alloc, &self.disk, lines, self.chosen, out),
+            "fuses" => push_fused(alloc, &self.disk, lines, self.chosen, out),
+            _ => {
+                let look = self.look.as_slice();
+                push_stops(alloc, &self.disk, lines, look, self.chosen, out)
+            }
+        }
+    }
+
+    // The same of the lines as they are spelled.
+    fn stop(&self, alloc: Global, step: &str, text: &str, out: &mut String) -> Result<(), Fault> {
+        let lines = script(alloc, text)?;
+        self.stop_step(alloc, step, lines.as_slice(), out)
     }
 
     // A step: its first word, and what follows.
@@ -110,36 +171,15 @@ impl Case {
         out: &mut String,
     ) -> Result<(), Fault> {
         match step {
-            "do" => {
-                let mut unseen = String::new(alloc);
-                self.go(alloc, text, &mut unseen)?;
-            }
-            "run" => {
-                self.go(alloc, text, out)?;
-            }
-            "last" => self.go_and_push_last(alloc, text, out)?,
-            "calls" => {
-                let first = opening(alloc, &self.disk)?;
-                let disk = self.go(alloc, text, out)?;
-                push_calls(&disk, first, out)?;
-            }
-            "look" => self.look = script(alloc, text)?,
-            "fails" => {
-                let lines = script(alloc, text)?;
-                push_failing(alloc, &self.disk, lines.as_slice(), self.chosen, out)?;
-            }
-            "fuses" => {
-                let lines = script(alloc, text)?;
-                push_fused(alloc, &self.disk, lines.as_slice(), self.chosen, out)?;
-            }
-            "stops" => {
-                let lines = script(alloc, text)?;
-                let look = self.look.as_slice();
-                push_stops(alloc, &self.disk, lines.as_slice(), look, self.chosen, out)?;
-            }
-            _ => self.disk_step(alloc, step, text, out)?,
+            "case" => self.begin(alloc, text, out),
+            "do" => self.run_unseen(alloc, text),
+            "run" => self.run(alloc, text, out),
+            "last" => self.go_and_push_last(alloc, text, out),
+            "calls" => self.go_and_push_calls(alloc, text, out),
+            "look" => self.set_look(alloc, text),
+            "fails" | "fuses" | "stops" => self.stop(alloc, step, text, out),
+            _ => self.disk_step(alloc, step, text, out),
         }
-        Ok(())
     }
 
     /// Takes a line of the input, and adds what it gives. A line that begins with `#`, and one that is empty, say
@@ -150,16 +190,11 @@ impl Case {
         line: &str,
         out: &mut String,
     ) -> Result<(), Fault> {
-        if line.is_empty() || line.starts_with('#') {
+        if is_silent(line) {
             return Ok(());
         }
-        let line = written_out(alloc, line)?;
+        let line = written_out(alloc, line, Count::FromZero)?;
         let (step, text) = first_word(line.as_str());
-        if step == "case" {
-            *self = Case::new(alloc)?;
-            writeln!(out, "case {text}")?;
-            return Ok(());
-        }
         self.step(alloc, step, text, out)
     }
 }

@@ -2,7 +2,7 @@
 
 ghost use Rattle.std.specs.Prelude.{◌<◌, length};
 
-use crate::fault::Fault;
+use pm_case_text::{Fault, refuse};
 use pm_place::{first_of, last_of, middle_of};
 
 /// Which train an object moves to.
@@ -22,7 +22,7 @@ pub(crate) fn read_chosen(word: &str) -> Result<Chosen, Fault> {
         "first" => Ok(Chosen::First),
         "last" => Ok(Chosen::Last),
         "middle" => Ok(Chosen::Middle),
-        _ => Err(Fault::Step),
+        _ => Err(refuse("no such step")),
     }
 }
 

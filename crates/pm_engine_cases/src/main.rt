@@ -11,7 +11,7 @@ mod standby;
 mod stopping;
 
 use case::Case;
-use std::fmt::Write;
+use pm_case_text::push_refused;
 use std::io::{self, BufRead, BufReader};
 
 fn main(rt: HostRuntime) -> io::Result<()> {
@@ -23,7 +23,7 @@ fn main(rt: HostRuntime) -> io::Result<()> {
         let line = line?;
         let mut out = String::new(alloc);
         if let Err(fault) = case.take(alloc, line.as_str(), &mut out) {
-            writeln!(out, "? {fault:?}: {line}")?;
+            push_refused(fault, line.as_str(), &mut out)?;
         }
         print!(rt; "{out}")?;
     }

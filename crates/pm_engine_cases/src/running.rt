@@ -5,15 +5,16 @@ ghost use Rattle.pm_place.specs.Choosers.{IsChooser};
 ghost use Rattle.pm_engine.specs.Shown.{chooser};
 
 use crate::chosen::{Chosen, place_of};
-use crate::fault::Fault;
+use crate::fault::LineFault;
+use pm_case_text::{Fault, refuse};
 use pm_disk::Disk;
 use pm_engine::{Engine, Tally};
 use pm_place::Placement;
 use pm_script::{Line, reply_text};
 use pm_shadow::Pages;
-use pm_types::{CLIENTS, Cmd, Entry, OpenFault};
+use pm_types::{CLIENTS, Cmd, EngineFault, Entry, OpenFault};
 use std::alloc::Global;
-use std::fmt::Write;
+use std::fmt::{Debug, Write};
 
 /// What a run does once a call has answered that the disk failed.
 #[derive(Clone, Copy, Debug, PartialEq, Eq)]
@@ -29,9 +30,17 @@ fn push_entry(alloc: Global, entry: &Entry, out: &mut String) -> Result<(), Faul
     let line = reply_text(alloc, entry)?;
     match str::from_utf8(&line) {
         Ok(line) => write!(out, " / {}", line.trim_end())?,
-        Err(_) => return Err(Fault::Script),
+        Err(_) => return Err(refuse("no script")),
     }
     Ok(())
+}
+
+// Adds the reply's line of the journal's last entry.
+fn push_last_entry(alloc: Global, journal: &[Entry], out: &mut String) -> Result<(), Fault> {
+    match journal.last() {
+        Some(entry) => push_entry(alloc, entry, out),
+        None => Err(refuse("no entry")),
+    }
 }
 
 // Gives a client's command, and adds the reply's line of the journal's last entry.
@@ -41,17 +50,21 @@ fn push_answer<D: Disk, F: Drop>(
     client: u32,
     cmd: &Cmd,
     out: &mut String,
-) -> Result<(), Fault>
+) -> Result<(), LineFault>
     ensures { chooser engine.new ≡ chooser engine.old }
 {
     if client >= CLIENTS {
-        return Err(Fault::Step);
+        return Err(LineFault::Line(refuse("no client")));
     }
     engine.client(alloc, client, cmd)?;
-    match engine.journal().last() {
-        Some(entry) => push_entry(alloc, entry, out),
-        None => Err(Fault::Script),
-    }
+    push_last_entry(alloc, engine.journal(), out)?;
+    Ok(())
+}
+
+// Adds what an event answered.
+fn push_answered<T: Debug>(answer: &T, out: &mut String) -> Result<(), Fault> {
+    write!(out, " / {answer:?}")?;
+    Ok(())
 }
 
 // Makes so many flush events, and adds what each of them answered.
@@ -60,12 +73,12 @@ fn push_flushes<D: Disk, F: Drop>(
     engine: &mut Engine<D, F>,
     count: u32,
     out: &mut String,
-) -> Result<(), Fault>
+) -> Result<(), LineFault>
     ensures { chooser engine.new ≡ chooser engine.old }
 {
     for _ in 0..count {
         let flushed = engine.flush(alloc)?;
-        write!(out, " / {flushed:?}")?;
+        push_answered(&flushed, out)?;
     }
     Ok(())
 }
@@ -76,13 +89,13 @@ fn push_steps<D: Disk, F: Fn(&[u64]) -> usize + Drop>(
     engine: &mut Engine<D, F>,
     count: u32,
     out: &mut String,
-) -> Result<(), Fault>
+) -> Result<(), LineFault>
     requires { IsChooser F.Fn (chooser engine.old) }
     ensures { chooser engine.new ≡ chooser engine.old }
 {
     for _ in 0..count {
         let step = engine.collect(alloc)?;
-        write!(out, " / {step:?}")?;
+        push_answered(&step, out)?;
     }
     Ok(())
 }
@@ -93,7 +106,7 @@ fn push_line<D: Disk, F: Fn(&[u64]) -> usize + Drop>(
     engine: &mut Engine<D, F>,
     line: &Line,
     out: &mut String,
-) -> Result<(), Fault>
+) -> Result<(), LineFault>
     requires { IsChooser F.Fn (chooser engine.old) }
     ensures { chooser engine.new ≡ chooser engine.old }
 {
@@ -105,11 +118,14 @@ fn push_line<D: Disk, F: Fn(&[u64]) -> usize + Drop>(
 }
 
 // Adds why a line was not done, where the disk is why.
-fn push_fault(fault: Fault, out: &mut String) -> Result<(), Fault> {
+fn push_fault(fault: LineFault, out: &mut String) -> Result<(), Fault> {
     match fault {
-        Fault::Disk { before, after } => write!(out, " / disk fault {before} {after}")?,
-        Fault::Reopen { count } => write!(out, " / reopen {count}")?,
-        _ => return Err(fault),
+        LineFault::Engine(EngineFault::Disk { before, after }) => {
+            write!(out, " / disk fault {before} {after}")?
+        }
+        LineFault::Engine(EngineFault::Reopen { count }) => write!(out, " / reopen {count}")?,
+        LineFault::Engine(EngineFault::Memory) => return Err(refuse("no memory")),
+        LineFault::Line(fault) => return Err(fault),
     }
     Ok(())
 }

@@ -1,7 +1,7 @@
 //! A store that is shipped to a standby.
 
-use crate::fault::Fault;
 use crate::stopping::{disk_of, push_images};
+use pm_case_text::Fault;
 use pm_disk::MemDisk;
 use pm_fuse::FuseDisk;
 use pm_script::Line;

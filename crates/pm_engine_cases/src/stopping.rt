@@ -1,14 +1,13 @@
 //! What a crash leaves.
 
 use crate::chosen::Chosen;
-use crate::fault::Fault;
 use crate::running::{AfterFault, push_run};
+use pm_case_text::{Fault, Texts, refuse};
 use pm_disk::{DiskCall, MemDisk};
 use pm_fuse::FuseDisk;
 use pm_script::Line;
 use pm_types::PAGE_BYTES;
 use std::alloc::Global;
-use std::collections::BTreeMap;
 use std::fmt::Write;
 
 // More writes than this have too many images.
@@ -57,17 +56,6 @@ fn unsynced(calls: &[DiskCall], first: usize) -> u64 {
     writes
 }
 
-// Counts a text once more.
-fn note(texts: &mut BTreeMap<String, u64>, text: String) -> Result<(), Fault> {
-    match texts.get_mut(text.as_str()) {
-        Some(times) => *times = times.saturating_add(1),
-        None => {
-            texts.insert(text, 1)?;
-        }
-    }
-    Ok(())
-}
-
 /// Adds what the look gives on each image that a crash leaves after so many calls of a disk, none of which failed, and of
 /// how many images.
 pub(crate) fn push_images(
@@ -79,9 +67,9 @@ pub(crate) fn push_images(
 ) -> Result<(), Fault> {
     let writes = unsynced(disk.calls(), made);
     if writes > MOST_WRITES {
-        return Err(Fault::Images);
+        return Err(refuse("too many images"));
     }
-    let mut texts = BTreeMap::new(alloc);
+    let mut texts = Texts::new(alloc);
     for pick in 0..1u64 << writes {
         let image = disk.image(alloc, pick)?;
         let mut text = String::new(alloc);
@@ -93,12 +81,9 @@ pub(crate) fn push_images(
             Chosen::First,
             &mut text,
         )?;
-        note(&mut texts, text)?;
+        texts.note(text)?;
     }
-    for (text, times) in texts.iter() {
-        writeln!(out, "- {times} of {text}")?;
-    }
-    Ok(())
+    texts.push(out)
 }
 
 /// Runs the lines over a disk with these bytes that stops after each number of calls in turn, from those of the opening

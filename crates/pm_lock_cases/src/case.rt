@@ -1,9 +1,9 @@
 //! A line of the input: a case's name, or a step.
 
-use crate::fault::Fault;
 use crate::opened::push_opened;
-use crate::spelling::{number, script, workers, written_out};
+use crate::spelling::{script, workers};
 use crate::threaded::{push_alone, push_between, push_threads};
+use pm_case_text::{Count, Fault, first_word, is_silent, number, push_case, refuse, written_out};
 use std::alloc::Global;
 use std::fmt::Write;
 use std::sync::Wait;
@@ -19,7 +19,7 @@ fn opening(alloc: Global) -> Result<usize, Fault> {
 fn parted(text: &str) -> Result<(&str, &str), Fault> {
     match text.split_once(" : ") {
         Some(both) => Ok(both),
-        None => Err(Fault::Step),
+        None => Err(refuse("no such step")),
     }
 }
 
@@ -72,16 +72,15 @@ fn push_step<R: Threads + Wait + Sync>(
     out: &mut String,
 ) -> Result<(), Fault> {
     match step {
-        "case" => writeln!(out, "case {text}")?,
-        "turns" => push_turns_of(alloc, text, out)?,
-        "fails" => push_failing(alloc, text, out)?,
-        "threads" => push_threads(rt, alloc, Vec::new(alloc), text, out)?,
-        "threads-fail" => push_failing_threads(rt, alloc, text, out)?,
-        "alone" => push_alone(rt, alloc, text, out)?,
-        "between" => push_between(rt, alloc, text, out)?,
-        _ => return Err(Fault::Step),
+        "case" => push_case(text, out),
+        "turns" => push_turns_of(alloc, text, out),
+        "fails" => push_failing(alloc, text, out),
+        "threads" => push_threads(rt, alloc, Vec::new(alloc), text, out),
+        "threads-fail" => push_failing_threads(rt, alloc, text, out),
+        "alone" => push_alone(rt, alloc, text, out),
+        "between" => push_between(rt, alloc, text, out),
+        _ => Err(refuse("no such step")),
     }
-    Ok(())
 }
 
 /// Takes a line of the input, and adds what it gives. A line that begins with `#`, and one that is empty, say nothing.
@@ -91,12 +90,10 @@ pub(crate) fn take<R: Threads + Wait + Sync>(
     line: &str,
     out: &mut String,
 ) -> Result<(), Fault> {
-    if line.is_empty() || line.starts_with('#') {
+    if is_silent(line) {
         return Ok(());
     }
-    let line = written_out(alloc, line)?;
-    match line.as_str().split_once(' ') {
-        Some((step, text)) => push_step(rt, alloc, step, text, out),
-        None => Err(Fault::Step),
-    }
+    let line = written_out(alloc, line, Count::FromZero)?;
+    let (step, text) = first_word(line.as_str());
+    push_step(rt, alloc, step, text, out)
 }

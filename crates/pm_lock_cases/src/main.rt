@@ -3,7 +3,6 @@
 #![tactic(auto)]
 
 mod case;
-mod fault;
 mod opened;
 mod served;
 mod spelling;
@@ -11,7 +10,7 @@ mod threaded;
 mod turned;
 
 use case::take;
-use std::fmt::Write;
+use pm_case_text::push_refused;
 use std::io::{self, BufRead, BufReader};
 
 fn main(rt: HostRuntime) -> io::Result<()> {
@@ -20,7 +19,7 @@ fn main(rt: HostRuntime) -> io::Result<()> {
         let line = line?;
         let mut out = String::new(alloc);
         if let Err(fault) = take(&rt, alloc, line.as_str(), &mut out) {
-            writeln!(out, "? {fault:?}: {line}")?;
+            push_refused(fault, line.as_str(), &mut out)?;
         }
         print!(rt; "{out}")?;
     }

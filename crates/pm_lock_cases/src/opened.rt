@@ -6,8 +6,8 @@ ghost use Rattle.pm_engine.specs.Shown.{chooser, serving};
 ghost use Rattle.pm_events.specs.Running.{IsFresh};
 ghost use Rattle.pm_lock.specs.Shown.{engine_in};
 
-use crate::fault::Fault;
 use crate::turned::{push_counts, push_turns};
+use pm_case_text::{Fault, refuse};
 use pm_disk::{Disk, MemDisk};
 use pm_engine::Engine;
 use pm_lock::Book;
@@ -21,7 +21,7 @@ pub(crate) fn new_disk(alloc: Global, fails: Vec<u64>) -> Result<MemDisk, Fault>
     let mut disk = MemDisk::new(Vec::new(alloc), Vec::new(alloc));
     match init(alloc, &mut disk) {
         Ok(()) => Ok(MemDisk::new(disk.contents().to_vec(alloc)?, fails)),
-        Err(_) => Err(Fault::Memory),
+        Err(_) => Err(refuse("no memory")),
     }
 }
 
@@ -36,7 +36,7 @@ pub(crate) fn open<D: Disk + Drop, F: Fn(&[u64]) -> usize + Drop>(
 {
     match Engine::open_store(alloc, disk, place) {
         Ok(engine) => Ok(engine),
-        Err(_) => Err(Fault::Store),
+        Err(_) => Err(refuse("no store")),
     }
 }
 
@@ -85,7 +85,7 @@ fn push_served<D: Disk + Drop, F: Fn(&[u64]) -> usize + Drop>(
 {
     match Book::new(alloc, engine, script) {
         Ok(book) => push_booked(alloc, book, workers, out),
-        Err((engine, _)) => (disk_of(engine), Err(Fault::Memory)),
+        Err((engine, _)) => (disk_of(engine), Err(refuse("no memory"))),
     }
 }
 

@@ -1,6 +1,6 @@
 //! What a journal serves of a script.
 
-use crate::fault::Fault;
+use pm_case_text::{Fault, refuse};
 use pm_model::Oracle;
 use pm_script::Line;
 use pm_types::{CLIENTS, Entry};
@@ -57,7 +57,7 @@ pub(crate) fn count_parts(
 fn is_alike(alloc: Global, oracle: &mut Oracle, entry: &Entry) -> Result<bool, Fault> {
     let client = entry.client;
     if client >= CLIENTS {
-        return Err(Fault::Worker);
+        return Err(refuse("no worker"));
     }
     Ok(oracle.answer(alloc, client, &entry.cmd)? == entry.reply)
 }

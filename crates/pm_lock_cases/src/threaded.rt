@@ -5,11 +5,11 @@ ghost use Rattle.pm_engine.specs.Shown.{chooser, serving};
 ghost use Rattle.pm_events.specs.Running.{IsFresh};
 ghost use Rattle.pm_lock.specs.Shown.{engine_in};
 
-use crate::fault::Fault;
 use crate::opened::{disk_of, new_disk, open};
 use crate::served::{count_parts, push_legal};
 use crate::spelling::script;
 use crate::turned::made_alone;
+use pm_case_text::{Fault, refuse};
 use pm_disk::Disk;
 use pm_engine::Engine;
 use pm_lock::{Book, run_all};
@@ -106,7 +106,7 @@ fn push_replies(alloc: Global, journal: &[Entry], out: &mut String) -> Result<()
     let text = journal_text(alloc, journal)?;
     match str::from_utf8(&text) {
         Ok(text) => out.push_str(text)?,
-        Err(_) => return Err(Fault::Script),
+        Err(_) => return Err(refuse("no script")),
     }
     Ok(())
 }
@@ -193,7 +193,7 @@ fn push_run<
         }
         Err((engine, _)) => {
             drop(disk_of(engine));
-            Err(Fault::Memory)
+            Err(refuse("no memory"))
         }
     }
 }

@@ -6,7 +6,7 @@ ghost use Rattle.pm_place.specs.Choosers.{IsChooser};
 ghost use Rattle.pm_engine.specs.Shown.{chooser};
 ghost use Rattle.pm_lock.specs.Shown.{engine_in};
 
-use crate::fault::Fault;
+use pm_case_text::{Fault, refuse};
 use pm_disk::Disk;
 use pm_lock::Book;
 use pm_script::reply_text;
@@ -20,7 +20,7 @@ fn push_entry(alloc: Global, entry: &Entry, out: &mut String) -> Result<(), Faul
     let line = reply_text(alloc, entry)?;
     match str::from_utf8(&line) {
         Ok(line) => write!(out, ": {}", line.trim_end())?,
-        Err(_) => return Err(Fault::Script),
+        Err(_) => return Err(refuse("no script")),
     }
     Ok(())
 }
@@ -36,7 +36,7 @@ fn push_turn<D: Disk, F: Fn(&[u64]) -> usize + Drop>(
     ensures { chooser (engine_in book.new) ≡ chooser (engine_in book.old) }
 {
     if who >= WORKERS {
-        return Err(Fault::Worker);
+        return Err(refuse("no worker"));
     }
     let before = book.engine().journal().len();
     let turn = book.step(alloc, who);

@@ -3,8 +3,8 @@
 ghost use Rattle.std.specs.Prelude.{◌<◌};
 ghost use Rattle.pm_types.specs.declared.limits.TheConstants.{CLIENTS};
 
-use crate::fault::Fault;
 use crate::scripts::{in_turn, spelled};
+use pm_case_text::{Fault, first_word, is_silent, push_case, refuse, small};
 use pm_parts::{Parts, collects_asked, commands_asked, flushes_asked};
 use pm_script::Script;
 use pm_types::{CLIENTS, Cmd};
@@ -75,11 +75,9 @@ fn push_parts(alloc: Global, text: &str, out: &mut String) -> Result<(), Fault> 
 
 // Adds what a client sees as its next command, and what it takes.
 fn push_taken(parts: &mut Parts, word: &str, out: &mut String) -> Result<(), Fault> {
-    let Ok(client) = word.parse::<u32>() else {
-        return Err(Fault::Client);
-    };
+    let client = small(word)?;
     if client >= CLIENTS {
-        return Err(Fault::Client);
+        return Err(refuse("no client"));
     }
     write!(out, " / {client} sees ")?;
     push_number(parts.front(client), out)?;
@@ -90,7 +88,7 @@ fn push_taken(parts: &mut Parts, word: &str, out: &mut String) -> Result<(), Fau
 // `CLIENTS : SCRIPT`: these clients take their next commands, one after another.
 fn push_takes(alloc: Global, text: &str, out: &mut String) -> Result<(), Fault> {
     let Some((clients, lines)) = text.split_once(" : ") else {
-        return Err(Fault::Step);
+        return Err(refuse("no such step"));
     };
     let mut parts = Parts::split(alloc, spelled(alloc, lines)?)?;
     let left = parts.left();
@@ -140,23 +138,20 @@ fn push_long(alloc: Global, text: &str, out: &mut String) -> Result<(), Fault> {
 // A step: its first word, and what follows.
 fn push_step(alloc: Global, step: &str, text: &str, out: &mut String) -> Result<(), Fault> {
     match step {
-        "case" => writeln!(out, "case {text}")?,
-        "parts" => push_parts(alloc, text, out)?,
-        "takes" => push_takes(alloc, text, out)?,
-        "long" => push_long(alloc, text, out)?,
-        "asked" => push_asked_of_long(alloc, text, out)?,
-        _ => return Err(Fault::Step),
+        "case" => push_case(text, out),
+        "parts" => push_parts(alloc, text, out),
+        "takes" => push_takes(alloc, text, out),
+        "long" => push_long(alloc, text, out),
+        "asked" => push_asked_of_long(alloc, text, out),
+        _ => Err(refuse("no such step")),
     }
-    Ok(())
 }
 
 /// Takes a line of the input, and adds what it gives. A line that begins with `#`, and one that is empty, say nothing.
 pub(crate) fn take(alloc: Global, line: &str, out: &mut String) -> Result<(), Fault> {
-    if line.is_empty() || line.starts_with('#') {
+    if is_silent(line) {
         return Ok(());
     }
-    match line.split_once(' ') {
-        Some((step, text)) => push_step(alloc, step, text, out),
-        None => Err(Fault::Step),
-    }
+    let (step, text) = first_word(line);
+    push_step(alloc, step, text, out)
 }

@@ -3,11 +3,10 @@
 #![tactic(auto)]
 
 mod case;
-mod fault;
 mod scripts;
 
 use case::take;
-use std::fmt::Write;
+use pm_case_text::push_refused;
 use std::io::{self, BufRead, BufReader};
 
 fn main(rt: HostRuntime) -> io::Result<()> {
@@ -16,7 +15,7 @@ fn main(rt: HostRuntime) -> io::Result<()> {
         let line = line?;
         let mut out = String::new(alloc);
         if let Err(fault) = take(alloc, line.as_str(), &mut out) {
-            writeln!(out, "? {fault:?}: {line}")?;
+            push_refused(fault, line.as_str(), &mut out)?;
         }
         print!(rt; "{out}")?;
     }

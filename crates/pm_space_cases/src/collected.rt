@@ -8,7 +8,7 @@ ghost use Rattle.pm_view.specs.Commands.{is_act};
 
 use crate::drawn::{command, name, next_draw, register};
 use crate::fault::Fault;
-use crate::{number, numbered};
+use pm_case_text::{number, numbered, small};
 use pm_model::Oracle;
 use pm_mutate::act;
 use pm_place::Placement;
@@ -411,19 +411,11 @@ fn push_middle(alloc: Global, plan: Plan, out: &mut String) -> Result<(), Fault>
     push_plan(Space::new(alloc, place)?, alloc, plan, out)
 }
 
-// A size in decimal.
-fn size(text: &str) -> Result<u32, Fault> {
-    match text.parse::<u32>() {
-        Ok(size) => Ok(size),
-        Err(_) => Err(Fault::Number),
-    }
-}
-
 // `N E SIZE`.
 fn plan_of(text: &str) -> Result<Plan, Fault> {
     let (commands, rest) = numbered(text)?;
     let (events, last) = numbered(rest)?;
-    let size = size(last)?;
+    let size = small(last)?;
     Ok(Plan {
         commands,
         events,

@@ -8,8 +8,8 @@ pub(crate) enum Fault {
     Memory,
     /// There is no such step.
     Step,
-    /// A word is no number.
-    Number,
+    /// A word is not spelled as it has to be.
+    Word,
     /// There is no register of this number.
     Register,
     /// The lines are no script.
@@ -33,5 +33,11 @@ impl<T: Drop> From<AllocFailed<T>> for Fault {
 impl From<NoMemory> for Fault {
     fn from(_error: NoMemory) -> Fault {
         Fault::Memory
+    }
+}
+
+impl From<pm_case_text::Fault> for Fault {
+    fn from(_fault: pm_case_text::Fault) -> Fault {
+        Fault::Word
     }
 }

@@ -17,34 +17,13 @@ use fault::Fault;
 use frozen::push_frozen;
 use opened::push_opened;
 use paths::push_chain;
+use pm_case_text::{first_word, is_silent, number, numbered, push_case};
 use queued::push_queued;
 use scripted::{Shows, push_script};
 use spaced::{push_births, push_drawn, push_names};
 use std::alloc::Global;
 use std::fmt::Write;
 use std::io::{self, BufRead, BufReader};
-
-// A number in decimal.
-pub(crate) fn number(text: &str) -> Result<u64, Fault> {
-    match text.parse::<u64>() {
-        Ok(number) => Ok(number),
-        Err(_) => Err(Fault::Number),
-    }
-}
-
-// A number, and what follows it behind one space.
-pub(crate) fn numbered(text: &str) -> Result<(u64, &str), Fault> {
-    match text.split_once(' ') {
-        Some((first, rest)) => Ok((number(first)?, rest)),
-        None => Err(Fault::Number),
-    }
-}
-
-// Adds the name of a case.
-fn push_case(text: &str, out: &mut String) -> Result<(), Fault> {
-    writeln!(out, "case {text}")?;
-    Ok(())
-}
 
 // What a step shows of a script, if it is one that runs a script.
 fn shows(step: &str) -> Option<Shows> {
@@ -77,7 +56,7 @@ fn push_why(alloc: Global, text: &str, out: &mut String) -> Result<(), Fault> {
     let (id, lines) = numbered(text)?;
     match u32::try_from(id) {
         Ok(id) => push_script(alloc, lines, Shows::Why(id), out),
-        Err(_) => Err(Fault::Number),
+        Err(_) => Err(Fault::Word),
     }
 }
 
@@ -87,7 +66,7 @@ fn push_step(alloc: Global, step: &str, text: &str, out: &mut String) -> Result<
         return push_script(alloc, text, shows, out);
     }
     match step {
-        "case" => push_case(text, out),
+        "case" => Ok(push_case(text, out)?),
         "collected" => push_collected(alloc, text, out),
         "opened" => push_opened(alloc, text, out),
         "why" => push_why(alloc, text, out),
@@ -97,13 +76,11 @@ fn push_step(alloc: Global, step: &str, text: &str, out: &mut String) -> Result<
 
 // Takes a line of the input, and adds what it gives. A line that begins with `#`, and one that is empty, say nothing.
 fn take(alloc: Global, line: &str, out: &mut String) -> Result<(), Fault> {
-    if line.is_empty() || line.starts_with('#') {
+    if is_silent(line) {
         return Ok(());
     }
-    match line.split_once(' ') {
-        Some((step, text)) => push_step(alloc, step, text, out),
-        None => Err(Fault::Step),
-    }
+    let (step, text) = first_word(line);
+    push_step(alloc, step, text, out)
 }
 
 // Takes a line, and adds what it gives, or why it was not done.

@@ -4,7 +4,7 @@ ghost use Rattle.std.specs.Prelude.{◌≡◌, ◌⊎◌, false};
 ghost use Rattle.pm_shadow.specs.Pages.{state};
 
 use crate::fault::Fault;
-use crate::numbered;
+use pm_case_text::{numbered, raw_bytes};
 use pm_disk::MemDisk;
 use pm_layout::{Header, digest, write_header};
 use pm_place::Placement;
@@ -27,10 +27,8 @@ struct Store {
 
 // Adds bytes in pairs of hexadecimal digits.
 fn push_hex(alloc: Global, to: &mut Vec<u8>, text: &str) -> Result<(), Fault> {
-    match hex::decode(alloc, text) {
-        Ok(bytes) => Ok(to.extend_from_slice(bytes.as_slice())?),
-        Err(_) => Err(Fault::Number),
-    }
+    let bytes = raw_bytes(alloc, text)?;
+    Ok(to.extend_from_slice(bytes.as_slice())?)
 }
 
 // The page that begins with these bytes and ends with zeros.

@@ -7,6 +7,7 @@ ghost use Rattle.pm_view.specs.Commands.{is_act};
 
 use crate::fault::Fault;
 use crate::paths::push_why;
+use pm_case_text::small;
 use pm_evac::{Row, apply_one, finish_car, fix_one, free_car, move_one, next_row, sweep_one};
 use pm_mutate::act;
 use pm_place::Placement;
@@ -64,10 +65,7 @@ fn push_part(lines: &mut Vec<u8>, part: &str) -> Result<(), Fault> {
     let Some((count, line)) = part.split_once("* ") else {
         return push_line(lines, part);
     };
-    let Ok(count) = count.parse::<u32>() else {
-        return Err(Fault::Number);
-    };
-    for _ in 0..count {
+    for _ in 0..small(count)? {
         push_line(lines, line)?;
     }
     Ok(())

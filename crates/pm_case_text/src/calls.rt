@@ -1,12 +1,12 @@
-//! Calls of a disk, a stream or files, one after another.
+//! Calls that are spelled in a line, one after another.
 
 use crate::fault::Fault;
 use std::alloc::Global;
 
-/// What takes calls that are spelled.
-pub(crate) trait Called {
+/// How the calls of a `T` are spelled.
+pub trait CallsOf<T> {
     /// Makes the call that the text spells, and adds what it answers.
-    fn call(&mut self, alloc: Global, text: &str, out: &mut String) -> Result<(), Fault>;
+    fn call(alloc: Global, called: &mut T, text: &str, out: &mut String) -> Result<(), Fault>;
 }
 
 // Adds a stroke before each answer but the first.
@@ -17,16 +17,16 @@ fn push_stroke(place: usize, out: &mut String) -> Result<(), Fault> {
     Ok(())
 }
 
-/// Makes the calls between ` / `, and adds what they answer, with ` / ` between them.
-pub(crate) fn push_calls<C: Called>(
+/// Makes the calls between ` / `, and adds a line: what they answer, with ` / ` between the answers.
+pub fn push_calls<C: CallsOf<T>, T>(
     alloc: Global,
-    called: &mut C,
+    called: &mut T,
     text: &str,
     out: &mut String,
 ) -> Result<(), Fault> {
     for (place, call) in text.split(" / ").enumerate() {
         push_stroke(place, out)?;
-        called.call(alloc, call, out)?;
+        C::call(alloc, called, call, out)?;
     }
     Ok(out.push('\n')?)
 }

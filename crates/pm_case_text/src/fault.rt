@@ -1,15 +1,23 @@
 use pm_types::NoMemory;
 use std::alloc::{AllocError, AllocFailed};
+use std::fmt::Write;
 
 /// Why a step of a case was not done.
-#[derive(Clone, Copy, Debug)]
-pub(crate) struct Fault {
-    pub(crate) reason: &'static str,
+#[derive(Clone, Copy)]
+pub struct Fault {
+    /// The reason, in a few words.
+    pub reason: &'static str,
 }
 
 /// A step that was not done for this reason.
-pub(crate) fn refuse(reason: &'static str) -> Fault {
+pub fn refuse(reason: &'static str) -> Fault {
     Fault { reason }
+}
+
+/// Adds a line: why a line of the input was not done.
+pub fn push_refused(fault: Fault, line: &str, out: &mut String) -> Result<(), AllocError> {
+    let reason = fault.reason;
+    writeln!(out, "? {reason}: {line}")
 }
 
 impl From<AllocError> for Fault {
