@@ -1,18 +1,20 @@
 //! A case: its steps, one a line.
 
-use crate::disks::{digits_at, named, patch, put_digest_of, seal};
+use crate::disks::{named, push_digits_at, put_digest_of, seal};
 use crate::drawn::push_drawn;
 use crate::ends::push_memory_text;
 use crate::failing::{Repeated, push_failings, push_fuses};
-use crate::fault::{Fault, refuse};
 use crate::generated::generated;
 use crate::inner::{push_copies, push_digest, push_name, push_register, push_room};
 use crate::replayed::push_alike;
 use crate::restored::push_round;
-use crate::running::{INIT, RUN, Run, Setting, run};
+use crate::running::{INIT, RUN, RunEnd, Setting, run};
 use crate::scripts::{push_read, push_read_lines, push_texts};
 use crate::shown::{push_first, push_last, push_named, push_run, push_run_in_line};
-use crate::spelling::{bytes, counted, first_word, number, numbered, push_lines, written_out};
+use pm_case_text::{
+    Count, Fault, counted, first_word, is_silent, number, numbered, patch, push_case, push_lines,
+    raw_bytes, refuse, written_out,
+};
 use std::alloc::Global;
 use std::fmt::Write;
 use std::mem;
@@ -31,7 +33,7 @@ pub(crate) struct Case {
     /// The script with which a disk is looked at that failed.
     look: Vec<u8>,
     /// How the last run ended, and whether it changed the disk's bytes.
-    last: Option<Run>,
+    last: Option<RunEnd>,
     changed: bool,
 }
 
@@ -47,7 +49,7 @@ fn run_lines<R: AllocGlobal + Threads + Wait + Sync>(
     rt: &R,
     disk: Vec<u8>,
     lines: &str,
-) -> Result<Run, Fault> {
+) -> Result<RunEnd, Fault> {
     let setting = setting_of(rt.alloc(), lines)?;
     run(rt, disk, setting)
 }
@@ -57,13 +59,13 @@ fn run_on<R: AllocGlobal + Threads + Wait + Sync>(
     rt: &R,
     disk: &[u8],
     setting: Setting,
-) -> Result<Run, Fault> {
+) -> Result<RunEnd, Fault> {
     let copy = disk.to_vec(rt.alloc())?;
     run(rt, copy, setting)
 }
 
 // The last run.
-fn ended(last: &Option<Run>) -> Result<&Run, Fault> {
+fn ended(last: &Option<RunEnd>) -> Result<&RunEnd, Fault> {
     match last {
         Some(run) => Ok(run),
         None => Err(refuse("no run before")),
@@ -107,7 +109,7 @@ fn push_times(alloc: Global, script: &mut Vec<u8>, text: &str) -> Result<(), Fau
 // Adds what a script gives on the image of the last run's disk that this pick chooses.
 fn push_image<R: AllocGlobal + Threads + Wait + Sync>(
     rt: &R,
-    last: &Run,
+    last: &RunEnd,
     pick: u64,
     lines: &str,
     out: &mut String,
@@ -121,7 +123,7 @@ fn push_image<R: AllocGlobal + Threads + Wait + Sync>(
 // Adds what a script gives on each image of the last run's disk whose pick is below N.
 fn push_images<R: AllocGlobal + Threads + Wait + Sync>(
     rt: &R,
-    last: &Run,
+    last: &RunEnd,
     text: &str,
     out: &mut String,
 ) -> Result<(), Fault> {
@@ -227,7 +229,7 @@ impl Case {
 
     // Adds bytes to the script so far.
     fn add_bytes(&mut self, alloc: Global, text: &str) -> Result<(), Fault> {
-        let raw = bytes(alloc, text)?;
+        let raw = raw_bytes(alloc, text)?;
         let setting = self.setting(alloc)?;
         setting.script.extend_from_slice(raw.as_slice())?;
         Ok(())
@@ -328,8 +330,8 @@ impl Case {
     }
 
     // Adds what the last run wrote, the text of its end, and its status.
-    fn push_ended(&self, alloc: Global, out: &mut String) -> Result<(), Fault> {
-        push_run(alloc, ended(&self.last)?, out)
+    fn push_ended(&self, out: &mut String) -> Result<(), Fault> {
+        push_run(ended(&self.last)?, out)
     }
 
     // Runs with these lines, and adds what that gave.
@@ -340,7 +342,7 @@ impl Case {
         out: &mut String,
     ) -> Result<(), Fault> {
         self.go(rt, lines)?;
-        self.push_ended(rt.alloc(), out)
+        self.push_ended(out)
     }
 
     // Makes a store, and adds what that gave.
@@ -377,15 +379,13 @@ impl Case {
     }
 
     // Adds the last lines that the last run wrote.
-    fn push_last(&self, alloc: Global, text: &str, out: &mut String) -> Result<(), Fault> {
-        let count = number(text)?;
-        push_last(alloc, ended(&self.last)?, count, out)
+    fn push_last(&self, text: &str, out: &mut String) -> Result<(), Fault> {
+        push_last(ended(&self.last)?, number(text)?, out)
     }
 
     // Adds the first lines that the last run wrote.
-    fn push_first(&self, alloc: Global, text: &str, out: &mut String) -> Result<(), Fault> {
-        let count = number(text)?;
-        push_first(alloc, ended(&self.last)?, count, out)
+    fn push_first(&self, text: &str, out: &mut String) -> Result<(), Fault> {
+        push_first(ended(&self.last)?, number(text)?, out)
     }
 
     // Adds what the reader of the whole grammar says of the script so far and these lines.
@@ -462,10 +462,7 @@ impl Case {
 
     // Adds bytes of the disk.
     fn push_digits(&self, alloc: Global, text: &str, out: &mut String) -> Result<(), Fault> {
-        let digits = digits_at(alloc, self.disk.as_slice(), text)?;
-        out.push_str(digits.as_str())?;
-        out.push('\n')?;
-        Ok(())
+        push_digits_at(alloc, self.disk.as_slice(), text, out)
     }
 
     // A step that says with what the next run begins, or another one.
@@ -557,8 +554,8 @@ impl Case {
     ) -> Result<(), Fault> {
         match step {
             "show" => self.show(alloc, text, out),
-            "first" => self.push_first(alloc, text, out),
-            "last" => self.push_last(alloc, text, out),
+            "first" => self.push_first(text, out),
+            "last" => self.push_last(text, out),
             "texts" => self.push_texts(alloc, out),
             "oracle" => self.push_alike(alloc, out),
             _ => self.read_step(alloc, step, text, out),
@@ -584,8 +581,7 @@ impl Case {
     // Begins the case of this name.
     fn begin(&mut self, alloc: Global, name: &str, out: &mut String) -> Result<(), Fault> {
         *self = Case::new(alloc);
-        writeln!(out, "case {name}")?;
-        Ok(())
+        push_case(name, out)
     }
 
     // Takes a line that says something, written out.
@@ -610,10 +606,10 @@ impl Case {
         line: &str,
         out: &mut String,
     ) -> Result<(), Fault> {
-        if line.is_empty() || line.starts_with('#') {
+        if is_silent(line) {
             return Ok(());
         }
-        let line = written_out(rt.alloc(), line)?;
+        let line = written_out(rt.alloc(), line, Count::None)?;
         self.take_written(rt, line.as_str(), out)
     }
 }

@@ -1,8 +1,7 @@
 //! The bytes of a disk before a run.
 
-use crate::fault::{Fault, refuse};
-use crate::running::{INIT, Run, Setting, run};
-use crate::spelling::{bytes, number, numbered, place, placed};
+use crate::running::{INIT, RunEnd, Setting, run};
+use pm_case_text::{Fault, number, numbered, part, place, placed, push_bytes, put, refuse};
 use pm_layout::digest;
 use pm_types::PAGE_BYTES;
 use std::alloc::Global;
@@ -20,7 +19,7 @@ fn new_store<R: AllocGlobal + Threads + Wait + Sync>(rt: &R) -> Result<Vec<u8>, 
 }
 
 // What a crash leaves of a run's disk.
-fn image(alloc: Global, last: &Option<Run>, pick: u64) -> Result<Vec<u8>, Fault> {
+fn image(alloc: Global, last: &Option<RunEnd>, pick: u64) -> Result<Vec<u8>, Fault> {
     match last {
         Some(run) => Ok(run.disk.image(alloc, pick)?),
         None => Err(refuse("no run before")),
@@ -31,7 +30,7 @@ fn image(alloc: Global, last: &Option<Run>, pick: u64) -> Result<Vec<u8>, Fault>
 /// leaves.
 pub(crate) fn named<R: AllocGlobal + Threads + Wait + Sync>(
     rt: &R,
-    last: &Option<Run>,
+    last: &Option<RunEnd>,
     text: &str,
 ) -> Result<Vec<u8>, Fault> {
     match text.split_once(' ') {
@@ -43,35 +42,6 @@ pub(crate) fn named<R: AllocGlobal + Threads + Wait + Sync>(
             _ => Err(refuse("no such disk")),
         },
     }
-}
-
-// The bytes from a place on.
-fn part(disk: &[u8], from: usize, count: usize) -> Result<&[u8], Fault> {
-    let found = match from.checked_add(count) {
-        Some(end) => disk.get(from..end),
-        None => None,
-    };
-    found.ok_or(refuse("past the end"))
-}
-
-// Writes bytes over those that stand at a place.
-fn put(disk: &mut [u8], at: usize, bytes: &[u8]) -> Result<(), Fault> {
-    for (index, byte) in bytes.iter().enumerate() {
-        match at.checked_add(index) {
-            Some(place) => match disk.get_mut(place) {
-                Some(found) => *found = *byte,
-                None => return Err(refuse("past the end")),
-            },
-            None => return Err(refuse("past the end")),
-        }
-    }
-    Ok(())
-}
-
-/// `PLACE HEX`: these bytes stand at that place.
-pub(crate) fn patch(alloc: Global, disk: &mut [u8], text: &str) -> Result<(), Fault> {
-    let (at, digits) = placed(text)?;
-    put(disk, at, bytes(alloc, digits)?.as_slice())
 }
 
 // The digest of bytes stands at a place.
@@ -123,8 +93,15 @@ pub(crate) fn seal(disk: &mut [u8], text: &str) -> Result<(), Fault> {
     seal_pages(disk, header, catalog, number(car)?)
 }
 
-/// `PLACE COUNT`: that many bytes from that place on, in hexadecimal.
-pub(crate) fn digits_at(alloc: Global, disk: &[u8], text: &str) -> Result<String, Fault> {
+/// `PLACE COUNT`: adds that many bytes from that place on, in hexadecimal, a line.
+pub(crate) fn push_digits_at(
+    alloc: Global,
+    disk: &[u8],
+    text: &str,
+    out: &mut String,
+) -> Result<(), Fault> {
     let (from, count) = placed(text)?;
-    Ok(hex::encode(alloc, part(disk, from, number(count)? as usize)?)?)
+    let bytes = part(disk, from, number(count)? as usize)?;
+    push_bytes(alloc, bytes, out)?;
+    Ok(out.push('\n')?)
 }

@@ -1,9 +1,9 @@
 //! Runs in threads of scripts that are drawn.
 
-use crate::fault::{Fault, refuse};
 use crate::generated::generated;
 use crate::replayed::alike_in;
-use crate::running::{RUN_THREADS, Run, Setting, run};
+use crate::running::{RUN_THREADS, RunEnd, Setting, run};
+use pm_case_text::{Fault, refuse};
 use std::fmt::Write;
 use std::sync::Wait;
 use std::thread::Threads;
@@ -14,7 +14,7 @@ fn run_drawn<R: AllocGlobal + Threads + Wait + Sync>(
     disk: &[u8],
     lines: u64,
     seed: u32,
-) -> Result<Run, Fault> {
+) -> Result<RunEnd, Fault> {
     let alloc = rt.alloc();
     let mut setting = Setting::new(alloc, RUN_THREADS)?;
     let drawn = generated(alloc, lines, seed)?;

@@ -1,12 +1,10 @@
 //! Runs of one script whose disk, source or sink fails at each of its calls in turn.
 
-use crate::ends::counts;
-use crate::fault::{Fault, refuse};
-use crate::running::{RUN, Run, Setting, run};
+use crate::running::{RUN, RunEnd, Setting, run};
 use crate::shown::push_run_in_line;
+use pm_case_text::{Fault, Texts, refuse};
 use pm_disk::{DiskCall, MemDisk};
 use std::alloc::Global;
-use std::collections::BTreeMap;
 use std::fmt::Write;
 use std::sync::Wait;
 use std::thread::Threads;
@@ -30,7 +28,7 @@ fn go<R: AllocGlobal + Threads + Wait + Sync>(
     rt: &R,
     repeated: &Repeated,
     setting: Setting,
-) -> Result<Run, Fault> {
+) -> Result<RunEnd, Fault> {
     let copy = repeated.disk.to_vec(rt.alloc())?;
     run(rt, copy, setting)
 }
@@ -49,7 +47,7 @@ fn push_look<R: AllocGlobal + Threads + Wait + Sync>(
 }
 
 // Adds what a run gives, as one line behind its number.
-fn push_numbered(alloc: Global, number: u64, run: &Run, out: &mut String) -> Result<(), Fault> {
+fn push_numbered(alloc: Global, number: u64, run: &RunEnd, out: &mut String) -> Result<(), Fault> {
     write!(out, "{number}: ")?;
     push_run_in_line(alloc, run, out)
 }
@@ -59,21 +57,12 @@ fn count_image<R: AllocGlobal + Threads + Wait + Sync>(
     rt: &R,
     look: &[u8],
     image: Vec<u8>,
-    texts: &mut BTreeMap<String, u64>,
+    texts: &mut Texts,
 ) -> Result<(), Fault> {
     let mut text = String::new(rt.alloc());
     push_look(rt, look, image, &mut text)?;
-    let times = texts.entry(text)?.or_insert(0);
-    *times = times.saturating_add(1);
-    Ok(())
-}
-
-// Adds each text, and how often it came.
-fn push_counted(texts: &BTreeMap<String, u64>, out: &mut String) -> Result<(), Fault> {
-    for (text, times) in texts.iter() {
-        write!(out, "- {times} of {text}")?;
-    }
-    Ok(())
+    text.pop();
+    texts.note(text)
 }
 
 // Adds what the look gives on the images of a disk that the picks below this number choose.
@@ -84,12 +73,12 @@ fn push_looks<R: AllocGlobal + Threads + Wait + Sync>(
     picks: u64,
     out: &mut String,
 ) -> Result<(), Fault> {
-    let mut texts = BTreeMap::new(rt.alloc());
+    let mut texts = Texts::new(rt.alloc());
     for pick in 0..picks {
         let image = disk.image(rt.alloc(), pick)?;
         count_image(rt, look, image, &mut texts)?;
     }
-    push_counted(&texts, out)
+    texts.push(out)
 }
 
 // Adds what a run over this fuse gave, and what the look gives on the images that it left; whether it ended with 0.
@@ -98,7 +87,7 @@ fn push_fused<R: AllocGlobal + Threads + Wait + Sync>(
     look: &[u8],
     passes: u64,
     picks: u64,
-    run: &Run,
+    run: &RunEnd,
     out: &mut String,
 ) -> Result<bool, Fault> {
     push_numbered(rt.alloc(), passes, run, out)?;
@@ -201,15 +190,15 @@ fn failing(alloc: Global, repeated: &Repeated, part: Part, call: u64) -> Result<
 
 // Adds how many bytes were written, whether the disk was called, and the counts of failed calls where the end tells
 // them.
-fn push_marks(run: &Run, out: &mut String) -> Result<(), Fault> {
-    let written = run.sink.written().len();
+fn push_marks(run: &RunEnd, out: &mut String) -> Result<(), Fault> {
+    let written = run.told.written.len();
     let called = if run.disk.calls().is_empty() {
         "not called"
     } else {
         "called"
     };
     write!(out, "- {written} written, disk {called}")?;
-    if let Some((before, after)) = counts(&run.detail) {
+    if let Some((before, after)) = run.told.counts {
         write!(out, ", faults {before} to {after}")?;
     }
     Ok(out.push_str(", then ")?)
@@ -220,7 +209,7 @@ fn push_failed<R: AllocGlobal + Threads + Wait + Sync>(
     rt: &R,
     look: &[u8],
     turn: u64,
-    run: &Run,
+    run: &RunEnd,
     out: &mut String,
 ) -> Result<bool, Fault> {
     push_numbered(rt.alloc(), turn, run, out)?;

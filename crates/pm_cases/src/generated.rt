@@ -1,6 +1,6 @@
 //! A script that is drawn.
 
-use crate::fault::Fault;
+use pm_case_text::Fault;
 use std::alloc::Global;
 use std::fmt::Write;
 

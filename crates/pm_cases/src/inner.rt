@@ -1,8 +1,7 @@
 //! Inner functions that a case calls by name.
 
-use crate::fault::{Fault, refuse};
-use crate::printed::{push_digest_of, push_number, push_value};
-use crate::spelling::{bytes, number, numbered};
+use crate::printed::push_digest_of;
+use pm_case_text::{Fault, number, numbered, push_said, push_value_line, raw_bytes, refuse};
 use pm_types::{Addr, Bytes, Cmd, Fields, Name, NameFault, Object, Reg, Reply, Slot, room};
 use std::alloc::Global;
 
@@ -10,17 +9,17 @@ use std::alloc::Global;
 fn push_name_fault(fault: NameFault, out: &mut String) -> Result<(), Fault> {
     match fault {
         NameFault::Empty => Ok(out.push_str("no name: empty\n")?),
-        NameFault::TooLong(length) => push_number("no name: too long,", length, out),
-        NameFault::BadByte(place) => push_number("no name: bad byte at", place, out),
+        NameFault::TooLong(length) => push_said("no name: too long,", length, out),
+        NameFault::BadByte(place) => push_said("no name: bad byte at", place, out),
         NameFault::Memory => Err(refuse("no memory")),
     }
 }
 
 /// `HEX`: whether these bytes are a name, or why they are none.
 pub(crate) fn push_name(alloc: Global, text: &str, out: &mut String) -> Result<(), Fault> {
-    let spelled = bytes(alloc, text)?;
+    let spelled = raw_bytes(alloc, text)?;
     match Name::read(alloc, spelled.as_slice()) {
-        Ok(name) => push_number("a name of", name.as_slice().len() as u64, out),
+        Ok(name) => push_said("a name of", name.as_slice().len() as u64, out),
         Err(fault) => push_name_fault(fault, out),
     }
 }
@@ -31,7 +30,7 @@ pub(crate) fn push_register(text: &str, out: &mut String) -> Result<(), Fault> {
         return Err(refuse("no such number"));
     };
     match Reg::new(wanted) {
-        Some(register) => push_number("register", register.number() as u64, out),
+        Some(register) => push_said("register", register.number() as u64, out),
         None => Ok(out.push_str("no register\n")?),
     }
 }
@@ -43,12 +42,12 @@ pub(crate) fn push_room(text: &str, out: &mut String) -> Result<(), Fault> {
     if fields > 255 || bytes > 8192 {
         return Err(refuse("too large"));
     }
-    push_number("room", room(fields as u32, bytes as u32) as u64, out)
+    push_said("room", room(fields as u32, bytes as u32) as u64, out)
 }
 
 /// `HEX`: the digest of these bytes.
 pub(crate) fn push_digest(alloc: Global, text: &str, out: &mut String) -> Result<(), Fault> {
-    let spelled = bytes(alloc, text)?;
+    let spelled = raw_bytes(alloc, text)?;
     push_digest_of(alloc, spelled.as_slice(), out)
 }
 
@@ -79,7 +78,7 @@ fn command(alloc: Global) -> Result<Cmd, Fault> {
 // Adds the copy of a slot.
 fn push_slot(alloc: Global, slot: Slot, out: &mut String) -> Result<(), Fault> {
     let copy = slot.copy(alloc)?;
-    push_value(&copy, out)
+    push_value_line(&copy, out)
 }
 
 // Adds the copies of a slot of each kind.
@@ -92,14 +91,14 @@ fn push_slots(alloc: Global, out: &mut String) -> Result<(), Fault> {
 // Adds the copy of a command.
 fn push_command(alloc: Global, out: &mut String) -> Result<(), Fault> {
     let copy = command(alloc)?.copy(alloc)?;
-    push_value(&copy, out)
+    push_value_line(&copy, out)
 }
 
 // Adds the copy of a reply.
 fn push_reply(alloc: Global, out: &mut String) -> Result<(), Fault> {
     let bytes = b"\xca\xfe".to_vec(alloc)?;
     let copy = Reply::Shown(Bytes::from_vec(bytes)).copy(alloc)?;
-    push_value(&copy, out)
+    push_value_line(&copy, out)
 }
 
 /// A copy of each kind of value that is copied, as they are printed.

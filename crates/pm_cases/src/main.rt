@@ -7,7 +7,6 @@ mod disks;
 mod drawn;
 mod ends;
 mod failing;
-mod fault;
 mod generated;
 mod inner;
 mod printed;
@@ -16,10 +15,10 @@ mod restored;
 mod running;
 mod scripts;
 mod shown;
-mod spelling;
 
 use case::Case;
-use std::fmt::Write;
+use pm_case_text::push_refused;
+use std::alloc::AllocError;
 use std::io::{self, BufRead, BufReader};
 use std::sync::Wait;
 use std::thread::Threads;
@@ -30,12 +29,11 @@ fn push_line<R: AllocGlobal + Threads + Wait + Sync>(
     case: &mut Case,
     line: &str,
     out: &mut String,
-) -> io::Result<()> {
-    if let Err(fault) = case.take(rt, line, out) {
-        let reason = fault.reason;
-        writeln!(out, "? {reason}: {line}")?;
+) -> Result<(), AllocError> {
+    match case.take(rt, line, out) {
+        Ok(()) => Ok(()),
+        Err(fault) => push_refused(fault, line, out),
     }
-    Ok(())
 }
 
 fn main(rt: HostRuntime) -> io::Result<()> {

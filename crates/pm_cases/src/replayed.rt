@@ -1,6 +1,6 @@
 //! A run beside the plain slow program.
 
-use crate::fault::{Fault, refuse};
+use pm_case_text::{Fault, refuse};
 use pm_model::Oracle;
 use pm_types::{CLIENTS, Entry};
 use std::alloc::Global;

@@ -2,20 +2,33 @@
 
 ghost use Rattle.std.specs.Prelude.{◌<◌, length};
 
-use crate::fault::Fault;
+use crate::ends::{Told, tell_of};
+use pm_case_text::Fault;
 use pm_disk::MemDisk;
 use pm_fuse::FuseDisk;
 use pm_io::{MemSink, MemSource};
 use pm_place::{Placement, first_of, last_of, middle_of};
 use pm_top::{Ended, pmos};
 use pm_turns::OpenGate;
+use pm_types::Entry;
 use pm_words::{Chosen, read_place};
 use std::alloc::Global;
 use std::sync::Wait;
 use std::thread::Threads;
 
-/// How the program ended over two disks, a source and a sink in memory.
-pub(crate) type Run = Ended<MemDisk, MemDisk, MemSource, MemSink>;
+/// What a run of the program left.
+#[derive(Drop)]
+pub(crate) struct RunEnd {
+    /// The status with which it ended.
+    pub(crate) status: u8,
+    /// What there is to tell of its end and of the sink.
+    pub(crate) told: Told,
+    /// One entry for each command that was answered.
+    pub(crate) journal: Vec<Entry>,
+    /// The disk, and the other one.
+    pub(crate) disk: MemDisk,
+    pub(crate) other: MemDisk,
+}
 
 /// With what a run begins, beside the disk's bytes.
 #[derive(Drop)]
@@ -91,18 +104,32 @@ fn words_of(alloc: Global, text: &str) -> Result<Vec<&str>, Fault> {
     Ok(words)
 }
 
-// The end of a run, with each disk in memory in place of the one with a fuse over it.
-fn without_fuses(ended: Ended<FuseDisk<MemDisk>, FuseDisk<MemDisk>, MemSource, MemSink>) -> Run {
-    Ended {
+// How the program ended over disks with a fuse each.
+type Fused = Ended<FuseDisk<MemDisk>, FuseDisk<MemDisk>, MemSource, MemSink>;
+
+// What an end leaves, with what there is to tell of it, and each disk in memory in place of the one with a fuse.
+fn left(ended: Fused, told: Told) -> RunEnd {
+    RunEnd {
         status: ended.status,
-        detail: ended.detail,
+        told,
         journal: ended.journal,
-        tally: ended.tally,
         disk: ended.disk.into_inner(),
         other: ended.other.into_inner(),
-        source: ended.source,
-        sink: ended.sink,
     }
+}
+
+// The same, where it can be told.
+fn left_or(ended: Fused, told: Result<Told, Fault>) -> Result<RunEnd, Fault> {
+    match told {
+        Ok(told) => Ok(left(ended, told)),
+        Err(fault) => Err(fault),
+    }
+}
+
+// What an end leaves.
+fn kept(alloc: Global, ended: Fused) -> Result<RunEnd, Fault> {
+    let told = tell_of(alloc, &ended.detail, &ended.sink);
+    left_or(ended, told)
 }
 
 // The place in a list of trains of the one that is chosen.
@@ -117,21 +144,38 @@ fn place_of(chosen: Chosen, trains: &[u64]) -> usize
     }
 }
 
+// What the program runs over.
+#[derive(Drop)]
+struct Parts {
+    disk: FuseDisk<MemDisk>,
+    other: FuseDisk<MemDisk>,
+    source: MemSource,
+    sink: MemSink,
+}
+
+// The parts of a run over a disk with these bytes.
+fn parts_of(alloc: Global, disk: Vec<u8>, setting: Setting) -> Parts {
+    let disk = MemDisk::new(disk, setting.disk_fails);
+    let other = MemDisk::new(setting.other, Vec::new(alloc));
+    Parts {
+        disk: FuseDisk::new(disk, setting.passes),
+        other: FuseDisk::new(other, setting.other_passes),
+        source: MemSource::new(setting.script, setting.piece.max(1), setting.source_fails),
+        sink: MemSink::new(alloc, setting.sink_fails),
+    }
+}
+
 // Runs the program with these words. As `main` does, it takes from them which train an object moves to.
-fn run_words<R: AllocGlobal + Threads + Wait + Sync>(
-    rt: &R,
-    words: &[&str],
-    disk: Vec<u8>,
-    setting: Setting,
-) -> Run {
-    let disk = FuseDisk::new(MemDisk::new(disk, setting.disk_fails), setting.passes);
-    let other = MemDisk::new(setting.other, Vec::new(rt.alloc()));
-    let other = FuseDisk::new(other, setting.other_passes);
-    let source = MemSource::new(setting.script, setting.piece.max(1), setting.source_fails);
-    let sink = MemSink::new(rt.alloc(), setting.sink_fails);
+fn ended<R: AllocGlobal + Threads + Wait + Sync>(rt: &R, words: &[&str], parts: Parts) -> Fused {
     let chosen = read_place(words);
     let place = Placement::new(move |trains: &[u64]| place_of(chosen, trains));
-    without_fuses(pmos(rt, words, disk, other, source, sink, place, &OpenGate))
+    let Parts {
+        disk,
+        other,
+        source,
+        sink,
+    } = parts;
+    pmos(rt, words, disk, other, source, sink, place, &OpenGate)
 }
 
 /// Runs the program over a disk with these bytes.
@@ -139,8 +183,12 @@ pub(crate) fn run<R: AllocGlobal + Threads + Wait + Sync>(
     rt: &R,
     disk: Vec<u8>,
     setting: Setting,
-) -> Result<Run, Fault> {
-    let text = String::from_str(rt.alloc(), setting.words.as_str())?;
-    let words = words_of(rt.alloc(), text.as_str())?;
-    Ok(run_words(rt, words.as_slice(), disk, setting))
+) -> Result<RunEnd, Fault> {
+    let alloc = rt.alloc();
+    let text = String::from_str(alloc, setting.words.as_str())?;
+    let words = words_of(alloc, text.as_str())?;
+    kept(
+        alloc,
+        ended(rt, words.as_slice(), parts_of(alloc, disk, setting)),
+    )
 }

@@ -1,7 +1,6 @@
 //! Scripts that the reader of the whole grammar reads, and the texts of a journal.
 
-use crate::fault::{Fault, refuse};
-use crate::printed::{push_text, push_value};
+use pm_case_text::{Fault, push_text, push_value_line, refuse};
 use pm_script::{Script, ScriptFault, journal_text, read_script, reply_text};
 use pm_types::{Entry, SOURCE_BYTES};
 use std::alloc::Global;
@@ -25,14 +24,14 @@ fn push_count(count: usize, out: &mut String) -> Result<(), Fault> {
 pub(crate) fn push_read(alloc: Global, script: &[u8], out: &mut String) -> Result<(), Fault> {
     match read(alloc, script)? {
         Ok(script) => push_count(script.as_slice().len(), out),
-        Err(fault) => push_value(&fault, out),
+        Err(fault) => push_value_line(&fault, out),
     }
 }
 
 // Adds the lines of a script.
 fn push_lines(script: &Script, out: &mut String) -> Result<(), Fault> {
     for line in script.as_slice() {
-        push_value(line, out)?;
+        push_value_line(line, out)?;
     }
     Ok(())
 }
@@ -41,7 +40,7 @@ fn push_lines(script: &Script, out: &mut String) -> Result<(), Fault> {
 pub(crate) fn push_read_lines(alloc: Global, script: &[u8], out: &mut String) -> Result<(), Fault> {
     match read(alloc, script)? {
         Ok(script) => push_lines(&script, out),
-        Err(fault) => push_value(&fault, out),
+        Err(fault) => push_value_line(&fault, out),
     }
 }
 

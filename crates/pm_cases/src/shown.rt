@@ -1,9 +1,8 @@
 //! What is printed of a run.
 
-use crate::ends::push_end;
-use crate::fault::{Fault, refuse};
-use crate::printed::{push_digest_of, push_number, push_text};
-use crate::running::Run;
+use crate::printed::push_digest_of;
+use crate::running::RunEnd;
+use pm_case_text::{Fault, push_said, push_text, refuse};
 use pm_disk::DiskCall;
 use pm_script::journal_text;
 use pm_types::PAGE_BYTES;
@@ -11,10 +10,10 @@ use std::alloc::Global;
 use std::fmt::Write;
 
 /// Adds what a run wrote, the text of its end, and its status.
-pub(crate) fn push_run(alloc: Global, run: &Run, out: &mut String) -> Result<(), Fault> {
-    push_text(run.sink.written(), out)?;
-    push_end(alloc, &run.detail, out)?;
-    push_number("status", run.status as u64, out)
+pub(crate) fn push_run(run: &RunEnd, out: &mut String) -> Result<(), Fault> {
+    push_text(run.told.written.as_slice(), out)?;
+    push_text(run.told.text.as_slice(), out)?;
+    push_said("status", run.status as u64, out)
 }
 
 // Adds the lines of a text, with ` / ` between them.
@@ -30,51 +29,46 @@ fn push_in_line(text: &str, out: &mut String) -> Result<(), Fault> {
 }
 
 /// Adds the same as one line, with ` / ` between its parts.
-pub(crate) fn push_run_in_line(alloc: Global, run: &Run, out: &mut String) -> Result<(), Fault> {
+pub(crate) fn push_run_in_line(alloc: Global, run: &RunEnd, out: &mut String) -> Result<(), Fault> {
     let mut text = String::new(alloc);
-    push_run(alloc, run, &mut text)?;
+    push_run(run, &mut text)?;
     push_in_line(text.as_str(), out)
 }
 
-// Adds the last lines of a text, this number at most.
-fn push_last_lines(text: &str, count: u64, out: &mut String) -> Result<(), Fault> {
-    let lines = text.split_terminator('\n').count() as u64;
-    let passed = lines.saturating_sub(count);
+// Adds those lines of a text that stand at these places, the first of which is 0.
+fn push_lines_at(text: &str, from: usize, until: usize, out: &mut String) -> Result<(), Fault> {
     for (place, line) in text.split_terminator('\n').enumerate() {
-        if place as u64 >= passed {
-            writeln!(out, "{line}")?;
+        if place >= from && place < until {
+            push_line(line, out)?;
         }
     }
     Ok(())
+}
+
+// Adds a line.
+fn push_line(line: &str, out: &mut String) -> Result<(), Fault> {
+    out.push_str(line)?;
+    Ok(out.push('\n')?)
+}
+
+// What a run wrote, which is text.
+fn written(run: &RunEnd) -> Result<&str, Fault> {
+    match str::from_utf8(run.told.written.as_slice()) {
+        Ok(text) => Ok(text),
+        Err(_) => Err(refuse("no text")),
+    }
 }
 
 /// Adds the last lines of what a run wrote, this number at most.
-pub(crate) fn push_last(
-    alloc: Global,
-    run: &Run,
-    count: u64,
-    out: &mut String,
-) -> Result<(), Fault> {
-    let mut text = String::new(alloc);
-    push_text(run.sink.written(), &mut text)?;
-    push_last_lines(text.as_str(), count, out)
+pub(crate) fn push_last(run: &RunEnd, count: u64, out: &mut String) -> Result<(), Fault> {
+    let text = written(run)?;
+    let lines = text.split_terminator('\n').count();
+    push_lines_at(text, lines.saturating_sub(count as usize), lines, out)
 }
 
 /// Adds the first lines of what a run wrote, this number at most.
-pub(crate) fn push_first(
-    alloc: Global,
-    run: &Run,
-    count: u64,
-    out: &mut String,
-) -> Result<(), Fault> {
-    let mut text = String::new(alloc);
-    push_text(run.sink.written(), &mut text)?;
-    for (place, line) in text.as_str().split_terminator('\n').enumerate() {
-        if (place as u64) < count {
-            writeln!(out, "{line}")?;
-        }
-    }
-    Ok(())
+pub(crate) fn push_first(run: &RunEnd, count: u64, out: &mut String) -> Result<(), Fault> {
+    push_lines_at(written(run)?, 0, count as usize, out)
 }
 
 // Adds one call of the disk: its kind, and for a write the page and the byte where it begins.
@@ -103,25 +97,25 @@ fn push_calls(calls: &[DiskCall], out: &mut String) -> Result<(), Fault> {
 }
 
 // Adds how many calls of the disk and of the sink failed since memory was refused them.
-fn push_refused(run: &Run, out: &mut String) -> Result<(), Fault> {
+fn push_refused(run: &RunEnd, out: &mut String) -> Result<(), Fault> {
     let disk = run.disk.refused();
-    let sink = run.sink.refused();
+    let sink = run.told.refused;
     writeln!(out, "refused {disk} {sink}")?;
     Ok(())
 }
 
 // Adds the reply line of each entry of the journal.
-fn push_entries(alloc: Global, run: &Run, out: &mut String) -> Result<(), Fault> {
+fn push_entries(alloc: Global, run: &RunEnd, out: &mut String) -> Result<(), Fault> {
     let text = journal_text(alloc, run.journal.as_slice())?;
     push_text(text.as_slice(), out)
 }
 
 // The number that is known by this word of the last run.
-fn counted(run: &Run, word: &str) -> Result<u64, Fault> {
+fn counted(run: &RunEnd, word: &str) -> Result<u64, Fault> {
     match word {
         "status" => Ok(run.status as u64),
-        "written" => Ok(run.sink.written().len() as u64),
-        "finished" => Ok(run.sink.finished()),
+        "written" => Ok(run.told.written.len() as u64),
+        "finished" => Ok(run.told.finished),
         "journal" => Ok(run.journal.len() as u64),
         "bytes" => Ok(run.disk.contents().len() as u64),
         _ => Err(refuse("nothing of that name")),
@@ -131,18 +125,18 @@ fn counted(run: &Run, word: &str) -> Result<u64, Fault> {
 /// Adds what is known by this word of the last run.
 pub(crate) fn push_named(
     alloc: Global,
-    run: &Run,
+    run: &RunEnd,
     word: &str,
     out: &mut String,
 ) -> Result<(), Fault> {
     match word {
-        "text" => push_end(alloc, &run.detail, out),
-        "output" => push_text(run.sink.written(), out),
+        "text" => push_text(run.told.text.as_slice(), out),
+        "output" => push_text(run.told.written.as_slice(), out),
         "entries" => push_entries(alloc, run, out),
         "refused" => push_refused(run, out),
         "calls" => push_calls(run.disk.calls(), out),
         "sha256" => push_digest_of(alloc, run.disk.contents(), out),
-        "output-sha256" => push_digest_of(alloc, run.sink.written(), out),
-        _ => push_number(word, counted(run, word)?, out),
+        "output-sha256" => push_digest_of(alloc, run.told.written.as_slice(), out),
+        _ => push_said(word, counted(run, word)?, out),
     }
 }

@@ -1,7 +1,7 @@
 use denote.Param.Send.{sendable}
 use Rattle.pm_disk.proofs.Crossing.{disk_send}
 use Rattle.pm_fuse.proofs.Crossing.{fuse_send}
-use Rattle.pm_cases.proofs.running.run_words.Goals as goal
+use Rattle.pm_cases.proofs.running.ended.Goals as goal
 
 pub pmos-requires-send-D : goal.pmos-requires-send-D
 pmos-requires-send-D g c κs within = search (sendable, fuse_send, disk_send)
