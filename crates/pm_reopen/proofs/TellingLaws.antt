@@ -1,28 +1,25 @@
 -- What is remembered once one source more was told.
 use Rattle.std.proofs.Common.{◌≡◌, ℕ, ◌+◌, ◌-◌, ◌<◌, ◌≤◌, ◌==◌, ◌&&◌, Bool, true, false, cond, List, [], ◌∷◌, ◌++◌, map, drop, Option, Some, None, refl, sym, ap, subst, ◌∙◌, arith, append_assoc}
-use Rattle.std.specs.Option.{option_map, unwrap_or}
+use Rattle.std.specs.Option.{option_map}
 use Rattle.std.specs.List.{flat_map, AllByRecursion, sum_by}
 use Rattle.std.specs.Cmp.{nat_cmp_total}
-use Rattle.std.specs.Ordering.{nat_cmp, eq_by_cmp}
-use Rattle.std.specs.FinMap.{get, insert, empty, get-insert, from_entries}
+use Rattle.std.specs.FinMap.{get, insert, get-insert, from_entries}
 use Rattle.std.proofs.lemmas.Bool.{eqb-true}
 use Rattle.std.specs.List.{slice_get}
 use Rattle.std.proofs.lemmas.Option.{slice_get_within, get_or_from_slice_get}
 use Rattle.pm_types.specs.declared.limits.TheConstants.{CAR_BYTES}
 use Rattle.pm_types.specs.declared.address.Addr.{Addr}
 use Rattle.pm_types.specs.declared.source.RefSource.{RefSource}
-use Rattle.pm_types.specs.declared.source.Change.{Change}
 use Rattle.pm_types.specs.declared.object.Slot.{Slot}
 use Rattle.pm_cars.specs.Cars.{Car, slot_room}
 use Rattle.std.proofs.lemmas.List.Sums.{sum_by-cons}
 use Rattle.pm_trains.proofs.Order.{agree}
 use Rattle.pm_view.specs.Sources.{outside}
 use Rattle.pm_view.specs.View.{Cars, Sources, Sets, Queues}
-use Rattle.pm_view.specs.Barrier.{told, pushed}
 use Rattle.pm_law_copies.specs.Storing.{Stored, pick, remembering}
 use Rattle.pm_graphs.proofs.Lists.{drop_here}
 use Rattle.pm_law_copies.proofs.Lists.{nat_turned}
-use Rattle.pm_space.specs.Linked.{Linked, sets_of, queues_of, waiting, with_front, without_front}
+use Rattle.pm_space.specs.Linked.{Linked, sets_of, queues_of, with_named, with_remembered}
 use Rattle.pm_reopen.specs.Remembering.{Remember, Adds}
 
 -- ---- several sources after others
@@ -51,12 +48,11 @@ module _ (source : RefSource) (to : Addr) where
   here : (stored : List Stored) → outside to.car source ≡ true → remembering ((source, to) ∷ stored) to.car ≡ insert (remembering stored to.car) source to.slot
   here stored out = ap (λ b. from_entries (cond b ((source, to.slot) ∷ []) [] ++ flat_map (pick to.car) stored)) (λ i. out i && agree to.car to.car refl i)
 
-  abbrev change : Change
-  change = record { source = source; slot = Some to.slot }
+  module _ (out : outside to.car source ≡ true) (cars : Cars) (stored : List Stored) (old new : Linked) (is : Remember cars old stored)
+      (more_sets : sets_of new ≡ with_remembered (sets_of old) to.car source to.slot) (same_queues : queues_of new ≡ queues_of old) where
+    no_more : (n : ℕ) → get (queues_of new) n ≡ option_map (λ _. []) (get cars n)
+    no_more n = ap (λ (m : Queues). get m n) same_queues ∙ is.queues n
 
-  module _ (out : outside to.car source ≡ true) (cars : Cars) (stored : List Stored) (old now new : Linked) (is : Remember cars old stored)
-      (same_sets : sets_of now ≡ sets_of old) (more_queues : queues_of now ≡ told (queues_of old) ((to.car, change) ∷ []))
-      (more_sets : sets_of new ≡ with_front (sets_of now) to.car (waiting (queues_of now) to.car)) (less_queues : queues_of new ≡ without_front (queues_of now) to.car (waiting (queues_of now) to.car)) where
     -- a car that does not stand hears nothing
     no_car : get cars to.car ≡ None → Remember cars new ((source, to) ∷ stored)
     no_car none = record {
@@ -66,23 +62,14 @@ module _ (source : RefSource) (to : Addr) where
             ap (option_map (λ _. remembering stored n)) gone ∙ sym (ap (option_map (λ _. remembering ((source, to) ∷ stored) n)) gone)
         | false ↦ λ apart. ap (λ (set : Sources). option_map (λ _. set) (get cars n)) (sym (elsewhere stored n apart))
       ] refl;
-      queues = λ n. ap (λ (m : Queues). get m n) queues ∙ is.queues n;
+      queues = no_more;
     }
       where
-        no_queue : get (queues_of old) to.car ≡ None
-        no_queue = is.queues to.car ∙ ap (option_map (λ _. [])) none
-
-        now_queues : queues_of now ≡ queues_of old
-        now_queues = more_queues ∙ ap (λ (o : Option (List Change)). pushed (queues_of old) to.car o change) no_queue
-
-        nothing : waiting (queues_of now) to.car ≡ []
-        nothing = ap (λ (m : Queues). unwrap_or (get m to.car) []) now_queues ∙ ap (λ (o : Option (List Change)). unwrap_or o []) no_queue
+        no_set : get (sets_of old) to.car ≡ None
+        no_set = is.sets to.car ∙ ap (option_map (λ _. remembering stored to.car)) none
 
         sets : sets_of new ≡ sets_of old
-        sets = more_sets ∙ ap (with_front (sets_of now) to.car) nothing ∙ same_sets
-
-        queues : queues_of new ≡ queues_of old
-        queues = less_queues ∙ ap (without_front (queues_of now) to.car) nothing ∙ now_queues
+        sets = more_sets ∙ ap (λ (o : Option Sources). with_named (sets_of old) to.car o source to.slot) no_set
 
     -- one that stands remembers the source
     a_car : (car : Car) → get cars to.car ≡ Some car → Remember cars new ((source, to) ∷ stored)
@@ -92,33 +79,14 @@ module _ (source : RefSource) (to : Addr) where
             | true ↦ λ same. sym (ap (option_map (λ _. remembering ((source, to) ∷ stored) n)) (ap (get cars) (sym (eqb-true to.car n same)) ∙ some) ∙ ap (λ (m : ℕ). Some (remembering ((source, to) ∷ stored) m)) (sym (eqb-true to.car n same)))
             | false ↦ λ apart. is.sets n ∙ ap (λ (set : Sources). option_map (λ _. set) (get cars n)) (sym (elsewhere stored n apart))
           ] refl;
-      queues = λ n. ap (λ (m : Queues). get m n) queues ∙ get-insert nat_cmp_total (queues_of now) to.car [] n ∙ ap (cond (eq_by_cmp nat_cmp n to.car) (Some [])) (ap (λ (m : Queues). get m n) now_queues ∙ get-insert nat_cmp_total (queues_of old) to.car (change ∷ []) n) ∙ ap (λ b. cond b (Some []) (cond b (Some (change ∷ [])) (get (queues_of old) n))) (sym (nat_turned to.car n))
-          ∙ elim (to.car == n) as (λ b. (to.car == n) ≡ b → cond b (Some []) (cond b (Some (change ∷ [])) (get (queues_of old) n)) ≡ option_map (λ _. []) (get cars n)) [
-            | true ↦ λ same. sym (ap (option_map (λ _. [])) (ap (get cars) (sym (eqb-true to.car n same)) ∙ some))
-            | false ↦ λ apart. is.queues n
-          ] refl;
+      queues = no_more;
     }
       where
-        queue : get (queues_of old) to.car ≡ Some []
-        queue = is.queues to.car ∙ ap (option_map (λ _. [])) some
-
-        now_queues : queues_of now ≡ insert (queues_of old) to.car (change ∷ [])
-        now_queues = more_queues ∙ ap (λ (o : Option (List Change)). pushed (queues_of old) to.car o change) queue
-
-        itself : eq_by_cmp nat_cmp to.car to.car ≡ true
-        itself = sym (nat_turned to.car to.car) ∙ agree to.car to.car refl
-
-        one : waiting (queues_of now) to.car ≡ change ∷ []
-        one = ap (λ (o : Option (List Change)). unwrap_or o []) (ap (λ (m : Queues). get m to.car) now_queues ∙ get-insert nat_cmp_total (queues_of old) to.car (change ∷ []) to.car ∙ ap (λ b. cond b (Some (change ∷ [])) (get (queues_of old) to.car)) itself)
-
-        set : unwrap_or (get (sets_of now) to.car) empty ≡ remembering stored to.car
-        set = ap (λ (o : Option Sources). unwrap_or o empty) (ap (λ (m : Sets). get m to.car) same_sets ∙ is.sets to.car ∙ ap (option_map (λ _. remembering stored to.car)) some)
+        set : get (sets_of old) to.car ≡ Some (remembering stored to.car)
+        set = is.sets to.car ∙ ap (option_map (λ _. remembering stored to.car)) some
 
         sets : sets_of new ≡ insert (sets_of old) to.car (remembering ((source, to) ∷ stored) to.car)
-        sets = more_sets ∙ ap (with_front (sets_of now) to.car) one ∙ (λ i. insert (same_sets i) to.car (insert (set i) source to.slot)) ∙ ap (insert (sets_of old) to.car) (sym (here stored out))
-
-        queues : queues_of new ≡ insert (queues_of now) to.car []
-        queues = less_queues ∙ ap (without_front (queues_of now) to.car) one
+        sets = more_sets ∙ ap (λ (o : Option Sources). with_named (sets_of old) to.car o source to.slot) set ∙ ap (insert (sets_of old) to.car) (sym (here stored out))
 
     pub told_more : Remember cars new ((source, to) ∷ stored)
     told_more = by_car (get cars to.car) refl

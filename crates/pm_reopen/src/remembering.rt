@@ -14,7 +14,7 @@ ghost use Rattle.pm_types.specs.declared.limits.TheConstants.{CAR_BYTES};
 use pm_cars::Car;
 use pm_roots::Roots;
 use pm_space::LinkTable;
-use pm_types::{Addr, Change, NoMemory, RefSource, Slot};
+use pm_types::{Addr, NoMemory, RefSource, Slot};
 
 // The source lies outside the car.
 fn is_outside(source: RefSource, car: u64) -> bool
@@ -34,11 +34,7 @@ fn tell(links: &mut LinkTable, source: RefSource, to: Addr) -> Result<(), NoMemo
     if !is_outside(source, to.car) {
         return Ok(());
     }
-    links.reserve(to.car, 1)?;
-    let slot = Some(to.slot);
-    links.push(to.car, Change { source, slot });
-    links.apply_front(to.car)?;
-    Ok(())
+    links.remember(to.car, source, to.slot)
 }
 
 // The field of this index stores this.
