@@ -7,3 +7,4 @@ pub mod HeldLaws
 pub mod Walks
 pub mod GraphLaws
 pub mod OpenLaws
+pub mod PageLaws

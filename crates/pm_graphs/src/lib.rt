@@ -7,8 +7,10 @@ mod held;
 mod links;
 mod numbered;
 mod opening;
+mod read_cars;
 mod reading;
 
 pub use chain::Chain;
 pub use numbered::Numbered;
 pub use opening::{flatten, read_graph, with_cars};
+pub use read_cars::ReadCars;

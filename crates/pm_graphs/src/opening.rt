@@ -12,9 +12,10 @@ use crate::chain::Chain;
 use crate::fault::ReadFault;
 use crate::held::hold_all;
 use crate::links::check_links;
+use crate::read_cars::ReadCars;
 use crate::reading::{read_cars, read_chain};
 use pm_disk::Disk;
-use pm_image::{CatalogPage, EntryList, KeptPage, Settled};
+use pm_image::{CatalogPage, EntryList, KeptPage};
 use pm_layout::most_fields;
 use pm_shadow::Pages;
 use pm_types::{NoMemory, OpenFault, PAGE_BYTES};
@@ -50,7 +51,7 @@ pub fn with_cars(numbers: Vec<u64>, cars: &[KeptPage]) -> Result<Vec<u64>, NoMem
 }
 
 // The catalog and the cars behind the current header, each address of which leads where it may.
-fn read_whole<D: Disk>(alloc: Global, pages: &mut Pages<D>) -> Result<(Chain, Settled), ReadFault>
+fn read_whole<D: Disk>(alloc: Global, pages: &mut Pages<D>) -> Result<(Chain, ReadCars), ReadFault>
     requires { IsThere (state pages.old).count (state pages.old).header.first }
     ensures gives { IfTold (D.contents (disk_of pages.old)) (λ bytes. Gives (as_graph result)
         (graph_of (store_of (state pages.old).count bytes) (state pages.old).header)) }
@@ -60,6 +61,7 @@ fn read_whole<D: Disk>(alloc: Global, pages: &mut Pages<D>) -> Result<(Chain, Se
     ensures looked { Looked pages.old pages.new }
     ensures counts { Counts (D.count (disk_of pages.old)) (D.count (disk_of pages.new)) result }
 {
+    pages.keep_their_header();
     let header = *pages.header();
     let most = most_fields(header.version);
     let mut buffer = vec![in alloc; 0; PAGE_BYTES]?;
@@ -84,8 +86,8 @@ fn open_fault(fault: ReadFault, before: u64, after: u64) -> OpenFault
     }
 }
 
-/// The catalog behind the current header and the cars that it lists, as their pages spell them. Only the pages that
-/// they stand on are read, each once, and nothing is written.
+/// The catalog behind the current header and the cars that it lists, as their pages spell them, with the same cars packed.
+/// Only the pages that they stand on are read, each once, and nothing is written.
 ///
 /// # Errors
 ///
@@ -97,7 +99,7 @@ fn open_fault(fault: ReadFault, before: u64, after: u64) -> OpenFault
 pub fn read_graph<D: Disk>(
     alloc: Global,
     pages: &mut Pages<D>,
-) -> Result<(Chain, Settled), OpenFault>
+) -> Result<(Chain, ReadCars), OpenFault>
     requires { IsThere (state pages.old).count (state pages.old).header.first }
     // Where the disk tells its contents it is the graph behind the header, or the first fault.
     ensures graph { IfTold (D.contents (disk_of pages.old)) (λ bytes. IsGraph result

@@ -4,7 +4,7 @@ ghost use Rattle.std.specs.Prelude.{◌≡◌, ◌<◌, ◌≤◌, ◌++◌, Lis
 ghost use Rattle.std.specs.List.{AllByRecursion};
 ghost use Rattle.std.specs.FinSet as set;
 ghost use Rattle.std.specs.Ordering.{nat_cmp};
-ghost use Rattle.pm_types.specs.declared.limits.TheConstants.{FIELDS, PAGE_BYTES};
+ghost use Rattle.pm_types.specs.declared.limits.TheConstants.{END_ID, FIELDS, PAGE_BYTES};
 ghost use Rattle.pm_disk.specs.Disk.{IfTold};
 ghost use Rattle.pm_image.specs.declared.catalog.CatEntry.{CatEntry};
 ghost use Rattle.pm_image.specs.CarPages.{HasCarPage};
@@ -17,14 +17,13 @@ ghost use Rattle.pm_graphs.specs.Reading.{Gives, GoesOn, behind, of_page, Counts
 
 use crate::chain::Chain;
 use crate::fault::ReadFault;
+use crate::read_cars::{ReadCar, ReadCars};
 use pm_disk::Disk;
 use pm_image::{
-    CatEntry, CatalogPage, KeptPage, Met, NumberSet, PageFault, Settled, read_car_in,
-    read_catalog_in,
+    CatEntry, CatalogPage, KeptPage, Met, NumberSet, PageFault, read_car_in, read_catalog_in,
 };
 use pm_layout::digest;
 use pm_shadow::Pages;
-use pm_types::NoMemory;
 use std::alloc::Global;
 
 // A fault of this page.
@@ -90,7 +89,8 @@ fn read_link<D: Disk>(
     }
 }
 
-// The car that stands on a page, which has this digest, with these identities met before.
+// The car that stands on a page, which has this digest, with these identities met before. It is packed of the page that
+// was read.
 fn read_car<D: Disk>(
     alloc: Global,
     pages: &mut Pages<D>,
@@ -101,10 +101,11 @@ fn read_car<D: Disk>(
     next: u64,
     met: &mut NumberSet,
     buffer: &mut [u8],
-) -> Result<KeptPage, ReadFault>
+) -> Result<ReadCar, ReadFault>
     requires page { IsThere (state pages.old).count page }
     requires len { length buffer.old ≡ PAGE_BYTES }
     requires most { most ≤ FIELDS }
+    requires next { next ≤ END_ID }
     ensures gives { IfTold (D.contents (disk_of pages.old)) (λ bytes. Gives result
         (car_on most next (store_of (state pages.old).count bytes) met.old number page kept.now)) }
     ensures car { IfOk result (λ car. IsCar (state pages.old).count next car) }
@@ -116,11 +117,14 @@ fn read_car<D: Disk>(
 {
     read_kept(pages, page, kept, buffer)?;
     match read_car_in(alloc, buffer, most, number, next, met) {
-        Ok(image) => Ok(KeptPage {
-            image,
-            page,
-            digest: *kept,
-        }),
+        Ok(image) => {
+            let car = KeptPage {
+                image,
+                page,
+                digest: *kept,
+            };
+            Ok(ReadCar::pack(alloc, car, buffer)?)
+        }
         Err(fault) => Err(on_page(page, fault)),
     }
 }
@@ -134,10 +138,11 @@ fn read_entry<D: Disk>(
     next: u64,
     met: &mut NumberSet,
     buffer: &mut [u8],
-) -> Result<Option<KeptPage>, ReadFault>
+) -> Result<Option<ReadCar>, ReadFault>
     requires page { IsEntryThere (state pages.old).count entry.now }
     requires len { length buffer.old ≡ PAGE_BYTES }
     requires most { most ≤ FIELDS }
+    requires next { next ≤ END_ID }
     ensures gives { IfTold (D.contents (disk_of pages.old)) (λ bytes. Gives result
         (entry_car most next (store_of (state pages.old).count bytes) met.old entry.now)) }
     ensures car { IfOk result (λ car. IfSome car (IsCar (state pages.old).count next)) }
@@ -160,16 +165,6 @@ fn read_entry<D: Disk>(
     }
 }
 
-// Puts a car at the end, if there is one.
-fn push(cars: &mut Vec<KeptPage>, car: Option<KeptPage>) -> Result<(), NoMemory>
-    ensures { OnOk result (cars.new.items ≡ cars.old.items ++ car_list car) }
-{
-    if let Some(kept) = car {
-        cars.push(kept)?;
-    }
-    Ok(())
-}
-
 // Puts the cars that entries list behind others, in order, of objects of at most so many fields, of a store with this
 // next identity. These identities were met before.
 fn read_listed<D: Disk>(
@@ -179,27 +174,28 @@ fn read_listed<D: Disk>(
     most: u32,
     next: u64,
     met: &mut NumberSet,
-    cars: &mut Vec<KeptPage>,
+    cars: &mut ReadCars,
     buffer: &mut [u8],
 ) -> Result<(), ReadFault>
     requires pages { AllByRecursion (IsEntryThere (state pages.old).count) entries.now }
     requires len { length buffer.old ≡ PAGE_BYTES }
     requires most { most ≤ FIELDS }
-    requires cars { AllByRecursion (IsCar (state pages.old).count next) cars.old.items }
+    requires next { next ≤ END_ID }
+    requires cars { AllByRecursion (IsCar (state pages.old).count next) cars.old }
     ensures gives { IfTold (D.contents (disk_of pages.old)) (λ bytes. (rest : List CatEntry)
-        → GoesOn result (behind cars.old.items (cars_from most next (store_of (state pages.old).count bytes) met.old
+        → GoesOn result (behind cars.old (cars_from most next (store_of (state pages.old).count bytes) met.old
         (entries.now ++ rest)))
-        (behind cars.new.items (cars_from most next (store_of (state pages.old).count bytes) met.new rest))) }
-    ensures cars { OnOk result (AllByRecursion (IsCar (state pages.old).count next) cars.new.items) }
+        (behind cars.new (cars_from most next (store_of (state pages.old).count bytes) met.new rest))) }
+    ensures cars { OnOk result (AllByRecursion (IsCar (state pages.old).count next) cars.new) }
     ensures reads { OnOk result ((begun : set.FinSet nat_cmp) (done : List CatEntry)
-        → LeadsOn most next begun done cars.old.items met.old
-        → LeadsOn most next begun (done ++ entries.now) cars.new.items met.new) }
+        → LeadsOn most next begun done cars.old met.old
+        → LeadsOn most next begun (done ++ entries.now) cars.new met.new) }
     ensures looked { Looked pages.old pages.new }
     ensures counts { Counts (D.count (disk_of pages.old)) (D.count (disk_of pages.new)) result }
 {
     for entry in entries {
         let car = read_entry(alloc, pages, entry, most, next, met, buffer)?;
-        push(cars, car)?;
+        cars.push(car)?;
     }
     Ok(())
 }
@@ -212,10 +208,11 @@ pub(crate) fn read_cars<D: Disk>(
     most: u32,
     next: u64,
     buffer: &mut [u8],
-) -> Result<Settled, ReadFault>
+) -> Result<ReadCars, ReadFault>
     requires pages { AllByRecursion (IsEntryThere (state pages.old).count) (entries_of catalog.now) }
     requires len { length buffer.old ≡ PAGE_BYTES }
     requires most { most ≤ FIELDS }
+    requires next { next ≤ END_ID }
     ensures gives { IfTold (D.contents (disk_of pages.old)) (λ bytes. Gives result
         (cars_from most next (store_of (state pages.old).count bytes) set.empty (entries_of catalog.now))) }
     ensures cars { IfOk result (λ cars. AllByRecursion (IsCar (state pages.old).count next) cars) }
@@ -224,14 +221,14 @@ pub(crate) fn read_cars<D: Disk>(
     ensures counts { Counts (D.count (disk_of pages.old)) (D.count (disk_of pages.new)) result }
 {
     let mut met = NumberSet::new(alloc);
-    let mut cars = Vec::new(alloc);
+    let mut cars = ReadCars::new(alloc);
     for page in catalog {
         let entries = page.1.entries.as_slice();
         read_listed(
             alloc, pages, entries, most, next, &mut met, &mut cars, buffer,
         )?;
     }
-    Ok(Settled::from_vec(cars))
+    Ok(cars)
 }
 
 /// The catalog that the current header names.

@@ -6,7 +6,7 @@ use Rattle.pm_types.specs.declared.limits.TheConstants.{FIELDS}
 use Rattle.pm_types.specs.declared.address.Addr.{Addr}
 use Rattle.pm_types.specs.declared.object.Object.{Object}
 use Rattle.pm_types.specs.declared.object.Slot.{Slot}
-use Rattle.pm_types.specs.declared.object.Slot.TheVariants.{Live, Moved}
+use Rattle.pm_types.specs.declared.object.Slot.TheVariants.{Live}
 use Rattle.pm_layout.specs.Spelling.{HasSpelling}
 use Rattle.pm_model.proofs.Unused.{tied_nat}
 use Rattle.pm_image.specs.declared.car.CarImage.{CarImage}
@@ -25,6 +25,7 @@ use Rattle.pm_law_copies.proofs.FoundCars.{CarsRead}
 use Rattle.pm_law_copies.proofs.Identities.{not_old, free_named, apart_named}
 use Rattle.pm_graphs.specs.Reading.{MayFollow, AreRead, IsReadWhole, root_count}
 use Rattle.pm_image.proofs.LeadLaws.{linked_leads}
+use Rattle.pm_graphs.proofs.PageLaws.{wider}
 
 -- as many cars were read as are listed
 pub reads_paired : (most next : ℕ) (met : Numbers) (entries : List CatEntry) (cars : List KeptPage) → AreRead most next met entries cars → images (listed_in entries (images_of cars)) ≡ images_of cars
@@ -33,11 +34,6 @@ reads_paired most next met [] (kept ∷ cars) reads = absurd reads
 reads_paired most next met (Root name at ∷ entries) cars reads = reads_paired most next met entries cars reads
 reads_paired most next met (Car car train page digest ∷ entries) [] reads = absurd reads
 reads_paired most next met (Car car train page digest ∷ entries) (kept ∷ cars) reads = ap (λ rest. kept.image ∷ rest) (reads_paired most next (with_identities met kept.image.slots) entries cars reads.2)
-
--- fewer fields are within the limit too
-wider : (most : ℕ) (slot : Slot) → most ≤ FIELDS → HasSpelling most slot → HasSpelling FIELDS slot
-wider most (Live object) few has = record { within = (let fields = has.within.0 in omega (arith, fields, few), has.within.1); numbered = has.numbered }
-wider most (Moved to) few has = record { within = tt; numbered = has.numbered }
 
 -- the cars that were read differ, and so do their identities
 cars_read : (most next : ℕ) → most ≤ FIELDS → (met numbers : Numbers) (train : ℕ) (name : Option (List ℕ)) (entries : List CatEntry) (cars : List KeptPage) → MayFollow numbers train name entries → AreRead most next met entries cars → CarsRead next met numbers train entries cars

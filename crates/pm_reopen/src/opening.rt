@@ -20,9 +20,8 @@ use crate::build_listed;
 use pm_disk::Disk;
 use pm_graphs::{Chain, flatten, read_graph, with_cars};
 use pm_image::Settled;
-use pm_law_copies::accepted_cars_have_pages;
 use pm_place::Placement;
-use pm_settled::{PackedPages, pack_each};
+use pm_settled::PackedPages;
 use pm_shadow::Pages;
 use pm_space::Space;
 use pm_types::{NoMemory, OpenFault};
@@ -109,7 +108,6 @@ pub fn open_space<D: Disk, F: Drop>(
 {
     pages.keep_their_header();
     pages.keep_the_current_copy();
-    accepted_cars_have_pages();
     let header = *pages.header();
     if !is_there(header.first, pages.page_count()) {
         return Err(OpenFault::Malformed {
@@ -117,10 +115,8 @@ pub fn open_space<D: Disk, F: Drop>(
             at: 24,
         });
     }
-    let (chain, cars) = read_graph(alloc, pages)?;
-    let Ok(packed) = pack_each(alloc, cars.as_slice()) else {
-        return Err(OpenFault::Memory);
-    };
+    let (chain, read) = read_graph(alloc, pages)?;
+    let (cars, packed) = read.into_parts();
     let built = build_graph(alloc, place, chain, cars, header.next);
     let Ok((space, used)) = built else {
         return Err(OpenFault::Memory);

@@ -8,4 +8,4 @@ mod matching;
 mod page;
 
 pub use car::PackedCar;
-pub use page::{PackedPage, PackedPages, pack_cars, pack_each};
+pub use page::{PackedPage, PackedPages};

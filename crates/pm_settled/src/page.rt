@@ -1,17 +1,9 @@
 //! The cars of a settled copy, packed.
 
-ghost use Rattle.std.specs.Prelude.{◌≡◌, IfOk};
-ghost use Rattle.std.specs.List.{AllByRecursion};
-ghost use Rattle.std.specs.FinSet as set;
-ghost use Rattle.pm_types.specs.declared.limits.TheConstants.{FIELDS};
-ghost use Rattle.pm_image.specs.CarPages.{HasCarPage, one_car};
-ghost use Rattle.pm_image.specs.Graphs.{images_of};
+ghost use Rattle.std.specs.Prelude.{◌≡◌};
 
 use crate::PackedCar;
 use pm_base::Items;
-use pm_image::{KeptPage, Settled, write_car};
-use pm_types::NoMemory;
-use std::alloc::Global;
 use std::marker::Model;
 
 /// A car of a settled copy, packed, and the page where it stands. It is seen as a `KeptPage` of that car.
@@ -38,24 +30,6 @@ impl PackedPage {
         PackedPage { car, page, digest }
     }
 
-    /// The same car, packed.
-    ///
-    /// # Errors
-    ///
-    /// `NoMemory` where memory ran out.
-    pub fn pack(alloc: Global, kept: &KeptPage) -> Result<PackedPage, NoMemory>
-        requires { HasCarPage (one_car FIELDS) set.empty kept.now.image }
-        ensures { IfOk result (λ packed. packed ≡ kept.now) }
-    {
-        let text = write_car(alloc, &kept.image)?;
-        let car = PackedCar::pack(alloc, &kept.image, &text)?;
-        Ok(PackedPage {
-            car,
-            page: kept.page,
-            digest: kept.digest,
-        })
-    }
-
     /// The car.
     pub fn car(&self) -> &PackedCar
         ensures { result.now ≡ self.now.image }
@@ -80,36 +54,3 @@ impl PackedPage {
 
 /// The cars of a settled copy, packed, seen as a list of `KeptPage`s, in the order of its catalog.
 pub type PackedPages = Items<PackedPage>;
-
-/// The same cars, packed. Each is let go once it is.
-///
-/// # Errors
-///
-/// `NoMemory` where memory ran out.
-pub fn pack_cars(alloc: Global, cars: Settled) -> Result<PackedPages, NoMemory>
-    requires { AllByRecursion (HasCarPage (one_car FIELDS) set.empty) (images_of cars) }
-    ensures { IfOk result (λ packed. packed ≡ cars) }
-{
-    let cars = cars.into_vec();
-    let mut packed = Vec::with_capacity(alloc, cars.len())?;
-    for kept in cars {
-        packed.push_reserved(PackedPage::pack(alloc, &kept)?);
-    }
-    Ok(Items::from_vec(packed))
-}
-
-/// The same cars, packed; they stay as they are.
-///
-/// # Errors
-///
-/// `NoMemory` where memory ran out.
-pub fn pack_each(alloc: Global, cars: &[KeptPage]) -> Result<PackedPages, NoMemory>
-    requires { AllByRecursion (HasCarPage (one_car FIELDS) set.empty) (images_of cars.now) }
-    ensures { IfOk result (λ packed. packed ≡ cars.now) }
-{
-    let mut packed = Vec::with_capacity(alloc, cars.len())?;
-    for kept in cars {
-        packed.push_reserved(PackedPage::pack(alloc, kept)?);
-    }
-    Ok(Items::from_vec(packed))
-}

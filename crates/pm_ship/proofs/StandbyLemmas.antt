@@ -1,17 +1,13 @@
 -- A standby that was read, whose pages are known.
-use Rattle.std.proofs.Common.{◌≡◌, ℕ, ◌<◌, ◌≤◌, Bool, true, false, List, [], ◌∷◌, map, Option, Some, None, Result, Ok, refl, sym, ap, subst, ◌∙◌, arith}
+use Rattle.std.proofs.Common.{◌≡◌, ℕ, ◌≤◌, Bool, true, false, List, [], ◌∷◌, map, Option, Some, None, Result, Ok, refl, sym, ap, subst, ◌∙◌, arith}
 use Rattle.std.specs.Prelude.{All, Contains}
 use Rattle.std.specs.List.{AllByRecursion}
-use Rattle.std.specs.FinSet as set
 use Rattle.std.proofs.lemmas.List.Elements.{Contains-append_left, Contains-append_right}
 use Rattle.std.proofs.lemmas.Option.{same_Some}
-use Rattle.pm_types.specs.declared.limits.TheConstants.{FIELDS}
 use Rattle.pm_types.specs.declared.fault.OpenFault.{OpenFault}
 use Rattle.pm_disk.specs.Disk.{IfTold}
-use Rattle.pm_image.specs.declared.catalog.CatEntry.{CatEntry}
 use Rattle.pm_image.specs.declared.settled.KeptPage.{KeptPage}
-use Rattle.pm_image.specs.CarPages.{HasCarPage, one_car}
-use Rattle.pm_image.specs.Graphs.{Graph, entries_of, graph_of, images_of, used_pages}
+use Rattle.pm_image.specs.Graphs.{Graph, graph_of, used_pages}
 use Rattle.pm_image.specs.Stands.{pages_of}
 use Rattle.pm_image.proofs.FrameLaws.{found_of}
 use Rattle.pm_shadow.specs.declared.page_use.PageUse.{PageUse}
@@ -21,12 +17,8 @@ use Rattle.pm_shadow.specs.Copies.{AreUsed, KeepsGraph, current_graph}
 use Rattle.pm_shadow.specs.Uses.{UsesOnlyListed}
 use Rattle.pm_shadow.proofs.CopyLemmas.{abandoned_keeps, keeps_still, listed_graph}
 use Rattle.pm_graphs.specs.Reading.{IsReadWhole, page_numbers}
-use Rattle.pm_copies.specs.Accepted.{IsAccepted}
-use Rattle.pm_copies.specs.Listed.{Listed, images}
-use Rattle.pm_copies.specs.Opened.{listed_in}
 use Rattle.pm_law_copies.proofs.Lists.{all_weaker}
 use Rattle.pm_law_saving.proofs.Giving.{store_begins}
-use Rattle.pm_reopen.proofs.AcceptedLaws.{whole_accepted, whole_paired}
 use Rattle.pm_reopen.proofs.OpenLaws.{cars_known, used_first, used_listable}
 use Rattle.pm_saving.specs.Tied.{IsOnPage, IsTied}
 use Rattle.pm_ship.specs.declared.store.StoreRead.{StoreRead}
@@ -51,15 +43,6 @@ current_keeps known use_ is = ap (keeps_by known) is
 module _ (s : State) (contents : Option (List ℕ)) (read : StoreRead) (is : IsReadOf s contents read) where
   abbrev graph : Graph
   graph = record { catalog = is.catalog; cars = read.cars }
-
-  pub read_accepted : 0 < s.header.next → s.header.next ≤ 4294967296 → IsAccepted (listed_in (entries_of is.catalog) (images_of read.cars)) (entries_of is.catalog) s.header.next
-  read_accepted some last = whole_accepted s.count s.header.next is.catalog read.cars some last is.whole
-
-  pub cars_packed : 0 < s.header.next → s.header.next ≤ 4294967296 → ((list : List Listed) (catalog : List CatEntry) (next : ℕ) → IsAccepted list catalog next → AllByRecursion (HasCarPage (one_car FIELDS) set.empty) (images list))
-      → AllByRecursion (HasCarPage (one_car FIELDS) set.empty) (images_of read.cars)
-  cars_packed some last alone =
-      subst (AllByRecursion (HasCarPage (one_car FIELDS) set.empty)) (whole_paired s.count s.header.next is.catalog read.cars is.whole)
-      (alone (listed_in (entries_of is.catalog) (images_of read.cars)) (entries_of is.catalog) s.header.next (read_accepted some last))
 
   graph_there : (bytes : List ℕ) → contents ≡ Some bytes → graph_of (pages_of bytes) s.header ≡ Ok graph
   graph_there bytes told = (found_of bytes (current_graph s graph) (is.found bytes told)).1

@@ -143,7 +143,10 @@ pub fn ship<D: Disk, E: Disk>(
 {
     from.keep_their_header();
     match read_store(alloc, from) {
-        Ok(first) => ship_read(alloc, first, to),
+        Ok((first, packed)) => {
+            drop(packed);
+            ship_read(alloc, first, to)
+        }
         Err(fault) => Err(of_first(fault)),
     }
 }

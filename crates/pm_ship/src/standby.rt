@@ -1,11 +1,6 @@
 //! A standby, and the pages of its copy.
 ghost use Rattle.std.specs.Prelude.{◌≡◌, false, All, Contains, IfOk, IfErr, OnOk, OnErr};
-ghost use Rattle.std.specs.List.{AllByRecursion};
-ghost use Rattle.std.specs.FinSet as set;
-ghost use Rattle.pm_types.specs.declared.limits.TheConstants.{FIELDS};
 ghost use Rattle.pm_disk.specs.Disk.{IfTold};
-ghost use Rattle.pm_image.specs.CarPages.{HasCarPage, one_car};
-ghost use Rattle.pm_image.specs.Graphs.{images_of};
 ghost use Rattle.pm_shadow.specs.Copies.{AreUsed};
 ghost use Rattle.pm_shadow.specs.Pages.{state, disk_of};
 ghost use Rattle.pm_shadow.specs.State.{IsListable};
@@ -18,8 +13,7 @@ ghost use Rattle.pm_ship.specs.Stores.{IsKnownFrom, IsPackedFrom, IsReadOf, IsRe
 use crate::index::index_of;
 use crate::store::{StoreRead, read_store};
 use pm_disk::Disk;
-use pm_law_copies::accepted_cars_have_pages;
-use pm_settled::{PackedPages, pack_cars};
+use pm_settled::PackedPages;
 use pm_shadow::Pages;
 use pm_types::{Addr, Name, NoMemory, OpenFault};
 use std::alloc::Global;
@@ -38,20 +32,22 @@ pub(crate) struct Standby {
     pub(crate) places: BTreeMap<u64, usize>,
 }
 
-/// What was read, each car packed, and the pages that it stands on. Each car is let go once it is packed.
-pub(crate) fn pack_store(alloc: Global, read: StoreRead) -> Result<(Standby, Vec<u64>), NoMemory>
-    requires { AllByRecursion (HasCarPage (one_car FIELDS) set.empty) (images_of read.cars) }
+/// What was read, with its cars packed, and the pages that it stands on. The cars themselves are let go.
+pub(crate) fn pack_store(
+    alloc: Global,
+    read: StoreRead,
+    settled: PackedPages,
+) -> Result<(Standby, Vec<u64>), NoMemory>
+    requires { settled ≡ read.cars }
     ensures { IfOk result (λ packed. IsPackedFrom read packed.0 packed.1.items) }
 {
     let places = index_of(alloc, read.cars.as_slice())?;
     let StoreRead {
         trains,
-        cars,
         roots,
         pages,
         ..
     } = read;
-    let settled = pack_cars(alloc, cars)?;
     Ok((
         Standby {
             trains,
@@ -86,21 +82,22 @@ pub(crate) fn know_pages<E: Disk>(
     Ok(())
 }
 
-/// What was read of a standby is taken: its cars are packed, and its pages are known from then on.
+/// What was read of a standby is taken, with its cars packed, and its pages are known from then on.
 fn take_standby<E: Disk>(
     alloc: Global,
     pages: &mut Pages<E>,
     read: StoreRead,
+    packed: PackedPages,
 ) -> Result<Standby, NoMemory>
     requires read { IsReadOf (state pages.old) (E.contents (disk_of pages.old)) read }
+    requires packed { packed ≡ read.cars }
     requires ready { IsReady (state pages.old) (E.contents (disk_of pages.old)) }
     ensures taken { IfOk result (IsStandby (state pages.old) (state pages.new) (E.contents (disk_of pages.old))) }
     ensures state_err { OnErr result (state pages.new ≡ state pages.old) }
     ensures still { disk_of pages.new ≡ disk_of pages.old }
 {
-    accepted_cars_have_pages();
     pages.keep_their_header();
-    let (standby, used) = pack_store(alloc, read)?;
+    let (standby, used) = pack_store(alloc, read, packed)?;
     know_pages(alloc, pages, &used)?;
     Ok(standby)
 }
@@ -124,8 +121,8 @@ pub(crate) fn read_standby<E: Disk>(
     ensures looks { OnlyLooks E.contents E.image E.moment E.since (disk_of pages.old) (disk_of pages.new) }
     ensures made { E.made (disk_of pages.new) ≡ E.made (disk_of pages.old) }
 {
-    let read = read_store(alloc, pages)?;
-    let Ok(standby) = take_standby(alloc, pages, read) else {
+    let (read, packed) = read_store(alloc, pages)?;
+    let Ok(standby) = take_standby(alloc, pages, read, packed) else {
         return Err(OpenFault::Memory);
     };
     Ok(standby)

@@ -10,8 +10,9 @@ ghost use Rattle.pm_ship.specs.Stores.{IsReadOf, IsTakenFrom};
 
 use crate::entries::part_entries;
 use pm_disk::Disk;
-use pm_graphs::{Chain, flatten, read_graph, with_cars};
+use pm_graphs::{Chain, ReadCars, flatten, read_graph, with_cars};
 use pm_image::Settled;
+use pm_settled::PackedPages;
 use pm_shadow::Pages;
 use pm_types::{Addr, Name, NoMemory, OpenFault};
 use std::alloc::Global;
@@ -42,7 +43,7 @@ fn is_there(page: u64, count: u64) -> bool
 }
 
 /// The catalog behind the current header and the cars that it lists.
-fn read_pages<D: Disk>(alloc: Global, pages: &mut Pages<D>) -> Result<(Chain, Settled), OpenFault>
+fn read_pages<D: Disk>(alloc: Global, pages: &mut Pages<D>) -> Result<(Chain, ReadCars), OpenFault>
     requires sound { (state pages.old).failed ≡ false }
     ensures whole { IfOk result
         (λ read. IsReadWhole (state pages.old).count (state pages.old).header.next read.0 read.1) }
@@ -90,7 +91,23 @@ fn take_graph(
     })
 }
 
-/// Reads the store behind these pages, each page of it once. Nothing is written.
+/// The same of cars that were read, and these packed.
+fn take_read(
+    alloc: Global,
+    chain: Chain,
+    read: ReadCars,
+    epoch: u32,
+    next: u64,
+) -> Result<(StoreRead, PackedPages), NoMemory>
+    ensures taken { IfOk result (λ taken. IsTakenFrom chain read epoch next taken.0) }
+    ensures packed { IfOk result (λ taken. taken.1 ≡ taken.0.cars) }
+{
+    let (cars, packed) = read.into_parts();
+    let taken = take_graph(alloc, chain, cars, epoch, next)?;
+    Ok((taken, packed))
+}
+
+/// Reads the store behind these pages, each page of it once. With it come the same cars, packed. Nothing is written.
 ///
 /// # Errors
 ///
@@ -99,9 +116,10 @@ fn take_graph(
 pub(crate) fn read_store<D: Disk>(
     alloc: Global,
     pages: &mut Pages<D>,
-) -> Result<StoreRead, OpenFault>
+) -> Result<(StoreRead, PackedPages), OpenFault>
     requires sound { (state pages.old).failed ≡ false }
-    ensures read { IfOk result (IsReadOf (state pages.old) (D.contents (disk_of pages.old))) }
+    ensures read { IfOk result (λ read. IsReadOf (state pages.old) (D.contents (disk_of pages.old)) read.0) }
+    ensures packed { IfOk result (λ read. read.1 ≡ read.0.cars) }
     ensures fault { IfErr result (λ fault. IfTold (D.contents (disk_of pages.old)) (λ bytes.
         IsUnopened (state pages.old) bytes fault)) }
     ensures cause { IfErr result (IsGraphFault (D.count (disk_of pages.old)) (D.count (disk_of pages.new))) }
@@ -111,7 +129,7 @@ pub(crate) fn read_store<D: Disk>(
     let epoch = pages.header().epoch;
     let next = pages.header().next;
     let (chain, cars) = read_pages(alloc, pages)?;
-    let Ok(taken) = take_graph(alloc, chain, cars, epoch, next) else {
+    let Ok(taken) = take_read(alloc, chain, cars, epoch, next) else {
         return Err(OpenFault::Memory);
     };
     Ok(taken)

@@ -1,8 +1,9 @@
-use Rattle.std.proofs.Common.{sym, subst}
+use Rattle.std.proofs.Common.{Ok, Some, sym, ap, subst, ◌∙◌}
 use Rattle.std.proofs.lemmas.Result.{err_from_is_err_and}
 use Rattle.pm_image.specs.declared.settled.KeptPage.{KeptPage}
 use Rattle.pm_graphs.specs.declared.fault.ReadFault.{ReadFault}
-use Rattle.pm_graphs.specs.Reading.{Fails, store_of, car_on}
+use Rattle.pm_graphs.specs.Reading.{Fails, store_of, car_on, IsCar}
+use Rattle.pm_graphs.proofs.PageLaws.{page_alone}
 use Rattle.pm_graphs.proofs.ReadLaws.{car_kept, car_page, car_read}
 use Rattle.pm_graphs.proofs.reading.read_car.Goals as goal
 
@@ -17,7 +18,16 @@ returns-in-Err-clause-gives g c bytes told =
     (car_page c.args.most c.args.next (store_of c.args.pages.now.count bytes) c.args.met.now c.args.number c.args.page c.args.kept.now c.read_kept.new.buffer c.in_ok-read_kept.field-0 c.in-Err.fault
     (c.in_ok-read_kept.ensures.gives bytes told) (c.in_ok-read_kept.ensures.read bytes told) c.in-Err.ensures.exact)
 
-pub returns-in-Ok-clause-gives : goal.returns-in-Ok-clause-gives
-returns-in-Ok-clause-gives g c bytes told =
+pub pack-requires-clause-has : goal.pack-requires-clause-has
+pack-requires-clause-has g c = page_alone c.args.most c.args.next (Some c.args.number) c.args.met.now c.in-Ok.image c.requires.most c.requires.next c.in-Ok.ensures.fits
+
+pub returns-in_ok-pack-in-Ok-clause-gives : goal.returns-in_ok-pack-in-Ok-clause-gives
+returns-in_ok-pack-in-Ok-clause-gives g c bytes told =
     car_read c.args.most c.args.next (store_of c.args.pages.now.count bytes) c.args.met.now c.args.number c.args.page c.args.kept.now c.read_kept.new.buffer c.in_ok-read_kept.field-0 c.in-Ok.image
     (c.in_ok-read_kept.ensures.gives bytes told) (c.in_ok-read_kept.ensures.read bytes told) c.in-Ok.ensures.exact
+    ∙ ap Ok (sym c.in_ok-pack-in-Ok.ensures)
+
+pub returns-in_ok-pack-in-Ok-clause-car : goal.returns-in_ok-pack-in-Ok-clause-car
+returns-in_ok-pack-in-Ok-clause-car g c =
+    subst (IsCar c.args.pages.now.count c.args.next) (sym c.in_ok-pack-in-Ok.ensures)
+    (record { there = c.requires.page; most = c.args.most; few = c.requires.most; met = c.args.met.now; number = c.args.number; has = c.in-Ok.ensures.fits })

@@ -24,7 +24,7 @@ returns-in_err-car-clause-gives g c bytes told rest =
     let given = subst (λ (n : ℕ). Fails {X = Option KeptPage} fault (entry_car c.args.most c.args.next (store_of n bytes) l.met entry)) (ap (λ (s : State). s.count) l.invariant.looked.same)
     (c.in_err-car.ensures.gives bytes (l.invariant.looked.looks.told ∙ told)) in
     let p = err_from_is_err_and c.from_residual.result c.from_residual.ensures.1 in
-    rw (p.1, p.2) (cars_end c.args.most c.args.next store l.met c.args.entries.now rest l.entry-index entry l.cars.items fault (with_front c.args.cars.now.items (cars_from c.args.most c.args.next store c.args.met.now (c.args.entries.now ++ rest)))
+    rw (p.1, p.2) (cars_end c.args.most c.args.next store l.met c.args.entries.now rest l.entry-index entry l.cars fault (with_front c.args.cars.now (cars_from c.args.most c.args.next store c.args.met.now (c.args.entries.now ++ rest)))
     (drop_here c.args.entries.now l.entry-index entry c.loop-entry-test.true c.entry-item.is) given (l.invariant.so_far bytes told rest))
 
 pub loop-entry-preserved : goal.loop-entry-preserved
@@ -38,19 +38,19 @@ loop-entry-preserved g c =
       so_far = λ bytes told rest.
           let store = store_of c.args.pages.now.count bytes in
           let given = subst (λ (n : ℕ). entry_car c.args.most c.args.next (store_of n bytes) l.met entry ≡ Ok c.in_ok-car.car) count (c.in_ok-car.ensures.gives bytes (l.invariant.looked.looks.told ∙ told)) in
-          (λ i. with_front (c.in_ok-push.ensures i) (cars_from c.args.most c.args.next store (c.in_ok-car.ensures.met i) (drop (l.entry-index + 1) c.args.entries.now ++ rest)))
-          ∙ cars_on c.args.most c.args.next store l.met c.args.entries.now rest l.entry-index entry c.in_ok-car.car l.cars.items (with_front c.args.cars.now.items (cars_from c.args.most c.args.next store c.args.met.now (c.args.entries.now ++ rest)))
+          (λ i. with_front (c.in_ok-push.ensures.ok i) (cars_from c.args.most c.args.next store (c.in_ok-car.ensures.met i) (drop (l.entry-index + 1) c.args.entries.now ++ rest)))
+          ∙ cars_on c.args.most c.args.next store l.met c.args.entries.now rest l.entry-index entry c.in_ok-car.car l.cars (with_front c.args.cars.now (cars_from c.args.most c.args.next store c.args.met.now (c.args.entries.now ++ rest)))
           (drop_here c.args.entries.now l.entry-index entry c.loop-entry-test.true c.entry-item.is) given (l.invariant.so_far bytes told rest);
       reads = λ begun done leads.
-          let one = leads_more c.args.most c.args.next begun l.met (done ++ take l.entry-index c.args.entries.now) l.cars.items entry c.in_ok-car.car c.in_ok-car.ensures.reads (l.invariant.reads begun done leads) in
+          let one = leads_more c.args.most c.args.next begun l.met (done ++ take l.entry-index c.args.entries.now) l.cars entry c.in_ok-car.car c.in_ok-car.ensures.reads (l.invariant.reads begun done leads) in
           let es = append_assoc done (take l.entry-index c.args.entries.now) (entry ∷ []) ∙ ap (λ (es : List CatEntry). done ++ es) (sym (taken_more c.args.entries.now l.entry-index entry c.loop-entry-test.true c.entry-item.is)) in
-          let all = subst (λ (es : List CatEntry). LeadsOn c.args.most c.args.next begun es (l.cars.items ++ car_list c.in_ok-car.car) (with_car l.met c.in_ok-car.car)) es one in
-          let pushed = subst (λ (ks : List KeptPage). LeadsOn c.args.most c.args.next begun (done ++ take (l.entry-index + 1) c.args.entries.now) ks (with_car l.met c.in_ok-car.car)) (sym c.in_ok-push.ensures) all in
-          subst (λ (m : Numbers). LeadsOn c.args.most c.args.next begun (done ++ take (l.entry-index + 1) c.args.entries.now) c.push.new.cars.items m) (sym c.in_ok-car.ensures.met) pushed;
+          let all = subst (λ (es : List CatEntry). LeadsOn c.args.most c.args.next begun es (l.cars ++ car_list c.in_ok-car.car) (with_car l.met c.in_ok-car.car)) es one in
+          let pushed = subst (λ (ks : List KeptPage). LeadsOn c.args.most c.args.next begun (done ++ take (l.entry-index + 1) c.args.entries.now) ks (with_car l.met c.in_ok-car.car)) (sym c.in_ok-push.ensures.ok) all in
+          subst (λ (m : Numbers). LeadsOn c.args.most c.args.next begun (done ++ take (l.entry-index + 1) c.args.entries.now) c.push.new.self m) (sym c.in_ok-car.ensures.met) pushed;
       cars =
           let P : KeptPage → Type 0 = IsCar c.args.pages.now.count c.args.next in
           let one = subst (λ (n : ℕ). IfSome c.in_ok-car.car (IsCar n c.args.next)) count c.in_ok-car.ensures.car in
-          subst (λ (ks : List KeptPage). AllByRecursion P ks) (sym c.in_ok-push.ensures) (all_both P l.cars.items (car_list c.in_ok-car.car) l.invariant.cars (all_listed P c.in_ok-car.car one));
+          subst (λ (ks : List KeptPage). AllByRecursion P ks) (sym c.in_ok-push.ensures.ok) (all_both P l.cars (car_list c.in_ok-car.car) l.invariant.cars (all_listed P c.in_ok-car.car one));
     }
 
 pub returns-clause-gives : goal.returns-clause-gives
@@ -58,4 +58,4 @@ returns-clause-gives g c bytes told rest =
     let l = c.loop-entry in
     let store = store_of c.args.pages.now.count bytes in
     let low = c.loop-entry-test.false in
-    page_done c.args.most c.args.next store l.met c.args.entries.now rest l.entry-index l.cars.items (with_front c.args.cars.now.items (cars_from c.args.most c.args.next store c.args.met.now (c.args.entries.now ++ rest))) (omega arith) (l.invariant.so_far bytes told rest)
+    page_done c.args.most c.args.next store l.met c.args.entries.now rest l.entry-index l.cars (with_front c.args.cars.now (cars_from c.args.most c.args.next store c.args.met.now (c.args.entries.now ++ rest))) (omega arith) (l.invariant.so_far bytes told rest)

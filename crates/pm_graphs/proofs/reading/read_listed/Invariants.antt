@@ -14,8 +14,8 @@ invariant-loop-entry g l = record {
   looked : Looked l.fn.pages l.pages;
   counted : g.D.Disk.count (disk_of l.pages) ≡ g.D.Disk.count (disk_of l.fn.pages);
   so_far : (bytes : List ℕ) → g.D.Disk.contents (disk_of l.fn.pages) ≡ Some bytes → (rest : List CatEntry)
-      → with_front l.cars.items (cars_from l.most l.next (store_of (state l.fn.pages).count bytes) l.met (drop l.entry-index l.entries ++ rest))
-      ≡ with_front l.fn.cars.items (cars_from l.most l.next (store_of (state l.fn.pages).count bytes) l.fn.met (l.entries ++ rest));
-  reads : (begun : set.FinSet nat_cmp) (done : List CatEntry) → LeadsOn l.most l.next begun done l.fn.cars.items l.fn.met → LeadsOn l.most l.next begun (done ++ take l.entry-index l.entries) l.cars.items l.met;
-  cars : AllByRecursion (IsCar (state l.fn.pages).count l.next) l.cars.items;
+      → with_front l.cars (cars_from l.most l.next (store_of (state l.fn.pages).count bytes) l.met (drop l.entry-index l.entries ++ rest))
+      ≡ with_front l.fn.cars (cars_from l.most l.next (store_of (state l.fn.pages).count bytes) l.fn.met (l.entries ++ rest));
+  reads : (begun : set.FinSet nat_cmp) (done : List CatEntry) → LeadsOn l.most l.next begun done l.fn.cars l.fn.met → LeadsOn l.most l.next begun (done ++ take l.entry-index l.entries) l.cars l.met;
+  cars : AllByRecursion (IsCar (state l.fn.pages).count l.next) l.cars;
 }

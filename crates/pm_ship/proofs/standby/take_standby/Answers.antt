@@ -1,12 +1,7 @@
 use Rattle.std.proofs.Common.{◌∙◌}
 use Rattle.pm_shadow.specs.Pages.{state, disk_of}
-use Rattle.pm_ship.proofs.StandbyLemmas.{cars_packed, pages_first, pages_listable, pages_used, standby_read}
+use Rattle.pm_ship.proofs.StandbyLemmas.{pages_first, pages_listable, pages_used, standby_read}
 use Rattle.pm_ship.proofs.standby.take_standby.Goals as goal
-
-pub pack_store-requires : goal.pack_store-requires
-pack_store-requires g c =
-    cars_packed (state c.args.pages.now) (g.E.Disk.contents (disk_of c.args.pages.now)) c.args.read c.requires.read
-    c.keep_their_header.ensures.spelled.some c.keep_their_header.ensures.spelled.last c.accepted_cars_have_pages.ensures.alone
 
 pub know_pages-requires-clause-there : goal.know_pages-requires-clause-there
 know_pages-requires-clause-there g c unknown =
