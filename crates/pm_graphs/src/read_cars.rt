@@ -38,7 +38,7 @@ impl ReadCar {
         requires whole { length page.now ≡ PAGE_BYTES }
         ensures { IfOk result (λ car. car ≡ kept) }
     {
-        let car = PackedCar::pack(alloc, &kept.image, page)?;
+        let car = PackedCar::pack(alloc, kept.image.number, kept.image.slots.as_slice(), page)?;
         let packed = PackedPage::new(car, kept.page, kept.digest);
         Ok(ReadCar { kept, packed })
     }

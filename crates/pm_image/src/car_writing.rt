@@ -32,19 +32,30 @@ fn put_records(out: &mut Vec<u8>, records: &[(u32, Slot)]) -> Result<(), NoMemor
     Ok(())
 }
 
-/// The page that spells the car: 16,384 bytes, of which those after the records are 0.
+/// The page that spells a car of this number with these slots, which are lent: 16,384 bytes, of which those after the
+/// records are 0. `NoMemory` where memory ran out.
 #[tactic(auto, unfolding(crate::specs::CarPages::car_spelling))]
+pub fn write_slots(alloc: Global, number: u64, slots: &[(u32, Slot)]) -> Result<Vec<u8>, NoMemory>
+    requires { HasCarPage (one_car FIELDS) set.empty (record { number = number; slots = slots.now }) }
+    ensures spelled { IfOk result (λ page. page.items
+        ≡ padded (car_spelling (record { number = number; slots = slots.now }))) }
+    ensures whole { IfOk result (λ page. length page.items ≡ PAGE_BYTES) }
+{
+    let mut page = Vec::with_capacity(alloc, PAGE_BYTES)?;
+    put_bytes(&mut page, &MAGIC);
+    put_u64(&mut page, number);
+    put_u16(&mut page, slots.len() as u16);
+    put_records(&mut page, slots)?;
+    page.resize(PAGE_BYTES, 0)?;
+    Ok(page)
+}
+
+/// The page that spells the car: 16,384 bytes, of which those after the records are 0.
 pub fn write_car(alloc: Global, image: &CarImage) -> Result<Vec<u8>, NoMemory>
     requires { HasCarPage (one_car FIELDS) set.empty image.now }
     ensures spelled { IfOk result (λ page. page.items ≡ padded (car_spelling image.now)) }
     ensures whole { IfOk result (λ page. length page.items ≡ PAGE_BYTES) }
 {
-    let slots = image.slots.as_slice();
-    let mut page = Vec::with_capacity(alloc, PAGE_BYTES)?;
-    put_bytes(&mut page, &MAGIC);
-    put_u64(&mut page, image.number);
-    put_u16(&mut page, slots.len() as u16);
-    put_records(&mut page, slots)?;
-    page.resize(PAGE_BYTES, 0)?;
+    let page = write_slots(alloc, image.number, image.slots.as_slice())?;
     Ok(page)
 }

@@ -21,7 +21,7 @@ mod steps;
 pub use car::{CarImage, RECORDS_AT, SlotList};
 pub use car_law::{car_pages_are_read_again, limits_of_cars_may_grow};
 pub use car_reading::{read_car, read_car_in};
-pub use car_writing::write_car;
+pub use car_writing::{write_car, write_slots};
 pub use catalog::{CatEntry, CatalogPage, EntryList};
 pub use catalog_kind::{CAR_ENTRY_BYTES, ENTRIES, ROOT_ENTRY_BYTES};
 pub use catalog_law::{catalog_pages_are_read_again, limits_of_catalogs};

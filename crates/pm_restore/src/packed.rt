@@ -7,8 +7,7 @@ use crate::beginning::unwritten;
 use crate::names::named;
 use crate::slots::slots_between;
 use pm_dump::Dump;
-use pm_image::{CarImage, SlotList};
-use pm_save::{Frozen, Writer};
+use pm_save::{CarPage, Frozen, Writer, spell};
 use pm_settled::PackedPages;
 use pm_types::{NoMemory, Slot};
 use std::alloc::Global;
@@ -85,12 +84,10 @@ impl<'a> PackedDump<'a> {
 impl<'a> Frozen for PackedDump<'a> {
     ghost cars = { cars_of_dump };
 
-    /// The car of this number, made from its objects.
-    fn image(&self, alloc: Global, number: u64) -> Result<CarImage, NoMemory> {
+    /// The page of the car of this number, made from its objects.
+    fn page(&self, alloc: Global, number: u64) -> Result<CarPage, NoMemory> {
         let slots = self.slots_in(alloc, number)?;
-        Ok(CarImage {
-            number,
-            slots: SlotList::from_vec(slots),
-        })
+        let page = spell(alloc, number, &slots)?;
+        Ok(page)
     }
 }

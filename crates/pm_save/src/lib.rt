@@ -2,6 +2,7 @@
 #![tactic(auto)]
 
 mod beginning;
+mod car_page;
 mod clean;
 mod copying;
 mod cuts;
@@ -19,6 +20,7 @@ mod settling;
 mod writer;
 mod written;
 
+pub use car_page::{CarPage, spell};
 pub use fault::SaveFault;
 pub use frozen::Frozen;
 pub use place::{Place, PlacedCar};

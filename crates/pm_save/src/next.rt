@@ -21,7 +21,7 @@ ghost use Rattle.pm_save.specs.declared.next.Next.TheVariants.{Car};
 use crate::Frozen;
 use crate::entries::entries_between;
 use crate::place::{InProgress, Place, PlacedCar};
-use pm_image::{CatalogPage, EntryList, write_car, write_catalog};
+use pm_image::{CatalogPage, EntryList, write_catalog};
 use pm_settled::{PackedCar, PackedPage};
 use pm_types::NoMemory;
 use std::alloc::Global;
@@ -80,11 +80,10 @@ fn car_page<C: Frozen>(alloc: Global, frozen: &C, number: u64) -> Result<Ready, 
     ensures text { IfOk result (λ page. page.bytes.items ≡ car_text (image_at (C.cars frozen.now) number)) }
     ensures whole { IfOk result (λ page. length page.bytes.items ≡ PAGE_BYTES) }
 {
-    let image = frozen.image(alloc, number)?;
-    let bytes = write_car(alloc, &image)?;
+    let page = frozen.page(alloc, number)?;
     Ok(Ready {
-        next: Next::Car(PackedCar::pack(alloc, &image, &bytes)?),
-        bytes,
+        next: Next::Car(page.car),
+        bytes: page.bytes,
     })
 }
 

@@ -5,7 +5,7 @@ ghost use Rattle.pm_image.specs.CarPages.{HasCarPage, car_spelling, car_used, on
 
 use crate::known::know_records;
 use crate::matching::spell;
-use pm_image::{CarImage, RECORDS_AT};
+use pm_image::RECORDS_AT;
 use pm_layout::size;
 use pm_types::{NoMemory, Slot};
 use std::alloc::Global;
@@ -59,23 +59,27 @@ impl PackedCar {
         }
     }
 
-    /// The car, packed. This is its page, of 16,384 bytes.
+    /// The car of this number with these slots, packed. The slots and its page, of 16,384 bytes, are lent.
     ///
     /// # Errors
     ///
     /// `NoMemory` where memory ran out.
-    pub fn pack(alloc: Global, image: &CarImage, page: &[u8]) -> Result<PackedCar, NoMemory>
-        requires has { HasCarPage (one_car FIELDS) set.empty image.now }
-        requires page { page.now ≡ padded (car_spelling image.now) }
+    pub fn pack(
+        alloc: Global,
+        number: u64,
+        slots: &[(u32, Slot)],
+        page: &[u8],
+    ) -> Result<PackedCar, NoMemory>
+        requires has { HasCarPage (one_car FIELDS) set.empty (record { number = number; slots = slots.now }) }
+        requires page { page.now ≡ padded (car_spelling (record { number = number; slots = slots.now })) }
         requires whole { length page.now ≡ PAGE_BYTES }
-        ensures { IfOk result (λ packed. packed ≡ image.now) }
+        ensures { IfOk result (λ packed. packed ≡ record { number = number; slots = slots.now }) }
     {
-        let slots = image.slots.as_slice();
         know_records(slots);
         let end = used(slots);
         let records = page[RECORDS_AT..end].to_vec(alloc)?;
         Ok(PackedCar {
-            number: image.number,
+            number,
             count: slots.len(),
             records,
         })

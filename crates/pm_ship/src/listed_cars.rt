@@ -3,8 +3,8 @@ ghost use Rattle.std.specs.Prelude.{◌≡◌, IfOk};
 ghost use Rattle.pm_ship.specs.Cars.{cars_kept};
 
 use crate::index::index_of;
-use pm_image::{CarImage, Settled, SlotList};
-use pm_save::Frozen;
+use pm_image::Settled;
+use pm_save::{CarPage, Frozen, spell};
 use pm_types::{NoMemory, Slot};
 use std::alloc::Global;
 use std::collections::BTreeMap;
@@ -31,17 +31,6 @@ impl Model for ListedCars {
     ghost invariant = { λ it. AreFoundAlone it.cars × IsIndex it.cars it.places };
 }
 
-/// The same slots again.
-fn copy_slots(alloc: Global, slots: &[(u32, Slot)]) -> Result<Vec<(u32, Slot)>, NoMemory>
-    ensures { IfOk result (λ copied. copied.items ≡ slots.now) }
-{
-    let mut copied = Vec::with_capacity(alloc, slots.len())?;
-    for (number, slot) in slots {
-        copied.push_reserved((*number, slot.copy(alloc)?));
-    }
-    Ok(copied)
-}
-
 impl ListedCars {
     ghost use Rattle.std.specs.Prelude.{◌≡◌, IfOk};
     ghost use Rattle.std.specs.FinMap.{get};
@@ -58,15 +47,15 @@ impl ListedCars {
     }
 
     /// The slots of the car of this number, none where there is no such car.
-    fn slots_in(&self, alloc: Global, number: u64) -> Result<Vec<(u32, Slot)>, NoMemory>
-        ensures { IfOk result (λ slots. slots.items ≡ slots_of (get (cars_kept self.now) number)) }
+    fn slots_in(&self, number: u64) -> &[(u32, Slot)]
+        ensures { result.now ≡ slots_of (get (cars_kept self.now) number) }
     {
         match self.places.get(&number) {
             Some(place) => {
                 let car = &self.cars.as_slice()[*place];
-                Ok(copy_slots(alloc, car.image.slots.as_slice())?)
+                car.image.slots.as_slice()
             }
-            None => Ok(Vec::new(alloc)),
+            None => &[],
         }
     }
 }
@@ -74,12 +63,9 @@ impl ListedCars {
 impl Frozen for ListedCars {
     ghost cars = { cars_kept };
 
-    /// The car of this number, copied.
-    fn image(&self, alloc: Global, number: u64) -> Result<CarImage, NoMemory> {
-        let slots = self.slots_in(alloc, number)?;
-        Ok(CarImage {
-            number,
-            slots: SlotList::from_vec(slots),
-        })
+    /// The page of the car of this number.
+    fn page(&self, alloc: Global, number: u64) -> Result<CarPage, NoMemory> {
+        let page = spell(alloc, number, self.slots_in(number))?;
+        Ok(page)
     }
 }

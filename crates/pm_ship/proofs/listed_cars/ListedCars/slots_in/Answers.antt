@@ -17,16 +17,15 @@ pub bounds-as_slice-place : goal.bounds-as_slice-place
 bounds-as_slice-place c =
     subst (λ (cars : List KeptPage). c.in-Some.place.now < length cars) (sym c.as_slice.ensures) (first_within c.args.number c.self.inside.cars c.in-Some.place.now (sym (c.self.invariant.1 c.args.number) ∙ sym c.in-Some.ensures.value))
 
-pub returns-in_ok-copy_slots-in-Some : goal.returns-in_ok-copy_slots-in-Some
-returns-in_ok-copy_slots-in-Some c =
+pub returns-in-Some : goal.returns-in-Some
+returns-in-Some c =
     let d = c.index-as_slice-place.result in
-    c.in_ok-copy_slots-in-Some.ensures ∙ c.as_slice-in-Some.ensures
+    c.as_slice-in-Some.ensures
     ∙ ap (λ (kept : KeptPage). kept.image.slots) (c.index-as_slice-place.is ∙ ap (λ (cars : List KeptPage). get_or cars c.in-Some.place.now d) c.as_slice.ensures)
     ∙ slots_there c.self.inside.cars c.args.number c.in-Some.place.now d c.self.invariant.0 (sym (c.self.invariant.1 c.args.number) ∙ sym c.in-Some.ensures.value)
     ∙ ap (λ (cars : List KeptPage). slots_of (get (cars_kept cars) c.args.number)) c.self.view_is
 
 pub returns-in-None : goal.returns-in-None
 returns-in-None c =
-    c.new.ensures.items
-    ∙ slots_none c.self.inside.cars c.args.number (sym (c.self.invariant.1 c.args.number) ∙ sym c.in-None.ensures.value)
+    slots_none c.self.inside.cars c.args.number (sym (c.self.invariant.1 c.args.number) ∙ sym c.in-None.ensures.value)
     ∙ ap (λ (cars : List KeptPage). slots_of (get (cars_kept cars) c.args.number)) c.self.view_is
