@@ -135,6 +135,18 @@ impl Car {
         Ok(())
     }
 
+    /// Takes memory for so many births at once, where there is less. After want of memory the car is as it was.
+    pub fn reserve_many(&mut self, births: usize) -> Result<(), NoMemory>
+        ensures ok { OnOk result (self.new ≡ record self.old { spare = max births self.old.spare }) }
+        ensures err { OnErr result (self.new ≡ self.old) }
+    {
+        if self.spare < births {
+            self.entries.reserve_exact(births)?;
+            self.spare = births;
+        }
+        Ok(())
+    }
+
     /// Puts the object into the next slot, and answers that slot.
     pub fn birth(&mut self, object: Object) -> u32
         requires fits { Fits self.old.car (object_room object) }

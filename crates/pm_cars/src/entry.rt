@@ -1,4 +1,4 @@
-ghost use Rattle.std.specs.Prelude.{◌≡◌, ◌+◌, ◌<◌, ◌≤◌, ◌^◌, length, Some, IsSome, IfSome, IfNone, IfOk, OnOk, vec_capacity, option_copied};
+ghost use Rattle.std.specs.Prelude.{◌≡◌, ◌+◌, ◌<◌, ◌≤◌, ◌^◌, true, length, Some, IsSome, IfSome, IfNone, IfOk, OnOk, vec_capacity, option_copied};
 ghost use Rattle.pm_types.specs.declared.object.Slot.TheVariants.{Live};
 ghost use Rattle.pm_cars.specs.Cars.{object_of};
 ghost use Rattle.pm_cars.specs.Entries.{numbers, content_at, with_content, without, holds_object, first_place, IsAscending, IsAt, HasNone};
@@ -17,13 +17,36 @@ fn is_live(content: &Slot) -> bool
     matches!(content, Slot::Live(_))
 }
 
-// The place of the slot's entry.
-fn place_of(entries: &[Entry], slot: u32) -> Option<usize>
+// Whether the slot's entry is at this place.
+fn is_at(entries: &[Entry], slot: u32, place: usize) -> bool
+    ensures { result ≡ true → IsAt entries.now slot place }
+{
+    match entries.get(place) {
+        Some(entry) => entry.0 == slot,
+        None => false,
+    }
+}
+
+// The place of the slot's entry, by halving.
+fn search(entries: &[Entry], slot: u32) -> Option<usize>
     requires { IsAscending (numbers entries.now) }
     ensures found { IfSome result (IsAt entries.now slot) }
     ensures absent { IfNone result (HasNone entries.now slot) }
 {
     entries.binary_search_by_key(&slot, |entry| entry.0).ok()
+}
+
+// The place of the slot's entry. Where no slot before it is Gone its number is its place, so that is looked at first.
+fn place_of(entries: &[Entry], slot: u32) -> Option<usize>
+    requires { IsAscending (numbers entries.now) }
+    ensures found { IfSome result (IsAt entries.now slot) }
+    ensures absent { IfNone result (HasNone entries.now slot) }
+{
+    let number = slot as usize;
+    if is_at(entries, slot, number) {
+        return Some(number);
+    }
+    search(entries, slot)
 }
 
 /// What the slot holds.

@@ -114,7 +114,7 @@ fn records_at(
     ensures ends { IfOk result (λ read. read.1 ≤ PAGE_BYTES) }
     ensures met { IfOk result (λ read. met.new ≡ with_identities met.old read.0) }
 {
-    let mut records = Vec::new(alloc);
+    let mut records = Vec::with_capacity(alloc, count as usize)?;
     let mut least = 0;
     let mut place = RECORDS_AT;
     for _ in 0..count {

@@ -80,6 +80,15 @@ fn open_slots(leads: &Leads, car: &mut Car, slots: SlotList) -> Result<(), NoMem
     Ok(())
 }
 
+// A car of this number with no slot, and with memory for so many births.
+fn roomy_car(alloc: Global, number: u64, births: usize) -> Result<Car, NoMemory>
+    ensures { IfOk result (λ car. car.car ≡ new_car number) }
+{
+    let mut car = Car::new(alloc, number);
+    car.reserve_many(births)?;
+    Ok(car)
+}
+
 /// The car that opening makes of what a page lists: its objects in their slots, which are moved there, each field
 /// followed; no slot is Moved; and the next slot is one more than the greatest that is listed.
 pub(crate) fn open_car(alloc: Global, leads: &Leads, image: CarImage) -> Result<Car, NoMemory>
@@ -88,7 +97,7 @@ pub(crate) fn open_car(alloc: Global, leads: &Leads, image: CarImage) -> Result<
     ensures { IfOk result (λ car. car.car ≡ with_slots leads.now (new_car image.number) image.slots) }
 {
     let CarImage { number, slots } = image;
-    let mut car = Car::new(alloc, number);
+    let mut car = roomy_car(alloc, number, slots.as_slice().len())?;
     open_slots(leads, &mut car, slots)?;
     Ok(car)
 }

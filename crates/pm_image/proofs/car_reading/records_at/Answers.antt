@@ -11,7 +11,7 @@ use Rattle.pm_image.proofs.car_reading.records_at.Goals as goal
 pub returns-in_err-record-clause-exact : goal.returns-in_err-record-clause-exact
 returns-in_err-record-clause-exact c =
     let scope = a_car c.args.most c.args.next None in
-    let p = err_from_is_err_and c.from_residual.result c.from_residual.ensures.1 in
+    let p = err_from_is_err_and c.from_residual-in_err-record.result c.from_residual-in_err-record.ensures.1 in
     rw (p.1, p.2) (stops scope c.args.page.now c.loop.met c.loop.least c.loop.place c.args.count c.loop.counter c.loop.records.items c.in_err-record.field-0.0 (records_at scope c.args.met.now 0 c.args.page.now c.args.count CAR_HEAD_BYTES) c.loop-test.true c.in_err-record.ensures.exact c.loop.invariant.so_far)
 
 pub loop-preserved : goal.loop-preserved

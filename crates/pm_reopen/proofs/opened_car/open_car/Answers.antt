@@ -5,7 +5,7 @@ use Rattle.pm_reopen.proofs.opened_car.open_car.Goals as goal
 
 pub open_slots-requires-clause-fits : goal.open_slots-requires-clause-fits
 open_slots-requires-clause-fits c =
-    let new = ap (λ it. used it.car) c.new-car.ensures in
+    let new = ap used c.in_ok-car.ensures in
     let empty = new_used c.args.image.number in
     let fits = c.requires.fits in
     omega (arith, new, empty, fits)

@@ -2,7 +2,7 @@ use Rattle.std.proofs.Common.{rules}
 use Rattle.std.proofs.lemmas.List.Sorted.{answers_always}
 use Rattle.pm_cars.specs.Entries.{Entry}
 use Rattle.pm_cars.proofs.Places.{searched}
-use Rattle.pm_cars.proofs.entry.place_of.Goals as goal
+use Rattle.pm_cars.proofs.entry.search.Goals as goal
 
 pub returns-clause-found : goal.returns-clause-found
 returns-clause-found c =
