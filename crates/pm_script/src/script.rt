@@ -13,6 +13,7 @@ use crate::body::read_line;
 use crate::fault::{LineFault, ScriptFault};
 use crate::line::Line;
 use crate::value::Value;
+use memchr::memchr_iter;
 use pm_types::{SCRIPT_LINES, SOURCE_BYTES};
 use std::alloc::Global;
 use std::collections::VecDeque;
@@ -85,7 +86,7 @@ fn last_unended(bytes: &[u8]) -> &[u8]
 fn newlines(bytes: &[u8]) -> usize
     ensures { result ≡ count_by (λ b. nat_eq b 10) bytes.now }
 {
-    bytes.iter().filter(|byte| **byte == b'\n').count()
+    memchr_iter(b'\n', bytes).count()
 }
 
 // Reads the line of this number, which says something.
