@@ -5,10 +5,9 @@ use crate::drawn::push_drawn;
 use crate::ends::push_memory_text;
 use crate::failing::{Repeated, push_failings, push_fuses};
 use crate::generated::generated;
-use crate::inner::{push_copies, push_digest, push_name, push_register, push_room};
 use crate::replayed::push_alike;
 use crate::restored::push_round;
-use crate::running::{INIT, RUN, RunEnd, Setting, run};
+use crate::running::{INIT, RUN, RunEnd, Setting, run, run_on};
 use crate::scripts::{push_read, push_read_lines, push_texts};
 use crate::shown::{push_first, push_last, push_named, push_run, push_run_in_line};
 use pm_case_text::{
@@ -37,11 +36,11 @@ pub(crate) struct Case {
     changed: bool,
 }
 
-// A run with this script, in which nothing fails.
-fn setting_of(alloc: Global, lines: &str) -> Result<Setting, Fault> {
-    let mut setting = Setting::new(alloc, RUN)?;
-    push_lines(&mut setting.script, lines)?;
-    Ok(setting)
+// The script of these lines.
+fn script_of(alloc: Global, lines: &str) -> Result<Vec<u8>, Fault> {
+    let mut script = Vec::new(alloc);
+    push_lines(&mut script, lines)?;
+    Ok(script)
 }
 
 // Runs over a disk with one script, and nothing fails.
@@ -50,18 +49,9 @@ fn run_lines<R: AllocGlobal + Threads + Wait + Sync>(
     disk: Vec<u8>,
     lines: &str,
 ) -> Result<RunEnd, Fault> {
-    let setting = setting_of(rt.alloc(), lines)?;
+    let script = script_of(rt.alloc(), lines)?;
+    let setting = Setting::with_script(rt.alloc(), RUN, script)?;
     run(rt, disk, setting)
-}
-
-// Runs over a disk that holds these bytes.
-fn run_on<R: AllocGlobal + Threads + Wait + Sync>(
-    rt: &R,
-    disk: &[u8],
-    setting: Setting,
-) -> Result<RunEnd, Fault> {
-    let copy = disk.to_vec(rt.alloc())?;
-    run(rt, copy, setting)
 }
 
 // The last run.
@@ -104,6 +94,15 @@ fn push_times(alloc: Global, script: &mut Vec<u8>, text: &str) -> Result<(), Fau
         push_lines(script, counted.as_str())?;
     }
     Ok(())
+}
+
+// Adds whether a run changed the disk's bytes.
+fn push_changed(changed: bool, out: &mut String) -> Result<(), Fault> {
+    Ok(out.push_str(if changed {
+        "disk changed\n"
+    } else {
+        "disk unchanged\n"
+    })?)
 }
 
 // Adds what a script gives on the image of the last run's disk that this pick chooses.
@@ -355,17 +354,10 @@ impl Case {
         self.go_and_push(rt, "", out)
     }
 
-    // Adds whether the last run changed the disk's bytes.
-    fn push_changed(&self, out: &mut String) -> Result<(), Fault> {
-        let how = if self.changed { "changed" } else { "unchanged" };
-        writeln!(out, "disk {how}")?;
-        Ok(())
-    }
-
     // Adds what a word names of the last run.
     fn push_word(&self, alloc: Global, word: &str, out: &mut String) -> Result<(), Fault> {
         if word == "changed" {
-            return self.push_changed(out);
+            return push_changed(self.changed, out);
         }
         push_named(alloc, ended(&self.last)?, word, out)
     }
@@ -574,7 +566,8 @@ impl Case {
             "read" => self.push_read(alloc, text, out),
             "lines" => self.push_read_lines(alloc, text, out),
             "at" => self.push_digits(alloc, text, out),
-            _ => call(alloc, step, text, out),
+            "memory-text" => push_memory_text(alloc, out),
+            _ => Err(refuse("no such step")),
         }
     }
 
@@ -611,18 +604,5 @@ impl Case {
         }
         let line = written_out(rt.alloc(), line, Count::None)?;
         self.take_written(rt, line.as_str(), out)
-    }
-}
-
-// A step that calls an inner function by name.
-fn call(alloc: Global, step: &str, text: &str, out: &mut String) -> Result<(), Fault> {
-    match step {
-        "name" => push_name(alloc, text, out),
-        "register" => push_register(text, out),
-        "room" => push_room(text, out),
-        "sha256" => push_digest(alloc, text, out),
-        "copies" => push_copies(alloc, out),
-        "memory-text" => push_memory_text(alloc, out),
-        _ => Err(refuse("no such step")),
     }
 }

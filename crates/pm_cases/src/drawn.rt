@@ -2,7 +2,7 @@
 
 use crate::generated::generated;
 use crate::replayed::alike_in;
-use crate::running::{RUN_THREADS, RunEnd, Setting, run};
+use crate::running::{RUN_THREADS, RunEnd, run_script};
 use pm_case_text::{Fault, refuse};
 use std::fmt::Write;
 use std::sync::Wait;
@@ -15,11 +15,8 @@ fn run_drawn<R: AllocGlobal + Threads + Wait + Sync>(
     lines: u64,
     seed: u32,
 ) -> Result<RunEnd, Fault> {
-    let alloc = rt.alloc();
-    let mut setting = Setting::new(alloc, RUN_THREADS)?;
-    let drawn = generated(alloc, lines, seed)?;
-    setting.script.extend_from_slice(drawn.as_bytes())?;
-    run(rt, disk.to_vec(alloc)?, setting)
+    let drawn = generated(rt.alloc(), lines, seed)?;
+    run_script(rt, disk, RUN_THREADS, drawn.into_bytes())
 }
 
 /// Adds how many of these runs, each of a script from a seed of its own, were done, and how many of their replies the

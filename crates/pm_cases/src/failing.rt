@@ -40,8 +40,8 @@ fn push_look<R: AllocGlobal + Threads + Wait + Sync>(
     disk: Vec<u8>,
     out: &mut String,
 ) -> Result<(), Fault> {
-    let mut setting = Setting::new(rt.alloc(), RUN)?;
-    setting.script = look.to_vec(rt.alloc())?;
+    let script = look.to_vec(rt.alloc())?;
+    let setting = Setting::with_script(rt.alloc(), RUN, script)?;
     let ended = run(rt, disk, setting)?;
     push_run_in_line(rt.alloc(), &ended, out)
 }
@@ -147,15 +147,22 @@ fn part_of(word: &str) -> Result<Part, Fault> {
     }
 }
 
+// Whether a call is a write.
+fn is_write(call: &DiskCall) -> bool {
+    matches!(call, DiskCall::Write { .. })
+}
+
 // The number of the write of this number among these calls, or 0, which no call has.
 fn write_at(calls: &[DiskCall], wanted: u64) -> u64 {
     let mut writes = 0u64;
-    for (place, call) in calls.iter().enumerate() {
-        if let DiskCall::Write { .. } = call {
+    let mut number = 0u64;
+    for call in calls {
+        number = number.saturating_add(1);
+        if is_write(call) {
             writes = writes.saturating_add(1);
-            if writes == wanted {
-                return (place as u64).saturating_add(1);
-            }
+        }
+        if writes == wanted {
+            return number;
         }
     }
     0
@@ -188,20 +195,26 @@ fn failing(alloc: Global, repeated: &Repeated, part: Part, call: u64) -> Result<
     Ok(setting)
 }
 
-// Adds how many bytes were written, whether the disk was called, and the counts of failed calls where the end tells
-// them.
-fn push_marks(run: &RunEnd, out: &mut String) -> Result<(), Fault> {
-    let written = run.told.written.len();
-    let called = if run.disk.calls().is_empty() {
-        "not called"
-    } else {
-        "called"
-    };
-    write!(out, "- {written} written, disk {called}")?;
-    if let Some((before, after)) = run.told.counts {
+// Adds how many bytes were written, and whether the disk was called.
+fn push_written(written: usize, called: bool, out: &mut String) -> Result<(), Fault> {
+    let how = if called { "called" } else { "not called" };
+    write!(out, "- {written} written, disk {how}")?;
+    Ok(())
+}
+
+// Adds the counts of failed calls, where an end tells them.
+fn push_counts(counts: Option<(u64, u64)>, out: &mut String) -> Result<(), Fault> {
+    if let Some((before, after)) = counts {
         write!(out, ", faults {before} to {after}")?;
     }
     Ok(out.push_str(", then ")?)
+}
+
+// Adds both of a run.
+fn push_marks(run: &RunEnd, out: &mut String) -> Result<(), Fault> {
+    let called = !run.disk.calls().is_empty();
+    push_written(run.told.written.len(), called, out)?;
+    push_counts(run.told.counts, out)
 }
 
 // Adds what a run gave whose call of a part failed, and what the look gives afterwards; whether it ended with 0.

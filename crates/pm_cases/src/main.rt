@@ -8,7 +8,6 @@ mod drawn;
 mod ends;
 mod failing;
 mod generated;
-mod inner;
 mod printed;
 mod replayed;
 mod restored;

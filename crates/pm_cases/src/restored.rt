@@ -1,6 +1,6 @@
 //! A store that is dumped, restored from that dump, and dumped again.
 
-use crate::running::{DUMP, RESTORE, RunEnd, Setting, run};
+use crate::running::{DUMP, RESTORE, RunEnd, Setting, run, run_script};
 use pm_case_text::Fault;
 use std::fmt::Write;
 use std::sync::Wait;
@@ -9,19 +9,35 @@ use std::thread::Threads;
 // How many bytes the source of a dump gives in one call.
 const PIECE_BYTES: usize = 32_768;
 
-// Dumps the store that these bytes are.
-fn dumped<R: AllocGlobal + Threads + Wait + Sync>(rt: &R, disk: &[u8]) -> Result<RunEnd, Fault> {
-    let setting = Setting::new(rt.alloc(), DUMP)?;
-    let copy = disk.to_vec(rt.alloc())?;
-    run(rt, copy, setting)
+// What is written of the store that these bytes are.
+fn dumped<R: AllocGlobal + Threads + Wait + Sync>(rt: &R, disk: &[u8]) -> Result<Vec<u8>, Fault> {
+    let ended = run_script(rt, disk, DUMP, Vec::new(rt.alloc()))?;
+    Ok(ended.told.written)
 }
 
 // Makes a store of this dump on an empty disk.
 fn restored<R: AllocGlobal + Threads + Wait + Sync>(rt: &R, dump: &[u8]) -> Result<RunEnd, Fault> {
-    let mut setting = Setting::new(rt.alloc(), RESTORE)?;
-    setting.script = dump.to_vec(rt.alloc())?;
+    let script = dump.to_vec(rt.alloc())?;
+    let mut setting = Setting::with_script(rt.alloc(), RESTORE, script)?;
     setting.piece = PIECE_BYTES;
     run(rt, Vec::new(rt.alloc()), setting)
+}
+
+// Makes a store of this dump: with which status, and what is written of that store.
+fn dumped_again<R: AllocGlobal + Threads + Wait + Sync>(
+    rt: &R,
+    dump: &[u8],
+) -> Result<(u8, Vec<u8>), Fault> {
+    let store = restored(rt, dump)?;
+    let again = dumped(rt, store.disk.contents())?;
+    Ok((store.status, again))
+}
+
+// Adds with which status a dump was restored, and whether the second dump is the same.
+fn push_how(status: u8, same: bool, out: &mut String) -> Result<(), Fault> {
+    let how = if same { "the same" } else { "another" };
+    writeln!(out, "restored with {status}, again {how}")?;
+    Ok(())
 }
 
 /// Dumps the store on a disk, restores the dump on an empty one, and dumps that: adds with which status it was restored,
@@ -32,13 +48,6 @@ pub(crate) fn push_round<R: AllocGlobal + Threads + Wait + Sync>(
     out: &mut String,
 ) -> Result<(), Fault> {
     let first = dumped(rt, disk)?;
-    let store = restored(rt, first.told.written.as_slice())?;
-    let again = dumped(rt, store.disk.contents())?;
-    let how = if again.told.written.as_slice() == first.told.written.as_slice() {
-        "the same"
-    } else {
-        "another"
-    };
-    writeln!(out, "restored with {}, again {how}", store.status)?;
-    Ok(())
+    let (status, again) = dumped_again(rt, first.as_slice())?;
+    push_how(status, again.as_slice() == first.as_slice(), out)
 }

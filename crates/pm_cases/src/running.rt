@@ -52,11 +52,11 @@ pub(crate) struct Setting {
 }
 
 impl Setting {
-    /// No script, nothing that fails, pieces of 4 bytes, and no byte on the other disk.
-    pub(crate) fn new(alloc: Global, words: &str) -> Result<Setting, Fault> {
-        Ok(Setting {
-            words: String::from_str(alloc, words)?,
-            script: Vec::new(alloc),
+    /// These words and this script, nothing that fails, pieces of 4 bytes, and no byte on the other disk.
+    fn of(alloc: Global, words: String, script: Vec<u8>) -> Setting {
+        Setting {
+            words,
+            script,
             piece: 4,
             passes: u64::MAX,
             other: Vec::new(alloc),
@@ -64,15 +64,31 @@ impl Setting {
             disk_fails: Vec::new(alloc),
             source_fails: Vec::new(alloc),
             sink_fails: Vec::new(alloc),
-        })
+        }
+    }
+
+    /// The same of words that are lent.
+    pub(crate) fn with_script(
+        alloc: Global,
+        words: &str,
+        script: Vec<u8>,
+    ) -> Result<Setting, Fault> {
+        let words = String::from_str(alloc, words)?;
+        Ok(Setting::of(alloc, words, script))
+    }
+
+    /// The same without a script.
+    pub(crate) fn new(alloc: Global, words: &str) -> Result<Setting, Fault> {
+        Setting::with_script(alloc, words, Vec::new(alloc))
     }
 
     /// The same words, script, pieces and other disk, and nothing that fails.
     pub(crate) fn again(&self, alloc: Global) -> Result<Setting, Fault> {
-        let mut setting = Setting::new(alloc, self.words.as_str())?;
-        setting.script = self.script.to_vec(alloc)?;
+        let script = self.script.to_vec(alloc)?;
+        let other = self.other.to_vec(alloc)?;
+        let mut setting = Setting::with_script(alloc, self.words.as_str(), script)?;
         setting.piece = self.piece;
-        setting.other = self.other.to_vec(alloc)?;
+        setting.other = other;
         Ok(setting)
     }
 }
@@ -92,14 +108,19 @@ pub(crate) const RESTORE: &str = "restore store.pmos";
 /// The words that make a store.
 pub(crate) const INIT: &str = "init store.pmos";
 
-// The words of a text; two quotes are a word without a letter.
+// What a word of a text stands for: two quotes for a word without a letter.
+fn meant(word: &str) -> &str {
+    if word == "''" { "" } else { word }
+}
+
+// The words of a text.
 fn words_of(alloc: Global, text: &str) -> Result<Vec<&str>, Fault> {
     let mut words = Vec::new(alloc);
     if text.is_empty() {
         return Ok(words);
     }
     for word in text.split(' ') {
-        words.push(if word == "''" { "" } else { word })?;
+        words.push(meant(word))?;
     }
     Ok(words)
 }
@@ -191,4 +212,25 @@ pub(crate) fn run<R: AllocGlobal + Threads + Wait + Sync>(
         alloc,
         ended(rt, words.as_slice(), parts_of(alloc, disk, setting)),
     )
+}
+
+/// Runs the program with these words and this script over a disk that holds these bytes. Nothing fails.
+pub(crate) fn run_script<R: AllocGlobal + Threads + Wait + Sync>(
+    rt: &R,
+    disk: &[u8],
+    words: &str,
+    script: Vec<u8>,
+) -> Result<RunEnd, Fault> {
+    let setting = Setting::with_script(rt.alloc(), words, script)?;
+    run_on(rt, disk, setting)
+}
+
+/// Runs the program over a disk that holds these bytes.
+pub(crate) fn run_on<R: AllocGlobal + Threads + Wait + Sync>(
+    rt: &R,
+    disk: &[u8],
+    setting: Setting,
+) -> Result<RunEnd, Fault> {
+    let copy = disk.to_vec(rt.alloc())?;
+    run(rt, copy, setting)
 }

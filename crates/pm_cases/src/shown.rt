@@ -16,16 +16,20 @@ pub(crate) fn push_run(run: &RunEnd, out: &mut String) -> Result<(), Fault> {
     push_said("status", run.status as u64, out)
 }
 
+// Adds the line at this place of a text, the first of which is 0: each other one behind ` / `.
+fn push_part(place: usize, line: &str, out: &mut String) -> Result<(), Fault> {
+    if place > 0 {
+        out.push_str(" / ")?;
+    }
+    Ok(out.push_str(line)?)
+}
+
 // Adds the lines of a text, with ` / ` between them.
 fn push_in_line(text: &str, out: &mut String) -> Result<(), Fault> {
     for (place, line) in text.split_terminator('\n').enumerate() {
-        if place > 0 {
-            out.push_str(" / ")?;
-        }
-        out.push_str(line)?;
+        push_part(place, line, out)?;
     }
-    out.push('\n')?;
-    Ok(())
+    Ok(out.push('\n')?)
 }
 
 /// Adds the same as one line, with ` / ` between its parts.

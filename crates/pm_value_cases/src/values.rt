@@ -1,7 +1,9 @@
-//! Inner functions that a case calls by name.
+//! Calls on values by themselves.
 
-use crate::printed::push_digest_of;
-use pm_case_text::{Fault, number, numbered, push_said, push_value_line, raw_bytes, refuse};
+use pm_case_text::{
+    Fault, number, numbered, push_bytes, push_said, push_value_line, raw_bytes, refuse,
+};
+use pm_layout::digest;
 use pm_types::{Addr, Bytes, Cmd, Fields, Name, NameFault, Object, Reg, Reply, Slot, room};
 use std::alloc::Global;
 
@@ -48,7 +50,10 @@ pub(crate) fn push_room(text: &str, out: &mut String) -> Result<(), Fault> {
 /// `HEX`: the digest of these bytes.
 pub(crate) fn push_digest(alloc: Global, text: &str, out: &mut String) -> Result<(), Fault> {
     let spelled = raw_bytes(alloc, text)?;
-    push_digest_of(alloc, spelled.as_slice(), out)
+    let made = digest(spelled.as_slice());
+    out.push_str("sha256 ")?;
+    push_bytes(alloc, made.as_slice(), out)?;
+    Ok(out.push('\n')?)
 }
 
 // An object of a null field and one that is not null.
