@@ -11,7 +11,6 @@ pub mod Copies
 pub mod Numbers
 pub mod Behind
 pub mod LineLemmas
-pub mod Cut
 pub mod WordLemmas
 pub mod PartsLemmas
 pub mod Pushing

@@ -1,15 +1,16 @@
 -- What the reader of dumps has read: the parts of a dump, and the lines that they are.
-use Rattle.std.specs.Prelude.{◌≡◌, ℕ, zero, suc, ◌≤◌, ◌<◌, Bool, true, false, List, [], ◌∷◌, ◌++◌, map, length, Option, Some, None, ◌-◌, slice_get, slice_range, nat_eq, IfSome, IsSome}
+use Rattle.std.specs.Prelude.{◌≡◌, ℕ, zero, suc, ◌≤◌, ◌<◌, Bool, true, false, List, [], ◌∷◌, ◌++◌, map, length, Option, Some, None, ◌-◌, slice_get, slice_range, IfSome, IsSome}
 use Rattle.std.specs.Ordering.{nat_cmp}
 use Rattle.std.specs.FinMap.{find}
 use Rattle.std.specs.declared.cmp.Ordering.TheVariants.{Less}
 use Rattle.std.specs.Option.{MatchOption}
 use Rattle.std.specs.Borrow.{Bor}
 use Rattle.pm_types.specs.Orders.{name_cmp}
-use Rattle.std.specs.List.{AllByRecursion, slice_split}
+use Rattle.std.specs.List.{AllByRecursion}
 use Rattle.pm_base.specs.Counts.{capped}
 use Rattle.pm_types.specs.declared.limits.TheConstants.{END_ID}
 use Rattle.pm_model.specs.Heap.{Object}
+use Rattle.pm_script.specs.Lines.{parts_in}
 use Rattle.pm_dump.specs.declared.fault.LineFault.{LineFault}
 use Rattle.pm_dump.specs.declared.fault.LineFault.TheVariants as line_fault
 use Rattle.pm_dump.specs.declared.fault.DumpFault.{DumpFault}
@@ -22,11 +23,6 @@ use Rattle.pm_dump.specs.Reading.{numeral_at, fields_at, object_at, root_at, hea
 use Rattle.pm_dump.specs.declared.fault.DumpCause.TheVariants as why
 use Rattle.pm_dump.specs.Faults.{MayStand, IsInOrder, IsWithin, IsInPlace, IsLineFault, IsGoodLine, IsFaultAmong}
 use Rattle.pm_dump.specs.Spelled.{pieces_of}
-
--- the parts between marks of what is left of a text, which may be nothing
-abbrev pub parts_in : ℕ → Option (Bor (List ℕ)) → List (List ℕ)
-parts_in mark None = []
-parts_in mark (Some text) = slice_split (λ b. nat_eq b mark) text.now
 
 -- the words that are left
 abbrev pub words_in : Option (Bor (List ℕ)) → List (List ℕ)

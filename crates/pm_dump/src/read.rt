@@ -8,7 +8,7 @@ ghost use Rattle.pm_dump.specs.Read.{dump_in, before_in, AreKept, ReadsLine, Fai
 use crate::fault::{DumpCause, DumpFault, LineFault};
 use crate::line::read_line;
 use crate::parts::Parts;
-use crate::words::cut;
+use pm_script::cut;
 use std::alloc::Global;
 
 // Reads the line of this number, which stands behind those that were read.

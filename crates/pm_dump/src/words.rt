@@ -1,5 +1,5 @@
-ghost use Rattle.std.specs.Prelude.{◌≡◌, ◌==◌, ◌∷◌, ◌<◌, [], true, length, nat_eq, count_by, position, Some, ◌+◌, ◌≤◌, ◌^◌};
-ghost use Rattle.std.specs.List.{list_all, slice_split};
+ghost use Rattle.std.specs.Prelude.{◌≡◌, ◌==◌, ◌∷◌, ◌<◌, [], true, length, nat_eq, count_by, ◌≤◌, ◌^◌};
+ghost use Rattle.std.specs.List.{list_all};
 ghost use Rattle.std.specs.Option.{MatchOption, option_map};
 ghost use Rattle.std.specs.Cmp.Lexicographic.{pointwise};
 ghost use Rattle.std.specs.Str.Parse.{digits_value};
@@ -8,38 +8,14 @@ ghost use Rattle.pm_script.specs.Values.{is_numeral};
 ghost use Rattle.pm_dump.specs.Read.{words_in};
 ghost use Rattle.pm_dump.specs.Reading.{numeral_at};
 
-use pm_script::is_numeral;
-
-// The place of the first mark.
-fn place_of(text: &[u8], mark: u8) -> Option<usize>
-    ensures { result ≡ position (λ b. nat_eq b mark) text.now }
-{
-    text.iter().position(|byte| *byte == mark)
-}
-
-/// What stands before the first mark of a text, and what stands behind it; nothing where the text has no mark.
-#[tactic(auto, using(crate::proofs::Cut::inside))]
-pub(crate) fn cut(text: &[u8], mark: u8) -> Option<(&[u8], &[u8])>
-    ensures parts { MatchOption result (slice_split (λ b. nat_eq b mark) text.now ≡ text.now ∷ [])
-        (λ cut. slice_split (λ b. nat_eq b mark) text.now ≡ cut.0.now ∷ slice_split (λ b. nat_eq b mark) cut.1.now) }
-    ensures shorter { MatchOption result (Unit {0}) (λ cut. length cut.0.now + length cut.1.now < length text.now) }
-{
-    match place_of(text, mark) {
-        Some(at) => Some((&text[..at], &text[at + 1..])),
-        None => None,
-    }
-}
+use pm_script::{is_numeral, take_part};
 
 /// The first of the words that are left, and those behind it.
 pub(crate) fn take_word(words: Option<&[u8]>) -> Option<(&[u8], Option<&[u8]>)>
     ensures { MatchOption result (words_in words.entry ≡ [])
         (λ taken. words_in words.entry ≡ taken.0.now ∷ words_in taken.1) }
 {
-    let text = words?;
-    match cut(text, b' ') {
-        Some((word, rest)) => Some((word, Some(rest))),
-        None => Some((text, None)),
-    }
+    take_part(words, b' ')
 }
 
 /// The first two of the words that are left, and those behind them.

@@ -16,6 +16,7 @@ pub mod CauseLaws
 pub mod BadLaws
 pub mod SpellingLaws
 pub mod TextLemmas
+pub mod CutLemmas
 pub mod ReadLines
 pub mod ReadValues
 pub mod WordRoom

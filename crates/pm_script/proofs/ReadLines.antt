@@ -1,5 +1,5 @@
 -- Lines that are read one after the other, and how the last newline is left out.
-use Rattle.std.proofs.Common.{◌≡◌, ℕ, ◌+◌, ◌-◌, ◌<◌, ◌≤◌, ◌==◌, Bool, true, false, cond, ◌&&◌, List, [], ◌∷◌, ◌++◌, length, drop, take, get_or, Option, Some, None, Result, Ok, Err, refl, sym, ap, ◌∙◌, arith, nat_eq, Bor, if◌then◌else◌}
+use Rattle.std.proofs.Common.{◌≡◌, ℕ, ◌+◌, ◌-◌, ◌<◌, ◌==◌, Bool, true, false, cond, ◌&&◌, List, [], ◌∷◌, ◌++◌, length, drop, take, get_or, Option, Some, None, Result, Ok, Err, refl, sym, ap, ◌∙◌, arith, nat_eq, Bor, if◌then◌else◌}
 use Rattle.std.proofs.lemmas.Bool.Decides.{nat_tests}
 use Rattle.std.proofs.lemmas.List.{at_drop_more, at_drop_all, append-nil, take-append-drop}
 use Rattle.std.specs.Option.{MatchOption, unwrap_or}
@@ -17,47 +17,47 @@ use Rattle.pm_script.specs.Reading.{Stops, line_at, numbered, lines_at}
 abbrev pub parts : List ℕ → List (List ℕ)
 parts bytes = slice_split (λ b. nat_eq b 10) bytes
 
-turn : (bodies : List (List ℕ)) (m n : ℕ) (body : List ℕ) → n < length bodies → body ≡ get_or bodies n body
-    → lines_at m (drop n bodies) ≡ (if is_silent body then lines_at (m + 1) (drop (n + 1) bodies) else (numbered m (line_at body) >>= λ line. lines_at (m + 1) (drop (n + 1) bodies) >>= λ lines. Ok (line ∷ lines)))
-turn bodies m n body lt is = at_drop_more (lines_at m) bodies n body lt ∙ ap (λ b. lines_at m (b ∷ drop (n + 1) bodies)) (sym is)
+turn : (left more : List (List ℕ)) (m : ℕ) (body : List ℕ) → left ≡ body ∷ more
+    → lines_at m left ≡ (if is_silent body then lines_at (m + 1) more else (numbered m (line_at body) >>= λ line. lines_at (m + 1) more >>= λ lines. Ok (line ∷ lines)))
+turn left more m body is = ap (lines_at m) is
 
 -- a line that says nothing is passed over
-pub passed_over : (front : List Line) (bodies : List (List ℕ)) (all : Result (List Line) ScriptFault) (m n : ℕ) (body : List ℕ) → n < length bodies → body ≡ get_or bodies n body → is_silent body ≡ true
-    → with_front front (lines_at m (drop n bodies)) ≡ all → with_front front (lines_at (m + 1) (drop (n + 1) bodies)) ≡ all
-passed_over front bodies all m n body lt is silent so =
-    sym (ap (with_front front) (turn bodies m n body lt is ∙ ap (λ b. if b then lines_at (m + 1) (drop (n + 1) bodies) else (numbered m (line_at body) >>= λ line. lines_at (m + 1) (drop (n + 1) bodies) >>= λ lines. Ok (line ∷ lines))) silent)) ∙ so
+pub passed_over : (front : List Line) (left more : List (List ℕ)) (all : Result (List Line) ScriptFault) (m : ℕ) (body : List ℕ) → left ≡ body ∷ more → is_silent body ≡ true
+    → with_front front (lines_at m left) ≡ all → with_front front (lines_at (m + 1) more) ≡ all
+passed_over front left more all m body is silent so =
+    sym (ap (with_front front) (turn left more m body is ∙ ap (λ b. if b then lines_at (m + 1) more else (numbered m (line_at body) >>= λ line. lines_at (m + 1) more >>= λ lines. Ok (line ∷ lines))) silent)) ∙ so
 
-spoken_turn : (front : List Line) (bodies : List (List ℕ)) (all : Result (List Line) ScriptFault) (m n : ℕ) (body : List ℕ) → n < length bodies → body ≡ get_or bodies n body → is_silent body ≡ false
-    → with_front front (lines_at m (drop n bodies)) ≡ all → with_front front (numbered m (line_at body) >>= λ line. lines_at (m + 1) (drop (n + 1) bodies) >>= λ lines. Ok (line ∷ lines)) ≡ all
-spoken_turn front bodies all m n body lt is spoken so =
-    sym (ap (with_front front) (turn bodies m n body lt is ∙ ap (λ b. if b then lines_at (m + 1) (drop (n + 1) bodies) else (numbered m (line_at body) >>= λ line. lines_at (m + 1) (drop (n + 1) bodies) >>= λ lines. Ok (line ∷ lines))) spoken)) ∙ so
+spoken_turn : (front : List Line) (left more : List (List ℕ)) (all : Result (List Line) ScriptFault) (m : ℕ) (body : List ℕ) → left ≡ body ∷ more → is_silent body ≡ false
+    → with_front front (lines_at m left) ≡ all → with_front front (numbered m (line_at body) >>= λ line. lines_at (m + 1) more >>= λ lines. Ok (line ∷ lines)) ≡ all
+spoken_turn front left more all m body is spoken so =
+    sym (ap (with_front front) (turn left more m body is ∙ ap (λ b. if b then lines_at (m + 1) more else (numbered m (line_at body) >>= λ line. lines_at (m + 1) more >>= λ lines. Ok (line ∷ lines))) spoken)) ∙ so
 
 -- one line more
-pub line_more : (front : List Line) (line : Line) (bodies : List (List ℕ)) (all : Result (List Line) ScriptFault) (m n : ℕ) (body : List ℕ) → n < length bodies → body ≡ get_or bodies n body → is_silent body ≡ false
-    → with_front front (lines_at m (drop n bodies)) ≡ all → numbered m (line_at body) ≡ Ok line → with_front (front ++ line ∷ []) (lines_at (m + 1) (drop (n + 1) bodies)) ≡ all
-line_more front line bodies all m n body lt is spoken so read =
-    sym (regroup front line (lines_at (m + 1) (drop (n + 1) bodies)))
-    ∙ ap (λ (r : Result Line ScriptFault). with_front front (r >>= λ line. lines_at (m + 1) (drop (n + 1) bodies) >>= λ lines. Ok (line ∷ lines))) (sym read)
-    ∙ spoken_turn front bodies all m n body lt is spoken so
+pub line_more : (front : List Line) (line : Line) (left more : List (List ℕ)) (all : Result (List Line) ScriptFault) (m : ℕ) (body : List ℕ) → left ≡ body ∷ more → is_silent body ≡ false
+    → with_front front (lines_at m left) ≡ all → numbered m (line_at body) ≡ Ok line → with_front (front ++ line ∷ []) (lines_at (m + 1) more) ≡ all
+line_more front line left more all m body is spoken so read =
+    sym (regroup front line (lines_at (m + 1) more))
+    ∙ ap (λ (r : Result Line ScriptFault). with_front front (r >>= λ line. lines_at (m + 1) more >>= λ lines. Ok (line ∷ lines))) (sym read)
+    ∙ spoken_turn front left more all m body is spoken so
 
-stopped : (front : List Line) (bodies : List (List ℕ)) (all : Result (List Line) ScriptFault) (m n : ℕ) (body : List ℕ) (f : ScriptFault) → n < length bodies → body ≡ get_or bodies n body → is_silent body ≡ false
-    → with_front front (lines_at m (drop n bodies)) ≡ all → numbered m (line_at body) ≡ Err f → all ≡ Err f
-stopped front bodies all m n body f lt is spoken so read =
-    sym (spoken_turn front bodies all m n body lt is spoken so)
-    ∙ ap (λ (r : Result Line ScriptFault). with_front front (r >>= λ line. lines_at (m + 1) (drop (n + 1) bodies) >>= λ lines. Ok (line ∷ lines))) read
+stopped : (front : List Line) (left more : List (List ℕ)) (all : Result (List Line) ScriptFault) (m : ℕ) (body : List ℕ) (f : ScriptFault) → left ≡ body ∷ more → is_silent body ≡ false
+    → with_front front (lines_at m left) ≡ all → numbered m (line_at body) ≡ Err f → all ≡ Err f
+stopped front left more all m body f is spoken so read =
+    sym (spoken_turn front left more all m body is spoken so)
+    ∙ ap (λ (r : Result Line ScriptFault). with_front front (r >>= λ line. lines_at (m + 1) more >>= λ lines. Ok (line ∷ lines))) read
 
 -- a bad line ends all
-pub bad_ends : (f : ScriptFault) (front : List Line) (bodies : List (List ℕ)) (all : Result (List Line) ScriptFault) (m n : ℕ) (body : List ℕ) → n < length bodies → body ≡ get_or bodies n body → is_silent body ≡ false
-    → with_front front (lines_at m (drop n bodies)) ≡ all → Stops {X = Line} f (numbered m (line_at body)) → Stops {X = List Line} f all
-bad_ends (fault.Line number cause) front bodies all m n body lt is spoken so read = stopped front bodies all m n body (fault.Line number cause) lt is spoken so read
-bad_ends fault.TooManyLines front bodies all m n body lt is spoken so read = stopped front bodies all m n body fault.TooManyLines lt is spoken so read
-bad_ends fault.TooLong front bodies all m n body lt is spoken so read = stopped front bodies all m n body fault.TooLong lt is spoken so read
-bad_ends fault.Memory front bodies all m n body lt is spoken so read = tt
+pub bad_ends : (f : ScriptFault) (front : List Line) (left more : List (List ℕ)) (all : Result (List Line) ScriptFault) (m : ℕ) (body : List ℕ) → left ≡ body ∷ more → is_silent body ≡ false
+    → with_front front (lines_at m left) ≡ all → Stops {X = Line} f (numbered m (line_at body)) → Stops {X = List Line} f all
+bad_ends (fault.Line number cause) front left more all m body is spoken so read = stopped front left more all m body (fault.Line number cause) is spoken so read
+bad_ends fault.TooManyLines front left more all m body is spoken so read = stopped front left more all m body fault.TooManyLines is spoken so read
+bad_ends fault.TooLong front left more all m body is spoken so read = stopped front left more all m body fault.TooLong is spoken so read
+bad_ends fault.Memory front left more all m body is spoken so read = tt
 
 -- all lines are read
-pub lines_done : (front : List Line) (bodies : List (List ℕ)) (all : Result (List Line) ScriptFault) (m n : ℕ) → length bodies ≤ n → with_front front (lines_at m (drop n bodies)) ≡ all → all ≡ Ok front
-lines_done front bodies all m n le so =
-    sym so ∙ ap (with_front front) (at_drop_all (lines_at m) bodies n le) ∙ ap (λ (ls : List Line). Ok ls) (append-nil front)
+pub lines_done : (front : List Line) (left : List (List ℕ)) (all : Result (List Line) ScriptFault) (m : ℕ) → left ≡ [] → with_front front (lines_at m left) ≡ all → all ≡ Ok front
+lines_done front left all m is so =
+    sym so ∙ ap (λ bodies. with_front front (lines_at m bodies)) is ∙ ap (λ (ls : List Line). Ok ls) (append-nil front)
 
 -- a newline at the end ends the last line
 newline_last : (xs : List ℕ) → lines_of (xs ++ 10 ∷ []) ≡ parts xs

@@ -1,6 +1,6 @@
 -- The words of a line in a room that is greater than any line needs.
-use Rattle.std.proofs.Common.{◌≡◌, ℕ, zero, suc, ◌<◌, ◌≤◌, ◌==◌, false, List, [], ◌∷◌, ◌++◌, length, take, map, Result, Ok, Err, IsOk, OnOk, OnErr, Bor, refl, ap, sym, ◌∙◌, arith, if◌then◌else◌}
-use Rattle.std.proofs.lemmas.List.{length-take, length-map, map-append, take_all, take-append-le}
+use Rattle.std.proofs.Common.{◌≡◌, ℕ, ◌<◌, ◌≤◌, ◌==◌, false, List, [], ◌∷◌, ◌++◌, length, take, map, Result, Ok, Err, IsOk, OnOk, OnErr, Bor, refl, ap, sym, ◌∙◌, arith, if◌then◌else◌}
+use Rattle.std.proofs.lemmas.List.{append-nil, append_assoc, length-take, length-map, length_push, map-append, take_all, take-append-le}
 use Rattle.std.proofs.lemmas.Bool.Decides.{nat_tests}
 use Rattle.std.specs.Option.{ok_or}
 use Rattle.arrayvec.specs.ArrayVec.{ArrayVec}
@@ -16,16 +16,6 @@ use Rattle.pm_script.specs.Words.{kinds}
 use Rattle.pm_script.specs.Values.{first_at, verb_at, line_of}
 use Rattle.pm_script.specs.Reading.{values_at, counted_at, said_at, first_said_at}
 use Rattle.pm_base.proofs.Results.{same_after}
-
--- one item more, where there is room
-pub taken_more : {A : Type 0} (n : ℕ) (xs : List A) (x : A) → length (take n xs) < n → take n xs ++ x ∷ [] ≡ take n (xs ++ x ∷ [])
-taken_more zero xs x room = absurd (omega (arith, room))
-taken_more (suc n) [] x room = ap (λ rest. x ∷ rest) (sym (take_all n [] (omega arith)))
-taken_more (suc n) (y ∷ xs) x room = ap (λ rest. y ∷ rest) (taken_more n xs x (omega (arith, room)))
-
--- one item more, where there is none
-pub taken_all : {A : Type 0} (n : ℕ) (xs : List A) (x : A) → length (take n xs) ≡ n → take n xs ≡ take n (xs ++ x ∷ [])
-taken_all n xs x full = sym (take-append-le n xs (x ∷ []) (omega (arith, length-take n xs, full)))
 
 -- no command has more than four values
 four_at_most : (v : Verb) → length (kinds v) ≤ 4
@@ -78,15 +68,24 @@ said_in_seven (word ∷ words) = same_after (ok_or (first_at word) cause.Client)
 abbrev pub behind : List (Bor (List ℕ)) → List (List ℕ)
 behind words = map (λ (word : Bor (List ℕ)). word.now) words
 
--- the words of the room once one more was seen
-pub pushed : {T E : Type 0} (old new : ArrayVec (Bor (List ℕ))) (seen : List (Bor (List ℕ))) (word : Bor (List ℕ)) (r : Result T E)
-    → (IsOk r → length old.items < 7) → OnOk r (new.items ≡ old.items ++ word ∷ []) → OnErr r (new ≡ old) → OnErr r (length old.items ≡ 7)
-    → behind old.items ≡ take 7 (behind seen) → behind new.items ≡ take 7 (behind (seen ++ word ∷ []))
-pushed old new seen word (Ok x) room ok err full so =
-    let some : length (take 7 (behind seen)) < 7 = omega (arith, room refl, ap length so, length-map {B = List ℕ} old.items (λ (word : Bor (List ℕ)). word.now)) in
-    ap behind ok ∙ map-append (λ (word : Bor (List ℕ)). word.now) old.items (word ∷ []) ∙ ap (λ words. words ++ word.now ∷ []) so ∙ taken_more 7 (behind seen) word.now some
-    ∙ ap (take 7) (sym (map-append (λ (word : Bor (List ℕ)). word.now) seen (word ∷ [])))
-pushed old new seen word (Err e) room ok err full so =
-    let none : length (take 7 (behind seen)) ≡ 7 = omega (arith, full, ap length so, length-map {B = List ℕ} old.items (λ (word : Bor (List ℕ)). word.now)) in
-    ap (λ (words : ArrayVec (Bor (List ℕ))). behind words.items) err ∙ so ∙ taken_all 7 (behind seen) word.now none
-    ∙ ap (take 7) (sym (map-append (λ (word : Bor (List ℕ)). word.now) seen (word ∷ [])))
+-- the words of the room, and those that are left, once the first of these was taken
+pub pushed : {T E : Type 0} (old new : ArrayVec (Bor (List ℕ))) (left more all : List (List ℕ)) (word : Bor (List ℕ)) (r : Result T E)
+    → (IsOk r → length old.items < 7) → OnOk r (new.items ≡ old.items ++ word ∷ []) → OnErr r (new ≡ old) → OnErr r (length old.items ≡ 7) → left ≡ word.now ∷ more
+    → take 7 (behind old.items ++ left) ≡ all → (length new.items ≤ 7) × (take 7 (behind new.items ++ more) ≡ all)
+pushed old new left more all word (Ok x) room ok err full is so = (
+  omega (arith, room refl, ap length ok, length_push old.items word),
+  ap (λ words. take 7 (behind words ++ more)) ok ∙ ap (λ words. take 7 (words ++ more)) (map-append (λ (word : Bor (List ℕ)). word.now) old.items (word ∷ []))
+      ∙ ap (take 7) (append_assoc (behind old.items) (word.now ∷ []) more) ∙ ap (λ words. take 7 (behind old.items ++ words)) (sym is) ∙ so,
+)
+pushed old new left more all word (Err e) room ok err full is so =
+    let whole : length (behind old.items) ≡ 7 = length-map {B = List ℕ} old.items (λ (word : Bor (List ℕ)). word.now) ∙ full in (
+      omega (arith, full, ap (λ (words : ArrayVec (Bor (List ℕ))). length words.items) err),
+      ap (λ (words : ArrayVec (Bor (List ℕ))). take 7 (behind words.items ++ more)) err ∙ take-append-le 7 (behind old.items) more (omega (arith, whole))
+          ∙ sym (take-append-le 7 (behind old.items) left (omega (arith, whole))) ∙ so,
+    )
+
+-- the words of the room where none is left
+pub none_left : (items : List (Bor (List ℕ))) (left all : List (List ℕ)) → length items ≤ 7 → left ≡ [] → take 7 (behind items ++ left) ≡ all → behind items ≡ all
+none_left items left all room is so =
+    sym (take_all 7 (behind items) (omega (arith, room, length-map {B = List ℕ} items (λ (word : Bor (List ℕ)). word.now)))) ∙ ap (take 7) (sym (append-nil (behind items)))
+    ∙ ap (λ words. take 7 (behind items ++ words)) (sym is) ∙ so

@@ -1,6 +1,12 @@
--- Bytes cut into lines.
-use Rattle.std.specs.Prelude.{ℕ, Bool, true, not, List, [], ◌∷◌, ◌++◌, filter, nat_eq, if◌then◌else◌}
+-- Bytes cut into parts, lines and words.
+use Rattle.std.specs.Prelude.{ℕ, Bool, true, not, List, [], ◌∷◌, ◌++◌, Option, None, Some, filter, nat_eq, if◌then◌else◌}
+use Rattle.std.specs.Borrow.{Bor}
 use Rattle.std.specs.List.{onto_first, slice_split}
+
+-- the parts between marks of what is left of a text, which may be nothing
+abbrev pub parts_in : ℕ → Option (Bor (List ℕ)) → List (List ℕ)
+parts_in mark None = []
+parts_in mark (Some text) = slice_split (λ b. nat_eq b mark) text.now
 
 -- the lines of bytes: a newline ends its line, and bytes after the last newline are one more line
 abbrev pub lines_of : List ℕ → List (List ℕ)

@@ -6,6 +6,7 @@ use crate::command::line;
 use crate::fault::{Cause, LineFault};
 use crate::limits::LINE_BYTES;
 use crate::line::Line;
+use crate::parts::take_part;
 use crate::value::{Value, first, read_value};
 use crate::verb::{First, Kind, Verb};
 use arrayvec::ArrayVec;
@@ -20,8 +21,10 @@ fn words(body: &[u8]) -> ArrayVec<&[u8], WORD_ROOM>
     ensures { map (λ word. word.now) result.items ≡ take 7 (words_of body.now) }
 {
     let mut words = ArrayVec::new();
-    for word in body.split(|byte| *byte == b' ') {
+    let mut rest = Some(body);
+    while let Some((word, after)) = take_part(rest, b' ') {
         let _beyond = words.try_push(word);
+        rest = after;
     }
     words
 }

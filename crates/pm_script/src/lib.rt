@@ -8,6 +8,7 @@ mod fault;
 mod laws;
 mod limits;
 mod line;
+mod parts;
 mod reply;
 mod script;
 mod value;
@@ -20,6 +21,7 @@ pub use laws::{
 };
 pub use limits::LINE_BYTES;
 pub use line::Line;
+pub use parts::{cut, take_part};
 pub use reply::{REPLY_BYTES, journal_text, reply_into, reply_text};
 pub use script::{Script, read_script};
 pub use value::{is_numeral, read_hex};

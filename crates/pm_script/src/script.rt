@@ -12,6 +12,7 @@ ghost use Rattle.pm_script.specs.Script.{IsScript, AreLines};
 use crate::body::read_line;
 use crate::fault::{LineFault, ScriptFault};
 use crate::line::Line;
+use crate::parts::take_part;
 use crate::value::Value;
 use memchr::memchr_iter;
 use pm_types::{SCRIPT_LINES, SOURCE_BYTES};
@@ -113,7 +114,9 @@ fn read_lines(alloc: Global, bytes: &[u8]) -> Result<Vec<Line>, ScriptFault>
     let mut lines = Vec::new(alloc);
     let mut values = VecDeque::new(alloc);
     let mut number = 0;
-    for body in bytes.split(|byte| *byte == b'\n') {
+    let mut rest = Some(bytes);
+    while let Some((body, after)) = take_part(rest, b'\n') {
+        rest = after;
         number += 1;
         if is_silent(body) {
             continue;

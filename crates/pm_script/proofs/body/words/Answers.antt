@@ -1,16 +1,14 @@
-use Rattle.std.proofs.Common.{rules, tests, ◌∙◌, nat_eq, ap, take}
-use Rattle.std.proofs.lemmas.Iterator.Consumers.{YieldsList-end}
-use Rattle.std.proofs.lemmas.Iterator.Splits.{YieldsList-from_slice_split}
-use Rattle.pm_script.proofs.WordRoom.{pushed}
+use Rattle.std.proofs.Common.{take}
+use Rattle.pm_script.specs.Lines.{parts_in, words_of}
+use Rattle.pm_script.proofs.WordRoom.{pushed, none_left}
 use Rattle.pm_script.proofs.body.words.Goals as goal
 
 pub loop-word-preserved : goal.loop-word-preserved
 loop-word-preserved c =
-    pushed c.loop-word.words c.try_push-beyond.new.self c.loop-word.yielded c.in-Some.word c.try_push-beyond.result c.try_push-beyond.ensures.variant.0 c.try_push-beyond.ensures.ok
-    c.try_push-beyond.ensures.err c.try_push-beyond.ensures.full c.loop-word.invariant
+    let next =
+    pushed c.loop-word.words c.try_push-beyond.new.self (parts_in 32 c.loop-word.rest) (parts_in 32 c.in-Some.after) (take 7 (words_of c.args.body.now)) c.in-Some.word c.try_push-beyond.result
+    c.try_push-beyond.ensures.variant.0 c.try_push-beyond.ensures.ok c.try_push-beyond.ensures.err c.try_push-beyond.ensures.full c.in-Some.ensures c.loop-word.invariant.taken in
+    record { room = next.0; taken = next.1 }
 
 pub returns : goal.returns
-returns c =
-    let parted = YieldsList-from_slice_split _ (λ b. nat_eq b 32) c.args.body.now (cc) (cc) (cc) (λ x r q k. search (rules, tests)) in
-    let e = YieldsList-end parted c.loop-word.yielded _ c.loop-word.yielded_by _ _ c.in-None.is c.next.ensures.steps in
-    c.loop-word.invariant ∙ ap (take 7) e.0
+returns c = none_left c.loop-word.words.items (parts_in 32 c.loop-word.rest) (take 7 (words_of c.args.body.now)) c.loop-word.invariant.room c.in_default.ensures c.loop-word.invariant.taken
