@@ -11,6 +11,7 @@ use crate::works::Works;
 use arrayvec::ArrayVec;
 use pm_disk::Disk;
 use pm_reclaim::{WATCH_ROOM, tell_watches};
+use pm_space::Space;
 use pm_types::{Entry, NoMemory, Watch, WatchLine};
 use std::snapshot::Snapshot;
 
@@ -41,6 +42,7 @@ impl<D: Disk, F: Drop> Engine<D, F> {
     ghost use Rattle.pm_view.specs.Counts.{old, standing};
     ghost use Rattle.pm_view.specs.Watches.{lines_from};
     ghost use Rattle.pm_base.specs.Counts.{capped};
+    ghost use Rattle.pm_space.specs.Shown.{view};
     ghost use Rattle.pm_engine.specs.Shown.{KeepsStart, disk_in, opened_count, opened_disk, room, serving};
     ghost use Rattle.pm_engine.specs.Shown.{tally_in, tally_of};
 
@@ -118,13 +120,15 @@ impl<D: Disk, F: Drop> Engine<D, F> {
         Ok(())
     }
 
-    /// The disk, the journal, and what the engine came to. Where as many collections were completed since a watch was set
-    /// as its bound says, no object of a train of that time stands.
-    pub fn into_parts(self) -> (D, Vec<Entry>, Tally)
+    /// The disk, the journal, what the engine came to, and its heap. Where as many collections were completed since a
+    /// watch was set as its bound says, no object of a train of that time stands. To drop the heap takes time for each of
+    /// its objects, so a caller whose process ends may leave it.
+    pub fn into_parts(self) -> (D, Vec<Entry>, Tally, Space<F>)
         ensures disk { result.0 ≡ disk_in self }
         ensures journal { result.1.items ≡ (serving self).journal }
         ensures tally { tally_of result.2 ≡ tally_in (serving self) }
         ensures honest { AllByRecursion IsHonest (tally_of result.2).lines }
+        ensures heap { view result.3.parts ≡ (serving self).view }
     {
         let Engine { works, .. } = self;
         let entries = works.journal.len() as u64;
@@ -140,7 +144,7 @@ impl<D: Disk, F: Drop> Engine<D, F> {
             course: works.course,
             saver: Snapshot::of(&works.saver),
         };
-        (works.pages.into_disk(), works.journal, tally)
+        (works.pages.into_disk(), works.journal, tally, works.space)
     }
 
     /// A law of the engine at any time: it serves the world of its journal. So in the world that was opened whatever is

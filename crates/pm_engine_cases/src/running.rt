@@ -179,7 +179,7 @@ fn push_served<D: Disk + Drop, F: Fn(&[u64]) -> usize + Drop>(
     requires { IsChooser F.Fn (chooser engine) }
 {
     let said = push_copy(alloc, &mut engine, number, lines, after, out);
-    let (disk, _journal, tally) = engine.into_parts();
+    let (disk, _journal, tally, _heap) = engine.into_parts();
     said?;
     if after == AfterFault::GoOn {
         push_tally(&tally, out)?;

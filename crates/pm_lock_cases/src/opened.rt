@@ -42,7 +42,7 @@ pub(crate) fn open<D: Disk + Drop, F: Fn(&[u64]) -> usize + Drop>(
 
 /// Lets an engine go, and hands its disk back.
 pub(crate) fn disk_of<D: Disk + Drop, F: Drop>(engine: Engine<D, F>) -> D {
-    let (disk, _journal, _tally) = engine.into_parts();
+    let (disk, _journal, _tally, _heap) = engine.into_parts();
     disk
 }
 

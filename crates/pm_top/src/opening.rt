@@ -19,6 +19,7 @@ use pm_io::{Sink, Source};
 use pm_place::Placement;
 use pm_script::Line;
 use std::alloc::Global;
+use std::mem;
 
 // Runs the lines over an engine that was just opened, on a disk with this count of failed calls.
 fn run_engine<D: Disk, F: Fn(&[u64]) -> usize + Drop, S: Source, K: Sink>(
@@ -46,7 +47,9 @@ fn run_engine<D: Disk, F: Fn(&[u64]) -> usize + Drop, S: Source, K: Sink>(
     let outcome = write_lines(alloc, writes, lines, &mut engine, &mut sink);
     let sink_after = sink.faults();
     engine.keep_their_images();
-    let (disk, journal, tally) = engine.into_parts();
+    let (disk, journal, tally, heap) = engine.into_parts();
+    // The process ends behind its run, and gives all memory back at once.
+    mem::forget(heap);
     let detail = ended_by(outcome, disk_before, disk.faults(), sink_before, sink_after);
     end_with(detail, journal, Some(tally), disk, source, sink)
 }

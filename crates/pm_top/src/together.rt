@@ -21,6 +21,7 @@ use pm_script::Script;
 use pm_threads::run_script;
 use pm_turns::Gate;
 use std::alloc::Global;
+use std::mem;
 use std::sync::Wait;
 use std::thread::Threads;
 
@@ -62,7 +63,9 @@ fn run_engine<
     let (outcome, engine) = run_script(rt, alloc, script, engine, &mut sink, gate);
     let sink_after = sink.faults();
     engine.keep_their_images();
-    let (disk, journal, tally) = engine.into_parts();
+    let (disk, journal, tally, heap) = engine.into_parts();
+    // The process ends behind its run, and gives all memory back at once.
+    mem::forget(heap);
     let detail = ended_by(outcome, disk_before, disk.faults(), sink_before, sink_after);
     end_with(detail, journal, Some(tally), disk, source, sink)
 }
