@@ -1,5 +1,5 @@
 -- What the heap law gives for the next event.
-use Rattle.std.proofs.Common.{◌≡◌, ℕ, ◌<◌, true, false, refl, ap, sym, subst, ◌∙◌, List, [], ◌∷◌, length, Option, Some, None, IsSome, IsSomeAnd, is_some}
+use Rattle.std.proofs.Common.{◌≡◌, ℕ, true, false, refl, ap, sym, subst, ◌∙◌, List, [], ◌∷◌, Option, Some, None, IsSome, IsSomeAnd, is_some}
 use Rattle.std.specs.Option.{option_map, option_and_then, option_flatten, unwrap_or}
 use Rattle.std.specs.List.{slice_get}
 use Rattle.std.specs.List as list
@@ -13,11 +13,11 @@ use Rattle.pm_types.specs.declared.source.RefSource.TheVariants.{Root, Handle, F
 use Rattle.pm_types.specs.declared.source.Change.{Change}
 use Rattle.pm_cars.specs.Cars.{Car, object_of}
 use Rattle.pm_cars.specs.Entries.{holds_object}
-use Rattle.pm_trains.specs.Trains.{cars_at, first_car, oldest, train_of}
+use Rattle.pm_trains.specs.Trains.{first_car, oldest, train_of}
 use Rattle.pm_remset.specs.Remembered.{FindsFirstThat}
 use Rattle.pm_remset.proofs.First.{first_found}
 use Rattle.pm_law_rows.proofs.OpenTrain.{first_home}
-use Rattle.pm_view.specs.declared.phase.Phase.TheVariants.{Draining, Moving, Sweeping}
+use Rattle.pm_view.specs.declared.phase.Phase.TheVariants.{Moving, Sweeping}
 use Rattle.pm_view.specs.View.{Sources, SpaceView}
 use Rattle.pm_view.specs.Reading.{slot_at, object_at, stored, is_aside, aside_in}
 use Rattle.pm_view.specs.Effective.{effective_in}
@@ -25,19 +25,11 @@ use Rattle.pm_view.specs.Sources.{slot_in}
 use Rattle.pm_view.specs.Law.{HeapLaw, IsPhaseOf, IsFront, IsOldest}
 use Rattle.pm_view.specs.Candidates.{set_of, queue_of}
 use Rattle.pm_view.specs.Events.{went, has_gone, named_in, least_stale, to_fix, lowest_live}
-use Rattle.pm_law_phases.proofs.PhaseRows.{oldest_has}
 use Rattle.pm_space.specs.Shown.{IsThere}
-use Rattle.pm_space.proofs.HeldCars.{some_and}
-use Rattle.pm_evac.proofs.Searches.{found_there}
-use Rattle.pm_evac.proofs.Lowest.{holds_some}
+use Rattle.pm_next.proofs.Searches.{found_there}
+use Rattle.pm_next.proofs.Lowest.{holds_some}
 
 module _ (v : SpaceView) (law : HeapLaw v) where
-  -- a train that is drained stands
-  pub drained_stands : (train : ℕ) → v.phase ≡ Draining train → IsSome (cars_at v.trains.trains train)
-  drained_stands train at =
-      let oldest : IsPhaseOf (Draining train) v.trains.trains v.anchor = subst (λ p. IsPhaseOf p v.trains.trains v.anchor) at law.phase in
-      some_and (cars_at v.trains.trains train) (λ cars. 0 < length cars) (oldest_has 0 train v.trains.trains law.built.trains.rising oldest.0)
-
   -- a car that is in a train stands
   pub car_stands : (car : ℕ) → IsSome (train_of v.trains.trains car) → IsSome (get v.cars car)
   car_stands car there = sym (law.built.linked car) ∙ there

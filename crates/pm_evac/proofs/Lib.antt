@@ -1,17 +1,10 @@
 pub mod Views
 pub mod Fields
 pub mod Swept
-pub mod Searches
 pub mod Quiet
 pub mod Sole
-pub mod Lowest
-pub mod Fixes
 pub mod Lawful
 pub mod Counting
-pub mod Beyond
-pub mod Skips
-pub mod Choices
-pub mod Homes
 pub mod Carried
 pub mod Places
 pub mod MoveRows

@@ -1,8 +1,5 @@
-pub mod Seen
 pub mod Steps
 pub mod Named
 pub mod Noted
-pub mod Sought
-pub mod Ways
 pub mod Moves
 pub mod Planned

@@ -8,8 +8,8 @@ ghost use Rattle.pm_space.specs.Shown.{view, KeepsRest, MakesRow};
 ghost use Rattle.pm_evac.specs.Noted.{IsAnchored};
 ghost use Rattle.pm_evac.specs.Steps.{IsChosenEvent};
 
-use crate::ways::pick_way;
 use pm_law_collect::there_is_a_train_to_pick;
+use pm_next::pick_way;
 use pm_space::Parts;
 use pm_trains::MOST_TRAINS;
 use pm_types::{Addr, NoMemory, Step};

@@ -1,0 +1,8 @@
+pub mod Searches
+pub mod Lowest
+pub mod Drained
+pub mod Fixes
+pub mod Beyond
+pub mod Skips
+pub mod Choices
+pub mod Homes
