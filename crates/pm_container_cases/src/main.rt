@@ -17,7 +17,7 @@ use pm_case_text::{Fault, first_word, is_silent, push_case, push_refused, refuse
 use queues::{push_long_queue, push_queue};
 use registers::push_registers;
 use roots::{push_all_names, push_roots};
-use sets::{push_long_set, push_set};
+use sets::{push_gathered, push_long_gathered, push_long_set, push_set};
 use std::alloc::{AllocError, Global};
 use std::io::{self, BufRead, BufReader};
 use tables::push_table;
@@ -43,6 +43,8 @@ fn push_small(alloc: Global, step: &str, text: &str, out: &mut String) -> Result
         "registers" => push_registers(alloc, text, out),
         "anchor" => push_anchor(alloc, text, out),
         "pick" => push_pick(alloc, text, out),
+        "gathered" => push_gathered(alloc, text, out),
+        "long-gathered" => push_long_gathered(alloc, text, out),
         _ => Err(refuse("no such step")),
     }
 }

@@ -2,7 +2,7 @@
 
 use crate::spelling::{Calls, push_same, source};
 use pm_case_text::{CallsOf, Fault, first_word, push_calls, push_value, refuse, small};
-use pm_remset::Remset;
+use pm_remset::{Gathering, Remset};
 use pm_types::{Addr, RefSource};
 use std::alloc::Global;
 use std::collections::BTreeMap;
@@ -69,6 +69,26 @@ impl CallsOf<Remset> for Calls {
 pub(crate) fn push_set(alloc: Global, text: &str, out: &mut String) -> Result<(), Fault> {
     let mut set = Remset::new(alloc);
     push_calls::<Calls, _>(alloc, &mut set, text, out)
+}
+
+// A set that is made at once of what it is told: `SOURCE SLOT`, between `, `.
+fn gather(alloc: Global, text: &str) -> Result<Remset, Fault> {
+    let mut gathering = Gathering::new(alloc);
+    for told in text.split(", ") {
+        let (from, slot) = first_word(told);
+        gathering.put(source(from)?, small(slot)?)?;
+    }
+    Ok(gathering.into_set(alloc)?)
+}
+
+/// `TOLD / CALLS`: the calls, as those of `push_set`, of a set that is made at once of what it is told: `SOURCE SLOT`,
+/// between `, `.
+pub(crate) fn push_gathered(alloc: Global, text: &str, out: &mut String) -> Result<(), Fault> {
+    let Some((told, calls)) = text.split_once(" / ") else {
+        return Err(refuse("no call"));
+    };
+    let mut set = gather(alloc, told)?;
+    push_calls::<Calls, _>(alloc, &mut set, calls, out)
 }
 
 // A remembered set, and a plain map beside it.
@@ -149,6 +169,17 @@ fn count_of(alloc: Global, set: &Remset) -> Result<usize, Fault> {
     Ok(found.len())
 }
 
+// The set of so many sources, made at once of what it is told: each source under its number modulo 7, and then under
+// its number modulo 100.
+fn gathered_of(alloc: Global, count: u32) -> Result<Remset, Fault> {
+    let mut gathering = Gathering::new(alloc);
+    for number in 0..count {
+        gathering.put(source_of(number), number % 7)?;
+        gathering.put(source_of(number), number % 100)?;
+    }
+    Ok(gathering.into_set(alloc)?)
+}
+
 // Whether a set answers as a plain map does.
 fn agrees(alloc: Global, beside: &mut Beside, count: u32) -> Result<bool, Fault> {
     put_all(beside, count, 100)?;
@@ -167,5 +198,21 @@ pub(crate) fn push_long_set(alloc: Global, text: &str, out: &mut String) -> Resu
         map: BTreeMap::new(alloc),
     };
     let same = agrees(alloc, &mut beside, small(text)?)?;
+    push_same(same, out)
+}
+
+/// `N`: whether a set that is made at once answers as a plain map does: of N sources over 100 slots, each of which was
+/// told another slot before; then a quarter is taken out.
+pub(crate) fn push_long_gathered(alloc: Global, text: &str, out: &mut String) -> Result<(), Fault> {
+    let count = small(text)?;
+    let mut beside = Beside {
+        set: Remset::new(alloc),
+        map: BTreeMap::new(alloc),
+    };
+    put_all(&mut beside, count, 100)?;
+    beside.set = gathered_of(alloc, count)?;
+    let mut same = is_alike(&beside);
+    same &= is_taken_alike(&mut beside, count);
+    same &= is_alike(&beside);
     push_same(same, out)
 }

@@ -4,3 +4,4 @@ pub mod Finds
 pub mod Nexts
 pub mod Slots
 pub mod First
+pub mod Gathers

@@ -24,7 +24,7 @@ below_all x y [] less h = tt
 below_all x y (k ∷ ks) less h = (sources_total.trans x y k less h.0, below_all x y ks less h.1)
 
 -- a source below all keys is not there
-none_below : (x : RefSource) (es : List (RefSource × ℕ)) → AllByRecursion (λ k. source_cmp x k ≡ Less) (keys_of es) → lookup (is_at (source_cmp x)) es ≡ None
+pub none_below : (x : RefSource) (es : List (RefSource × ℕ)) → AllByRecursion (λ k. source_cmp x k ≡ Less) (keys_of es) → lookup (is_at (source_cmp x)) es ≡ None
 none_below x [] h = refl
 none_below x (e ∷ es) h = ap (λ r. cond (is_eq r) (Some e.1) (lookup (is_at (source_cmp x)) es)) h.0 ∙ none_below x es h.1
 

@@ -1,8 +1,10 @@
 //! What is remembered of a car: the places outside it that store an address in it.
 #![tactic(auto)]
 
+mod gathering;
 mod law;
 mod remset;
 
+pub use gathering::Gathering;
 pub use law::the_first_is_the_least;
 pub use remset::Remset;

@@ -1,5 +1,7 @@
-ghost use Rattle.std.specs.Prelude.{◌≡◌, OnOk, OnErr};
+ghost use Rattle.std.specs.Prelude.{◌≡◌, IfOk, OnOk, OnErr};
 ghost use Rattle.std.specs.FinMap as map;
+ghost use Rattle.pm_remset.specs.Gathered.{gathered};
+ghost use Rattle.pm_remset.specs.Indexed.{IsIndexed};
 ghost use Rattle.pm_remset.specs.Remembered.{FindsLeastOf, FindsAtOrAfter, FindsPassing, AppendsSources};
 
 use pm_types::{NoMemory, RefSource};
@@ -32,6 +34,21 @@ impl Model for Remset {
     ghost invariant = { λ it. IsIndexed it.slots it.index };
 }
 
+// The index of the sources that these are.
+fn index_by_slot(
+    alloc: Global,
+    slots: &BTreeMap<RefSource, u32>,
+) -> Result<BTreeSet<(u32, RefSource)>, NoMemory>
+    ensures { IfOk result (λ index. IsIndexed slots.now index) }
+{
+    let mut pairs = Vec::with_capacity(alloc, slots.len())?;
+    for (source, slot) in slots {
+        pairs.push((*slot, *source))?;
+    }
+    let index = pairs.into_iter().collect(alloc)?;
+    Ok(index)
+}
+
 impl Remset {
     /// A set in which nothing is remembered.
     pub fn new(alloc: Global) -> Remset
@@ -41,6 +58,17 @@ impl Remset {
             slots: BTreeMap::new(alloc),
             index: BTreeSet::new(alloc),
         }
+    }
+
+    /// The set that was told of these sources, each with the slot that it names: of a source that is told
+    /// twice the last one counts. It is made at once, not by one `put` after another: in trees whose nodes
+    /// are full, and, where the list is in order or in the opposite one, with no search in it.
+    pub(crate) fn of_told(alloc: Global, told: Vec<(RefSource, u32)>) -> Result<Remset, NoMemory>
+        ensures { IfOk result (λ set. set ≡ gathered told.items) }
+    {
+        let slots = told.into_iter().collect(alloc)?;
+        let index = index_by_slot(alloc, &slots)?;
+        Ok(Remset { slots, index })
     }
 
     /// How many sources are remembered.

@@ -1,6 +1,6 @@
 -- The parts that were made are a space that is built of the cars and roots.
 use Rattle.std.proofs.Common.{◌≡◌, ℕ, ◌==◌, true, false, cond, List, [], ◌∷◌, ◌++◌, Option, Some, None, is_some, refl, sym, ap, subst, ◌∙◌}
-use Rattle.std.specs.Option.{option_map}
+use Rattle.std.specs.Option.{option_map, unwrap_or}
 use Rattle.std.specs.List.{AllByRecursion}
 use Rattle.std.specs.Cmp.{nat_cmp_total, eq_by_cmp_equiv}
 use Rattle.std.specs.Ordering.{nat_cmp, eq_by_cmp}
@@ -18,7 +18,7 @@ use Rattle.pm_trains.specs.Trains.{Trains}
 use Rattle.pm_trains.proofs.Order.{differ as differs, agree}
 use Rattle.pm_view.specs.declared.phase.Phase.TheVariants.{Idle}
 use Rattle.pm_view.specs.Sources.{outside, slot_in}
-use Rattle.pm_view.specs.View.{Cars, Registers, Sources, SpaceView}
+use Rattle.pm_view.specs.View.{Cars, Registers, Sources, Sets, SpaceView}
 use Rattle.pm_view.specs.Reading.{stored}
 use Rattle.pm_copies.specs.Built.{Placed, CarsDiffer, built_cars, built_trains, IsBuiltOf}
 use Rattle.pm_law_copies.specs.Storing.{Stored, stores, remembering, stored_of}
@@ -73,9 +73,13 @@ mapped_is : {X Y : Type 0} (o : Option X) (y z : Y) → option_map (λ _. y) o �
 mapped_is None y z is = cc
 mapped_is (Some x) y z is = same_Some y z is
 
--- nothing is remembered where cars were just linked
-pub just_linked : (cars : Cars) (links : Linked) → AreLinked cars links → Remember cars links []
-just_linked cars links linked = record { sets = linked.sets; queues = linked.queues }
+same_set : (o : Option Car) (given : Option Sources) (set : Sources) → given ≡ option_map (λ _. set) o → option_map (λ _. unwrap_or given empty) o ≡ option_map (λ _. set) o
+same_set None given set is = refl
+same_set (Some car) given set is = ap (λ (g : Option Sources). Some (unwrap_or g empty)) is
+
+-- linked cars remember what was told to the sets that they were given
+pub linked_remember : (cars : Cars) (given : Sets) (links : Linked) (stored : List Stored) → AreLinked cars given links → Remember cars given stored → Remember cars (sets_of links) stored
+linked_remember cars given links stored linked remember = record { each = λ n. linked.sets n ∙ same_set (get cars n) (get given n) (remembering stored n) (remember.each n) }
 
 -- what is stored where no register holds anything
 stored_is : (cars : Cars) (roots : Bindings) (view : SpaceView) → view.cars ≡ cars → view.roots ≡ roots → view.registers ≡ empty → (x : RefSource) → stores cars roots x ≡ stored view x
@@ -85,16 +89,16 @@ stored_is cars roots view same_cars same_roots none (Field a i) = ap (λ (m : Ca
 
 module _ (placed : List Placed) (named : List (List ℕ × Addr)) (next : ℕ) (cars : Cars) (links : Linked) (trains : Trains) (roots : Bindings) (registers : Registers) (anchor : Option (Addr × ℕ))
     (placed_differ : CarsDiffer placed) (cars_are : cars ≡ built_cars placed) (trains_are : trains ≡ built_trains placed) (roots_are : addresses roots ≡ from_entries named) (differ : AllNumbersDiffer roots)
-    (remember : Remember (built_cars placed) links (stored_of (rows placed) roots ++ [])) (no_registers : registers ≡ empty) (no_anchor : anchor ≡ None) where
+    (remember : Remember (built_cars placed) (sets_of links) (stored_of (rows placed) roots ++ [])) (no_changes : (car : ℕ) → get (queues_of links) car ≡ option_map (λ _. []) (get (built_cars placed) car)) (no_registers : registers ≡ empty) (no_anchor : anchor ≡ None) where
   made : SpaceView
   made = record { cars = cars; sets = sets_of links; queues = queues_of links; trains = trains; roots = roots; registers = registers; anchor = anchor; phase = Idle; next = next; completed = 0 }
 
   all : List Stored
   all = stored_of (rows placed) roots
 
-  told : Remember cars links all
+  told : Remember cars (sets_of links) all
   unfolding all
-  told = subst (λ (m : Cars). Remember m links (stored_of (rows placed) roots)) (sym cars_are) (subst (Remember (built_cars placed) links) (append-nil (stored_of (rows placed) roots)) remember)
+  told = subst (λ (m : Cars). Remember m (sets_of links) (stored_of (rows placed) roots)) (sym cars_are) (subst (Remember (built_cars placed) (sets_of links)) (append-nil (stored_of (rows placed) roots)) remember)
 
   are : AreCars cars roots (rows placed)
   are = subst (λ (m : Cars). AreCars m roots (rows placed)) (sym cars_are) (rows_are placed roots placed_differ)
@@ -102,7 +106,7 @@ module _ (placed : List Placed) (named : List (List ℕ × Addr)) (next : ℕ) (
   remembered : (car : ℕ) (set : Sources) (x : RefSource) → get (sets_of links) car ≡ Some set → get set x ≡ cond (outside car x) (slot_in car (stored made x)) None
   unfolding made all
   remembered car set x is =
-      ap (λ (s : Sources). get s x) (sym (mapped_is (get cars car) (remembering all car) set (sym (told.sets car) ∙ is)))
+      ap (λ (s : Sources). get s x) (sym (mapped_is (get cars car) (remembering all car) set (sym (told.each car) ∙ is)))
       ∙ remembers_of cars roots (rows placed) are differ car x
       ∙ ap (λ o. cond (outside car x) (slot_in car o) None) (stored_is cars roots made refl refl no_registers x)
 
@@ -114,9 +118,9 @@ module _ (placed : List Placed) (named : List (List ℕ × Addr)) (next : ℕ) (
     roots = roots_are;
     fresh = record {
       numbers = differ;
-      sets = λ car. ap is_some (told.sets car) ∙ mapped_some (get cars car) (remembering all car);
+      sets = λ car. ap is_some (told.each car) ∙ mapped_some (get cars car) (remembering all car);
       remembered = remembered;
-      queues = told.queues;
+      queues = λ car. no_changes car ∙ ap (λ (m : Cars). option_map (λ _. []) (get m car)) (sym cars_are);
       registers = no_registers;
       anchor = no_anchor;
       phase = refl;

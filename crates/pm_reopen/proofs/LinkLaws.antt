@@ -1,18 +1,19 @@
 -- The table of the cars and what they have beside them.
 use Rattle.std.proofs.Common.{◌≡◌, ℕ, zero, suc, ◌<◌, ◌≤◌, ◌-◌, ◌==◌, true, false, cond, List, [], ◌∷◌, ◌++◌, length, map, drop, get_or, Option, Some, None, refl, sym, ap, subst, ◌∙◌, arith}
 use Rattle.std.proofs.Math.ListN.{drop_of_length-le}
-use Rattle.std.specs.Option.{option_map}
+use Rattle.std.specs.Option.{option_map, unwrap_or}
 use Rattle.std.proofs.lemmas.List.{append-nil}
 use Rattle.std.specs.List.{AllByRecursion}
 use Rattle.std.specs.Cmp.{nat_cmp_total}
 use Rattle.std.specs.Ordering.{nat_cmp, eq_by_cmp}
-use Rattle.std.specs.FinMap.{FinMap, get, insert, empty, get-insert, get-empty, get-from_entries, nat_cmp-IsAntisymmetric}
+use Rattle.std.proofs.lemmas.Bool.{eqb-true}
+use Rattle.std.specs.FinMap.{FinMap, get, insert, remove, empty, get-insert, get-remove, get-empty, get-from_entries, nat_cmp-IsAntisymmetric}
 use Rattle.std.specs.FinMap.Entries.{find}
 use Rattle.pm_base.specs.Mapped.{mapped}
 use Rattle.pm_base.proofs.Mapped.{get-mapped, mapped-insert, mapped-empty}
 use Rattle.pm_types.specs.declared.source.Change.{Change}
 use Rattle.pm_cars.specs.Cars.{Car, CarAndSpare}
-use Rattle.pm_view.specs.View.{Cars, Sources}
+use Rattle.pm_view.specs.View.{Cars, Sources, Sets}
 use Rattle.pm_copies.specs.Built.{Placed, IsFull, CarsDiffer, built_cars}
 use Rattle.pm_law_copies.proofs.Lists.{nat_turned}
 use Rattle.pm_snap.specs.Snapped.{Snapped}
@@ -22,6 +23,7 @@ use Rattle.pm_space.specs.Shown.{car_of, cars_of}
 use Rattle.pm_graphs.proofs.Lists.{second_all}
 use Rattle.pm_reopen.specs.Lists.{placed_of, rows}
 use Rattle.pm_reopen.specs.Linking.{AreLinked}
+use Rattle.pm_reopen.specs.Remembering.{Remember}
 use Rattle.pm_reopen.proofs.Ends.{drop_back, map_dropped, last_taken}
 
 -- ---- a car that is not there
@@ -35,8 +37,8 @@ pub not_held : (table : Snapped Held) (n : ℕ) → get (cars_of table) n ≡ No
 not_held table n none = not_mapped car_of (get table.current n) (sym (get-mapped nat_cmp car_of table.current n) ∙ none)
 
 -- and no links
-not_linked : (cars : Cars) (links : Linked) (n : ℕ) → AreLinked cars links → get cars n ≡ None → get links n ≡ None
-not_linked cars links n linked none = not_mapped set_of (get links n) (sym (get-mapped nat_cmp set_of links n) ∙ linked.sets n ∙ ap (option_map (λ _. empty)) none)
+not_linked : (cars : Cars) (given : Sets) (links : Linked) (n : ℕ) → AreLinked cars given links → get cars n ≡ None → get links n ≡ None
+not_linked cars given links n linked none = not_mapped set_of (get links n) (sym (get-mapped nat_cmp set_of links n) ∙ linked.sets n ∙ ap (option_map (λ _. unwrap_or (get given n) empty)) none)
 
 no_row : (placed : List Placed) (n : ℕ) → AllByRecursion (λ (other : Placed). (other.1.number == n) ≡ false) placed → find nat_cmp n (rows placed) ≡ None
 no_row [] n all = refl
@@ -58,18 +60,47 @@ added xs ys y n x same q =
     ∙ elim (eq_by_cmp nat_cmp q n) as (λ b. cond b (Some y) (get ys q) ≡ option_map (λ _. y) (cond b (Some x) (get xs q))) [ true ↦ refl | false ↦ same q ]
     ∙ sym (ap (option_map (λ _. y)) (get-insert nat_cmp_total xs n x q))
 
--- a car more, with links in which nothing is
-linked_more : (cars : Cars) (old new : Linked) (n : ℕ) (car : Car) → AreLinked cars old → sets_of new ≡ insert (sets_of old) n empty → queues_of new ≡ insert (queues_of old) n [] → AreLinked (insert cars n car) new
-linked_more cars old new n car linked sets queues = record {
-  sets = λ q. ap (λ (m : FinMap nat_cmp Sources). get m q) sets ∙ added cars (sets_of old) empty n car linked.sets q;
+at_inserted : {X : Type 0} (m : FinMap nat_cmp X) (n : ℕ) (x : X) (q : ℕ) → get (insert m n x) q ≡ cond (n == q) (Some x) (get m q)
+at_inserted m n x q = get-insert nat_cmp_total m n x q ∙ ap (λ b. cond b (Some x) (get m q)) (sym (nat_turned n q))
+
+-- a car more, with the set that is given for it and no change
+linked_more : (cars : Cars) (given : Sets) (old new : Linked) (n : ℕ) (car : Car) (set : Sources) → set ≡ unwrap_or (get given n) empty → AreLinked cars given old → sets_of new ≡ insert (sets_of old) n set → queues_of new ≡ insert (queues_of old) n []
+    → AreLinked (insert cars n car) given new
+linked_more cars given old new n car set is linked sets queues = record {
+  sets = λ q.
+      ap (λ (m : Sets). get m q) sets
+      ∙ get-insert nat_cmp_total (sets_of old) n set q
+      ∙ ap (λ b. cond b (Some set) (get (sets_of old) q)) (sym (nat_turned n q))
+      ∙ elim (n == q) as (λ b. (n == q) ≡ b → cond b (Some set) (get (sets_of old) q) ≡ option_map (λ _. unwrap_or (get given q) empty) (cond b (Some car) (get cars q))) [
+        | true ↦ λ same. ap Some is ∙ ap (λ (m : ℕ). Some (unwrap_or (get given m) empty)) (eqb-true n q same)
+        | false ↦ λ apart. linked.sets q
+      ] refl
+      ∙ sym (ap (option_map (λ _. unwrap_or (get given q) empty)) (at_inserted cars n car q));
   queues = λ q. ap (λ (m : FinMap nat_cmp (List Change)). get m q) queues ∙ added cars (queues_of old) [] n car linked.queues q;
 }
 
+-- the sets that are left are those that were given, but for these cars
+abbrev pub AreLeft : Cars → Sets → Sets → Type 0
+AreLeft cars given left = (n : ℕ) → get cars n ≡ None → get left n ≡ get given n
+
+-- a car more, whose set was taken
+left_more : (cars : Cars) (given left : Sets) (n : ℕ) (car : Car) → AreLeft cars given left → AreLeft (insert cars n car) given (remove left n)
+left_more cars given left n car are q none =
+    get-remove nat_cmp_total left n q
+    ∙ ap (λ b. cond b None (get left q)) (sym (nat_turned n q))
+    ∙ elim (n == q) as (λ b. (n == q) ≡ b → cond b None (get left q) ≡ get given q) [
+      | true ↦ λ same. absurd (let clash : Some car ≡ None = sym (ap (λ b. cond b (Some car) (get cars q)) same) ∙ sym (at_inserted cars n car q) ∙ none in cc)
+      | false ↦ λ apart. are q (sym (ap (λ b. cond b (Some car) (get cars q)) apart) ∙ sym (at_inserted cars n car q) ∙ none)
+    ] refl
+
 -- ---- no car
 
-none_linked : (links : Linked) → links ≡ empty → AreLinked (built_cars []) links
-none_linked links no_links = record {
-  sets = λ q. ap (λ (m : Linked). get (mapped set_of m) q) no_links ∙ ap (λ (m : FinMap nat_cmp Sources). get m q) (mapped-empty nat_cmp set_of) ∙ get-empty nat_cmp q ∙ sym (ap (option_map (λ _. empty)) (get-empty nat_cmp q));
+no_cars : (sets : Sets) → sets ≡ empty → Remember (built_cars []) sets []
+no_cars sets none = record { each = λ q. ap (λ (m : Sets). get m q) none ∙ get-empty nat_cmp q ∙ sym (ap (option_map (λ _. empty)) (get-empty nat_cmp q)) }
+
+none_linked : (given : Sets) (links : Linked) → links ≡ empty → AreLinked (built_cars []) given links
+none_linked given links no_links = record {
+  sets = λ q. ap (λ (m : Linked). get (mapped set_of m) q) no_links ∙ ap (λ (m : FinMap nat_cmp Sources). get m q) (mapped-empty nat_cmp set_of) ∙ get-empty nat_cmp q ∙ sym (ap (option_map (λ _. unwrap_or (get given q) empty)) (get-empty nat_cmp q));
   queues = λ q. ap (λ (m : Linked). get (mapped queue_of m) q) no_links ∙ ap (λ (m : FinMap nat_cmp (List Change)). get m q) (mapped-empty nat_cmp queue_of) ∙ get-empty nat_cmp q ∙ sym (ap (option_map (λ _. [])) (get-empty nat_cmp q));
 }
 
@@ -81,26 +112,49 @@ differ_dropped [] (suc i) differ = tt
 differ_dropped (one ∷ placed) zero differ = differ
 differ_dropped (one ∷ placed) (suc i) differ = differ_dropped placed i differ.1
 
--- the cars from this place on are linked
-abbrev pub LinkedFrom : List (ℕ × CarAndSpare) → ℕ → Linked → Type 0
-LinkedFrom cars left links = AreLinked (built_cars (map placed_of (drop left cars))) links
+-- the cars from this place on
+abbrev pub cars_from : List (ℕ × CarAndSpare) → ℕ → Cars
+cars_from cars left = built_cars (map placed_of (drop left cars))
 
-pub linked_none : (cars : List (ℕ × CarAndSpare)) (links : Linked) → links ≡ empty → LinkedFrom cars (length cars) links
-linked_none cars links none = subst (λ (left : List (ℕ × CarAndSpare)). AreLinked (built_cars (map placed_of left)) links) (sym (drop_of_length-le cars (omega arith))) (none_linked links none)
+past_all : (cars : List (ℕ × CarAndSpare)) → drop (length cars) cars ≡ []
+past_all cars = drop_of_length-le cars (omega arith)
 
-module _ (cars : List (ℕ × CarAndSpare)) (differ : CarsDiffer (map placed_of cars)) (left : ℕ) (x : ℕ × CarAndSpare) (some : 0 < left) (inside : left ≤ length cars) (is : x ≡ get_or cars (left - 1) x) where
-  differ_here : CarsDiffer (placed_of x ∷ map placed_of (drop left cars))
-  differ_here = subst CarsDiffer (sym (map_dropped placed_of cars (left - 1)) ∙ ap (map placed_of) (drop_back cars left x some inside is)) (differ_dropped (map placed_of cars) (left - 1) differ)
+pub gathered_none : (cars : List (ℕ × CarAndSpare)) (sets : Sets) → sets ≡ empty → Remember (cars_from cars (length cars)) sets []
+gathered_none cars sets none = subst (λ (left : List (ℕ × CarAndSpare)). Remember (built_cars (map placed_of left)) sets []) (sym (past_all cars)) (no_cars sets none)
 
-  -- the next car has no links yet
-  pub link_new : (links : Linked) → LinkedFrom cars left links → get links x.1.car.number ≡ None
-  link_new links linked = not_linked (built_cars (map placed_of (drop left cars))) links x.1.car.number linked (not_built (map placed_of (drop left cars)) x.1.car.number differ_here.0)
+pub linked_none : (cars : List (ℕ × CarAndSpare)) (given : Sets) (links : Linked) → links ≡ empty → AreLinked (cars_from cars (length cars)) given links
+linked_none cars given links none = subst (λ (left : List (ℕ × CarAndSpare)). AreLinked (built_cars (map placed_of left)) given links) (sym (past_all cars)) (none_linked given links none)
 
-  -- and is linked
-  pub link_more : (old new : Linked) → LinkedFrom cars left old → sets_of new ≡ insert (sets_of old) x.1.car.number empty → queues_of new ≡ insert (queues_of old) x.1.car.number [] → LinkedFrom cars (left - 1) new
-  link_more old new linked sets queues =
-      subst (λ (left : List (ℕ × CarAndSpare)). AreLinked (built_cars (map placed_of left)) new) (sym (drop_back cars left x some inside is))
-      (linked_more (built_cars (map placed_of (drop left cars))) old new x.1.car.number x.1.car linked sets queues)
+module _ (cars : List (ℕ × CarAndSpare)) (left : ℕ) (x : ℕ × CarAndSpare) (some : 0 < left) (inside : left ≤ length cars) (is : x ≡ get_or cars (left - 1) x) where
+  -- a set is begun for the next car
+  pub gather_more : (old new : Sets) → Remember (cars_from cars left) old [] → new ≡ insert old x.1.car.number empty → Remember (cars_from cars (left - 1)) new []
+  gather_more old new gathered more =
+      subst (λ (left : List (ℕ × CarAndSpare)). Remember (built_cars (map placed_of left)) new []) (sym (drop_back cars left x some inside is))
+      (record { each = λ q. ap (λ (m : Sets). get m q) more ∙ added (cars_from cars left) old empty x.1.car.number x.1.car gathered.each q })
+
+  module _ (differ : CarsDiffer (map placed_of cars)) where
+    differ_here : CarsDiffer (placed_of x ∷ map placed_of (drop left cars))
+    differ_here = subst CarsDiffer (sym (map_dropped placed_of cars (left - 1)) ∙ ap (map placed_of) (drop_back cars left x some inside is)) (differ_dropped (map placed_of cars) (left - 1) differ)
+
+    -- the next car is not one of those behind it
+    is_next : get (cars_from cars left) x.1.car.number ≡ None
+    is_next = not_built (map placed_of (drop left cars)) x.1.car.number differ_here.0
+
+    -- it has no links yet
+    pub link_new : (given : Sets) (links : Linked) → AreLinked (cars_from cars left) given links → get links x.1.car.number ≡ None
+    link_new given links linked = not_linked (cars_from cars left) given links x.1.car.number linked is_next
+
+    -- and is linked, with the set that is left for it
+    pub link_more : (given sets : Sets) (old new : Linked) (set : Sources) → AreLinked (cars_from cars left) given old → AreLeft (cars_from cars left) given sets → set ≡ unwrap_or (get sets x.1.car.number) empty
+        → sets_of new ≡ insert (sets_of old) x.1.car.number set → queues_of new ≡ insert (queues_of old) x.1.car.number [] → AreLinked (cars_from cars (left - 1)) given new
+    link_more given sets old new set linked others taken more_sets more_queues =
+        subst (λ (left : List (ℕ × CarAndSpare)). AreLinked (built_cars (map placed_of left)) given new) (sym (drop_back cars left x some inside is))
+        (linked_more (cars_from cars left) given old new x.1.car.number x.1.car set (taken ∙ ap (λ (o : Option Sources). unwrap_or o empty) (others x.1.car.number is_next)) linked more_sets more_queues)
+
+    pub take_more : (given sets after : Sets) → AreLeft (cars_from cars left) given sets → after ≡ remove sets x.1.car.number → AreLeft (cars_from cars (left - 1)) given after
+    take_more given sets after others taken =
+        subst (λ (left : List (ℕ × CarAndSpare)). AreLeft (built_cars (map placed_of left)) given after) (sym (drop_back cars left x some inside is))
+        (subst (AreLeft (insert (cars_from cars left) x.1.car.number x.1.car) given) (sym taken) (left_more (cars_from cars left) given sets x.1.car.number x.1.car others))
 
 -- ---- the table
 

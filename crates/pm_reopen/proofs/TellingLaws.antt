@@ -15,20 +15,19 @@ use Rattle.pm_cars.specs.Cars.{Car, slot_room}
 use Rattle.std.proofs.lemmas.List.Sums.{sum_by-cons}
 use Rattle.pm_trains.proofs.Order.{agree}
 use Rattle.pm_view.specs.Sources.{outside}
-use Rattle.pm_view.specs.View.{Cars, Sources, Sets, Queues}
+use Rattle.pm_view.specs.View.{Cars, Sources, Sets}
 use Rattle.pm_law_copies.specs.Storing.{Stored, pick, remembering}
 use Rattle.pm_graphs.proofs.Lists.{drop_here}
 use Rattle.pm_law_copies.proofs.Lists.{nat_turned}
-use Rattle.pm_space.specs.Linked.{Linked, sets_of, queues_of, with_named, with_remembered}
-use Rattle.pm_reopen.specs.Remembering.{Remember, Adds}
+use Rattle.pm_reopen.specs.Remembering.{with_named, with_remembered, Remember, Adds}
 
 -- ---- several sources after others
 
-pub added_both : (old now new : Linked) (first second : List Stored) → Adds old now second → Adds now new first → Adds old new (first ++ second)
+pub added_both : (old now new : Sets) (first second : List Stored) → Adds old now second → Adds now new first → Adds old new (first ++ second)
 added_both old now new first second one two cars stored is = subst (Remember cars new) (sym (append_assoc first second stored)) (two cars (second ++ stored) (one cars stored is))
 
-pub added_none : (links : Linked) → Adds links links []
-added_none links cars stored is = is
+pub added_none : (sets : Sets) → Adds sets sets []
+added_none sets cars stored is = is
 
 -- ---- one source more
 
@@ -48,45 +47,41 @@ module _ (source : RefSource) (to : Addr) where
   here : (stored : List Stored) → outside to.car source ≡ true → remembering ((source, to) ∷ stored) to.car ≡ insert (remembering stored to.car) source to.slot
   here stored out = ap (λ b. from_entries (cond b ((source, to.slot) ∷ []) [] ++ flat_map (pick to.car) stored)) (λ i. out i && agree to.car to.car refl i)
 
-  module _ (out : outside to.car source ≡ true) (cars : Cars) (stored : List Stored) (old new : Linked) (is : Remember cars old stored)
-      (more_sets : sets_of new ≡ with_remembered (sets_of old) to.car source to.slot) (same_queues : queues_of new ≡ queues_of old) where
-    no_more : (n : ℕ) → get (queues_of new) n ≡ option_map (λ _. []) (get cars n)
-    no_more n = ap (λ (m : Queues). get m n) same_queues ∙ is.queues n
-
+  module _ (out : outside to.car source ≡ true) (cars : Cars) (stored : List Stored) (old new : Sets) (is : Remember cars old stored) (more_sets : new ≡ with_remembered old to.car source to.slot) where
     -- a car that does not stand hears nothing
     no_car : get cars to.car ≡ None → Remember cars new ((source, to) ∷ stored)
     no_car none = record {
-      sets = λ n. ap (λ (m : Sets). get m n) sets ∙ is.sets n ∙ elim (to.car == n) as (λ b. (to.car == n) ≡ b → option_map (λ _. remembering stored n) (get cars n) ≡ option_map (λ _. remembering ((source, to) ∷ stored) n) (get cars n)) [
-        | true ↦ λ same.
-            let gone : get cars n ≡ None = ap (get cars) (sym (eqb-true to.car n same)) ∙ none in
-            ap (option_map (λ _. remembering stored n)) gone ∙ sym (ap (option_map (λ _. remembering ((source, to) ∷ stored) n)) gone)
-        | false ↦ λ apart. ap (λ (set : Sources). option_map (λ _. set) (get cars n)) (sym (elsewhere stored n apart))
-      ] refl;
-      queues = no_more;
+      each = λ n.
+          ap (λ (m : Sets). get m n) sets ∙ is.each n ∙ elim (to.car == n) as (λ b. (to.car == n) ≡ b → option_map (λ _. remembering stored n) (get cars n) ≡ option_map (λ _. remembering ((source, to) ∷ stored) n) (get cars n)) [
+            | true ↦ λ same.
+                let gone : get cars n ≡ None = ap (get cars) (sym (eqb-true to.car n same)) ∙ none in
+                ap (option_map (λ _. remembering stored n)) gone ∙ sym (ap (option_map (λ _. remembering ((source, to) ∷ stored) n)) gone)
+            | false ↦ λ apart. ap (λ (set : Sources). option_map (λ _. set) (get cars n)) (sym (elsewhere stored n apart))
+          ] refl;
     }
       where
-        no_set : get (sets_of old) to.car ≡ None
-        no_set = is.sets to.car ∙ ap (option_map (λ _. remembering stored to.car)) none
+        no_set : get old to.car ≡ None
+        no_set = is.each to.car ∙ ap (option_map (λ _. remembering stored to.car)) none
 
-        sets : sets_of new ≡ sets_of old
-        sets = more_sets ∙ ap (λ (o : Option Sources). with_named (sets_of old) to.car o source to.slot) no_set
+        sets : new ≡ old
+        sets = more_sets ∙ ap (λ (o : Option Sources). with_named old to.car o source to.slot) no_set
 
     -- one that stands remembers the source
     a_car : (car : Car) → get cars to.car ≡ Some car → Remember cars new ((source, to) ∷ stored)
     a_car car some = record {
-      sets = λ n. ap (λ (m : Sets). get m n) sets ∙ get-insert nat_cmp_total (sets_of old) to.car (remembering ((source, to) ∷ stored) to.car) n ∙ ap (λ b. cond b (Some (remembering ((source, to) ∷ stored) to.car)) (get (sets_of old) n)) (sym (nat_turned to.car n))
-          ∙ elim (to.car == n) as (λ b. (to.car == n) ≡ b → cond b (Some (remembering ((source, to) ∷ stored) to.car)) (get (sets_of old) n) ≡ option_map (λ _. remembering ((source, to) ∷ stored) n) (get cars n)) [
+      each = λ n.
+          ap (λ (m : Sets). get m n) sets ∙ get-insert nat_cmp_total old to.car (remembering ((source, to) ∷ stored) to.car) n ∙ ap (λ b. cond b (Some (remembering ((source, to) ∷ stored) to.car)) (get old n)) (sym (nat_turned to.car n))
+          ∙ elim (to.car == n) as (λ b. (to.car == n) ≡ b → cond b (Some (remembering ((source, to) ∷ stored) to.car)) (get old n) ≡ option_map (λ _. remembering ((source, to) ∷ stored) n) (get cars n)) [
             | true ↦ λ same. sym (ap (option_map (λ _. remembering ((source, to) ∷ stored) n)) (ap (get cars) (sym (eqb-true to.car n same)) ∙ some) ∙ ap (λ (m : ℕ). Some (remembering ((source, to) ∷ stored) m)) (sym (eqb-true to.car n same)))
-            | false ↦ λ apart. is.sets n ∙ ap (λ (set : Sources). option_map (λ _. set) (get cars n)) (sym (elsewhere stored n apart))
+            | false ↦ λ apart. is.each n ∙ ap (λ (set : Sources). option_map (λ _. set) (get cars n)) (sym (elsewhere stored n apart))
           ] refl;
-      queues = no_more;
     }
       where
-        set : get (sets_of old) to.car ≡ Some (remembering stored to.car)
-        set = is.sets to.car ∙ ap (option_map (λ _. remembering stored to.car)) some
+        set : get old to.car ≡ Some (remembering stored to.car)
+        set = is.each to.car ∙ ap (option_map (λ _. remembering stored to.car)) some
 
-        sets : sets_of new ≡ insert (sets_of old) to.car (remembering ((source, to) ∷ stored) to.car)
-        sets = more_sets ∙ ap (λ (o : Option Sources). with_named (sets_of old) to.car o source to.slot) set ∙ ap (insert (sets_of old) to.car) (sym (here stored out))
+        sets : new ≡ insert old to.car (remembering ((source, to) ∷ stored) to.car)
+        sets = more_sets ∙ ap (λ (o : Option Sources). with_named old to.car o source to.slot) set ∙ ap (insert old to.car) (sym (here stored out))
 
     pub told_more : Remember cars new ((source, to) ∷ stored)
     told_more = by_car (get cars to.car) refl

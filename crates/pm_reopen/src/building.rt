@@ -5,7 +5,7 @@ ghost use Rattle.pm_copies.specs.Built.{MayBuild, IsBuiltOf};
 ghost use Rattle.pm_space.specs.Shown.{view};
 ghost use Rattle.pm_reopen.specs.Lists.{NamesDiffer};
 
-use crate::linking::{link_cars, put_cars};
+use crate::linking::{gather_cars, link_cars, put_cars};
 use crate::naming::bind_roots;
 use crate::remembering::remember;
 use crate::trains::make_trains;
@@ -34,10 +34,11 @@ fn build_parts<F: Drop>(
     ensures place { IfOk result (λ parts. parts.place ≡ place) }
 {
     let trains = make_trains(alloc, cars.as_slice())?;
-    let mut links = link_cars(alloc, cars.as_slice())?;
+    let mut sets = gather_cars(alloc, cars.as_slice())?;
     let bound = bind_roots(alloc, roots)?;
     bound.sound();
-    remember(&mut links, cars.as_slice(), &bound)?;
+    remember(&mut sets, cars.as_slice(), &bound)?;
+    let links = link_cars(alloc, cars.as_slice(), sets)?;
     let table = put_cars(alloc, cars)?;
     let handles = Handles::new(alloc)?;
     Ok(Parts {

@@ -2,6 +2,7 @@
 #![tactic(auto)]
 
 mod building;
+mod gatherings;
 mod leading;
 mod linking;
 mod listed;

@@ -1,30 +1,51 @@
 //! The table of the cars of a space, and what they have beside them.
 
-ghost use Rattle.std.specs.Prelude.{◌≡◌, ◌<◌, map, IfOk, OnOk, None};
+ghost use Rattle.std.specs.Prelude.{◌≡◌, ◌<◌, [], map, IfOk, OnOk, None};
 ghost use Rattle.std.specs.List.{AllByRecursion};
 ghost use Rattle.std.specs.FinMap as finite;
 ghost use Rattle.pm_copies.specs.Built.{Placed, IsFull, CarsDiffer, built_cars};
 ghost use Rattle.pm_space.specs.Shown.{cars_of};
 ghost use Rattle.pm_reopen.specs.Lists.{placed_of};
 ghost use Rattle.pm_reopen.specs.Linking.{AreLinked};
+ghost use Rattle.pm_reopen.specs.Remembering.{Remember};
 
 use crate::CarList;
+use crate::gatherings::Gatherings;
 use pm_cars::Car;
 use pm_snap::Table;
 use pm_space::{Held, LinkTable};
 use pm_types::NoMemory;
 use std::alloc::Global;
 
-/// An empty remembered set and an empty queue for each of these cars.
-pub(crate) fn link_cars(alloc: Global, cars: &[(u64, Car)]) -> Result<LinkTable, NoMemory>
+/// A remembered set for each of these cars, in which nothing is remembered yet.
+pub(crate) fn gather_cars(alloc: Global, cars: &[(u64, Car)]) -> Result<Gatherings, NoMemory>
+    ensures { IfOk result (λ sets. Remember (built_cars (map placed_of cars.now)) sets []) }
+{
+    let mut sets = Gatherings::with_room(alloc, cars.len())?;
+    let mut left = cars.len();
+    while left > 0 {
+        left -= 1;
+        sets.begin(alloc, cars[left].1.number())?;
+    }
+    Ok(sets)
+}
+
+/// The remembered sets of these cars, made of what they were told, and an empty queue for each.
+pub(crate) fn link_cars(
+    alloc: Global,
+    cars: &[(u64, Car)],
+    mut sets: Gatherings,
+) -> Result<LinkTable, NoMemory>
     requires differ { CarsDiffer (map placed_of cars.now) }
-    ensures { IfOk result (AreLinked (built_cars (map placed_of cars.now))) }
+    ensures { IfOk result (AreLinked (built_cars (map placed_of cars.now)) sets) }
 {
     let mut links = LinkTable::new(alloc);
     let mut left = cars.len();
     while left > 0 {
         left -= 1;
-        links.add(alloc, cars[left].1.number(), 0)?;
+        let number = cars[left].1.number();
+        let set = sets.take_set(alloc, number)?;
+        links.add(alloc, number, set, 0)?;
     }
     Ok(links)
 }

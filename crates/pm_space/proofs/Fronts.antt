@@ -1,4 +1,4 @@
--- What is seen of links where a remembered set took the front change of its queue, remembers a source, or forgot one.
+-- What is seen of links where a remembered set took the front change of its queue or forgot a source.
 use Rattle.std.proofs.Common.{◌≡◌, ℕ, refl, ap, sym, ◌∙◌, List, [], ◌∷◌, drop, Option, Some, None, IsSome, Result, Ok, Err, OnErr}
 use Rattle.std.specs.Ordering.{nat_cmp}
 use Rattle.std.specs.Cmp.{nat_cmp_total}
@@ -11,7 +11,7 @@ use Rattle.pm_view.specs.Effective.{with_source}
 use Rattle.pm_view.specs.View.{Sources, Sets, Queues}
 use Rattle.pm_snap.proofs.Shown.{none_is_not_some}
 use Rattle.pm_space.specs.declared.links.Links.{Links}
-use Rattle.pm_space.specs.Linked.{Linked, set_of, queue_of, sets_of, queues_of, waiting, took_front, with_front, with_named, with_remembered, without_front, without_source}
+use Rattle.pm_space.specs.Linked.{Linked, set_of, queue_of, sets_of, queues_of, waiting, took_front, with_front, without_front, without_source}
 use Rattle.pm_space.proofs.Linking.{insert_again, at_car, not_at_car}
 
 took_is : (sets : Sets) (car : ℕ) (set : Sources) (changes : List Change) → get sets car ≡ Some set → insert sets car (took_front set changes) ≡ with_front sets car changes
@@ -49,13 +49,6 @@ module _ (v : Linked) (car : ℕ) (it w : Links) (found : get v car ≡ Some it)
       ∙ ap (insert (sets_of v) car) is
       ∙ ap (λ (o : Option Sources). insert (sets_of v) car (remove (unwrap_or o empty) source)) (sym (at_car set_of v car it found))
 
-  -- the set that remembers a source
-  pub sets_remembered : (source : RefSource) (slot : ℕ) → w.set ≡ insert it.set source slot → sets_of (insert v car w) ≡ with_remembered (sets_of v) car source slot
-  sets_remembered source slot is =
-      mapped-insert nat_cmp set_of nat_cmp_total nat_cmp-IsAntisymmetric v car w
-      ∙ ap (insert (sets_of v) car) is
-      ∙ ap (λ (o : Option Sources). with_named (sets_of v) car o source slot) (sym (at_car set_of v car it found))
-
   -- links that were written as they were
   pub unwritten : w ≡ it → insert v car w ≡ v
   unwritten is = ap (insert v car) is ∙ insert_again v car it found
@@ -63,10 +56,6 @@ module _ (v : Linked) (car : ℕ) (it w : Links) (found : get v car ≡ Some it)
 -- where a car is not there nothing waits
 pub none_waits : (v : Linked) (car : ℕ) → get v car ≡ None → waiting (queues_of v) car ≡ []
 none_waits v car none = ap (λ (o : Option (List Change)). unwrap_or o []) (not_at_car queue_of v car none)
-
--- and nothing is remembered
-pub none_remembers : (v : Linked) (car : ℕ) (source : RefSource) (slot : ℕ) → get v car ≡ None → with_remembered (sets_of v) car source slot ≡ sets_of v
-none_remembers v car source slot none = ap (λ (o : Option Sources). with_named (sets_of v) car o source slot) (not_at_car set_of v car none)
 
 -- a car that has a remembered set is there
 pub has_links : (v : Linked) (car : ℕ) → IsSome (get (sets_of v) car) → get v car ≡ None → ⊥

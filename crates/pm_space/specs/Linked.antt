@@ -110,12 +110,3 @@ without_front queues car (change ∷ changes) = insert queues car changes
 -- the remembered sets where that of a car has forgotten a source
 abbrev pub without_source : Sets → ℕ → RefSource → Sets
 without_source sets car source = insert sets car (remove (unwrap_or (get sets car) empty) source)
-
--- the remembered sets where that of a car, which this is, remembers a source beside the others; where no such car is they stay
-abbrev pub with_named : Sets → ℕ → Option Sources → RefSource → ℕ → Sets
-with_named sets car None source slot = sets
-with_named sets car (Some set) source slot = insert sets car (with_source set source (Some slot))
-
--- the remembered sets where that of a car remembers that a source names this slot of it
-abbrev pub with_remembered : Sets → ℕ → RefSource → ℕ → Sets
-with_remembered sets car source slot = with_named sets car (get sets car) source slot

@@ -2,7 +2,7 @@ ghost use Rattle.std.specs.Prelude.{◌≡◌, ◌==◌, ℕ, cond, [], ◌∷�
 ghost use Rattle.std.specs.Option.{option_copied};
 ghost use Rattle.std.specs.FinMap as map;
 ghost use Rattle.pm_view.specs.Effective.{with_source};
-ghost use Rattle.pm_space.specs.Linked.{sets_of, queues_of, HasRoom, UsesRoom, Tells, waiting, took_front, with_front, with_remembered, without_front, without_source};
+ghost use Rattle.pm_space.specs.Linked.{sets_of, queues_of, HasRoom, UsesRoom, Tells, waiting, took_front, with_front, without_front, without_source};
 
 use pm_delta::Queue;
 use pm_remset::Remset;
@@ -120,11 +120,11 @@ impl LinkTable {
         links.queue.push(change);
     }
 
-    /// Gives links to a car that has none: an empty remembered set, and an empty queue with room for so many
-    /// changes. After want of memory all is as it was.
-    pub fn add(&mut self, alloc: Global, car: u64, room: u64) -> Result<(), NoMemory>
+    /// Gives links to a car that has none: this remembered set, and an empty queue with room for so many
+    /// changes. After want of memory all is as it was, and the set is gone.
+    pub fn add(&mut self, alloc: Global, car: u64, set: Remset, room: u64) -> Result<(), NoMemory>
         requires { map.get self.old car ≡ None }
-        ensures sets { OnOk result (sets_of self.new ≡ map.insert (sets_of self.old) car map.empty) }
+        ensures sets { OnOk result (sets_of self.new ≡ map.insert (sets_of self.old) car set) }
         ensures queues { OnOk result (queues_of self.new ≡ map.insert (queues_of self.old) car []) }
         ensures room { OnOk result (HasRoom self.new car room) }
         ensures others { OnOk result (map.remove self.new car ≡ self.old) }
@@ -132,7 +132,6 @@ impl LinkTable {
     {
         let mut queue = Queue::new(alloc);
         queue.reserve(room)?;
-        let set = Remset::new(alloc);
         match self.links.insert(car, Links { set, queue }) {
             Ok(_) => Ok(()),
             Err(_) => Err(NoMemory),
@@ -152,21 +151,6 @@ impl LinkTable {
             return Ok(());
         };
         take_front(&mut links.set, &mut links.queue)
-    }
-
-    /// The car's remembered set remembers that the source names this slot of the car, in place of the slot that it named
-    /// before; where no such car is, nothing is done. What waits in the queues stays, and so does their room. After want
-    /// of memory all is as it was.
-    pub fn remember(&mut self, car: u64, source: RefSource, slot: u32) -> Result<(), NoMemory>
-        ensures sets { OnOk result (sets_of self.new ≡ with_remembered (sets_of self.old) car source slot) }
-        ensures queues { queues_of self.new ≡ queues_of self.old }
-        ensures kept { (other more : ℕ) → HasRoom self.old other more → HasRoom self.new other more }
-        ensures err { OnErr result (self.new ≡ self.old) }
-    {
-        let Some(links) = self.links.get_mut(&car) else {
-            return Ok(());
-        };
-        links.set.put(source, slot)
     }
 
     /// Takes a source out of the remembered set of a car that has links. It takes no memory.

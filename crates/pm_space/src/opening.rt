@@ -11,6 +11,7 @@ use crate::held::Held;
 use crate::links::LinkTable;
 use crate::parts::Parts;
 use pm_cars::Car;
+use pm_remset::Remset;
 use pm_snap::Table;
 use pm_trains::a_new_train_is_the_youngest;
 use pm_types::NoMemory;
@@ -45,7 +46,7 @@ fn add_car(
 {
     let number = cars.vacant();
     let held = new_held(alloc, number)?;
-    links.add(alloc, number, room)?;
+    links.add(alloc, number, Remset::new(alloc), room)?;
     match cars.add_at(number, held) {
         Ok(()) => Ok(number),
         Err((_, fault)) => {

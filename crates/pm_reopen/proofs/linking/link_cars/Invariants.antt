@@ -1,10 +1,12 @@
 use Rattle.std.proofs.Common.{◌≤◌, length}
-use Rattle.pm_reopen.proofs.LinkLaws.{LinkedFrom}
+use Rattle.pm_reopen.specs.Linking.{AreLinked}
+use Rattle.pm_reopen.proofs.LinkLaws.{cars_from, AreLeft}
 use Rattle.pm_reopen.proofs.linking.link_cars.Given as goal
 
 abbrev pub invariant-loop-left : goal.invariant-loop-left
 invariant-loop-left l = record {
-  linked : LinkedFrom l.cars l.left l.links;
+  linked : AreLinked (cars_from l.cars l.left) l.fn.sets l.links;
+  others : AreLeft (cars_from l.cars l.left) l.fn.sets l.sets;
   inside : l.left ≤ length l.cars;
 }
 

@@ -7,7 +7,7 @@ use Rattle.pm_reopen.proofs.remembering.tell_cars.Given as goal
 
 abbrev pub invariant-loop-left : goal.invariant-loop-left
 invariant-loop-left l = record {
-  so_far : Adds l.initial.links l.links (flat_map car_sources (rows (map placed_of (drop l.left l.cars))));
+  so_far : Adds l.initial.sets l.sets (flat_map car_sources (rows (map placed_of (drop l.left l.cars))));
   inside : l.left ≤ length l.cars;
 }
 

@@ -5,7 +5,7 @@ use Rattle.pm_reopen.proofs.remembering.tell_fields.Given as goal
 
 abbrev pub invariant-loop-left : goal.invariant-loop-left
 invariant-loop-left l = record {
-  so_far : Adds l.initial.links l.links (field_sources l.at l.left (drop l.left l.fields));
+  so_far : Adds l.initial.sets l.sets (field_sources l.at l.left (drop l.left l.fields));
   inside : l.left ≤ length l.fields;
 }
 

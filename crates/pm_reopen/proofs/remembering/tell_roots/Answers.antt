@@ -12,7 +12,7 @@ loop-left-init c =
     let counted = len-entries c.args.roots.now in
     let all = c.len-left.ensures in
     record {
-      so_far = subst (Adds c.args.links.now c.args.links.now) (ap (map root_source) (sym (drop_of_length-le (entries c.args.roots.now) (omega (arith, counted, all))))) (added_none c.args.links.now);
+      so_far = subst (Adds c.args.sets.now c.args.sets.now) (ap (map root_source) (sym (drop_of_length-le (entries c.args.roots.now) (omega (arith, counted, all))))) (added_none c.args.sets.now);
       inside = omega (arith, counted, all);
     }
 
@@ -31,6 +31,6 @@ loop-left-preserved c =
     let inside = l.invariant.inside in
     let here = root_here es l.left _ some c.nth-number.ensures in
     record {
-      so_far = subst (λ (more : List Stored). Adds c.args.links.now c.tell.new.links more) (ap (map root_source) (sym here)) (added_both c.args.links.now l.links c.tell.new.links ((Root c.nth-number.result.1, c.nth-number.result.2) ∷ []) (map root_source (drop l.left es)) l.invariant.so_far c.in_ok-tell.ensures);
+      so_far = subst (λ (more : List Stored). Adds c.args.sets.now c.tell.new.sets more) (ap (map root_source) (sym here)) (added_both c.args.sets.now l.sets c.tell.new.sets ((Root c.nth-number.result.1, c.nth-number.result.2) ∷ []) (map root_source (drop l.left es)) l.invariant.so_far c.in_ok-tell.ensures);
       inside = omega (arith, inside);
     }

@@ -6,7 +6,7 @@ use Rattle.pm_reopen.proofs.remembering.tell_roots.Given as goal
 
 abbrev pub invariant-loop-left : goal.invariant-loop-left
 invariant-loop-left l = record {
-  so_far : Adds l.initial.links l.links (map root_source (drop l.left (entries l.roots)));
+  so_far : Adds l.initial.sets l.sets (map root_source (drop l.left (entries l.roots)));
   inside : l.left ≤ length (entries l.roots);
 }
 

@@ -6,7 +6,7 @@ use Rattle.pm_reopen.proofs.remembering.tell_slots.Given as goal
 
 abbrev pub invariant-loop-left : goal.invariant-loop-left
 invariant-loop-left l = record {
-  so_far : Adds l.initial.links l.links (flat_map (slot_sources l.car) (drop l.left l.slots));
+  so_far : Adds l.initial.sets l.sets (flat_map (slot_sources l.car) (drop l.left l.slots));
   inside : l.left ≤ length l.slots;
 }
 
