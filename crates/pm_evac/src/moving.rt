@@ -59,7 +59,7 @@ fn led_fields(
 ) -> Result<Vec<Option<Addr>>, NoMemory>
     ensures { IfOk result (λ led. led.items ≡ led_fields (cars_of cars.now) from to fields.now) }
 {
-    let mut there = Vec::new(alloc);
+    let mut there = Vec::with_capacity(alloc, fields.len())?;
     for field in fields {
         there.push(led(cars, from, to, *field))?;
     }
