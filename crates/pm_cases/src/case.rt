@@ -1,21 +1,15 @@
 //! A case: its steps, one a line.
 
-use crate::disks::{named, push_digits_at, put_digest_of, seal};
-use crate::drawn::push_drawn;
-use crate::ends::push_memory_text;
-use crate::failing::{Repeated, push_failings, push_fuses};
-use crate::generated::generated;
-use crate::replayed::push_alike;
-use crate::restored::push_round;
-use crate::running::{INIT, RUN, RunEnd, Setting, run, run_on};
-use crate::scripts::{push_read, push_read_lines, push_texts};
-use crate::shown::{push_first, push_last, push_named, push_run, push_run_in_line};
+use pm_case_runs::{
+    INIT, Repeated, RunEnd, Setting, named, opening, push_alike, push_digits_at, push_drawn,
+    push_failings, push_first, push_fuses, push_images, push_last, push_memory_text, push_named,
+    push_read, push_read_lines, push_round, push_run, push_texts, put_digest_of, run_next, seal,
+};
 use pm_case_text::{
-    Count, Fault, counted, first_word, is_silent, number, numbered, patch, push_case, push_lines,
-    raw_bytes, refuse, written_out,
+    Count, Fault, first_word, is_silent, number, numbered, patch, push_case, push_lines, refuse,
+    written_out,
 };
 use std::alloc::Global;
-use std::fmt::Write;
 use std::mem;
 use std::sync::Wait;
 use std::thread::Threads;
@@ -27,31 +21,13 @@ pub(crate) struct Case {
     disk: Vec<u8>,
     /// Those on the other disk.
     other: Vec<u8>,
-    /// With what the next run begins, where a step has said something of it.
-    setting: Option<Setting>,
+    /// With what the next run begins.
+    setting: Setting,
     /// The script with which a disk is looked at that failed.
     look: Vec<u8>,
     /// How the last run ended, and whether it changed the disk's bytes.
     last: Option<RunEnd>,
     changed: bool,
-}
-
-// The script of these lines.
-fn script_of(alloc: Global, lines: &str) -> Result<Vec<u8>, Fault> {
-    let mut script = Vec::new(alloc);
-    push_lines(&mut script, lines)?;
-    Ok(script)
-}
-
-// Runs over a disk with one script, and nothing fails.
-fn run_lines<R: AllocGlobal + Threads + Wait + Sync>(
-    rt: &R,
-    disk: Vec<u8>,
-    lines: &str,
-) -> Result<RunEnd, Fault> {
-    let script = script_of(rt.alloc(), lines)?;
-    let setting = Setting::with_script(rt.alloc(), RUN, script)?;
-    run(rt, disk, setting)
 }
 
 // The last run.
@@ -60,40 +36,6 @@ fn ended(last: &Option<RunEnd>) -> Result<&RunEnd, Fault> {
         Some(run) => Ok(run),
         None => Err(refuse("no run before")),
     }
-}
-
-// The number of a call. One with a plus is counted from behind `opening` calls.
-fn call_number(word: &str, opening: u64) -> Result<u64, Fault> {
-    match word.strip_prefix('+') {
-        Some(later) => Ok(opening.saturating_add(number(later)?)),
-        None => number(word),
-    }
-}
-
-// Adds the numbers of calls.
-fn push_call_numbers(numbers: &mut Vec<u64>, text: &str, opening: u64) -> Result<(), Fault> {
-    for word in text.split(' ') {
-        let call = call_number(word, opening)?;
-        numbers.push(call)?;
-    }
-    Ok(())
-}
-
-// The numbers of calls.
-fn call_numbers(alloc: Global, text: &str, opening: u64) -> Result<Vec<u64>, Fault> {
-    let mut numbers = Vec::new(alloc);
-    push_call_numbers(&mut numbers, text, opening)?;
-    Ok(numbers)
-}
-
-// Adds the lines N times, each time with its number, from 0, in place of `%`.
-fn push_times(alloc: Global, script: &mut Vec<u8>, text: &str) -> Result<(), Fault> {
-    let (times, lines) = numbered(text)?;
-    for time in 0..times {
-        let counted = counted(alloc, lines, time)?;
-        push_lines(script, counted.as_str())?;
-    }
-    Ok(())
 }
 
 // Adds whether a run changed the disk's bytes.
@@ -105,141 +47,37 @@ fn push_changed(changed: bool, out: &mut String) -> Result<(), Fault> {
     })?)
 }
 
-// Adds what a script gives on the image of the last run's disk that this pick chooses.
-fn push_image<R: AllocGlobal + Threads + Wait + Sync>(
-    rt: &R,
-    last: &RunEnd,
-    pick: u64,
-    lines: &str,
-    out: &mut String,
-) -> Result<(), Fault> {
-    write!(out, "image {pick}: ")?;
-    let image = last.disk.image(rt.alloc(), pick)?;
-    let next = run_lines(rt, image, lines)?;
-    push_run_in_line(rt.alloc(), &next, out)
-}
-
-// Adds what a script gives on each image of the last run's disk whose pick is below N.
-fn push_images<R: AllocGlobal + Threads + Wait + Sync>(
-    rt: &R,
-    last: &RunEnd,
-    text: &str,
-    out: &mut String,
-) -> Result<(), Fault> {
-    let (count, lines) = numbered(text)?;
-    for pick in 0..count {
-        push_image(rt, last, pick, lines, out)?;
-    }
-    Ok(())
-}
-
 impl Case {
     /// A case that has just begun: two empty disks, and no run.
     pub(crate) fn new(alloc: Global) -> Case {
         Case {
             disk: Vec::new(alloc),
             other: Vec::new(alloc),
-            setting: None,
+            setting: Setting::new(alloc),
             look: Vec::new(alloc),
             last: None,
             changed: false,
         }
     }
 
-    // The setting of the next run, which is the plain one where no step has said something of it.
-    fn setting(&mut self, alloc: Global) -> Result<&mut Setting, Fault> {
-        if self.setting.is_none() {
-            self.setting = Some(Setting::new(alloc, RUN)?);
-        }
-        match &mut self.setting {
-            Some(setting) => Ok(setting),
-            None => Err(refuse("no setting")),
-        }
-    }
-
-    // Adds lines to the script so far.
-    fn push_script(&mut self, alloc: Global, lines: &str) -> Result<(), Fault> {
-        let setting = self.setting(alloc)?;
-        push_lines(&mut setting.script, lines)
-    }
-
-    // The setting so far, with the other disk's bytes; the next run begins anew.
-    fn take_setting(&mut self, alloc: Global) -> Result<Setting, Fault> {
-        let mut setting = match self.setting.take() {
-            Some(setting) => setting,
-            None => Setting::new(alloc, RUN)?,
-        };
-        setting.other = self.other.to_vec(alloc)?;
-        Ok(setting)
-    }
-
     // The disks are what the last run left.
     fn keep_disks(&mut self, alloc: Global) -> Result<(), Fault> {
         let run = ended(&self.last)?;
-        self.changed = run.disk.contents() != self.disk.as_slice();
-        self.disk = run.disk.contents().to_vec(alloc)?;
-        self.other = run.other.contents().to_vec(alloc)?;
+        self.changed = run.disk() != self.disk.as_slice();
+        self.disk = run.disk().to_vec(alloc)?;
+        self.other = run.other().to_vec(alloc)?;
         Ok(())
     }
 
-    // Runs with the setting so far and these lines; the disks are what the run leaves.
+    // Runs with what was said so far and these lines; the disks are what the run leaves.
     fn go<R: AllocGlobal + Threads + Wait + Sync>(
         &mut self,
         rt: &R,
         lines: &str,
     ) -> Result<(), Fault> {
-        let alloc = rt.alloc();
-        self.push_script(alloc, lines)?;
-        let setting = self.take_setting(alloc)?;
-        self.last = Some(run_on(rt, self.disk.as_slice(), setting)?);
-        self.keep_disks(alloc)
-    }
-
-    // The script so far, and these lines; the next run begins anew.
-    fn script(&mut self, alloc: Global, lines: &str) -> Result<Vec<u8>, Fault> {
-        self.push_script(alloc, lines)?;
-        Ok(self.take_setting(alloc)?.script)
-    }
-
-    // How many calls opening makes of this disk.
-    fn opening<R: AllocGlobal + Threads + Wait + Sync>(&self, rt: &R) -> Result<u64, Fault> {
-        let copy = self.disk.as_slice().to_vec(rt.alloc())?;
-        let ended = run_lines(rt, copy, "")?;
-        Ok(ended.disk.calls().len() as u64)
-    }
-
-    // The words of the next run.
-    fn set_words(&mut self, alloc: Global, text: &str) -> Result<(), Fault> {
-        self.setting(alloc)?.words = String::from_str(alloc, text)?;
-        Ok(())
-    }
-
-    // How many bytes the source of the next run gives at most.
-    fn set_pieces(&mut self, alloc: Global, text: &str) -> Result<(), Fault> {
-        self.setting(alloc)?.piece = number(text)? as usize;
-        Ok(())
-    }
-
-    // Adds lines to the script so far, N times.
-    fn add_times(&mut self, alloc: Global, text: &str) -> Result<(), Fault> {
-        let setting = self.setting(alloc)?;
-        push_times(alloc, &mut setting.script, text)
-    }
-
-    // Adds bytes to the script so far.
-    fn add_bytes(&mut self, alloc: Global, text: &str) -> Result<(), Fault> {
-        let raw = raw_bytes(alloc, text)?;
-        let setting = self.setting(alloc)?;
-        setting.script.extend_from_slice(raw.as_slice())?;
-        Ok(())
-    }
-
-    // Adds lines that are drawn to the script so far.
-    fn add_generated(&mut self, alloc: Global, text: &str) -> Result<(), Fault> {
-        let drawn = generated(alloc, number(text)?, 1)?;
-        let setting = self.setting(alloc)?;
-        setting.script.extend_from_slice(drawn.as_bytes())?;
-        Ok(())
+        let run = run_next(rt, &self.disk, &self.other, &mut self.setting, lines)?;
+        self.last = Some(run);
+        self.keep_disks(rt.alloc())
     }
 
     // The calls of the disk that fail in the next run.
@@ -248,9 +86,8 @@ impl Case {
         rt: &R,
         text: &str,
     ) -> Result<(), Fault> {
-        let opening = self.opening(rt)?;
-        self.setting(rt.alloc())?.disk_fails = call_numbers(rt.alloc(), text, opening)?;
-        Ok(())
+        let opening = opening(rt, &self.disk)?;
+        self.setting.set_disk_fails(rt.alloc(), text, opening)
     }
 
     // How many calls the disk of the next run passes on.
@@ -259,45 +96,26 @@ impl Case {
         rt: &R,
         text: &str,
     ) -> Result<(), Fault> {
-        let opening = self.opening(rt)?;
-        self.setting(rt.alloc())?.passes = call_number(text, opening)?;
-        Ok(())
-    }
-
-    // How many calls the other disk of the next run passes on.
-    fn set_other_fuse(&mut self, alloc: Global, text: &str) -> Result<(), Fault> {
-        self.setting(alloc)?.other_passes = number(text)?;
-        Ok(())
+        let opening = opening(rt, &self.disk)?;
+        self.setting.set_fuse(text, opening)
     }
 
     // With what a disk is looked at from here on.
     fn set_look(&mut self, alloc: Global, text: &str) -> Result<(), Fault> {
-        let mut script = Vec::new(alloc);
-        push_lines(&mut script, text)?;
-        self.look = script;
-        Ok(())
+        self.look = Vec::new(alloc);
+        push_lines(&mut self.look, text)
     }
 
-    // What is run again and again: the setting so far and these lines. The next run begins anew.
+    // What is run again and again: what was said so far and these lines.
     fn repeated(&mut self, alloc: Global, lines: &str) -> Result<Repeated, Fault> {
-        self.push_script(alloc, lines)?;
-        Ok(Repeated {
-            setting: self.take_setting(alloc)?,
-            disk: self.disk.to_vec(alloc)?,
-            look: self.look.to_vec(alloc)?,
-        })
-    }
-
-    // The calls of the source that fail in the next run.
-    fn set_source_fails(&mut self, alloc: Global, text: &str) -> Result<(), Fault> {
-        self.setting(alloc)?.source_fails = call_numbers(alloc, text, 0)?;
-        Ok(())
-    }
-
-    // The calls of the sink that fail in the next run.
-    fn set_sink_fails(&mut self, alloc: Global, text: &str) -> Result<(), Fault> {
-        self.setting(alloc)?.sink_fails = call_numbers(alloc, text, 0)?;
-        Ok(())
+        Repeated::new(
+            alloc,
+            &mut self.setting,
+            lines,
+            &self.disk,
+            &self.other,
+            &self.look,
+        )
     }
 
     // The disk is the one of that name.
@@ -324,7 +142,7 @@ impl Case {
     fn swap_disks(&mut self) {
         mem::swap(&mut self.disk, &mut self.other);
         if let Some(run) = &mut self.last {
-            mem::swap(&mut run.disk, &mut run.other);
+            run.swap_disks();
         }
     }
 
@@ -350,7 +168,7 @@ impl Case {
         rt: &R,
         out: &mut String,
     ) -> Result<(), Fault> {
-        self.set_words(rt.alloc(), INIT)?;
+        self.setting.set_words(rt.alloc(), INIT)?;
         self.go_and_push(rt, "", out)
     }
 
@@ -382,7 +200,7 @@ impl Case {
 
     // Adds what the reader of the whole grammar says of the script so far and these lines.
     fn push_read(&mut self, alloc: Global, text: &str, out: &mut String) -> Result<(), Fault> {
-        let script = self.script(alloc, text)?;
+        let script = self.setting.take_script(alloc, text)?;
         push_read(alloc, script.as_slice(), out)
     }
 
@@ -393,7 +211,7 @@ impl Case {
         text: &str,
         out: &mut String,
     ) -> Result<(), Fault> {
-        let script = self.script(alloc, text)?;
+        let script = self.setting.take_script(alloc, text)?;
         push_read_lines(alloc, script.as_slice(), out)
     }
 
@@ -415,8 +233,7 @@ impl Case {
         out: &mut String,
     ) -> Result<(), Fault> {
         let (picks, lines) = numbered(text)?;
-        let repeated = self.repeated(rt.alloc(), lines)?;
-        push_fuses(rt, &repeated, picks, out)
+        push_fuses(rt, self.repeated(rt.alloc(), lines)?, picks, out)
     }
 
     // Adds what a script gives where each call of a part fails in turn.
@@ -427,8 +244,7 @@ impl Case {
         out: &mut String,
     ) -> Result<(), Fault> {
         let (part, lines) = first_word(text);
-        let repeated = self.repeated(rt.alloc(), lines)?;
-        push_failings(rt, &repeated, part, out)
+        push_failings(rt, self.repeated(rt.alloc(), lines)?, part, out)
     }
 
     // Adds what runs in threads of drawn scripts give, each on this disk.
@@ -444,17 +260,12 @@ impl Case {
 
     // Adds the text of the last run's journal.
     fn push_texts(&self, alloc: Global, out: &mut String) -> Result<(), Fault> {
-        push_texts(alloc, ended(&self.last)?.journal.as_slice(), out)
+        push_texts(alloc, ended(&self.last)?.journal(), out)
     }
 
     // Adds how many replies of the last run the plain slow program gives alike.
     fn push_alike(&self, alloc: Global, out: &mut String) -> Result<(), Fault> {
-        push_alike(alloc, ended(&self.last)?.journal.as_slice(), out)
-    }
-
-    // Adds bytes of the disk.
-    fn push_digits(&self, alloc: Global, text: &str, out: &mut String) -> Result<(), Fault> {
-        push_digits_at(alloc, self.disk.as_slice(), text, out)
+        push_alike(alloc, ended(&self.last)?.journal(), out)
     }
 
     // A step that says with what the next run begins, or another one.
@@ -467,11 +278,11 @@ impl Case {
     ) -> Result<(), Fault> {
         let alloc = rt.alloc();
         match step {
-            "words" => self.set_words(alloc, text),
-            "pieces" => self.set_pieces(alloc, text),
-            "times" => self.add_times(alloc, text),
-            "bytes" => self.add_bytes(alloc, text),
-            "generate" => self.add_generated(alloc, text),
+            "words" => self.setting.set_words(alloc, text),
+            "pieces" => self.setting.set_piece(text),
+            "times" => self.setting.push_times(alloc, text),
+            "bytes" => self.setting.push_bytes(alloc, text),
+            "generate" => self.setting.push_drawn(alloc, text),
             "look" => self.set_look(alloc, text),
             _ => self.fail_step(rt, step, text, out),
         }
@@ -489,9 +300,9 @@ impl Case {
         match step {
             "fuse" => self.set_fuse(rt, text),
             "disk-fails" => self.set_disk_fails(rt, text),
-            "other-fuse" => self.set_other_fuse(alloc, text),
-            "source-fails" => self.set_source_fails(alloc, text),
-            "sink-fails" => self.set_sink_fails(alloc, text),
+            "other-fuse" => self.setting.set_other_fuse(text),
+            "source-fails" => self.setting.set_source_fails(alloc, text),
+            "sink-fails" => self.setting.set_sink_fails(alloc, text),
             _ => self.lay_step(rt, step, text, out),
         }
     }
@@ -565,7 +376,7 @@ impl Case {
         match step {
             "read" => self.push_read(alloc, text, out),
             "lines" => self.push_read_lines(alloc, text, out),
-            "at" => self.push_digits(alloc, text, out),
+            "at" => push_digits_at(alloc, &self.disk, text, out),
             "memory-text" => push_memory_text(alloc, out),
             _ => Err(refuse("no such step")),
         }

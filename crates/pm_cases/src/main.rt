@@ -3,17 +3,6 @@
 #![tactic(auto)]
 
 mod case;
-mod disks;
-mod drawn;
-mod ends;
-mod failing;
-mod generated;
-mod printed;
-mod replayed;
-mod restored;
-mod running;
-mod scripts;
-mod shown;
 
 use case::Case;
 use pm_case_text::push_refused;

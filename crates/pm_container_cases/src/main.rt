@@ -10,6 +10,7 @@ mod roots;
 mod sets;
 mod spelling;
 mod tables;
+mod trains;
 
 use anchors::push_anchor;
 use choosers::push_pick;
@@ -21,6 +22,7 @@ use sets::{push_gathered, push_long_gathered, push_long_set, push_set};
 use std::alloc::{AllocError, Global};
 use std::io::{self, BufRead, BufReader};
 use tables::push_table;
+use trains::{push_long_trains, push_trains};
 
 // A step: its first word, and what follows.
 fn push_step(alloc: Global, step: &str, text: &str, out: &mut String) -> Result<(), Fault> {
@@ -45,6 +47,15 @@ fn push_small(alloc: Global, step: &str, text: &str, out: &mut String) -> Result
         "pick" => push_pick(alloc, text, out),
         "gathered" => push_gathered(alloc, text, out),
         "long-gathered" => push_long_gathered(alloc, text, out),
+        _ => push_of_trains(alloc, step, text, out),
+    }
+}
+
+// A step about trains.
+fn push_of_trains(alloc: Global, step: &str, text: &str, out: &mut String) -> Result<(), Fault> {
+    match step {
+        "trains" => push_trains(alloc, text, out),
+        "long-trains" => push_long_trains(alloc, text, out),
         _ => Err(refuse("no such step")),
     }
 }

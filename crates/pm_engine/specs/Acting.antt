@@ -6,7 +6,7 @@ use Rattle.pm_view.specs.View.{SpaceView}
 use Rattle.pm_view.specs.Commands.{is_act, is_new}
 use Rattle.pm_view.specs.Objects.{KeepsObjects}
 use Rattle.pm_mutate.specs.Acts.{IsBirth, IsStill}
-use Rattle.pm_mutate.specs.Picked.{IsRow}
+use Rattle.pm_commands.specs.Picked.{IsRow}
 
 -- A command on the space: its reply, and the whole space after it, are those of its row. A refusal leaves the space as it
 -- is. A `new` that is not refused adds one object to the open train, which is a new one exactly where 1,024 objects were

@@ -1,13 +1,9 @@
 pub mod Views
 pub mod Fields
 pub mod Swept
-pub mod Quiet
-pub mod Sole
 pub mod Lawful
-pub mod Counting
 pub mod Carried
 pub mod Places
 pub mod MoveRows
 pub mod Planning
 pub mod Chosen
-pub mod Phases

@@ -1,4 +1,4 @@
-//! The collector's events, as calls on the space: the row that comes next is made.
+//! The collector's events on the parts of the space: the row that comes next is made.
 #![tactic(auto)]
 
 mod applying;
@@ -7,7 +7,6 @@ mod fixing;
 mod freeing;
 mod moving;
 mod on_parts;
-mod on_space;
 mod placing;
 mod sweeping;
 mod telling;
@@ -16,9 +15,5 @@ pub use applying::apply;
 pub use fixing::fix;
 pub use freeing::{finish, free};
 pub use moving::relocate;
-pub use on_parts::make;
-pub use on_space::{
-    an_event_that_was_made_keeps_all, apply_one, finish_car, fix_one, free_car, make_next,
-    move_one, sweep_one,
-};
+pub use on_parts::{apply_at, finish_at, fix_at, free_at, free_doomed_at, make};
 pub use sweeping::sweep;

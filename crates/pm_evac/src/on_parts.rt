@@ -13,9 +13,10 @@ use crate::freeing::{finish, free};
 use crate::moving::relocate;
 use crate::sweeping::sweep;
 use pm_law_collect::there_is_a_train_to_pick;
-use pm_next::{Row, pick_way};
+use pm_next::Row;
 use pm_space::Parts;
 use pm_types::{Addr, NoMemory, RefSource, Step};
+use pm_ways::pick_way;
 use std::alloc::Global;
 
 // No event comes, and nothing is done.
@@ -29,7 +30,7 @@ fn rest<F: Fn(&[u64]) -> usize + Drop>(parts: &Parts<F>) -> Step
 }
 
 /// Makes the next event where it applies the front change of this car's queue. After want of memory all is as it was.
-pub(crate) fn apply_at<F: Fn(&[u64]) -> usize + Drop>(
+pub fn apply_at<F: Fn(&[u64]) -> usize + Drop>(
     parts: &mut Parts<F>,
     car: u64,
 ) -> Result<Step, NoMemory>
@@ -45,7 +46,7 @@ pub(crate) fn apply_at<F: Fn(&[u64]) -> usize + Drop>(
 
 /// Makes the next event where this source, which this car remembers, stores the address to which the object went. After
 /// want of memory all is as it was.
-pub(crate) fn fix_at<F: Fn(&[u64]) -> usize + Drop>(
+pub fn fix_at<F: Fn(&[u64]) -> usize + Drop>(
     parts: &mut Parts<F>,
     car: u64,
     source: RefSource,
@@ -129,7 +130,7 @@ fn move_on<F: Fn(&[u64]) -> usize + Drop>(
 }
 
 /// Makes the next event where this car is swept from now on. It takes no memory.
-pub(crate) fn finish_at<F: Fn(&[u64]) -> usize + Drop>(parts: &mut Parts<F>, car: u64) -> Step
+pub fn finish_at<F: Fn(&[u64]) -> usize + Drop>(parts: &mut Parts<F>, car: u64) -> Step
     requires { next_row (view parts.old) ≡ finish car }
     ensures event { IsChosenEvent F.Fn parts.old.place (view parts.old) (view parts.new) result }
     ensures rest { KeepsRest parts.old parts.new }
@@ -160,7 +161,7 @@ fn sweep_at<F: Fn(&[u64]) -> usize + Drop>(
 
 /// Makes the next event where this car goes, which was swept: with it the collection is completed. After want of memory
 /// all is as it was.
-pub(crate) fn free_at<F: Fn(&[u64]) -> usize + Drop>(
+pub fn free_at<F: Fn(&[u64]) -> usize + Drop>(
     parts: &mut Parts<F>,
     car: u64,
 ) -> Result<Step, NoMemory>
@@ -177,7 +178,7 @@ pub(crate) fn free_at<F: Fn(&[u64]) -> usize + Drop>(
 
 /// Makes the next event where this car of a doomed train goes: with the train's last car the collection is completed.
 /// After want of memory all is as it was.
-pub(crate) fn free_doomed_at<F: Fn(&[u64]) -> usize + Drop>(
+pub fn free_doomed_at<F: Fn(&[u64]) -> usize + Drop>(
     parts: &mut Parts<F>,
     train: u64,
     car: u64,

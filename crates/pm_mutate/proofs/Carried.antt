@@ -15,9 +15,9 @@ use Rattle.pm_bound.specs.Bounded.{KeepsSunk}
 use Rattle.pm_view.specs.Rows.{spent, birthplace, IsVacant}
 use Rattle.pm_types.specs.Registers.{HasRegisters}
 use Rattle.pm_view.specs.Commands.{row, fresh, Picks, ArePicked}
-use Rattle.pm_mutate.specs.Picked.{IsForSomeRoot, IsForSomeCar, IsRow}
+use Rattle.pm_commands.specs.Picked.{IsForSomeRoot, IsForSomeCar, IsRow}
 use Rattle.pm_mutate.specs.Acts.{IsBirth, AddsLittleWork}
-use Rattle.pm_mutate.proofs.FreeNumbers.{spare_root, is_spare}
+use Rattle.pm_commands.proofs.FreeNumbers.{spare_root, is_spare}
 
 -- what is picked: a number of a root that no name has, and this number of a car
 abbrev pub picked : SpaceView → ℕ → Picks

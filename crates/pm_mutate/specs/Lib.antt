@@ -1,4 +1,1 @@
-pub mod Picked
-pub mod Closing
-pub mod Births
 pub mod Acts

@@ -4,17 +4,13 @@ ghost use Rattle.pm_view.specs.Commands.{is_act, is_new};
 ghost use Rattle.pm_view.specs.Law.{HeapLaw};
 ghost use Rattle.pm_view.specs.Objects.{KeepsObjects};
 ghost use Rattle.pm_space.specs.Shown.{view, KeepsRest, MakesRow};
-ghost use Rattle.pm_mutate.specs.Picked.{IsRow};
+ghost use Rattle.pm_commands.specs.Picked.{IsRow};
 ghost use Rattle.pm_types.specs.Replies.{IsShortReply};
 ghost use Rattle.pm_mutate.specs.Acts.{Serves, IsStill, IsBirth, KeepsCourse, LeavesWhereShown};
 
-use crate::birth::new;
-use crate::bytes::put;
-use crate::closing::close;
-use crate::fields::{clear, store, swap};
-use crate::holding::{copy, find, forget, load};
-use crate::naming::{root, unroot};
-use crate::reading::{data, id};
+use pm_commands::{
+    clear, close, copy, data, find, forget, id, load, new, put, root, store, swap, unroot,
+};
 use pm_law_commands::{
     a_command_is_answered_as_by_the_world, a_command_keeps_the_heap_law,
     a_refused_command_leaves_the_space, every_command_but_new_leaves_objects_where_they_stand,

@@ -1,27 +1,15 @@
 -- Sources that are no fields of objects in a train.
 use Rattle.std.proofs.Common.{◌≡◌, ℕ, ◌≤◌, Bool, true, false, cond, not, refl, ap, sym, ◌∙◌, List, Option, Some, None, is_some}
-use Rattle.std.specs.Ordering.{nat_cmp}
-use Rattle.std.specs.FinMap.{get}
 use Rattle.std.proofs.lemmas.Bool.{true≢false, false_from_ne_true}
-use Rattle.pm_base.proofs.Mapped.{get-mapped}
 use Rattle.pm_types.specs.declared.source.RefSource.{RefSource}
 use Rattle.pm_types.specs.declared.source.RefSource.TheVariants.{Root, Handle, Field}
 use Rattle.pm_trains.specs.Trains.{Train, train_of, is_among}
 use Rattle.pm_trains.specs.Sound as line
 use Rattle.pm_remset.specs.Remembered.{Fact, Remembered, FindsFirst}
 use Rattle.pm_law_rows.proofs.OpenTrain.{among_home}
-use Rattle.pm_view.specs.View.{SpaceView}
 use Rattle.pm_view.specs.Reading.{cars_of}
 use Rattle.pm_view.specs.Candidates.{is_beyond}
-use Rattle.pm_space.specs.Linked.{Linked, set_of, sets_of}
-use Rattle.pm_space.specs.Shown.{IsLinked}
-use Rattle.pm_space.proofs.OpenedCars.{mapped_some}
 use Rattle.pm_next.specs.Sought.{inside_car}
-
--- a car that stands has links, and one that has is in a train
-pub links_of : (v : SpaceView) (links : Linked) → v.sets ≡ sets_of links → IsLinked v → (car : ℕ) → is_some (get links car) ≡ is_some (train_of v.trains.trains car)
-links_of v links is linked car =
-    sym (mapped_some set_of (get links car)) ∙ sym (ap is_some (get-mapped nat_cmp set_of links car)) ∙ ap (λ s. is_some (get s car)) (sym is) ∙ linked.sets car ∙ sym (linked.trains car)
 
 -- a car that has none is not one of a train
 pub no_links : (ts : List Train) (car train : ℕ) → ((q : ℕ) → line.places q ts ≤ 1) → is_some (train_of ts car) ≡ false → false ≡ is_among car (cars_of ts train)

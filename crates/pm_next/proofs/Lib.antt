@@ -4,5 +4,3 @@ pub mod Drained
 pub mod Fixes
 pub mod Beyond
 pub mod Skips
-pub mod Choices
-pub mod Homes

@@ -6,11 +6,9 @@ mod next;
 mod row;
 mod skipping;
 mod sources;
-mod ways;
 
 pub use finding::{anchor_in, changed_car, has_change, lowest_live};
 pub use next::next_row;
 pub use row::Row;
 pub use skipping::outside;
 pub use sources::{Entry, least, moved_once_applied, stale, stale_at, stale_now};
-pub use ways::{pick_way, ways_out};

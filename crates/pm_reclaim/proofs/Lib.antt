@@ -1,1 +1,5 @@
 pub mod WatchLines
+pub mod Quiet
+pub mod Sole
+pub mod Counting
+pub mod Phases

@@ -4,7 +4,7 @@ ghost use Rattle.pm_space.specs.Shown.{view};
 ghost use Rattle.pm_evac.specs.Steps.{MakesEvent};
 ghost use Rattle.pm_reclaim.specs.Rows.{IsSelect, IsDecide};
 
-use pm_evac::make_next;
+use crate::make_next;
 use pm_space::Space;
 use pm_types::{NoMemory, Step};
 use std::alloc::Global;

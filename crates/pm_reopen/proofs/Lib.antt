@@ -1,10 +1,5 @@
-pub mod Ends
 pub mod CarLaws
-pub mod TrainLaws
-pub mod LinkLaws
 pub mod NameLaws
-pub mod TellingLaws
-pub mod BuiltLaws
 pub mod LeadingLaws
 pub mod ListLaws
 pub mod AcceptedLaws

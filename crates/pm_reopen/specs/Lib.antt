@@ -1,8 +1,3 @@
-pub mod Lists
-pub mod Linking
-pub mod Naming
-pub mod Trains
-pub mod Remembering
 pub mod Leading
 pub mod Making
 pub mod Listing

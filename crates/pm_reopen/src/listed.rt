@@ -7,13 +7,13 @@ ghost use Rattle.pm_copies.specs.Accepted.{IsAccepted};
 ghost use Rattle.pm_copies.specs.Opened.{IsOpened, listed_in};
 ghost use Rattle.pm_space.specs.Shown.{view};
 
-use crate::build;
 use crate::leading::lead_cars;
 use crate::opened_cars::open_cars;
 use crate::opened_roots::open_roots;
 use pm_image::{CatEntry, Settled};
 use pm_law_copies::opening_builds_a_space;
 use pm_place::Placement;
+use pm_rebuild::build;
 use pm_space::Space;
 use pm_types::NoMemory;
 use std::alloc::Global;

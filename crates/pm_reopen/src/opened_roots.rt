@@ -4,9 +4,9 @@ ghost use Rattle.std.specs.Prelude.{◌≡◌, ◌++◌, map, IfOk, OnOk};
 ghost use Rattle.pm_copies.specs.Accepted.{root_in, roots_in};
 ghost use Rattle.pm_reopen.specs.Listing.{followed_root};
 
-use crate::RootList;
 use crate::leading::{Leads, resolve};
 use pm_image::CatEntry;
+use pm_rebuild::RootList;
 use pm_types::{Addr, Name, NoMemory};
 use std::alloc::Global;
 

@@ -14,11 +14,11 @@ use Rattle.pm_law_layout.specs.Plans.{root_entry}
 use Rattle.pm_saving.specs.Beginning.{AreFrozen, ArePlaced, BeginsListed, IsCarNumbered}
 use Rattle.pm_saving.specs.Progress.{Progress, Saving, copy_of}
 use Rattle.pm_saving.specs.Tied.{IsTied}
-use Rattle.pm_save.specs.declared.place.Place.TheVariants.{Unwritten}
-use Rattle.pm_save.specs.declared.place.PlacedCar.{PlacedCar}
-use Rattle.pm_save.specs.Kept.{IsWithin}
-use Rattle.pm_save.specs.Planned.{IsPlanned}
-use Rattle.pm_save.specs.Seen.{car_seen}
+use Rattle.pm_progress.specs.declared.place.Place.TheVariants.{Unwritten}
+use Rattle.pm_progress.specs.declared.place.PlacedCar.{PlacedCar}
+use Rattle.pm_progress.specs.Kept.{IsWithin}
+use Rattle.pm_writer.specs.Planned.{IsPlanned}
+use Rattle.pm_progress.specs.Seen.{car_seen}
 use Rattle.pm_dump.specs.Dump.{Dump}
 use Rattle.pm_dump.specs.Read.{root_shown}
 use Rattle.pm_dump.specs.declared.parts.DumpRoot.{DumpRoot}

@@ -29,10 +29,10 @@ use Rattle.pm_law_saving.proofs.Publishing.{copy_held}
 use Rattle.pm_saving.specs.Progress.{Progress, Saving, copy_of}
 use Rattle.pm_saving.specs.Paging.{CarPage, NextPage, PartPage, left, left_of, next_page, with_next, written_on}
 use Rattle.pm_saving.specs.Tied.{HasCopy, IsTied, settled_on}
-use Rattle.pm_save.specs.declared.fault.SaveFault.{SaveFault}
-use Rattle.pm_save.specs.declared.fault.SaveFault.TheVariants.{Disk, Memory}
-use Rattle.pm_save.specs.Answers.{IfMemory, OnMemory, Spares}
-use Rattle.pm_save.specs.Settling.{IsLeftSo, SettlesPages, SparesEither, StandsThen, settling_syncs, settling_writes}
+use Rattle.pm_progress.specs.declared.fault.SaveFault.{SaveFault}
+use Rattle.pm_progress.specs.declared.fault.SaveFault.TheVariants.{Disk, Memory}
+use Rattle.pm_progress.specs.Answers.{IfMemory, OnMemory, Spares}
+use Rattle.pm_writer.specs.Settling.{IsLeftSo, SettlesPages, SparesEither, StandsThen, settling_syncs, settling_writes}
 use Rattle.pm_dump.specs.Dump.{Dump}
 use Rattle.pm_restore.specs.Parts.{cars_of_dump}
 use Rattle.pm_restore.specs.Restored.{BeginsDump, IsNewStore, IsRestored, LeavesEither, LeavesEmpty, copy_in_dump, dump_progress, pages_from, restored_in}

@@ -17,8 +17,8 @@ use Rattle.pm_saving.specs.Progress as seen
 use Rattle.pm_saving.specs.Progress.{Progress, Saving, copy_of}
 use Rattle.pm_saving.specs.Paging.{left}
 use Rattle.pm_saving.specs.Tied.{HasCopy, IsTied, settled_on}
-use Rattle.pm_save.specs.declared.place.Place.TheVariants.{Unwritten}
-use Rattle.pm_save.specs.declared.place.PlacedCar.{PlacedCar}
+use Rattle.pm_progress.specs.declared.place.Place.TheVariants.{Unwritten}
+use Rattle.pm_progress.specs.declared.place.PlacedCar.{PlacedCar}
 use Rattle.pm_dump.specs.Dump.{Dump, copy_of_dump}
 use Rattle.pm_packing.specs.Packing.{packed_cars, packed_names}
 use Rattle.pm_restore.specs.Parts.{cars_of_dump}

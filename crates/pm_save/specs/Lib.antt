@@ -1,17 +1,3 @@
-pub mod Seen
-pub mod Kept
-pub mod KeptOnce
 pub mod Shown
-pub mod Answers
-pub mod Planned
-pub mod Counted
 pub mod Frozen
-pub mod Entries
-pub mod Next
-pub mod Noted
-pub mod Putting
-pub mod Steps
 pub mod Thawed
-pub mod Taken
-pub mod Settling
-pub mod Runs

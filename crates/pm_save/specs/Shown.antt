@@ -1,19 +1,14 @@
--- What contracts see of a writer and of a saver, and of the frozen cars of a space.
+-- What contracts see of a saver, and of the frozen cars of a space.
 use Rattle.std.specs.Prelude.{Option, option_map}
 use Rattle.pm_base.specs.Mapped.{mapped}
 use Rattle.pm_view.specs.View.{Cars}
 use Rattle.pm_space.specs.declared.parts.Parts.{Parts}
 use Rattle.pm_space.specs.Shown.{car_of}
 use Rattle.pm_saving.specs.Progress.{Saving, cars_or_none}
+use Rattle.pm_writer.specs.Shown.{writing}
 use Rattle.pm_save.specs.declared.saver.Saver.{Saver}
-use Rattle.pm_save.specs.declared.writer.Writer.{Writer}
-use Rattle.pm_save.specs.Seen.{progress_seen}
 
 -- the settled cars and the copy in progress
-abbrev pub writing : Writer → Saving
-writing it = record { settled = it.settled.items; progress = option_map (progress_seen it.settled.items) it.progress }
-
--- the same of a saver
 abbrev pub saving : Saver → Saving
 saving it = writing it.writer
 

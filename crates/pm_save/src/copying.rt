@@ -5,7 +5,7 @@ ghost use Rattle.std.specs.FinMap.{get};
 ghost use Rattle.pm_saving.specs.Progress.{slots_of};
 ghost use Rattle.pm_save.specs.Frozen.{frozen_in};
 
-use crate::{CarPage, Frozen, spell};
+use pm_progress::{CarPage, Frozen, spell};
 use pm_snap::Table;
 use pm_space::Held;
 use pm_types::{NoMemory, Slot};
@@ -21,12 +21,19 @@ fn slots_in(cars: &Table<Held>, number: u64) -> &[(u32, Slot)]
     }
 }
 
-impl Frozen for Table<Held> {
-    ghost cars = { frozen_in };
+/// The cars of a space, as they were frozen.
+#[derive(Drop)]
+pub(crate) struct SpaceCars<'a> {
+    /// Its cars.
+    pub(crate) cars: &'a Table<Held>,
+}
+
+impl<'a> Frozen for SpaceCars<'a> {
+    ghost cars = { λ it. frozen_in it.cars.now };
 
     /// The page of the car of this number, as it was frozen.
     fn page(&self, alloc: Global, number: u64) -> Result<CarPage, NoMemory> {
-        let page = spell(alloc, number, slots_in(self, number))?;
+        let page = spell(alloc, number, slots_in(self.cars, number))?;
         Ok(page)
     }
 }

@@ -1,14 +1,16 @@
 //! The writer of checkpoints.
 
+use crate::copying::SpaceCars;
 use crate::listed_cars::plan_cars;
 use crate::roots::copy_roots;
-use crate::{SaveFault, Writer};
 use pm_disk::Disk;
 use pm_law_saving::{a_copy_begins_beside_the_settled_one, a_published_copy_is_the_settled_one};
+use pm_progress::SaveFault;
 use pm_settled::PackedPages;
 use pm_shadow::Pages;
 use pm_space::Space;
 use pm_types::{Flushed, NoMemory};
+use pm_writer::Writer;
 use std::alloc::Global;
 
 /// Saves copies of a space: it writes the cars that the space froze when the copy in progress was begun.
@@ -28,9 +30,9 @@ impl Saver {
     ghost use Rattle.pm_saving.specs.Beginning.{Begins};
     ghost use Rattle.pm_saving.specs.Tied.{IsTied};
     ghost use Rattle.pm_save.specs.Shown.{saving, frozen_of, frozen_cars};
-    ghost use Rattle.pm_save.specs.Answers.{HasSaveCause, IsFlushed, Makes, IsStill, KeepsCopy, OnMemory, Spares, TellsOn, UnlessDisk};
-    ghost use Rattle.pm_save.specs.Settling.{IsCausedBy, IsLeftSo, LeavesSpace, SettlesPages, SparesEither, StaysOn, settling_syncs, settling_writes};
-    ghost use Rattle.pm_save.specs.Thawed.{IsThawed};
+    ghost use Rattle.pm_progress.specs.Answers.{HasSaveCause, IsFlushed, Makes, IsStill, KeepsCopy, OnMemory, Spares, TellsOn, UnlessDisk};
+    ghost use Rattle.pm_writer.specs.Settling.{IsCausedBy, IsLeftSo, SettlesPages, SparesEither, StaysOn, settling_syncs, settling_writes};
+    ghost use Rattle.pm_save.specs.Thawed.{IsThawed, LeavesSpace};
 
     /// A saver whose settled copy has these cars. No copy is in progress. It takes no memory.
     pub fn new(settled: PackedPages) -> Saver
@@ -121,7 +123,10 @@ impl Saver {
         let Some(_) = &self.writer.progress else {
             return Ok(Flushed::AllFlushed);
         };
-        self.writer.flush_from(alloc, &space.parts.cars, pages)
+        let cars = SpaceCars {
+            cars: &space.parts.cars,
+        };
+        self.writer.flush_from(alloc, &cars, pages)
     }
 
     /// Writes what is left of the copy in progress and makes it the settled one: the other gate is closed, the header is
@@ -156,7 +161,10 @@ impl Saver {
         ensures causes { IsCausedBy (settling_writes (saving self.old) (state pages.old))
             (settling_syncs (state pages.old)) pages.old pages.new result }
     {
-        let number = self.writer.settle_from(alloc, &space.parts.cars, pages)?;
+        let cars = SpaceCars {
+            cars: &space.parts.cars,
+        };
+        let number = self.writer.settle_from(alloc, &cars, pages)?;
         space.parts.cars.thaw();
         Ok(number)
     }

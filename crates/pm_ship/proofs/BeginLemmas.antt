@@ -14,9 +14,9 @@ use Rattle.pm_law_layout.specs.Plans.{root_entry}
 use Rattle.pm_saving.specs.Beginning.{AreFrozen, ArePlaced, BeginsListed}
 use Rattle.pm_saving.specs.Progress.{Progress, Saving, cars_of, copy_of}
 use Rattle.pm_saving.specs.Tied.{IsTied}
-use Rattle.pm_save.specs.declared.place.PlacedCar.{PlacedCar}
-use Rattle.pm_save.specs.Kept.{IsWithin}
-use Rattle.pm_save.specs.Planned.{IsPlanned}
+use Rattle.pm_progress.specs.declared.place.PlacedCar.{PlacedCar}
+use Rattle.pm_progress.specs.Kept.{IsWithin}
+use Rattle.pm_writer.specs.Planned.{IsPlanned}
 use Rattle.pm_ship.specs.declared.store.StoreRead.{StoreRead}
 use Rattle.pm_ship.specs.Begun.{BeginsOffered, MayBeOffered, idle}
 use Rattle.pm_ship.specs.Cars.{cars_kept}

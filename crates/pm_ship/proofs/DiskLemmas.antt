@@ -28,7 +28,7 @@ use Rattle.pm_reopen.specs.Refused.{IsRefusal}
 use Rattle.pm_reopen.proofs.Refusals.{graph_refused, header_refused}
 use Rattle.pm_saving.specs.Tied.{HasCopy}
 use Rattle.pm_reopen.proofs.StoodLaws.{bytes_are}
-use Rattle.pm_save.specs.Answers.{TellsOn}
+use Rattle.pm_progress.specs.Answers.{TellsOn}
 use Rattle.pm_ship.specs.declared.fault.Shipped.{Shipped}
 use Rattle.pm_ship.specs.declared.fault.ShipFault.{ShipFault}
 use Rattle.pm_ship.specs.declared.fault.ShipFault.TheVariants.{From, To, Ahead, Foreign, Disk, OtherDisk, Memory}

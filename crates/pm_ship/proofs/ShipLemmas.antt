@@ -29,7 +29,7 @@ use Rattle.pm_copies.specs.Listed.{copy_listed}
 use Rattle.pm_law_layout.specs.Plans.{root_entry}
 use Rattle.pm_reopen.specs.Opening.{IsUnopened}
 use Rattle.pm_saving.specs.Tied.{HasCopy}
-use Rattle.pm_save.specs.Answers.{TellsOn}
+use Rattle.pm_progress.specs.Answers.{TellsOn}
 use Rattle.pm_ship.specs.declared.fault.Shipped.{Shipped}
 use Rattle.pm_ship.specs.declared.fault.ShipFault.{ShipFault}
 use Rattle.pm_ship.specs.declared.fault.ShipFault.TheVariants.{From, To, Ahead, Foreign, Disk, OtherDisk, Memory}

@@ -25,10 +25,10 @@ use Rattle.pm_law_saving.proofs.Publishing.{copy_held}
 use Rattle.pm_saving.specs.Progress.{Progress, Saving, copy_of}
 use Rattle.pm_saving.specs.Paging.{CarPage, NextPage, PartPage, left, left_of, next_page, with_next, written_on}
 use Rattle.pm_saving.specs.Tied.{HasCopy, IsTied}
-use Rattle.pm_save.specs.declared.fault.SaveFault.{SaveFault}
-use Rattle.pm_save.specs.declared.fault.SaveFault.TheVariants as saving
-use Rattle.pm_save.specs.Answers.{IfMemory, IsFaultOf, TellsOn}
-use Rattle.pm_save.specs.Settling.{IsLeftSo, SettlesPages, SparesEither, StandsThen, settling_syncs}
+use Rattle.pm_progress.specs.declared.fault.SaveFault.{SaveFault}
+use Rattle.pm_progress.specs.declared.fault.SaveFault.TheVariants as saving
+use Rattle.pm_progress.specs.Answers.{IfMemory, IsFaultOf, TellsOn}
+use Rattle.pm_writer.specs.Settling.{IsLeftSo, SettlesPages, SparesEither, StandsThen, settling_syncs}
 use Rattle.pm_ship.specs.declared.fault.Shipped.{Shipped}
 use Rattle.pm_ship.specs.declared.fault.ShipFault.TheVariants.{Memory}
 use Rattle.pm_ship.specs.Begun.{BeginsOffered}

@@ -7,7 +7,7 @@ use Rattle.pm_disk.specs.Disk.{LeavesOnly}
 use Rattle.pm_disk.specs.declared.disk.Disk.{Ghosts}
 use Rattle.pm_disk.specs.Made.{MadeMore, with_sync}
 use Rattle.pm_image.specs.Stands.{Opened, StandsForCopy, copy_in, opened}
-use Rattle.pm_save.specs.Answers.{TellsOn}
+use Rattle.pm_progress.specs.Answers.{TellsOn}
 use Rattle.pm_ship.specs.declared.fault.Shipped.{Shipped}
 use Rattle.pm_ship.specs.declared.fault.ShipFault.{ShipFault}
 use Rattle.pm_ship.specs.declared.fault.ShipFault.TheVariants.{From, To, Ahead, Foreign, Disk, OtherDisk, Memory}

@@ -16,9 +16,9 @@ use Rattle.pm_shadow.specs.declared.pages.Pages.{Pages}
 use Rattle.pm_graphs.specs.Reopening.{IsGraphFault}
 use Rattle.pm_reopen.specs.Opening.{IsUnopened}
 use Rattle.pm_saving.specs.Tied.{HasCopy}
-use Rattle.pm_save.specs.declared.fault.SaveFault.{SaveFault}
-use Rattle.pm_save.specs.declared.fault.SaveFault.TheVariants as saving
-use Rattle.pm_save.specs.Answers.{TellsOn}
+use Rattle.pm_progress.specs.declared.fault.SaveFault.{SaveFault}
+use Rattle.pm_progress.specs.declared.fault.SaveFault.TheVariants as saving
+use Rattle.pm_progress.specs.Answers.{TellsOn}
 use Rattle.pm_ship.specs.declared.fault.Shipped.{Shipped}
 use Rattle.pm_ship.specs.declared.fault.ShipFault.{ShipFault}
 use Rattle.pm_ship.specs.declared.fault.ShipFault.TheVariants.{From, To, Ahead, Foreign, Disk, OtherDisk, Memory}

@@ -15,7 +15,7 @@ use Rattle.pm_graphs.specs.Reading.{IsReadWhole, page_numbers}
 use Rattle.pm_copies.specs.Accepted.{roots_in}
 use Rattle.pm_reopen.specs.Opening.{IsUnopened}
 use Rattle.pm_saving.specs.Tied.{IsTied}
-use Rattle.pm_save.specs.Planned.{IsIndex}
+use Rattle.pm_writer.specs.Planned.{IsIndex}
 use Rattle.pm_ship.specs.declared.store.StoreRead.{StoreRead}
 use Rattle.pm_ship.specs.declared.standby.Standby.{Standby}
 use Rattle.pm_ship.specs.Listing.{trains_in, with_trains}

@@ -2,8 +2,8 @@
 ghost use Rattle.std.specs.Prelude.{◌≡◌, ◌<◌, None, IfOk, IfErr};
 ghost use Rattle.pm_image.specs.Graphs.{images_of};
 ghost use Rattle.pm_copies.specs.Accepted.{Differ};
-ghost use Rattle.pm_save.specs.Planned.{IsIndex};
-ghost use Rattle.pm_save.specs.Shown.{writing};
+ghost use Rattle.pm_writer.specs.Planned.{IsIndex};
+ghost use Rattle.pm_writer.specs.Shown.{writing};
 ghost use Rattle.pm_shadow.specs.Pages.{state, disk_of};
 ghost use Rattle.pm_saving.specs.Tied.{IsTied};
 ghost use Rattle.pm_ship.specs.Begun.{BeginsOffered, MayBeOffered, idle};
@@ -17,9 +17,10 @@ use crate::store::StoreRead;
 use crate::{ListedCars, ShipFault, Shipped};
 use pm_disk::Disk;
 use pm_law_saving::a_listed_copy_begins_beside_the_settled_one;
-use pm_save::{SaveFault, Writer};
+use pm_progress::SaveFault;
 use pm_shadow::Pages;
 use pm_types::NoMemory;
+use pm_writer::Writer;
 use std::alloc::Global;
 
 /// A writer in which the copy of what was read is in progress beside that of the standby, and nothing of it was written;

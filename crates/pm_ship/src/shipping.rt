@@ -2,7 +2,7 @@
 ghost use Rattle.std.specs.Prelude.{◌≡◌, false, IfOk, IfErr};
 ghost use Rattle.pm_shadow.specs.Pages.{state, disk_of};
 ghost use Rattle.pm_graphs.specs.Reading.{Looked};
-ghost use Rattle.pm_save.specs.Answers.{TellsOn};
+ghost use Rattle.pm_progress.specs.Answers.{TellsOn};
 ghost use Rattle.pm_ship.specs.Begun.{MayBeOffered};
 ghost use Rattle.pm_ship.specs.SameLists.{Stands};
 ghost use Rattle.pm_ship.specs.Stores.{IsReady, IsStill, offered};

@@ -6,14 +6,13 @@ ghost use Rattle.pm_types.specs.declared.limits.TheConstants.{CLIENTS};
 ghost use Rattle.pm_place.specs.Choosers.{IsChooser};
 ghost use Rattle.pm_view.specs.Commands.{is_act};
 
-use crate::drawn::{command, name, next_draw, register};
-use crate::fault::Fault;
 use pm_case_text::{number, numbered, small};
 use pm_model::Oracle;
 use pm_mutate::act;
 use pm_place::Placement;
 use pm_reclaim::collect_one;
 use pm_space::Space;
+use pm_space_steps::{Fault, command, name, next_draw, register};
 use pm_types::{Cmd, Id, Reg, Reply, Step};
 use std::alloc::Global;
 use std::collections::BTreeSet;

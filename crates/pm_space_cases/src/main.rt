@@ -3,24 +3,14 @@
 #![tactic(auto)]
 
 mod collected;
-mod drawn;
-mod fault;
-mod frozen;
-mod opened;
-mod paths;
-mod queued;
 mod scripted;
-mod spaced;
 
 use collected::push_collected;
-use fault::Fault;
-use frozen::push_frozen;
-use opened::push_opened;
-use paths::push_chain;
 use pm_case_text::{first_word, is_silent, number, numbered, push_case};
-use queued::push_queued;
+use pm_space_steps::{
+    Fault, push_births, push_chain, push_drawn, push_frozen, push_names, push_opened, push_queued,
+};
 use scripted::{Shows, push_script};
-use spaced::{push_births, push_drawn, push_names};
 use std::alloc::Global;
 use std::fmt::Write;
 use std::io::{self, BufRead, BufReader};

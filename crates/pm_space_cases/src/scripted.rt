@@ -5,16 +5,16 @@ ghost use Rattle.pm_types.specs.declared.limits.TheConstants.{CLIENTS};
 ghost use Rattle.pm_place.specs.Choosers.{IsChooser};
 ghost use Rattle.pm_view.specs.Commands.{is_act};
 
-use crate::fault::Fault;
-use crate::paths::push_why;
 use pm_case_text::small;
-use pm_evac::{apply_one, finish_car, fix_one, free_car, move_one, sweep_one};
 use pm_mutate::act;
 use pm_next::{Row, next_row};
 use pm_place::Placement;
-use pm_reclaim::{collect_one, decide, select};
+use pm_reclaim::{
+    apply_one, collect_one, decide, finish_car, fix_one, free_car, move_one, select, sweep_one,
+};
 use pm_script::{Line, Script, read_script, reply_text};
 use pm_space::Space;
+use pm_space_steps::{Fault, push_why};
 use pm_types::{Cmd, Entry, Id, NoMemory, Reply, SOURCE_BYTES, Step};
 use pm_walk::dump_text;
 use std::alloc::Global;

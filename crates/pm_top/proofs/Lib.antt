@@ -1,13 +1,4 @@
-pub mod Parts
-pub mod Tallied
-pub mod Counted
-pub mod Ran
 pub mod NotMade
-pub mod Opened
-pub mod Stores
-pub mod Scripts
-pub mod Unread
-pub mod Faults
 pub mod Complete
 pub mod Shipping
 pub mod Performing

@@ -17,9 +17,9 @@ use Rattle.pm_image.proofs.BlankLaws.{blank_stands}
 use Rattle.pm_shadow.specs.Init.{IsInitFault}
 use Rattle.pm_shadow.specs.Pages.{disk_of}
 use Rattle.pm_shadow.specs.declared.pages.Pages.{Pages}
-use Rattle.pm_save.specs.declared.fault.SaveFault.{SaveFault}
-use Rattle.pm_save.specs.declared.fault.SaveFault.TheVariants as save_fault
-use Rattle.pm_save.specs.Answers.{IfMemory, IsFaultOf}
+use Rattle.pm_progress.specs.declared.fault.SaveFault.{SaveFault}
+use Rattle.pm_progress.specs.declared.fault.SaveFault.TheVariants as save_fault
+use Rattle.pm_progress.specs.Answers.{IfMemory, IsFaultOf}
 use Rattle.pm_script.specs.declared.fault.ScriptFault.{ScriptFault}
 use Rattle.pm_script.specs.declared.fault.ScriptFault.TheVariants.{Line as BadLine, TooManyLines, TooLong, Memory as ScriptMemory}
 use Rattle.pm_dump.specs.declared.fault.DumpFault.{DumpFault}
@@ -30,14 +30,15 @@ use Rattle.pm_dump.specs.Sound.{IsSoundDump}
 use Rattle.pm_dump.specs.Answers.{IsDumpFault}
 use Rattle.pm_dump.proofs.DumpLaws.{not_both, one_fault}
 use Rattle.pm_restore.specs.Restored.{IsRestored, LeavesEither, LeavesEmpty}
-use Rattle.pm_top.specs.declared.ended.Detail.{Detail}
-use Rattle.pm_top.specs.declared.ended.Detail.TheVariants.{Fine, Usage, Script, Dump as BadDump, Reading, Writing, Device, NotEmpty, Refused, Standby, Ahead, Foreign, OtherDevice, Memory}
-use Rattle.pm_top.specs.declared.ended.Alone.{Alone as Ended}
-use Rattle.pm_top.specs.Ends.{IsOfScript, ShowsDevice, ShowsReading, no_dump, not_made, not_settled}
-use Rattle.pm_top.specs.Disks.{LeavesMade, LeavesRestored, LeavesSettled}
+use Rattle.pm_ends.specs.declared.ended.Detail.{Detail}
+use Rattle.pm_ends.specs.declared.ended.Detail.TheVariants.{Fine, Usage, Script, Dump as BadDump, Reading, Writing, Device, NotEmpty, Refused, Standby, Ahead, Foreign, OtherDevice, Memory}
+use Rattle.pm_ends.specs.declared.ended.Alone.{Alone as Ended}
+use Rattle.pm_ends.specs.Ends.{IsOfScript, ShowsDevice, ShowsReading, no_dump, not_made, not_settled}
+use Rattle.pm_top.specs.Stores.{LeavesMade, LeavesRestored, LeavesSettled}
 use Rattle.pm_top.specs.Dumps.{EndsSettling, EndsUnrestored, HasDump, IsDumpEnd, IsReadWhole, RefusesBytes}
-use Rattle.pm_top.specs.Commands.{EndsRestoring, RestoresStore, ShowsCauses}
-use Rattle.pm_top.proofs.Parts.{with_parts}
+use Rattle.pm_top.specs.Commands.{EndsRestoring, RestoresStore}
+use Rattle.pm_ends.specs.Causes.{ShowsCauses}
+use Rattle.pm_ends.proofs.Parts.{with_parts}
 
 -- ---- what is read
 

@@ -1,40 +1,29 @@
 -- What each command does, from its start to its end, by how it ended: a record of named facts for each.
-use Rattle.std.specs.Prelude.{◌≡◌, ◌⊎◌, ℕ, ◌<◌, ◌≤◌, List, [], length, Some, None, IsSome, IfSome, IfNone}
+use Rattle.std.specs.Prelude.{◌≡◌, ◌⊎◌, ℕ, ◌<◌, ◌≤◌, List, [], length, Some, None}
 use Rattle.pm_disk.specs.declared.disk.Disk as disk
 use Rattle.pm_disk.specs.Disk.{LeavesOnly}
 use Rattle.pm_disk.specs.Made.{with_sync}
 use Rattle.pm_io.specs.declared.source.Source as source
 use Rattle.pm_io.specs.declared.sink.Sink as sink
-use Rattle.pm_model.specs.World.{begin}
-use Rattle.pm_model.specs.Text.{text}
-use Rattle.pm_image.specs.Stands.{StandsForCopy}
-use Rattle.pm_engine.specs.Shown.{tally_of}
-use Rattle.pm_serial.specs.Acknowledged.{Acknowledges}
-use Rattle.pm_serial.specs.Writing.{tail_of}
 use Rattle.pm_tell.specs.Told.{Telling, IsTold, IsToldOfSome, Reports, Dumps, GivesPath}
 use Rattle.pm_make.specs.Made.{made_text}
 use Rattle.pm_dump.specs.Dump.{Dump as Dumped}
 use Rattle.pm_dump.specs.Sound.{IsSoundDump}
-use Rattle.pm_script.specs.declared.line.Line.{Line}
 use Rattle.pm_script.specs.declared.fault.ScriptFault.TheVariants.{TooLong}
-use Rattle.pm_script.specs.Script.{IsScript}
-use Rattle.pm_threads.specs.Running.{LeavesSome}
 use Rattle.pm_types.specs.declared.limits.TheConstants.{MOST_TURNS}
 use Rattle.pm_words.specs.declared.command.Command.{Command}
 use Rattle.pm_words.specs.declared.command.Command.TheVariants.{Init, Run, RunThreads, Inspect, Dump, Restore, Why, Make, Trial}
-use Rattle.pm_top.specs.declared.ended.Detail.{Detail}
-use Rattle.pm_top.specs.declared.ended.Detail.TheVariants.{Fine, Script, Dump as BadDump, Reading, Writing, Device}
-use Rattle.pm_top.specs.declared.ended.Detail.TheVariants.{NotEmpty, Refused, Memory}
-use Rattle.pm_top.specs.declared.ended.Alone.{Alone as Ended}
-use Rattle.pm_top.specs.declared.writes.Writes.{Writes}
-use Rattle.pm_top.specs.declared.writes.Writes.TheVariants.{Replies, Digest}
-use Rattle.pm_top.specs.Ends.{RanShort, ShowsReading, ShowsWriting, ShowsDevice, ShowsOpened, NamesRule, stop_in}
-use Rattle.pm_top.specs.Stages.{IsPast, the_words, the_script}
-use Rattle.pm_top.specs.Journals.{IsBegun, KeepsOrder, ReadsScript}
-use Rattle.pm_top.specs.Disks.{IsRefusedFor, LeavesDisk, LeavesMade, LeavesRestored}
+use Rattle.pm_ends.specs.declared.ended.Detail.{Detail}
+use Rattle.pm_ends.specs.declared.ended.Detail.TheVariants.{Fine, Script, Dump as BadDump, Reading, Writing, Device}
+use Rattle.pm_ends.specs.declared.ended.Detail.TheVariants.{NotEmpty, Refused, Memory}
+use Rattle.pm_ends.specs.declared.ended.Alone.{Alone as Ended}
+use Rattle.pm_runs.specs.declared.writes.Writes.TheVariants.{Digest}
+use Rattle.pm_ends.specs.Journals.{KeepsOrder, ReadsScript}
+use Rattle.pm_ends.specs.Disks.{IsRefusedFor}
+use Rattle.pm_top.specs.Stores.{LeavesMade, LeavesRestored}
 use Rattle.pm_top.specs.Dumps.{HasDump, ReadsDump}
-use Rattle.pm_top.specs.Tallies.{TalliesRun}
-use Rattle.pm_top.specs.Wrote.{IsWriting, Wrote, WroteText}
+use Rattle.pm_ends.specs.Wrote.{IsWriting, WroteText}
+use Rattle.pm_runs.specs.Runs.{RunsStore, RunsScript, RunsTogether}
 
 -- All is as it was.
 pub record IsUntouched {D S K : Type 0} (disk : D) (source : S) (sink : K) (ended : Ended D S K) : Type 0 where
@@ -88,19 +77,6 @@ MayPerform (Make seed turns) = turns ≤ MOST_TURNS
 MayPerform (Trial seed turns) = turns ≤ MOST_TURNS
 MayPerform command = Unit {0}
 
-module _ {D S K : Type 0} (d : disk.Ghosts D) (s : source.Ghosts S) (k : sink.Ghosts K) where
-  -- Why it ended so, whatever the command: the count of faults rose of what failed, and the others stand still.
-  pub record ShowsCauses (disk : D) (source : S) (sink : K) (ended : Ended D S K) : Type 0 where
-    pub reading : ShowsReading ended.detail (s.count source) (s.count ended.source)
-    pub writing : ShowsWriting ended.detail (k.count sink) (k.count ended.sink)
-    pub device : ShowsDevice ended.detail (d.count disk) (d.count ended.disk)
-    -- a script and a store are refused by a rule of their bytes alone
-    pub rule : NamesRule ended.detail
-    -- whether a store was opened for a run: there is a tally just where it says so
-    pub opened : ShowsOpened ended.detail ended.tally
-    -- nobody asked for a read past the end of what the disk tells
-    pub reads : (d.made ended.disk).past ≡ (d.made disk).past
-
 module _ {D S K : Type 0} (d : disk.Ghosts D) where
   -- What `init FILE` does: a store is made, and source and sink are not called.
   pub record MakesStore (disk : D) (source : S) (sink : K) (ended : Ended D S K) : Type 0 where
@@ -114,24 +90,6 @@ module _ {D S K : Type 0} (d : disk.Ghosts D) where
     pub no_tally : ended.tally ≡ None
 
 module _ {D S K : Type 0} (d : disk.Ghosts D) (k : sink.Ghosts K) where
-  -- What a run that writes this does to disk and sink, and what it answers, whatever it reads, in whichever order it asks.
-  pub record RunsStore (writes : Writes) (disk : D) (sink : K) (ended : Ended D S K) : Type 0 where
-    -- the journal is legal from the world of some copy, and empty where no store was opened
-    pub begun : IsBegun ended.journal.items
-    pub none : IfNone ended.tally (ended.journal.items ≡ [])
-    -- where one was, it is the world of the copy for which the disk's bytes stand
-    pub stands : IsSome ended.tally → (bytes : List ℕ) → d.contents disk ≡ Some bytes
-        → StandsForCopy bytes begun.number begun.copy
-    -- what the engine came to, from that world
-    pub tallies : TalliesRun (begin begun.number begun.copy) ended.detail ended.journal.items ended.tally
-    -- what it does to the disk
-    pub leaves : LeavesDisk d disk ended.disk ended.detail ended.journal.items
-    -- the sink is not called where no store was opened
-    pub quiet : IfNone ended.tally (ended.sink ≡ sink)
-    -- and where one was, it is what this run writes for the journal's text and for the lines behind it, by how it ended
-    pub replies : IfSome ended.tally
-        (λ it. Wrote k writes sink ended.sink (text ended.journal.items) (tail_of (tally_of it)) (stop_in ended.detail))
-
   -- What a command does that tells of a store: the store is opened, and a text that says so is written.
   pub record TellsStore (Says : Telling) (disk : D) (source : S) (sink : K) (ended : Ended D S K) : Type 0 where
     pub ends : EndsTelling ended.detail
@@ -173,7 +131,7 @@ module _ {D S K : Type 0} (d : disk.Ghosts D) (k : sink.Ghosts K) where
     pub script : ReadsScript (made_text seed turns) ended.detail ended.journal.items ended.tally
     -- in the order of its lines
     pub order : KeepsOrder (made_text seed turns) ended.detail ended.journal.items ended.tally
-    pub store : RunsStore Digest disk sink ended
+    pub store : RunsStore d k Digest disk sink ended
     pub source_stays : ended.source ≡ source
 
 module _ {D S K : Type 0} (k : sink.Ghosts K) where
@@ -188,43 +146,6 @@ module _ {D S K : Type 0} (k : sink.Ghosts K) where
     pub no_tally : ended.tally ≡ None
 
 module _ {D S K : Type 0} (d : disk.Ghosts D) (s : source.Ghosts S) (k : sink.Ghosts K) where
-  -- What `run FILE serial` does: the source is read to its end, the script is read, the store is opened, and its lines
-  -- are run in their order.
-  pub record RunsScript (disk : D) (source : S) (sink : K) (ended : Ended D S K) : Type 0 where
-    -- the words were read, so it ends as no other command does
-    pub ends : IsPast the_words ended.detail
-    -- past the script the source was read to its end
-    pub read : IsPast the_script ended.detail
-        → (bytes : List ℕ) → s.left source ≡ Some bytes → s.left ended.source ≡ Some []
-    -- what it answers of the bytes that the source told
-    pub script : (bytes : List ℕ) → s.left source ≡ Some bytes
-        → ReadsScript bytes ended.detail ended.journal.items ended.tally
-    -- in the order of its lines
-    pub order : (bytes : List ℕ) → s.left source ≡ Some bytes
-        → KeepsOrder bytes ended.detail ended.journal.items ended.tally
-    -- what it does to disk and sink
-    pub store : RunsStore d k Replies disk sink ended
-    -- acknowledged is told: unless the sink failed, the text through each reply `saved` is finished
-    pub saved : IfSome ended.tally (λ it. Acknowledges k sink ended.sink ended.journal.items (stop_in ended.detail))
-
-  -- What `run FILE threads` does: the source is read to its end, the script is read, the store is opened, and each client's
-  -- lines are run in their order, in threads that take turns. The journal has the commands in the order of the turns.
-  pub record RunsTogether (disk : D) (source : S) (sink : K) (ended : Ended D S K) : Type 0 where
-    -- the words were read, so it ends as no other command does
-    pub ends : IsPast the_words ended.detail
-    -- past the script the source was read to its end
-    pub read : IsPast the_script ended.detail
-        → (bytes : List ℕ) → s.left source ≡ Some bytes → s.left ended.source ≡ Some []
-    -- what it answers of the bytes that the source told
-    pub script : (bytes : List ℕ) → s.left source ≡ Some bytes
-        → ReadsScript bytes ended.detail ended.journal.items ended.tally
-    -- what it does to disk and sink; the replies are written behind the last event
-    pub store : ∥ RunsStore d k Replies disk sink ended ∥₁
-    -- where memory runs out, no event was made, or one is left in which it may: where nothing but a settle of a copy that
-    -- was flushed whole is left, it does not run out
-    pub short : RanShort ended.detail → (bytes : List ℕ) → s.left source ≡ Some bytes → (lines : List Line) → IsScript bytes lines
-        → IfSome ended.tally (λ it. ∥ LeavesSome lines ended.journal.items (tally_of it).steps (tally_of it).events (tally_of it).left ∥₁)
-
   -- What `restore FILE` does: the source is read to its end, the dump is read, a store is made, and the dump is settled in it
   -- as copy 1. The sink is not called.
   pub record RestoresStore (disk : D) (source : S) (sink : K) (ended : Ended D S K) : Type 0 where
@@ -246,8 +167,8 @@ module _ {D S K : Type 0} (d : disk.Ghosts D) (s : source.Ghosts S) (k : sink.Gh
   -- what each command does
   abbrev pub Does : Command → D → S → K → Ended D S K → Type 0
   Does Init disk source sink ended = MakesStore d disk source sink ended
-  Does Run disk source sink ended = RunsScript disk source sink ended
-  Does RunThreads disk source sink ended = RunsTogether disk source sink ended
+  Does Run disk source sink ended = RunsScript d s k disk source sink ended
+  Does RunThreads disk source sink ended = RunsTogether d s k disk source sink ended
   Does Inspect disk source sink ended = InspectsStore d k disk source sink ended
   Does Dump disk source sink ended = DumpsStore d k disk source sink ended
   Does Restore disk source sink ended = RestoresStore disk source sink ended

@@ -1,12 +1,5 @@
-pub mod Stages
-pub mod Ends
-pub mod Alone
-pub mod Journals
-pub mod Disks
+pub mod Stores
 pub mod Dumps
-pub mod Tallies
-pub mod Wrote
-pub mod Engines
 pub mod Commands
 pub mod Needs
 pub mod Ships

@@ -5,25 +5,16 @@
 //! store.
 #![tactic(auto)]
 
-mod ended;
 mod laws;
 mod made;
 mod making;
-mod opening;
-mod reading;
 mod restoring;
-mod running;
 mod shell;
 mod standby;
 mod telling;
-mod texting;
-mod texts;
-mod together;
 mod top;
-mod writes;
 
-pub use ended::{Alone, Detail, Ended};
 pub use laws::{a_run_stays_closed, ends_lie_between_stages};
+pub use pm_ends::{Alone, Detail, Ended, detail_text};
 pub use shell::{program, tell};
-pub use texts::detail_text;
 pub use top::pmos;

@@ -1,11 +1,11 @@
 //! Making a store.
 ghost use Rattle.std.specs.Prelude.{◌≡◌};
-ghost use Rattle.pm_top.specs.Ends.{status_of, not_made};
-ghost use Rattle.pm_top.specs.Commands.{ShowsCauses, MakesStore};
+ghost use Rattle.pm_ends.specs.Ends.{status_of, not_made};
+ghost use Rattle.pm_ends.specs.Causes.{ShowsCauses};
+ghost use Rattle.pm_top.specs.Commands.{MakesStore};
 
-use crate::ended::end_unopened;
-use crate::{Alone, Detail};
 use pm_disk::Disk;
+use pm_ends::{Alone, Detail, end_unopened};
 use pm_io::{Sink, Source};
 use pm_shadow::init;
 use pm_types::InitFault;

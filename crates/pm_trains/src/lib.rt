@@ -5,8 +5,6 @@
 mod laws;
 mod line;
 mod place;
-#[cfg(test)]
-mod tests;
 mod trains;
 
 pub use laws::{

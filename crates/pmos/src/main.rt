@@ -5,7 +5,7 @@
 ghost use Rattle.std.specs.Prelude.{◌≡◌, ◌<◌, length, map, drop, string_bytes, IfOk, OnErr};
 ghost use Rattle.std.specs.Process.{exit_status};
 ghost use Rattle.std.specs.Vec.Iter.{into_iter_items};
-ghost use Rattle.pm_top.specs.Ends.{detail_line};
+ghost use Rattle.pm_ends.specs.Ends.{detail_line};
 ghost use Rattle.pm_top.specs.Program.{Tells, TellsEnd};
 ghost use Rattle.pmos.specs.Main.{IsOtherPath, path_in, place_in, PerformsFrom};
 

@@ -1,6 +1,6 @@
 use Rattle.std.proofs.Common.{false, refl, subst}
-use Rattle.pm_top.specs.declared.ended.Detail.TheVariants.{Memory}
-use Rattle.pm_top.specs.Ends.{detail_line}
+use Rattle.pm_ends.specs.declared.ended.Detail.TheVariants.{Memory}
+use Rattle.pm_ends.specs.Ends.{detail_line}
 use Rattle.pm_top.specs.Program.{Tells}
 use Rattle.pmos.proofs.end.Goals as goal
 

@@ -1,7 +1,7 @@
 use Rattle.std.proofs.Common.{arith, ◌<◌, length}
 use Rattle.pm_trains.specs.Trains.{empty_train}
 use Rattle.pm_space.specs.Shown.{view}
-use Rattle.pm_save.proofs.PlanLemmas.{trains_more}
+use Rattle.pm_save.proofs.ListLemmas.{trains_more}
 use Rattle.pm_save.proofs.listed_cars.plan_cars.Goals as goal
 
 pub loop-place-preserved : goal.loop-place-preserved

@@ -1,4 +1,4 @@
-use Rattle.pm_save.proofs.PlanLemmas.{housed_in}
+use Rattle.pm_save.proofs.ListLemmas.{housed_in}
 use Rattle.pm_save.proofs.listed_cars.plan_train.Goals as goal
 
 pub plan_car-requires-clause-train : goal.plan_car-requires-clause-train

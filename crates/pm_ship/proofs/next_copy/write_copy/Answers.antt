@@ -1,7 +1,7 @@
 use Rattle.std.proofs.Common.{Err, Some, refl, sym, ap, subst, ◌∙◌}
 use Rattle.pm_shadow.specs.Pages.{disk_of}
 use Rattle.pm_saving.specs.Paging.{left_of}
-use Rattle.pm_save.specs.Shown.{writing}
+use Rattle.pm_writer.specs.Shown.{writing}
 use Rattle.pm_ship.specs.declared.fault.ShipFault.{ShipFault}
 use Rattle.pm_ship.specs.Cars.{cars_kept}
 use Rattle.pm_ship.specs.Stores.{offered}

@@ -5,7 +5,8 @@ use Rattle.pm_shadow.specs.Pages.{state, disk_of}
 use Rattle.pm_space.specs.Shown.{car_of}
 use Rattle.pm_view.specs.View.{Cars}
 use Rattle.pm_saving.specs.Tied.{IsTied}
-use Rattle.pm_save.specs.Shown.{frozen_of, writing}
+use Rattle.pm_save.specs.Shown.{frozen_of}
+use Rattle.pm_writer.specs.Shown.{writing}
 use Rattle.pm_save.proofs.saver.Saver.drop_copy.Goals as goal
 
 pub returns-clause-tied : goal.returns-clause-tied

@@ -1,0 +1,108 @@
+//! The bytes of a disk before a run.
+
+use crate::running::{RunEnd, run_script};
+use crate::setting::INIT;
+use pm_case_text::{Fault, number, numbered, part, place, placed, push_bytes, put, refuse};
+use pm_layout::digest;
+use pm_types::PAGE_BYTES;
+use std::alloc::Global;
+use std::sync::Wait;
+use std::thread::Threads;
+
+// The bytes of a store that has just been made.
+fn new_store<R: AllocGlobal + Threads + Wait + Sync>(rt: &R) -> Result<Vec<u8>, Fault> {
+    let alloc = rt.alloc();
+    let made = run_script(rt, &[], INIT, Vec::new(alloc))?;
+    if made.status != 0 {
+        return Err(refuse("no store was made"));
+    }
+    Ok(made.disk.contents().to_vec(alloc)?)
+}
+
+// What a crash leaves of a run's disk.
+fn image(alloc: Global, last: &Option<RunEnd>, pick: u64) -> Result<Vec<u8>, Fault> {
+    match last {
+        Some(run) => Ok(run.disk.image(alloc, pick)?),
+        None => Err(refuse("no run before")),
+    }
+}
+
+/// `empty`, `new`, `zeros N`, or `image PICK`: no byte, a new store, N zero bytes, or what a crash after the last run
+/// leaves.
+pub fn named<R: AllocGlobal + Threads + Wait + Sync>(
+    rt: &R,
+    last: &Option<RunEnd>,
+    text: &str,
+) -> Result<Vec<u8>, Fault> {
+    match text.split_once(' ') {
+        Some(("zeros", count)) => Ok(vec![in rt.alloc(); 0; number(count)? as usize]?),
+        Some(("image", pick)) => image(rt.alloc(), last, number(pick)?),
+        _ => match text {
+            "empty" => Ok(Vec::new(rt.alloc())),
+            "new" => new_store(rt),
+            _ => Err(refuse("no such disk")),
+        },
+    }
+}
+
+// The digest of bytes stands at a place.
+fn put_digest(disk: &mut [u8], from: usize, count: usize, at: usize) -> Result<(), Fault> {
+    let made = digest(part(disk, from, count)?);
+    put(disk, at, &made)
+}
+
+/// `FROM COUNT PLACE`: the digest of that many bytes from there on stands at that place.
+pub fn put_digest_of(disk: &mut [u8], text: &str) -> Result<(), Fault> {
+    let (from, rest) = placed(text)?;
+    let (count, at) = numbered(rest)?;
+    put_digest(disk, from, count as usize, place(at)?)
+}
+
+// Byte `at` of the page of this number.
+fn page_place(page: u64, at: u64) -> Result<usize, Fault> {
+    match page.checked_mul(PAGE_BYTES as u64) {
+        Some(start) => Ok(start.saturating_add(at) as usize),
+        None => Err(refuse("no page")),
+    }
+}
+
+// The digest of the first bytes of a page stands at a place of another one.
+fn put_digest_in(
+    disk: &mut [u8],
+    page: u64,
+    count: usize,
+    holder: u64,
+    at: u64,
+) -> Result<(), Fault> {
+    let from = page_place(page, 0)?;
+    let place = page_place(holder, at)?;
+    put_digest(disk, from, count, place)
+}
+
+// The same as `seal`, of the three numbers.
+fn seal_pages(disk: &mut [u8], header: u64, catalog: u64, car: u64) -> Result<(), Fault> {
+    put_digest_in(disk, car, PAGE_BYTES, catalog, 71)?;
+    put_digest_in(disk, catalog, PAGE_BYTES, header, 32)?;
+    put_digest_in(disk, header, 64, header, 64)
+}
+
+/// `HEADER CATALOG CAR`, three pages: the digest of the car is made again in the first entry of the catalog page, that
+/// of the catalog page in the header, and the header's own.
+pub fn seal(disk: &mut [u8], text: &str) -> Result<(), Fault> {
+    let (header, rest) = numbered(text)?;
+    let (catalog, car) = numbered(rest)?;
+    seal_pages(disk, header, catalog, number(car)?)
+}
+
+/// `PLACE COUNT`: adds that many bytes from that place on, in hexadecimal, a line.
+pub fn push_digits_at(
+    alloc: Global,
+    disk: &[u8],
+    text: &str,
+    out: &mut String,
+) -> Result<(), Fault> {
+    let (from, count) = placed(text)?;
+    let bytes = part(disk, from, number(count)? as usize)?;
+    push_bytes(alloc, bytes, out)?;
+    Ok(out.push('\n')?)
+}

@@ -1,0 +1,3 @@
+pub mod Births
+pub mod Closing
+pub mod Picked

@@ -1,0 +1,9 @@
+pub mod Seen
+pub mod Kept
+pub mod Answers
+pub mod Counted
+pub mod Entries
+pub mod Next
+pub mod Noted
+pub mod Putting
+pub mod Taken

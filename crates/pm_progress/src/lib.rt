@@ -1,0 +1,19 @@
+//! A copy in progress: its cars, its next page, and what is kept of a page that was written.
+#![tactic(auto)]
+
+mod car_page;
+mod cuts;
+mod entries;
+mod fault;
+mod frozen;
+mod next;
+mod place;
+mod written;
+
+pub use car_page::{CarPage, spell};
+pub use cuts::Counter;
+pub use fault::SaveFault;
+pub use frozen::Frozen;
+pub use next::{Next, Ready, find_next, first_part, is_open, ready_next};
+pub use place::{InProgress, Place, PlacedCar};
+pub use written::{note_written, put_page};

@@ -1,0 +1,5 @@
+pub mod Lists
+pub mod Linking
+pub mod Naming
+pub mod Trains
+pub mod Remembering

@@ -1,0 +1,13 @@
+//! Building a space of cars and roots.
+#![tactic(auto)]
+
+mod building;
+mod gatherings;
+mod linking;
+mod lists;
+mod naming;
+mod remembering;
+mod trains;
+
+pub use building::build;
+pub use lists::{CarList, RootList};

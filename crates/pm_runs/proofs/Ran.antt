@@ -1,0 +1,264 @@
+-- What a run has done, in the words of its end.
+use Rattle.std.proofs.Common.{◌≡◌, inl, inr, ⊎_elim, ℕ, ◌<◌, ◌≤◌, List, [], ◌++◌, map, filter, nat_eq, Option, Some, None, IsSome, length, refl, sym, ap, subst, ◌∙◌, arith}
+use Rattle.std.proofs.lemmas.List.{length-map, map-append}
+use Rattle.std.proofs.lemmas.List.Elements.{filter-append}
+use Rattle.std.specs.List.{AllByRecursion}
+use Rattle.pm_types.specs.declared.entry.Entry.{Entry}
+use Rattle.pm_base.specs.Counts.{Rose, ShowsRise, greatest_count}
+use Rattle.pm_disk.specs.declared.disk.Disk as disk
+use Rattle.pm_disk.specs.Disk.{LeavesOnly}
+use Rattle.pm_disk.proofs.RunLemmas.{weaker}
+use Rattle.pm_io.specs.declared.source.Source as source
+use Rattle.pm_io.specs.declared.sink.Sink as sink
+use Rattle.pm_model.specs.World.{World, begin, empty_copy}
+use Rattle.pm_model.specs.Closed.{IsClosed}
+use Rattle.pm_model.specs.declared.request.Request.{Request}
+use Rattle.pm_model.specs.Journal.{IsFirstPart, IsLegal, after, commands_of, part, requests_of}
+use Rattle.pm_model.specs.Text.{text}
+use Rattle.pm_model.proofs.ClosedLaws.{empty_closed}
+use Rattle.pm_script.specs.declared.line.Line.{Line}
+use Rattle.pm_view.specs.View.{SpaceView}
+use Rattle.pm_view.specs.Counts.{standing}
+use Rattle.pm_bound.specs.Bounded.{IsHonest}
+use Rattle.pm_copies.specs.Listed.{copy_in}
+use Rattle.pm_saving.specs.Paging.{left_of}
+use Rattle.pm_saving.specs.Progress.{Saving}
+use Rattle.pm_serving.specs.Serving.{IsServed, Serving, just_opened, opening, world}
+use Rattle.pm_serving.specs.Images as images
+use Rattle.pm_serving.specs.Images.{IsTold}
+use Rattle.pm_engine.specs.declared.engine.Engine.{Engine}
+use Rattle.pm_engine.specs.declared.tally.Tally.{Tally}
+use Rattle.pm_engine.specs.Shown.{KeepsStart, Total, disk_in, opened_disk, serving, tally_in, tally_of}
+use Rattle.pm_events.specs.declared.stop.Stop.{Stop}
+use Rattle.pm_events.specs.declared.stop.Stop.TheVariants.{Memory as StopMemory, Writing as StopWriting, Device as StopDevice}
+use Rattle.pm_events.specs.Causes as causes
+use Rattle.pm_events.specs.Causes.{IsDone, CountsDisk, OnStop}
+use Rattle.pm_serial.specs.Causes.{CountsSink}
+use Rattle.pm_parts.specs.Asked.{events_asked, requests_asked}
+use Rattle.pm_serial.specs.Running.{AnswersLines}
+use Rattle.pm_threads.specs.Running.{AnswersClients, LeavesSome}
+use Rattle.pm_events.specs.Running.{IsFresh, RunsOnDisk}
+use Rattle.pm_serial.specs.Writing.{tail_of}
+use Rattle.pm_serial.specs.Ordered.{StopsAmong, course_of}
+use Rattle.pm_ends.specs.declared.ended.Detail.{Detail}
+use Rattle.pm_ends.specs.declared.ended.Alone.{Alone as Ended}
+use Rattle.pm_runs.specs.declared.writes.Writes.{Writes}
+use Rattle.pm_ends.specs.Ends.{RanShort, stop_in, ended_by}
+use Rattle.pm_ends.specs.Stages.{IsPast, unreached, the_events, the_output}
+use Rattle.pm_ends.specs.Disks.{IsLastOf, IsOfDisk, IsOfRun}
+use Rattle.pm_ends.specs.Tallies.{ComesTo, ReachesAtMost}
+use Rattle.pm_runs.specs.Engines.{RunsEngine}
+use Rattle.pm_runs.specs.Wrote.{AcknowledgesFor, Wrote}
+use Rattle.pm_ends.specs.Journals.{IsBegun, ServesInOrder, ServesLines}
+use Rattle.pm_ends.specs.Causes.{ShowsCauses}
+use Rattle.pm_ends.proofs.Parts.{with_parts}
+use Rattle.pm_ends.proofs.Faults.{late_past}
+use Rattle.pm_ends.proofs.Tallied.{engine_comes}
+
+-- an empty journal is legal from the world of the empty copy
+pub none_begun : IsBegun []
+none_begun = record { number = 0; copy = empty_copy; closed = empty_closed; legal = tt }
+
+-- ---- an engine that was just opened
+
+-- nothing was asked of it yet, and no copy is in progress
+pub fresh_engine : {D : Type 0} {F : Type 0} {g : disk.Ghosts D} (it : Engine D F g) (number : ℕ) (view : SpaceView) (saving : Saving) → serving it ≡ just_opened number view saving → (serving it).saving.progress ≡ None → IsFresh (serving it)
+fresh_engine it number view saving is idle = record {
+  journal = ap (λ (s : Serving). s.journal) is;
+  course = ap (λ (s : Serving). s.course) is;
+  watches = ap (λ (s : Serving). s.watches) is;
+  events = ap (λ (s : Serving). s.events) is;
+  steps = ap (λ (s : Serving). s.steps) is;
+  stopped = ap (λ (s : Serving). s.stopped) is;
+  progress = idle;
+}
+
+-- ---- ends of a run of lines
+
+-- it came to the events
+pub ended_late : (stop : Option Stop) (a b c d : ℕ) → the_events < unreached (ended_by stop a b c d)
+ended_late None a b c d = omega arith
+ended_late (Some StopMemory) a b c d = omega arith
+ended_late (Some StopWriting) a b c d = omega arith
+ended_late (Some StopDevice) a b c d = omega arith
+
+-- why it stopped can be told from its end
+stop_back : (stop : Option Stop) (a b c d : ℕ) → stop ≡ stop_in (ended_by stop a b c d)
+stop_back None a b c d = refl
+stop_back (Some StopMemory) a b c d = refl
+stop_back (Some StopWriting) a b c d = refl
+stop_back (Some StopDevice) a b c d = refl
+
+done_back : (stop : Option Stop) (a b c d : ℕ) → IsPast the_output (ended_by stop a b c d) → IsDone stop
+done_back None a b c d past = tt
+done_back (Some StopMemory) a b c d past = absurd (omega arith)
+done_back (Some StopWriting) a b c d past = absurd (omega arith)
+done_back (Some StopDevice) a b c d past = absurd (omega arith)
+
+-- the disk failed where the run stopped for it, and no call had answered so where it did not
+disk_back : (stop : Option Stop) (stopped : Option ℕ) (a b c d : ℕ) → ((causes.IsOfDisk stop → ⊥) → stopped ≡ None) → IsSome stopped → IsOfDisk (ended_by stop a b c d)
+disk_back None stopped a b c d going some = absurd (cc (subst IsSome (going (λ no. no)) some))
+disk_back (Some StopMemory) stopped a b c d going some = absurd (cc (subst IsSome (going (λ no. no)) some))
+disk_back (Some StopWriting) stopped a b c d going some = absurd (cc (subst IsSome (going (λ no. no)) some))
+disk_back (Some StopDevice) stopped a b c d going some = tt
+
+of_run : (it : Serving) (stop : Option Stop) (a b c d : ℕ) (left : List ℕ) → ((causes.IsOfDisk stop → ⊥) → it.stopped ≡ None) → images.IsOfRun it left → IsOfRun (ended_by stop a b c d) (opening it) it.journal left
+of_run it stop a b c d left going = ⊎_elim (λ kept. inl kept) (λ begun. inr (disk_back stop it.stopped a b c d going begun.0, begun.1))
+
+of_last : (it : Serving) (stop : Option Stop) (a b c d : ℕ) (left : List ℕ) → ((causes.IsOfDisk stop → ⊥) → it.stopped ≡ None) → images.IsLast it left → IsLastOf (ended_by stop a b c d) (after (opening it) it.journal) left
+of_last it stop a b c d left going = ⊎_elim (λ kept. inl kept) (λ begun. inr (disk_back stop it.stopped a b c d going begun.0, begun.1))
+
+-- what one client asks in two lists, one behind the other
+commands_behind : (client : ℕ) (one two : List Request) → commands_of client (one ++ two) ≡ commands_of client one ++ commands_of client two
+commands_behind client one two =
+    ap (map (λ (r : Request). r.cmd)) (filter-append (λ (r : Request). nat_eq r.client client) one two)
+    ∙ map-append (λ (r : Request). r.cmd) (filter (λ (r : Request). nat_eq r.client client) one) (filter (λ (r : Request). nat_eq r.client client) two)
+
+-- of what was asked in this order each client's part is a first part of its commands
+first_parts : (journal : List Entry) (rest asked : List Request) → requests_of journal ++ rest ≡ asked → (client : ℕ) → IsFirstPart (part client journal) (commands_of client asked)
+first_parts journal rest asked served client = (commands_of client rest, sym (commands_behind client (requests_of journal) rest) ∙ ap (commands_of client) served)
+
+short_back : (stop : Option Stop) (a b c d : ℕ) → RanShort (ended_by stop a b c d) → stop ≡ Some StopMemory
+short_back None a b c d ran = absurd ran
+short_back (Some StopMemory) a b c d ran = refl
+short_back (Some StopWriting) a b c d ran = absurd ran
+short_back (Some StopDevice) a b c d ran = absurd ran
+
+-- what was answered, in the order of the lines
+pub order_served : (lines : List Line) (it : Serving) (tally : Tally) (stop : Option Stop) (a b c d : ℕ) → tally_of tally ≡ tally_in it
+    → AnswersLines lines it stop → ServesInOrder lines (ended_by stop a b c d) it.journal (Some tally)
+order_served lines it tally stop a b c d is answers = record {
+  rest = answers.rest;
+  served = answers.served;
+  all = λ past. answers.all (done_back stop a b c d past);
+  ordered = λ few. subst (λ (total : Total). IsFirstPart total.course (course_of 0 0 lines)) (sym is) (answers.ordered few);
+  all_ordered = λ past few. ap (λ (total : Total). total.course) is ∙ answers.all_ordered (done_back stop a b c d past) few;
+  short = λ ran done more client parted few made.
+      let same = ap (λ (total : Total). total.events) is in
+      let left = ap (λ (total : Total). total.left) is in
+      ⊎_elim (λ (none : it.events ≡ 0). inl (same ∙ none)) (λ (some : 0 < left_of it.saving.progress). inr (omega (arith, some, left)))
+      (answers.short (short_back stop a b c d ran) done more client parted (sym same ∙ made) few);
+  stopped =
+      subst (λ (why : Option Stop). OnStop why (events_asked lines ≤ greatest_count → StopsAmong lines it.journal (tally_of tally).steps (tally_of tally).events)) (stop_back stop a b c d)
+      (subst (λ (total : Total). OnStop stop (events_asked lines ≤ greatest_count → StopsAmong lines it.journal total.steps total.events)) (sym is) answers.stopped);
+}
+
+-- and by each client
+pub lines_served : (lines : List Line) (it : Serving) (tally : Tally) (stop : Option Stop) (a b c d : ℕ) → tally_of tally ≡ tally_in it
+    → AnswersLines lines it stop → ServesLines lines (ended_by stop a b c d) it.journal (Some tally)
+lines_served lines it tally stop a b c d is answers =
+    let late = ended_late stop a b c d in
+    record {
+      ends = late_past (ended_by stop a b c d) late;
+      tried = omega (arith, late);
+      parts = first_parts it.journal answers.rest (requests_asked lines) answers.served;
+      serves = λ past client. ap (commands_of client) (answers.all (done_back stop a b c d past));
+      long = λ past. sym (length-map it.journal _) ∙ ap length (answers.all (done_back stop a b c d past));
+      steps = λ past. ap (λ (total : Total). total.steps) is ∙ answers.steps (done_back stop a b c d past);
+      events = λ past. ap (λ (total : Total). total.events) is ∙ answers.events (done_back stop a b c d past);
+    }
+
+-- where the clients' commands were asked in any order
+pub clients_served : (lines : List Line) (it : Serving) (tally : Tally) (stop : Option Stop) (a b c d : ℕ) → tally_of tally ≡ tally_in it
+    → AnswersClients lines it stop → ServesLines lines (ended_by stop a b c d) it.journal (Some tally)
+clients_served lines it tally stop a b c d is answers =
+    let late = ended_late stop a b c d in
+    record {
+      ends = late_past (ended_by stop a b c d) late;
+      tried = omega (arith, late);
+      parts = answers.parts;
+      serves = λ past. answers.serves (done_back stop a b c d past);
+      long = λ past. answers.long (done_back stop a b c d past);
+      steps = λ past. ap (λ (total : Total). total.steps) is ∙ answers.steps (done_back stop a b c d past);
+      events = λ past. ap (λ (total : Total). total.events) is ∙ answers.events (done_back stop a b c d past);
+    }
+
+-- where memory ran out an event is left in which it may
+pub clients_short : (lines : List Line) (it : Serving) (journal : List Entry) (tally : Tally) (stop : Option Stop) (a b c d : ℕ) → tally_of tally ≡ tally_in it → journal ≡ it.journal
+    → AnswersClients lines it stop → RanShort (ended_by stop a b c d) → ∥ LeavesSome lines journal (tally_of tally).steps (tally_of tally).events (tally_of tally).left ∥₁
+clients_short lines it journal tally stop a b c d is is_journal answers ran =
+    subst (λ (total : Total). ∥ LeavesSome lines journal total.steps total.events total.left ∥₁) (sym is)
+    (subst (λ (j : List Entry). ∥ LeavesSome lines j it.steps it.events (left_of it.saving.progress) ∥₁) (sym is_journal) (answers.short (short_back stop a b c d ran)))
+
+module _ {D F K : Type 0} {g : disk.Ghosts D} (k : sink.Ghosts K) where
+  -- what a run over this engine leaves that ended so, by its journal
+  abbrev Leaves : Writes → Engine D F g → D → Tally → K → K → Detail → List Entry → Type 0
+  Leaves writes old end tally sink last detail journal =
+      IsLegal (opening (serving old)) journal
+      × (IsTold (g.contents (opened_disk old)) → LeavesOnly g.moment g.since (disk_in old) end (IsOfRun detail (opening (serving old)) journal))
+      × (IsTold (g.contents (opened_disk old)) → (left : List ℕ) → g.image end left → IsLastOf detail (after (opening (serving old)) journal) left)
+      × (journal ≡ [] → end ≡ disk_in old)
+      × ComesTo (opening (serving old)) journal (tally_of tally)
+      × Wrote k writes sink last (text journal) (tail_of (tally_of tally)) (stop_in detail)
+
+module _ {D F S K : Type 0} {g : disk.Ghosts D} (k : sink.Ghosts K) where
+  -- what it left
+  pub engine_run : (writes : Writes) (old new : Engine D F g) (tally : Tally) (source : S) (sink last : K) (it : Ended D S K)
+      (stop : Option Stop) (a b c d : ℕ)
+      → it.journal.items ≡ (serving new).journal → RunsOnDisk old new stop → KeepsStart old new
+      → ∥ IsServed (serving new) ∥₁ → length (serving new).course ≡ length (serving new).journal → IsClosed (opening (serving new)) → IsLegal (opening (serving new)) (serving new).journal
+      → (world (serving new)).watches ≡ length (serving new).watches
+      → ReachesAtMost (world (serving new)) (standing (serving new).view) → tally_of tally ≡ tally_in (serving new)
+      → AllByRecursion IsHonest (tally_of tally).lines
+      → Wrote k writes sink last (text (serving new).journal) (tail_of (tally_in (serving new))) stop
+      → RunsEngine k writes old sink (with_parts it (ended_by stop a b c d) (Some tally) (disk_in new) source last)
+  engine_run writes old new tally source sink last it stop a b c d is_journal on_disk start served told closed legal watching few is honest wrote =
+      let left = subst (Leaves k writes old (disk_in new) tally sink last (ended_by stop a b c d)) (sym is_journal) leaves in
+      record {
+        late = ended_late stop a b c d;
+        closed = subst IsClosed same closed;
+        legal = left.0;
+        images = left.1;
+        last = left.2;
+        idle = left.3;
+        there = refl;
+        comes_to = left.4;
+        replies = left.5;
+      }
+    where
+      same : opening (serving new) ≡ opening (serving old)
+      same = λ i. begin (start.opening.number i) (copy_in (start.opening.opened i))
+
+      leaves : Leaves k writes old (disk_in new) tally sink last (ended_by stop a b c d) (serving new).journal
+      leaves =
+          let detail = ended_by stop a b c d in
+          let journal = (serving new).journal in (
+            subst (λ (w : World). IsLegal w journal) same legal,
+            (λ told.
+                weaker g.moment g.since (disk_in old) (disk_in new) (images.IsOfRun (serving new)) (IsOfRun detail (opening (serving old)) journal) (on_disk.leaves told)
+                (λ left it. subst (λ (w : World). IsOfRun detail w journal left) same (of_run (serving new) stop a b c d left on_disk.going it))),
+            (λ told left there. subst (λ (w : World). IsLastOf detail (after w journal) left) same (of_last (serving new) stop a b c d left on_disk.going (on_disk.last told left there))),
+            on_disk.idle,
+            subst (ComesTo (opening (serving old)) journal) (sym is) (subst (λ (w : World). ComesTo w journal (tally_in (serving new))) same (engine_comes (serving new) served told (subst (λ (total : Total). AllByRecursion IsHonest total.lines) is honest) watching few)),
+            subst (λ (total : Total). Wrote k writes sink last (text journal) (tail_of total) (stop_in detail)) (sym is)
+                (subst (λ (why : Option Stop). Wrote k writes sink last (text journal) (tail_of (tally_in (serving new))) why) (stop_back stop a b c d) wrote),
+          )
+
+module _ {K : Type 0} (k : sink.Ghosts K) where
+  -- what is finished of the replies which say that a copy settled
+  pub acknowledged : (writes : Writes) (sink last : K) (journal entries : List Entry) (stop : Option Stop) (a b c d : ℕ) → entries ≡ journal → AcknowledgesFor k writes sink last journal stop
+      → AcknowledgesFor k writes sink last entries (stop_in (ended_by stop a b c d))
+  acknowledged writes sink last journal entries stop a b c d is saved =
+      subst (λ (j : List Entry). AcknowledgesFor k writes sink last j (stop_in (ended_by stop a b c d))) (sym is)
+      (subst (λ (why : Option Stop). AcknowledgesFor k writes sink last journal why) (stop_back stop a b c d) saved)
+
+-- ---- causes
+
+-- a count that rose between these numbers
+pub shows_rise : (before after was now : ℕ) → before ≡ was → after ≡ now → Rose was now → ShowsRise before after was now
+shows_rise before after was now is_was is_now rose = (is_was, is_now, subst (λ (n : ℕ). Rose before n) (sym is_now) (subst (λ (n : ℕ). Rose n now) (sym is_was) rose))
+
+module _ {D S K : Type 0} (d : disk.Ghosts D) (s : source.Ghosts S) (k : sink.Ghosts K) where
+  -- after a run of lines
+  pub causes_end : (start end : D) (source : S) (sink last : K) (it : Ended D S K) (tally : Tally) (stop : Option Stop) (a b c e : ℕ)
+      → a ≡ d.count start → b ≡ d.count end → c ≡ k.count sink → e ≡ k.count last
+      → CountsDisk stop (d.count start) (d.count end) → CountsSink stop (k.count sink) (k.count last) → (d.made end).past ≡ (d.made start).past
+      → ShowsCauses d s k start source sink (with_parts it (ended_by stop a b c e) (Some tally) end source last)
+  causes_end start end source sink last it tally None a b c e is_a is_b is_c is_e on_disk on_sink reads =
+      record { reading = refl; writing = on_sink; device = on_disk; rule = tt; opened = tt; reads = reads }
+  causes_end start end source sink last it tally (Some StopMemory) a b c e is_a is_b is_c is_e on_disk on_sink reads =
+      record { reading = refl; writing = tt; device = on_disk; rule = tt; opened = refl; reads = reads }
+  causes_end start end source sink last it tally (Some StopWriting) a b c e is_a is_b is_c is_e on_disk on_sink reads =
+      record { reading = refl; writing = shows_rise c e (k.count sink) (k.count last) is_c is_e on_sink; device = on_disk; rule = tt; opened = tt; reads = reads }
+  causes_end start end source sink last it tally (Some StopDevice) a b c e is_a is_b is_c is_e on_disk on_sink reads =
+      record { reading = refl; writing = tt; device = shows_rise a b (d.count start) (d.count end) is_a is_b on_disk; rule = tt; opened = refl; reads = reads }

@@ -1,0 +1,95 @@
+-- What a run does to disk and sink, from its parts.
+use Rattle.std.proofs.Common.{◌≡◌, ℕ, ◌<◌, List, [], Option, Some, None, IsSome, refl, sym, subst, arith}
+use Rattle.std.specs.Prelude.{IfSome, IfNone}
+use Rattle.pm_disk.specs.declared.disk.Disk as disk
+use Rattle.pm_io.specs.declared.sink.Sink as sink
+use Rattle.pm_model.specs.Journal.{commands_of}
+use Rattle.pm_model.specs.Text.{text}
+use Rattle.pm_script.specs.declared.line.Line.{Line}
+use Rattle.pm_model.specs.World.{begin}
+use Rattle.pm_image.specs.Stands.{StandsForCopy}
+use Rattle.pm_engine.specs.declared.tally.Tally.{Tally}
+use Rattle.pm_engine.specs.Shown.{tally_of}
+use Rattle.pm_parts.specs.Asked.{requests_asked}
+use Rattle.pm_serial.specs.Writing.{tail_of}
+use Rattle.pm_ends.specs.declared.ended.Detail.{Detail}
+use Rattle.pm_ends.specs.declared.ended.Alone.{Alone as Ended}
+use Rattle.pm_runs.specs.declared.writes.Writes.{Writes}
+use Rattle.pm_ends.specs.Ends.{stop_in}
+use Rattle.pm_ends.specs.Stages.{IsPast, unreached, the_words, the_store, the_events, the_output}
+use Rattle.pm_ends.specs.Journals.{IsBegun, ServesInOrder, ServesLines}
+use Rattle.pm_ends.specs.Disks.{LeavesDisk}
+use Rattle.pm_ends.specs.Tallies.{ComesTo}
+use Rattle.pm_runs.specs.Wrote.{Wrote}
+use Rattle.pm_runs.specs.Runs.{RunsStore}
+use Rattle.pm_serial.proofs.Cutting.{on_stop}
+use Rattle.pm_ends.proofs.Parts.{with_parts}
+use Rattle.pm_runs.proofs.Ran.{none_begun}
+
+-- what holds anyway holds of a tally
+pub if_there : {A : Type 0} (tally : Option Tally) → A → IfSome tally (λ it. A)
+if_there None a = tt
+if_there (Some tally) a = a
+
+module _ {D S K : Type 0} (d : disk.Ghosts D) (k : sink.Ghosts K) where
+  -- no store was opened
+  pub store_unrun : (writes : Writes) (start end : D) (source : S) (sink : K) (it : Ended D S K) (detail : Detail) → it.journal.items ≡ []
+      → (IsPast the_store detail → ⊥) → LeavesDisk d start end detail []
+      → RunsStore d k writes start sink (with_parts it detail None end source sink)
+  store_unrun writes start end source sink it detail empty undone leaves = record {
+    begun = subst IsBegun (sym empty) none_begun;
+    none = empty;
+    stands = λ there. absurd (cc there);
+    tallies = record {
+      opened = λ past. absurd (undone past);
+      unopened = λ before. refl;
+      comes_to = tt;
+    };
+    leaves = subst (LeavesDisk d start end detail) (sym empty) leaves;
+    quiet = refl;
+    replies = tt;
+  }
+
+  -- lines were run
+  pub store_run : (writes : Writes) (disk : D) (sink : K) (it : Ended D S K) (begun : IsBegun it.journal.items) → the_events < unreached it.detail
+      → IsSome it.tally → ((bytes : List ℕ) → d.contents disk ≡ Some bytes → StandsForCopy bytes begun.number begun.copy)
+      → IfSome it.tally (λ tally. ComesTo (begin begun.number begun.copy) it.journal.items (tally_of tally))
+      → LeavesDisk d disk it.disk it.detail it.journal.items
+      → IfSome it.tally (λ tally. Wrote k writes sink it.sink (text it.journal.items) (tail_of (tally_of tally)) (stop_in it.detail))
+      → RunsStore d k writes disk sink it
+  store_run writes disk sink it begun late there stands comes leaves replies = record {
+    begun = begun;
+    none = told (it.journal.items ≡ []) it.tally there;
+    stands = λ is. stands;
+    tallies = record { opened = λ past. there; unopened = λ before. absurd (omega (arith, before, late)); comes_to = comes };
+    leaves = leaves;
+    quiet = told (it.sink ≡ sink) it.tally there;
+    replies = replies;
+  }
+    where
+      told : (A : Type 0) (tally : Option Tally) → IsSome tally → IfNone tally A
+      told A None is = absurd (cc is)
+      told A (Some tally) is = tt
+
+-- no line was served
+pub serves_none : (lines : List Line) (detail : Detail) → IsPast the_words detail → the_store < unreached detail → (IsPast the_output detail → ⊥) → ServesLines lines detail [] None
+serves_none lines detail ends tried undone = record {
+  ends = ends;
+  tried = tried;
+  parts = λ client. (commands_of client (requests_asked lines), refl);
+  serves = λ past. absurd (undone past);
+  long = λ past. absurd (undone past);
+  steps = λ past. tt;
+  events = λ past. tt;
+}
+
+pub orders_none : (lines : List Line) (detail : Detail) → (IsPast the_output detail → ⊥) → ServesInOrder lines detail [] None
+orders_none lines detail undone = record {
+  rest = requests_asked lines;
+  served = refl;
+  all = λ past. absurd (undone past);
+  ordered = λ few. tt;
+  all_ordered = λ past few. tt;
+  short = λ ran done more client parted few. tt;
+  stopped = on_stop (stop_in detail) (λ few. tt);
+}

@@ -1,0 +1,59 @@
+use Rattle.std.proofs.Common.{◌∙◌, ap, subst, List}
+use Rattle.std.specs.Prelude.{IfSome}
+use Rattle.pm_script.specs.declared.line.Line.{Line}
+use Rattle.pm_script.proofs.ScriptLaws.{one_reading}
+use Rattle.pm_engine.specs.Shown.{tally_of}
+use Rattle.pm_threads.specs.Running.{LeavesSome}
+use Rattle.pm_runs.specs.declared.writes.Writes.TheVariants.{Replies}
+use Rattle.pm_ends.specs.Causes.{ShowsCauses}
+use Rattle.pm_runs.specs.Runs.{RunsTogether}
+use Rattle.pm_ends.proofs.Parts.{at_end}
+use Rattle.pm_ends.proofs.Faults.{causes_read}
+use Rattle.pm_ends.proofs.Opened.{uncalled_run}
+use Rattle.pm_runs.proofs.Stores.{store_unrun}
+use Rattle.pm_ends.proofs.Scripts.{script_read}
+use Rattle.pm_ends.proofs.Unread.{causes_unread, ends_unread, reads_unread, refused_unread, script_unread, store_unread}
+use Rattle.pm_runs.proofs.together.run_together.Goals as goal
+
+pub returns-in-Ok-clause-runs : goal.returns-in-Ok-clause-runs
+returns-in-Ok-clause-runs g c =
+    let it = c.open_and_run.result in
+    let ran = c.open_and_run.ensures in
+    let read = c.in-Ok.ensures in
+    record {
+      ends = ran.serves.ends;
+      read = λ past bytes told. ap g.S.Source.left ran.source ∙ read.emptied bytes told;
+      script = λ bytes told. script_read bytes c.in-Ok.script it.detail it.journal.items it.tally (read.found bytes told) ran.serves;
+      store = ran.store;
+      short = λ shorted bytes told lines script.
+          subst (λ (ls : List Line). IfSome it.tally (λ tally. ∥ LeavesSome ls it.journal.items (tally_of tally).steps (tally_of tally).events (tally_of tally).left ∥₁))
+          (one_reading bytes c.in-Ok.script lines (read.found bytes told) script) (ran.short shorted);
+    }
+
+pub returns-in-Ok-clause-causes : goal.returns-in-Ok-clause-causes
+returns-in-Ok-clause-causes g c =
+    causes_read g.D.Disk g.S.Source g.K.Sink c.args.disk c.args.source c.read_source.new.source c.args.sink c.open_and_run.result c.in-Ok.ensures.counted c.open_and_run.ensures.causes
+
+pub returns-in-Err-clause-runs : goal.returns-in-Err-clause-runs
+returns-in-Err-clause-runs g c =
+    let it = c.end_unopened.result in
+    let e = c.end_unopened.ensures in
+    let detail = c.in-Err.detail in
+    let f = c.in-Err.ensures in
+    at_end (λ it. RunsTogether g.D.Disk g.S.Source g.K.Sink c.args.disk c.args.source c.args.sink it) it e.detail e.tally e.disk e.source e.sink
+    (record {
+      ends = ends_unread detail f.ends;
+      read = λ past. absurd (script_unread detail f.ends past);
+      script = λ bytes told. reads_unread bytes detail it.journal.items e.journal f.ends (f.stops bytes told);
+      store = ∣
+          store_unrun g.D.Disk g.K.Sink Replies c.args.disk c.args.disk c.read_source.new.source c.args.sink it detail e.journal (store_unread detail f.ends)
+          (uncalled_run g.D.Disk c.args.disk detail c.images_since_now.ensures (store_unread detail f.ends) (λ bytes. refused_unread bytes detail f.ends)) ∣₁;
+      short = λ ran bytes told lines script. tt;
+    })
+
+pub returns-in-Err-clause-causes : goal.returns-in-Err-clause-causes
+returns-in-Err-clause-causes g c =
+    let it = c.end_unopened.result in
+    let e = c.end_unopened.ensures in
+    at_end (λ it. ShowsCauses g.D.Disk g.S.Source g.K.Sink c.args.disk c.args.source c.args.sink it) it e.detail e.tally e.disk e.source e.sink
+    (causes_unread g.D.Disk g.S.Source g.K.Sink c.args.disk c.args.source c.read_source.new.source c.args.sink it c.in-Err.detail c.in-Err.ensures.ends c.in-Err.ensures.cause)

@@ -1,0 +1,80 @@
+-- What a run does over a store, from its start to its end, by how it ended: a record of named facts for each way to run.
+use Rattle.std.specs.Prelude.{◌≡◌, ℕ, List, [], Some, IsSome, IfSome, IfNone}
+use Rattle.pm_disk.specs.declared.disk.Disk as disk
+use Rattle.pm_io.specs.declared.source.Source as source
+use Rattle.pm_io.specs.declared.sink.Sink as sink
+use Rattle.pm_model.specs.World.{begin}
+use Rattle.pm_model.specs.Text.{text}
+use Rattle.pm_image.specs.Stands.{StandsForCopy}
+use Rattle.pm_engine.specs.Shown.{tally_of}
+use Rattle.pm_serial.specs.Acknowledged.{Acknowledges}
+use Rattle.pm_serial.specs.Writing.{tail_of}
+use Rattle.pm_script.specs.declared.line.Line.{Line}
+use Rattle.pm_script.specs.Script.{IsScript}
+use Rattle.pm_threads.specs.Running.{LeavesSome}
+use Rattle.pm_ends.specs.declared.ended.Alone.{Alone as Ended}
+use Rattle.pm_runs.specs.declared.writes.Writes.{Writes}
+use Rattle.pm_runs.specs.declared.writes.Writes.TheVariants.{Replies}
+use Rattle.pm_ends.specs.Ends.{RanShort, stop_in}
+use Rattle.pm_ends.specs.Stages.{IsPast, the_words, the_script}
+use Rattle.pm_ends.specs.Journals.{IsBegun, KeepsOrder, ReadsScript}
+use Rattle.pm_ends.specs.Disks.{LeavesDisk}
+use Rattle.pm_ends.specs.Tallies.{TalliesRun}
+use Rattle.pm_runs.specs.Wrote.{Wrote}
+
+module _ {D S K : Type 0} (d : disk.Ghosts D) (k : sink.Ghosts K) where
+  -- What a run that writes this does to disk and sink, and what it answers, whatever it reads, in whichever order it asks.
+  pub record RunsStore (writes : Writes) (disk : D) (sink : K) (ended : Ended D S K) : Type 0 where
+    -- the journal is legal from the world of some copy, and empty where no store was opened
+    pub begun : IsBegun ended.journal.items
+    pub none : IfNone ended.tally (ended.journal.items ≡ [])
+    -- where one was, it is the world of the copy for which the disk's bytes stand
+    pub stands : IsSome ended.tally → (bytes : List ℕ) → d.contents disk ≡ Some bytes
+        → StandsForCopy bytes begun.number begun.copy
+    -- what the engine came to, from that world
+    pub tallies : TalliesRun (begin begun.number begun.copy) ended.detail ended.journal.items ended.tally
+    -- what it does to the disk
+    pub leaves : LeavesDisk d disk ended.disk ended.detail ended.journal.items
+    -- the sink is not called where no store was opened
+    pub quiet : IfNone ended.tally (ended.sink ≡ sink)
+    -- and where one was, it is what this run writes for the journal's text and for the lines behind it, by how it ended
+    pub replies : IfSome ended.tally
+        (λ it. Wrote k writes sink ended.sink (text ended.journal.items) (tail_of (tally_of it)) (stop_in ended.detail))
+
+module _ {D S K : Type 0} (d : disk.Ghosts D) (s : source.Ghosts S) (k : sink.Ghosts K) where
+  -- What `run FILE serial` does: the source is read to its end, the script is read, the store is opened, and its lines
+  -- are run in their order.
+  pub record RunsScript (disk : D) (source : S) (sink : K) (ended : Ended D S K) : Type 0 where
+    -- the words were read, so it ends as no other command does
+    pub ends : IsPast the_words ended.detail
+    -- past the script the source was read to its end
+    pub read : IsPast the_script ended.detail
+        → (bytes : List ℕ) → s.left source ≡ Some bytes → s.left ended.source ≡ Some []
+    -- what it answers of the bytes that the source told
+    pub script : (bytes : List ℕ) → s.left source ≡ Some bytes
+        → ReadsScript bytes ended.detail ended.journal.items ended.tally
+    -- in the order of its lines
+    pub order : (bytes : List ℕ) → s.left source ≡ Some bytes
+        → KeepsOrder bytes ended.detail ended.journal.items ended.tally
+    -- what it does to disk and sink
+    pub store : RunsStore d k Replies disk sink ended
+    -- acknowledged is told: unless the sink failed, the text through each reply `saved` is finished
+    pub saved : IfSome ended.tally (λ it. Acknowledges k sink ended.sink ended.journal.items (stop_in ended.detail))
+
+  -- What `run FILE threads` does: the source is read to its end, the script is read, the store is opened, and each client's
+  -- lines are run in their order, in threads that take turns. The journal has the commands in the order of the turns.
+  pub record RunsTogether (disk : D) (source : S) (sink : K) (ended : Ended D S K) : Type 0 where
+    -- the words were read, so it ends as no other command does
+    pub ends : IsPast the_words ended.detail
+    -- past the script the source was read to its end
+    pub read : IsPast the_script ended.detail
+        → (bytes : List ℕ) → s.left source ≡ Some bytes → s.left ended.source ≡ Some []
+    -- what it answers of the bytes that the source told
+    pub script : (bytes : List ℕ) → s.left source ≡ Some bytes
+        → ReadsScript bytes ended.detail ended.journal.items ended.tally
+    -- what it does to disk and sink; the replies are written behind the last event
+    pub store : ∥ RunsStore d k Replies disk sink ended ∥₁
+    -- where memory runs out, no event was made, or one is left in which it may: where nothing but a settle of a copy that
+    -- was flushed whole is left, it does not run out
+    pub short : RanShort ended.detail → (bytes : List ℕ) → s.left source ≡ Some bytes → (lines : List Line) → IsScript bytes lines
+        → IfSome ended.tally (λ it. ∥ LeavesSome lines ended.journal.items (tally_of it).steps (tally_of it).events (tally_of it).left ∥₁)

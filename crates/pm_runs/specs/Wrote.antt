@@ -1,0 +1,22 @@
+-- What a run of lines wrote.
+use Rattle.std.specs.Prelude.{ℕ, List, Option}
+use Rattle.pm_types.specs.declared.entry.Entry.{Entry}
+use Rattle.pm_io.specs.declared.sink.Sink as sink
+use Rattle.pm_events.specs.declared.stop.Stop.{Stop}
+use Rattle.pm_serial.specs.Acknowledged.{Acknowledges}
+use Rattle.pm_serial.specs.Writing.{WroteRun}
+use Rattle.pm_trial.specs.Trials.{WroteTrial}
+use Rattle.pm_runs.specs.declared.writes.Writes.{Writes}
+use Rattle.pm_runs.specs.declared.writes.Writes.TheVariants.{Replies, Digest}
+
+module _ {K : Type 0} (k : sink.Ghosts K) where
+  -- what a run of lines put into the sink for the text of its journal and for the lines behind it, by what it writes and by
+  -- why it stopped, if it did
+  abbrev pub Wrote : Writes → K → K → List ℕ → List ℕ → Option Stop → Type 0
+  Wrote Replies old new text tail stop = WroteRun k.written k.finished k.count old new text tail stop
+  Wrote Digest old new text tail stop = WroteTrial k.written k.finished k.count old new text tail stop
+
+  -- what is finished of the replies which say that a copy settled, in a run of lines that writes them
+  abbrev pub AcknowledgesFor : Writes → K → K → List Entry → Option Stop → Type 0
+  AcknowledgesFor Replies old new journal stop = Acknowledges k old new journal stop
+  AcknowledgesFor Digest old new journal stop = Unit {0}

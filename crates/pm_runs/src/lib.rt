@@ -1,0 +1,12 @@
+//! A run over a store: a script is read, the store is opened, and the lines are run over its copy, in their order or in
+//! threads.
+#![tactic(auto)]
+
+mod opening;
+mod running;
+mod together;
+mod writes;
+
+pub use running::{run_bytes, run_source};
+pub use together::{images_since_now, run_together};
+pub use writes::Writes;

@@ -1,0 +1,133 @@
+//! A run in threads: the source is read, the store is opened, and workers take turns at an engine over its copy.
+ghost use Rattle.std.specs.Prelude.{◌≡◌, List, ℕ, IfSome};
+ghost use Rattle.pm_place.specs.Choosers.{IsChooser};
+ghost use Rattle.pm_engine.specs.Shown.{chooser, disk_in, serving, tally_of};
+ghost use Rattle.pm_events.specs.Running.{IsFresh};
+ghost use Rattle.pm_runs.specs.declared.writes.Writes.TheVariants.{Replies};
+ghost use Rattle.pm_threads.specs.Running.{LeavesSome};
+ghost use Rattle.pm_ends.specs.Ends.{RanShort, status_of};
+ghost use Rattle.pm_ends.specs.Journals.{ServesLines};
+ghost use Rattle.pm_ends.specs.Causes.{ShowsCauses};
+ghost use Rattle.pm_runs.specs.Runs.{RunsStore, RunsTogether};
+ghost use Rattle.pm_runs.specs.Engines.{RunsEngine};
+
+use pm_disk::Disk;
+use pm_ends::{Alone, end_unopened, end_with, ended_by, not_opened, read_source};
+use pm_engine::Engine;
+use pm_io::{Sink, Source};
+use pm_place::Placement;
+use pm_script::Script;
+use pm_threads::run_script;
+use pm_turns::Gate;
+use std::alloc::Global;
+use std::mem;
+use std::sync::Wait;
+use std::thread::Threads;
+
+/// A law of a disk: what may be left since this moment may be left at it.
+pub fn images_since_now<D: Disk>(disk: &D)
+    ensures { (left : List ℕ) → D.since disk.now (D.moment disk.now) left → D.image disk.now left }
+{}
+
+// Runs a script over an engine that was just opened, on a disk with this count of failed calls.
+fn run_engine<
+    R: Threads + Wait + Sync,
+    D: Disk + Drop + Send,
+    F: Fn(&[u64]) -> usize + Drop + Send,
+    S: Source,
+    K: Sink,
+    G: Gate + Sync,
+>(
+    rt: &R,
+    alloc: Global,
+    script: Script,
+    disk_before: u64,
+    engine: Engine<D, F>,
+    source: S,
+    mut sink: K,
+    gate: &G,
+) -> Alone<D, S, K>
+    requires fresh { IsFresh (serving engine) }
+    requires chooser { IsChooser F.Fn (chooser engine) }
+    requires count { disk_before ≡ D.count (disk_in engine) }
+    ensures status { result.status ≡ status_of result.detail }
+    ensures source { result.source ≡ source }
+    ensures serves { ServesLines script result.detail result.journal.items result.tally }
+    ensures runs { ∥ RunsEngine K.Sink Replies engine sink result ∥₁ }
+    ensures short { RanShort result.detail → IfSome result.tally (λ it. ∥ LeavesSome script result.journal.items
+        (tally_of it).steps (tally_of it).events (tally_of it).left ∥₁) }
+    ensures causes { ShowsCauses D.Disk S.Source K.Sink (disk_in engine) source sink result }
+{
+    let sink_before = sink.faults();
+    let (outcome, engine) = run_script(rt, alloc, script, engine, &mut sink, gate);
+    let sink_after = sink.faults();
+    engine.keep_their_images();
+    let (disk, journal, tally, heap) = engine.into_parts();
+    // The process ends behind its run, and gives all memory back at once.
+    mem::forget(heap);
+    let detail = ended_by(outcome, disk_before, disk.faults(), sink_before, sink_after);
+    end_with(detail, journal, Some(tally), disk, source, sink)
+}
+
+// Opens the store on the disk, and runs the script over its copy.
+fn open_and_run<
+    R: Threads + Wait + Sync,
+    D: Disk + Drop + Send,
+    F: Fn(&[u64]) -> usize + Drop + Send,
+    S: Source,
+    K: Sink,
+    G: Gate + Sync,
+>(
+    rt: &R,
+    alloc: Global,
+    script: Script,
+    disk: D,
+    place: Placement<F>,
+    source: S,
+    sink: K,
+    gate: &G,
+) -> Alone<D, S, K>
+    requires chooser { IsChooser F.Fn place }
+    ensures status { result.status ≡ status_of result.detail }
+    ensures source { result.source ≡ source }
+    ensures serves { ServesLines script result.detail result.journal.items result.tally }
+    ensures store { ∥ RunsStore D.Disk K.Sink Replies disk sink result ∥₁ }
+    ensures short { RanShort result.detail → IfSome result.tally (λ it. ∥ LeavesSome script result.journal.items
+        (tally_of it).steps (tally_of it).events (tally_of it).left ∥₁) }
+    ensures causes { ShowsCauses D.Disk S.Source K.Sink disk source sink result }
+{
+    let before = disk.faults();
+    match Engine::open_store(alloc, disk, place) {
+        Ok(engine) => run_engine(rt, alloc, script, before, engine, source, sink, gate),
+        Err((disk, fault)) => end_unopened(alloc, not_opened(fault), disk, source, sink),
+    }
+}
+
+/// Reads the source to its end, and runs what it held in threads. It waits for the threads.
+pub fn run_together<
+    R: Threads + Wait + Sync,
+    D: Disk + Drop + Send,
+    F: Fn(&[u64]) -> usize + Drop + Send,
+    S: Source,
+    K: Sink,
+    G: Gate + Sync,
+>(
+    rt: &R,
+    alloc: Global,
+    disk: D,
+    place: Placement<F>,
+    mut source: S,
+    sink: K,
+    gate: &G,
+) -> Alone<D, S, K>
+    requires chooser { IsChooser F.Fn place }
+    ensures status { result.status ≡ status_of result.detail }
+    ensures runs { RunsTogether D.Disk S.Source K.Sink disk source sink result }
+    ensures causes { ShowsCauses D.Disk S.Source K.Sink disk source sink result }
+{
+    images_since_now(&disk);
+    match read_source(alloc, &mut source) {
+        Ok(script) => open_and_run(rt, alloc, script, disk, place, source, sink, gate),
+        Err(detail) => end_unopened(alloc, detail, disk, source, sink),
+    }
+}

@@ -1,0 +1,54 @@
+//! What a run of lines writes.
+ghost use Rattle.pm_model.specs.Text.{text};
+ghost use Rattle.pm_script.specs.Script.{AreLines};
+ghost use Rattle.pm_place.specs.Choosers.{IsChooser};
+ghost use Rattle.pm_engine.specs.Shown.{KeepsStart, chooser, serving, tally_in};
+ghost use Rattle.pm_serial.specs.Causes.{CountsSink};
+ghost use Rattle.pm_events.specs.Causes.{why};
+ghost use Rattle.pm_serial.specs.Running.{AnswersLines};
+ghost use Rattle.pm_events.specs.Running.{IsFresh, RunsOnDisk};
+ghost use Rattle.pm_serial.specs.Writing.{tail_of};
+ghost use Rattle.pm_runs.specs.Wrote.{AcknowledgesFor, Wrote};
+
+use pm_disk::Disk;
+use pm_engine::Engine;
+use pm_events::Stop;
+use pm_io::Sink;
+use pm_script::Line;
+use pm_serial::run_lines;
+use pm_trial::run_trial;
+use std::alloc::Global;
+
+/// What a run of lines writes.
+#[derive(Clone, Copy, Debug, PartialEq, Eq)]
+pub enum Writes {
+    /// A line for each reply, and behind them those of what the engine came to.
+    Replies,
+    /// A line with the SHA-256 of the replies' text, and behind it those of what the engine came to.
+    Digest,
+}
+
+/// Runs the lines over an engine that was just opened, and writes what is asked.
+pub(crate) fn write_lines<D: Disk, F: Fn(&[u64]) -> usize + Drop, K: Sink>(
+    alloc: Global,
+    writes: Writes,
+    lines: Vec<Line>,
+    engine: &mut Engine<D, F>,
+    sink: &mut K,
+) -> Result<(), Stop>
+    requires clients { AreLines lines.items }
+    requires fresh { IsFresh (serving engine.old) }
+    requires chooser { IsChooser F.Fn (chooser engine.old) }
+    ensures answers { AnswersLines lines.items (serving engine.new) (why result) }
+    ensures disk { RunsOnDisk engine.old engine.new (why result) }
+    ensures wrote { Wrote K.Sink writes sink.old sink.new
+        (text (serving engine.new).journal) (tail_of (tally_in (serving engine.new))) (why result) }
+    ensures saved { AcknowledgesFor K.Sink writes sink.old sink.new (serving engine.new).journal (why result) }
+    ensures cause { CountsSink (why result) (K.count sink.old) (K.count sink.new) }
+    ensures start { KeepsStart engine.old engine.new }
+{
+    match writes {
+        Writes::Replies => run_lines(alloc, lines, engine, sink),
+        Writes::Digest => run_trial(alloc, lines, engine, sink),
+    }
+}

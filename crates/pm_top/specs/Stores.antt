@@ -1,0 +1,62 @@
+-- How making a store, and how restoring a dump leaves the disk.
+use Rattle.std.specs.Prelude.{◌≡◌, ◌⊎◌, ℕ, ◌<◌, List, length, Some}
+use Rattle.pm_disk.specs.declared.disk.Disk as disk
+use Rattle.pm_disk.specs.Disk.{IfTold, LeavesOnly, SameImages}
+use Rattle.pm_disk.specs.Made.{MadeMore}
+use Rattle.pm_model.specs.World.{empty_copy}
+use Rattle.pm_image.specs.Stands.{StandsForCopy}
+use Rattle.pm_image.specs.Blank.{blank_store}
+use Rattle.pm_shadow.specs.Init.{KeepsBytes}
+use Rattle.pm_dump.specs.Dump.{Dump}
+use Rattle.pm_restore.specs.Restored.{copy_in_dump, restored_in}
+use Rattle.pm_ends.specs.declared.ended.Detail.{Detail}
+use Rattle.pm_ends.specs.declared.ended.Detail.TheVariants.{Fine, Device, NotEmpty, Memory}
+
+module _ {D : Type 0} (d : disk.Ghosts D) where
+  -- How making a store leaves the disk, by how it ended.
+  abbrev pub LeavesMade : D → D → Detail → Type 0
+  -- a store was made on a disk that was empty, and each image stands for copy 0, of nothing
+  LeavesMade start end Fine =
+      (bytes : List ℕ) → d.contents start ≡ Some bytes
+      → (length bytes ≡ 0) × (d.contents end ≡ Some blank_store)
+      × ((left : List ℕ) → d.image end left → StandsForCopy left 0 empty_copy)
+  -- the disk holds so many bytes, and all is as it was
+  LeavesMade start end (NotEmpty n) =
+      (0 < n) × ((bytes : List ℕ) → d.contents start ≡ Some bytes → n ≡ length bytes)
+      × (d.contents end ≡ d.contents start) × SameImages (d.image start) (d.image end)
+  -- nothing was written to a disk that is empty
+  LeavesMade start end (Memory opened) = (d.contents end ≡ d.contents start) × SameImages (d.image start) (d.image end)
+  -- the disk failed: where it told of some byte, nothing was written
+  LeavesMade start end (Device before after opened) =
+      KeepsBytes (d.contents start) (d.contents end) (d.image start) (d.image end)
+  LeavesMade start end detail = ⊥
+
+  -- How settling a dump leaves a store that was just made, by how it ended: where it is done, copy 1 is the last one, and it
+  -- is the dump's, restricted to what its names reach; where memory ran out the empty copy 0 stands.
+  abbrev pub LeavesSettled : Dump → D → D → Detail → Type 0
+  LeavesSettled dump made end Fine = IfTold (d.contents made) (λ was.
+      LeavesOnly d.moment d.since made end (λ image. StandsForCopy image 0 empty_copy ⊎ StandsForCopy image 1 (copy_in_dump dump))
+      × (d.contents end ≡ Some (restored_in dump was))
+      × ((left : List ℕ) → d.image end left → StandsForCopy left 1 (copy_in_dump dump)))
+  LeavesSettled dump made end (Device before after opened) = IfTold (d.contents made) (λ was.
+      LeavesOnly d.moment d.since made end (λ image. StandsForCopy image 0 empty_copy ⊎ StandsForCopy image 1 (copy_in_dump dump)))
+  LeavesSettled dump made end (Memory opened) = IfTold (d.contents made) (λ was.
+      LeavesOnly d.moment d.since made end (λ image. StandsForCopy image 0 empty_copy))
+  LeavesSettled dump made end detail = ⊥
+
+  -- A store was made on a disk that was empty, by four writes and two syncs, and then the dump was settled in it.
+  pub record MakesAndSettles (dump : Dump) (start end : D) (detail : Detail) : Type 0 where
+    pub made : D
+    pub calls : MadeMore 4 2 0 (d.made start) (d.made made)
+    pub store : LeavesMade start made Fine
+    pub settles : LeavesSettled dump made end detail
+
+  -- How restoring a dump leaves the disk, by how it ended: where it was not read, the disk is not called.
+  abbrev pub LeavesRestored : Dump → D → D → Detail → Type 0
+  LeavesRestored dump start end Fine = MakesAndSettles dump start end Fine
+  LeavesRestored dump start end (NotEmpty n) = LeavesMade start end (NotEmpty n)
+  LeavesRestored dump start end (Device before after opened) =
+      LeavesMade start end (Device before after opened) ⊎ MakesAndSettles dump start end (Device before after opened)
+  LeavesRestored dump start end (Memory opened) =
+      LeavesMade start end (Memory opened) ⊎ MakesAndSettles dump start end (Memory opened)
+  LeavesRestored dump start end detail = end ≡ start

@@ -1,0 +1,3 @@
+pub mod Links
+pub mod Choices
+pub mod Homes
