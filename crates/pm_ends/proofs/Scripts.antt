@@ -16,8 +16,8 @@ use Rattle.pm_script.specs.Bad.{IsBad}
 use Rattle.pm_script.specs.Script.{IsScript}
 use Rattle.pm_script.proofs.BadLaws.{no_fault, one_fault}
 use Rattle.pm_script.proofs.ScriptLaws.{one_reading}
-use Rattle.pm_engine.specs.declared.tally.Tally.{Tally}
-use Rattle.pm_engine.specs.Shown.{tally_of}
+use Rattle.pm_events.specs.Tally.{Tally}
+use Rattle.pm_events.specs.Shown.{tally_of}
 use Rattle.pm_parts.specs.Asked.{events_asked, requests_asked}
 use Rattle.pm_events.specs.declared.stop.Stop.{Stop}
 use Rattle.pm_events.specs.Causes.{OnStop}

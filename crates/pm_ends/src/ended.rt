@@ -4,8 +4,7 @@ ghost use Rattle.pm_ends.specs.Ends.{status_of, ended_by, not_opened};
 
 use pm_disk::Disk;
 use pm_dump::DumpFault;
-use pm_engine::Tally;
-use pm_events::Stop;
+use pm_events::{Stop, Tally};
 use pm_io::{Sink, Source};
 use pm_script::ScriptFault;
 use pm_types::{Entry, OpenFault};

@@ -27,8 +27,8 @@ use Rattle.pm_view.specs.Commands.{is_act}
 use Rattle.pm_saving.specs.Progress.{Progress, cars_or_none, copy_of}
 use Rattle.pm_saving.specs.Paging.{NextPage, CarPage, PartPage, next_page, with_next, written_on}
 use Rattle.pm_saving.specs.Tied.{HasCopy}
-use Rattle.pm_progress.specs.Answers.{TellsOn}
-use Rattle.pm_writer.specs.Settling.{SparesEither}
+use Rattle.pm_save.specs.Answers.{TellsOn}
+use Rattle.pm_save.specs.Settling.{SparesEither}
 use Rattle.pm_serving.specs.Serving.{IsServed, numbered_copy, opening, world}
 use Rattle.pm_serving.specs.Events.{Appends, Serves}
 use Rattle.pm_serving.specs.Images.{IsSettledCopy, IsStored, IsTold}

@@ -16,8 +16,8 @@ use Rattle.pm_model.specs.Answer.{answer}
 use Rattle.pm_image.specs.Stands.{StandsForCopy}
 use Rattle.pm_copies.specs.Listed.{copy_in}
 use Rattle.pm_saving.specs.Progress.{Progress, cars_or_none, copy_of}
-use Rattle.pm_progress.specs.Answers.{Spares, TellsOn}
-use Rattle.pm_writer.specs.Settling.{SparesEither}
+use Rattle.pm_save.specs.Answers.{Spares, TellsOn}
+use Rattle.pm_save.specs.Settling.{SparesEither}
 use Rattle.pm_serving.specs.Serving.{IsServed, Serving, numbered_copy, opening, world}
 use Rattle.pm_serving.specs.Events.{Serves}
 use Rattle.pm_serving.specs.Images.{IsCopyInProgress, IsSettledCopy, IsStored, IsTold, KeepsImages}

@@ -26,7 +26,7 @@ use Rattle.pm_law_course.specs.Course.{completes}
 use Rattle.pm_law_course.proofs.Kept.{command_keeps}
 use Rattle.pm_law_course.proofs.Completing.{completed_then}
 use Rattle.pm_commands.specs.Picked.{IsRow}
-use Rattle.pm_evac.specs.Steps.{IsEvent, IsMade}
+use Rattle.pm_reclaim.specs.Steps.{IsEvent, IsMade}
 use Rattle.pm_bound.specs.Bounded.{CountsOne, KeepsBound, KeepsWatches, IsHonest}
 use Rattle.pm_law_bound.proofs.Many.{all_stay, all_with_one, all_honest, kept_still}
 use Rattle.pm_law_serving.proofs.Splitting.{splits_once}

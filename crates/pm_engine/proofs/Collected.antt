@@ -5,10 +5,10 @@ use Rattle.pm_types.specs.declared.entry.Entry.{Entry}
 use Rattle.pm_disk.specs.declared.disk.Disk.{Ghosts}
 use Rattle.pm_model.specs.Journal.{after, chain, settled_in}
 use Rattle.pm_shadow.specs.Pages.{disk_of}
-use Rattle.pm_evac.specs.Steps.{KeepsWorlds}
+use Rattle.pm_reclaim.specs.Steps.{KeepsWorlds}
 use Rattle.pm_saving.specs.Progress.{Saving}
 use Rattle.pm_save.specs.Shown.{saving}
-use Rattle.pm_progress.specs.Answers.{TellsOn}
+use Rattle.pm_save.specs.Answers.{TellsOn}
 use Rattle.pm_serving.specs.Serving.{opening}
 use Rattle.pm_serving.specs.Events.{Collects}
 use Rattle.pm_law_serving.proofs.Following as law

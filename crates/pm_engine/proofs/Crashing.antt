@@ -19,7 +19,7 @@ use Rattle.pm_image.specs.Stands.{StandsForCopy}
 use Rattle.pm_view.specs.Commands.{is_act}
 use Rattle.pm_saving.specs.Progress.{Progress, cars_or_none, copy_of}
 use Rattle.pm_saving.specs.Tied.{HasCopy}
-use Rattle.pm_progress.specs.Answers.{Spares}
+use Rattle.pm_save.specs.Answers.{Spares}
 use Rattle.pm_serving.specs.Serving.{opening, world}
 use Rattle.pm_serving.specs.Events.{Serves}
 use Rattle.pm_serving.specs.Images.{IsCopyInProgress, IsSettledCopy, IsTold}

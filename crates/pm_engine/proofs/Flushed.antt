@@ -13,7 +13,7 @@ use Rattle.pm_saving.specs.Progress.{Progress, Saving, cars_or_none}
 use Rattle.pm_saving.specs.Paging.{newly_kept}
 use Rattle.pm_saving.specs.Tied.{IsTied, with_all_kept}
 use Rattle.pm_law_saving.proofs.Next.{next_goes}
-use Rattle.pm_progress.specs.Answers.{IsFlushed, Spares, TellsOn}
+use Rattle.pm_save.specs.Answers.{IsFlushed, Spares, TellsOn}
 use Rattle.pm_save.specs.Shown.{frozen_of}
 use Rattle.pm_serving.specs.Serving.{opening}
 use Rattle.pm_serving.specs.Events.{Flushes, StaysBegun}

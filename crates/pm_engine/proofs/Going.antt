@@ -15,7 +15,7 @@ use Rattle.pm_view.specs.View.{Cars, SpaceView}
 use Rattle.pm_view.specs.Represents.{Represents}
 use Rattle.pm_saving.specs.Progress.{Progress, cars_or_none}
 use Rattle.pm_saving.specs.Tied.{GoesOn, HasCopy}
-use Rattle.pm_progress.specs.Answers.{Spares, TellsOn}
+use Rattle.pm_save.specs.Answers.{Spares, TellsOn}
 use Rattle.pm_serving.specs.Serving.{IsServed, Serving, numbered_copy, opening, world}
 use Rattle.pm_serving.specs.Events.{Appends, Serves, StaysBegun, watched}
 use Rattle.pm_serving.specs.Images.{IsSettledCopy, IsStored, IsTold}

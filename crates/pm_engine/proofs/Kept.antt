@@ -13,8 +13,8 @@ use Rattle.pm_space.specs.declared.space.Space.{Space}
 use Rattle.pm_view.specs.View.{Cars}
 use Rattle.pm_saving.specs.Progress.{Progress, Saving, cars_or_none}
 use Rattle.pm_saving.specs.Tied.{HasCopy, IsBegun, IsTied}
-use Rattle.pm_progress.specs.Answers.{KeepsCopy, Spares, TellsOn}
-use Rattle.pm_writer.specs.Settling.{SparesEither, StaysOn}
+use Rattle.pm_save.specs.Answers.{KeepsCopy, Spares, TellsOn}
+use Rattle.pm_save.specs.Settling.{SparesEither, StaysOn}
 use Rattle.pm_saving.specs.Beginning.{IsInProgress}
 use Rattle.pm_serving.specs.Events.{StaysBegun}
 use Rattle.pm_save.specs.declared.saver.Saver.{Saver}

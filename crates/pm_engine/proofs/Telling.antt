@@ -19,7 +19,7 @@ use Rattle.pm_engine.specs.declared.works.Works.{Works}
 use Rattle.pm_engine.specs.Working.{Answers, IsLeft, LeavesEither, Rests, Saves, SettlesIt, StaysStill, Unsaves, Watches, disk_at, saving_in}
 use Rattle.pm_engine.specs.Seen.{seen}
 use Rattle.pm_engine.specs.declared.engine.Engine.{Engine}
-use Rattle.pm_writer.specs.Settling.{settling_syncs, settling_writes}
+use Rattle.pm_save.specs.Settling.{settling_syncs, settling_writes}
 use Rattle.pm_engine.specs.Shown.{disk_in, pages_in, serving}
 use Rattle.pm_engine.proofs.Kept.{none_made}
 use Rattle.pm_engine.specs.Calls.{AnswersClient, AnswersCollect, AnswersFlush, KeepsCopies}

@@ -19,12 +19,12 @@ use Rattle.pm_shadow.specs.State.{abandoned_in}
 use Rattle.pm_view.specs.Work.{work}
 use Rattle.pm_bound.specs.Bounded.{KeepsWatches}
 use Rattle.pm_law_work.specs.Raises.{raises}
-use Rattle.pm_evac.specs.Steps.{IsMade}
+use Rattle.pm_reclaim.specs.Steps.{IsMade}
 use Rattle.pm_saving.specs.Paging.{left_of}
 use Rattle.pm_saving.specs.Tied.{Settles}
 use Rattle.pm_saving.specs.Progress.{cars_or_none}
-use Rattle.pm_progress.specs.Answers.{IsFlushed}
-use Rattle.pm_writer.specs.Settling.{settling_syncs, settling_writes}
+use Rattle.pm_save.specs.Answers.{IsFlushed}
+use Rattle.pm_save.specs.Settling.{settling_syncs, settling_writes}
 use Rattle.pm_serving.specs.Serving.{Serving, world}
 use Rattle.pm_serving.specs.Events.{Collects, FailsAs, Flushes, Serves}
 use Rattle.pm_serving.specs.Images as images

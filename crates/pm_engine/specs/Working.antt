@@ -23,10 +23,10 @@ use Rattle.pm_saving.specs.Progress.{Progress, Saving, cars_or_none, copy_of}
 use Rattle.pm_saving.specs.Paging.{left_of}
 use Rattle.pm_saving.specs.Tied.{IsTied, Settles}
 use Rattle.pm_save.specs.Shown.{frozen_of, saving}
-use Rattle.pm_progress.specs.Answers.{IsFlushed, KeepsCopy, OnMemory, Spares}
-use Rattle.pm_progress.specs.declared.fault.SaveFault.{SaveFault}
-use Rattle.pm_progress.specs.declared.fault.SaveFault.TheVariants.{Disk, Memory}
-use Rattle.pm_writer.specs.Settling.{SparesEither, StandsThen, settling_syncs, settling_writes}
+use Rattle.pm_save.specs.Answers.{IsFlushed, KeepsCopy, OnMemory, Spares}
+use Rattle.pm_save.specs.SaveFault.{SaveFault}
+use Rattle.pm_save.specs.SaveFault.TheVariants.{Disk, Memory}
+use Rattle.pm_save.specs.Settling.{SparesEither, StandsThen, settling_syncs, settling_writes}
 use Rattle.pm_serving.specs.Events.{StaysBegun}
 use Rattle.pm_serving.specs.Serving.{Before}
 use Rattle.pm_mutate.specs.Acts as mutate

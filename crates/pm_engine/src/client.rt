@@ -6,7 +6,7 @@ ghost use Rattle.pm_model.specs.Frames.{is_settle};
 
 use crate::Engine;
 use pm_disk::Disk;
-use pm_progress::SaveFault;
+use pm_save::SaveFault;
 use pm_types::{Cmd, EngineFault, NoMemory, Reply};
 use std::alloc::Global;
 

@@ -4,7 +4,7 @@ ghost use Rattle.std.specs.Prelude.{◌≡◌, None};
 
 use crate::Engine;
 use pm_disk::Disk;
-use pm_progress::SaveFault;
+use pm_save::SaveFault;
 use pm_types::{EngineFault, Flushed};
 use std::alloc::Global;
 

@@ -13,4 +13,5 @@ mod tally;
 mod works;
 
 pub use engine::Engine;
+pub use pm_save::SaveFault;
 pub use tally::Tally;

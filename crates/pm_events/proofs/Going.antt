@@ -22,7 +22,7 @@ use Rattle.pm_image.specs.Stands.{StandsForCopy}
 use Rattle.pm_view.specs.View.{Cars}
 use Rattle.pm_shadow.specs.State.{State}
 use Rattle.pm_saving.specs.Progress.{Progress, Saving}
-use Rattle.pm_progress.specs.Answers.{IsFlushed}
+use Rattle.pm_engine.specs.Answers.{IsFlushed}
 use Rattle.pm_serving.specs.Serving.{KeepsOpening, Serving, opening, world}
 use Rattle.pm_serving.specs.Images.{IsCopyInProgress, IsLast, IsOfChain, IsOfRun, IsSettledCopy, IsTold}
 use Rattle.pm_serving.specs.Events.{Collects, FailsAs, Flushes, Serves, ServesNothing, StaysBegun}

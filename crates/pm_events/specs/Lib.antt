@@ -1,3 +1,8 @@
 pub mod Causes
 pub mod Events
 pub mod Running
+-- Passed on, so that who makes events need not list the engine.
+pub use Rattle.pm_engine.specs.Shown
+pub use Rattle.pm_engine.specs.declared.engine.Engine
+pub use Rattle.pm_engine.specs.declared.tally.Tally
+pub use Rattle.pm_engine.specs.SaveFault

@@ -6,4 +6,5 @@ mod event;
 mod stop;
 
 pub use event::{ask, collect_once, flush_once, give};
+pub use pm_engine::{Engine, SaveFault, Tally};
 pub use stop::{Stop, stop_after};

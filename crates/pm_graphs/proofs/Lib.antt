@@ -8,3 +8,4 @@ pub mod Walks
 pub mod GraphLaws
 pub mod OpenLaws
 pub mod PageLaws
+pub mod MadeLaws

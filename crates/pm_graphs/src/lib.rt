@@ -3,6 +3,7 @@
 
 mod chain;
 mod fault;
+mod from_page;
 mod held;
 mod links;
 mod numbered;
@@ -11,6 +12,7 @@ mod read_cars;
 mod reading;
 
 pub use chain::Chain;
+pub use from_page::{FromPage, Unpacked};
 pub use numbered::Numbered;
 pub use opening::{flatten, read_graph, with_cars};
 pub use read_cars::ReadCars;

@@ -10,6 +10,7 @@ ghost use Rattle.pm_graphs.specs.Reopening.{IsGraph, IsGraphFault, open_fault};
 
 use crate::chain::Chain;
 use crate::fault::ReadFault;
+use crate::from_page::FromPage;
 use crate::held::hold_all;
 use crate::links::check_links;
 use crate::read_cars::ReadCars;
@@ -51,7 +52,10 @@ pub fn with_cars(numbers: Vec<u64>, cars: &[KeptPage]) -> Result<Vec<u64>, NoMem
 }
 
 // The catalog and the cars behind the current header, each address of which leads where it may.
-fn read_whole<D: Disk>(alloc: Global, pages: &mut Pages<D>) -> Result<(Chain, ReadCars), ReadFault>
+fn read_whole<D: Disk, P: FromPage>(
+    alloc: Global,
+    pages: &mut Pages<D>,
+) -> Result<(Chain, ReadCars<P>), ReadFault>
     requires { IsThere (state pages.old).count (state pages.old).header.first }
     ensures gives { IfTold (D.contents (disk_of pages.old)) (λ bytes. Gives (as_graph result)
         (graph_of (store_of (state pages.old).count bytes) (state pages.old).header)) }
@@ -86,8 +90,9 @@ fn open_fault(fault: ReadFault, before: u64, after: u64) -> OpenFault
     }
 }
 
-/// The catalog behind the current header and the cars that it lists, as their pages spell them, with the same cars packed.
-/// Only the pages that they stand on are read, each once, and nothing is written.
+/// The catalog behind the current header and the cars that it lists, as their pages spell them, with what is made of
+/// the page of each car: the car packed (`PackedPage`), or nothing (`Unpacked`). Only the pages that they stand on are
+/// read, each once, and nothing is written.
 ///
 /// # Errors
 ///
@@ -96,10 +101,10 @@ fn open_fault(fault: ReadFault, before: u64, after: u64) -> OpenFault
 /// `Malformed` where a field of it is at fault, with the place of that field; then of the addresses in the order of
 /// cars, records and fields, and of roots, `Malformed` with the place of the first that leads nowhere. `Disk` where the
 /// disk failed, with its counts of failed calls before and after; and `Memory`.
-pub fn read_graph<D: Disk>(
+pub fn read_graph<D: Disk, P: FromPage>(
     alloc: Global,
     pages: &mut Pages<D>,
-) -> Result<(Chain, ReadCars), OpenFault>
+) -> Result<(Chain, ReadCars<P>), OpenFault>
     requires { IsThere (state pages.old).count (state pages.old).header.first }
     // Where the disk tells its contents it is the graph behind the header, or the first fault.
     ensures graph { IfTold (D.contents (disk_of pages.old)) (λ bytes. IsGraph result

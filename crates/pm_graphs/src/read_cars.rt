@@ -1,58 +1,63 @@
-//! Cars that were read, and the same cars packed.
+//! Cars that were read, with what was made of their pages.
 
-ghost use Rattle.std.specs.Prelude.{◌≡◌, ◌++◌, IfOk, OnOk, OnErr, [], length};
+ghost use Rattle.std.specs.Prelude.{◌≡◌, ◌++◌, IfOk, OnOk, OnErr, [], ◌∷◌, length};
+ghost use Rattle.std.specs.List.{AllZip};
 ghost use Rattle.std.specs.FinSet as set;
 ghost use Rattle.pm_types.specs.declared.limits.TheConstants.{FIELDS, PAGE_BYTES};
 ghost use Rattle.pm_image.specs.CarPages.{HasCarPage, car_spelling, one_car, padded};
 ghost use Rattle.pm_graphs.specs.Reading.{car_list};
 
+use crate::from_page::FromPage;
 use pm_image::{KeptPage, Settled};
-use pm_settled::{PackedCar, PackedPage, PackedPages};
+use pm_settled::{PackedPage, PackedPages};
 use pm_types::NoMemory;
 use std::alloc::Global;
 use std::marker::Model;
 
-/// A car that was read, with its page, and the same packed. It is seen as the `KeptPage`.
+/// A car that was read, with its page, and what was made of that page. It is seen as the `KeptPage`.
 #[derive(Drop)]
-pub(crate) struct ReadCar {
+pub(crate) struct ReadCar<P: FromPage> {
     kept: KeptPage,
-    packed: PackedPage,
+    made: P,
 }
 
-impl Model for ReadCar {
-    ghost use Rattle.std.specs.Prelude.{◌≡◌};
+impl<P: FromPage> Model for ReadCar<P> {
     ghost use Rattle.pm_image.specs.declared.settled.KeptPage.{KeptPage};
 
     ghost Value = { KeptPage };
 
     ghost view = { λ it. it.kept };
 
-    ghost invariant = { λ it. it.packed ≡ it.kept };
+    ghost invariant = { λ it. P.is_of it.made it.kept };
 }
 
-impl ReadCar {
-    /// This car, packed of the bytes of its page.
-    pub(crate) fn pack(alloc: Global, kept: KeptPage, page: &[u8]) -> Result<ReadCar, NoMemory>
+impl<P: FromPage> ReadCar<P> {
+    /// This car, with what is made of the bytes of its page.
+    pub(crate) fn of_page(
+        alloc: Global,
+        kept: KeptPage,
+        page: &[u8],
+    ) -> Result<ReadCar<P>, NoMemory>
         requires has { HasCarPage (one_car FIELDS) set.empty kept.image }
         requires page { page.now ≡ padded (car_spelling kept.image) }
         requires whole { length page.now ≡ PAGE_BYTES }
         ensures { IfOk result (λ car. car ≡ kept) }
     {
-        let car = PackedCar::pack(alloc, kept.image.number, kept.image.slots.as_slice(), page)?;
-        let packed = PackedPage::new(car, kept.page, kept.digest);
-        Ok(ReadCar { kept, packed })
+        let made = P::from_page(alloc, &kept, page)?;
+        Ok(ReadCar { kept, made })
     }
 }
 
-/// Cars that were read, each with its page, and the same packed. They are seen as a list of `KeptPage`s.
+/// Cars that were read, each with its page, and what was made of each page. They are seen as a list of `KeptPage`s.
 #[derive(Drop)]
-pub struct ReadCars {
+pub struct ReadCars<P: FromPage> {
     cars: Vec<KeptPage>,
-    packed: Vec<PackedPage>,
+    made: Vec<P>,
 }
 
-impl Model for ReadCars {
-    ghost use Rattle.std.specs.Prelude.{◌≡◌, List};
+impl<P: FromPage> Model for ReadCars<P> {
+    ghost use Rattle.std.specs.Prelude.{List};
+    ghost use Rattle.std.specs.List.{AllZip};
     ghost use Rattle.std.specs.Coded.{coded_list};
     ghost use Rattle.pm_image.specs.declared.settled.KeptPage.{KeptPage};
     ghost use Rattle.pm_image.specs.contracts.settled.KeptPage as kept_page;
@@ -63,33 +68,42 @@ impl Model for ReadCars {
 
     ghost view = { λ it. it.cars.items };
 
-    ghost invariant = { λ it. it.packed.items ≡ it.cars.items };
+    ghost invariant = { λ it. AllZip P.is_of it.made.items it.cars.items };
 }
 
-impl ReadCars {
+impl<P: FromPage> ReadCars<P> {
     /// No car. It takes no memory.
-    pub(crate) fn new(alloc: Global) -> ReadCars
+    pub(crate) fn new(alloc: Global) -> ReadCars<P>
         ensures { result ≡ [] }
     {
         ReadCars {
             cars: Vec::new(alloc),
-            packed: Vec::new(alloc),
+            made: Vec::new(alloc),
         }
     }
 
+    // Puts a car at the end. After want of memory all is as it was.
+    fn push_car(&mut self, car: ReadCar<P>) -> Result<(), NoMemory>
+        ensures ok { OnOk result (self.new ≡ self.old ++ car ∷ []) }
+        ensures err { OnErr result (self.new ≡ self.old) }
+    {
+        let ReadCar { kept, made } = car;
+        self.cars.reserve(1)?;
+        self.made.reserve(1)?;
+        self.cars.push_reserved(kept);
+        self.made.push_reserved(made);
+        Ok(())
+    }
+
     /// Puts a car at the end, if there is one. After want of memory all is as it was.
-    pub(crate) fn push(&mut self, car: Option<ReadCar>) -> Result<(), NoMemory>
+    pub(crate) fn push(&mut self, car: Option<ReadCar<P>>) -> Result<(), NoMemory>
         ensures ok { OnOk result (self.new ≡ self.old ++ car_list car) }
         ensures err { OnErr result (self.new ≡ self.old) }
     {
-        let Some(ReadCar { kept, packed }) = car else {
-            return Ok(());
-        };
-        self.cars.reserve(1)?;
-        self.packed.reserve(1)?;
-        self.cars.push_reserved(kept);
-        self.packed.push_reserved(packed);
-        Ok(())
+        match car {
+            Some(car) => self.push_car(car),
+            None => Ok(()),
+        }
     }
 
     /// The cars, lent.
@@ -99,6 +113,16 @@ impl ReadCars {
         self.cars.as_slice()
     }
 
+    /// The cars as their pages spell them, and what was made of each page, in the same order.
+    pub fn into_made(self) -> (Settled, Vec<P>)
+        ensures cars { result.0 ≡ self }
+        ensures made { AllZip P.is_of result.1.items self }
+    {
+        (Settled::from_vec(self.cars), self.made)
+    }
+}
+
+impl ReadCars<PackedPage> {
     /// The cars as their pages spell them, and the same packed.
     pub fn into_parts(self) -> (Settled, PackedPages)
         ensures cars { result.0 ≡ self }
@@ -106,7 +130,7 @@ impl ReadCars {
     {
         (
             Settled::from_vec(self.cars),
-            PackedPages::from_vec(self.packed),
+            PackedPages::from_vec(self.made),
         )
     }
 }

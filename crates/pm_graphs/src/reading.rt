@@ -17,6 +17,7 @@ ghost use Rattle.pm_graphs.specs.Reading.{Gives, GoesOn, behind, of_page, Counts
 
 use crate::chain::Chain;
 use crate::fault::ReadFault;
+use crate::from_page::FromPage;
 use crate::read_cars::{ReadCar, ReadCars};
 use pm_disk::Disk;
 use pm_image::{
@@ -89,9 +90,9 @@ fn read_link<D: Disk>(
     }
 }
 
-// The car that stands on a page, which has this digest, with these identities met before. It is packed of the page that
-// was read.
-fn read_car<D: Disk>(
+// The car that stands on a page, which has this digest, with these identities met before. With it comes what is made of
+// the page that was read.
+fn read_car<D: Disk, P: FromPage>(
     alloc: Global,
     pages: &mut Pages<D>,
     number: u64,
@@ -101,7 +102,7 @@ fn read_car<D: Disk>(
     next: u64,
     met: &mut NumberSet,
     buffer: &mut [u8],
-) -> Result<ReadCar, ReadFault>
+) -> Result<ReadCar<P>, ReadFault>
     requires page { IsThere (state pages.old).count page }
     requires len { length buffer.old ≡ PAGE_BYTES }
     requires most { most ≤ FIELDS }
@@ -123,14 +124,14 @@ fn read_car<D: Disk>(
                 page,
                 digest: *kept,
             };
-            Ok(ReadCar::pack(alloc, car, buffer)?)
+            Ok(ReadCar::of_page(alloc, car, buffer)?)
         }
         Err(fault) => Err(on_page(page, fault)),
     }
 }
 
 // The car that an entry lists, if it lists one.
-fn read_entry<D: Disk>(
+fn read_entry<D: Disk, P: FromPage>(
     alloc: Global,
     pages: &mut Pages<D>,
     entry: &CatEntry,
@@ -138,7 +139,7 @@ fn read_entry<D: Disk>(
     next: u64,
     met: &mut NumberSet,
     buffer: &mut [u8],
-) -> Result<Option<ReadCar>, ReadFault>
+) -> Result<Option<ReadCar<P>>, ReadFault>
     requires page { IsEntryThere (state pages.old).count entry.now }
     requires len { length buffer.old ≡ PAGE_BYTES }
     requires most { most ≤ FIELDS }
@@ -167,14 +168,14 @@ fn read_entry<D: Disk>(
 
 // Puts the cars that entries list behind others, in order, of objects of at most so many fields, of a store with this
 // next identity. These identities were met before.
-fn read_listed<D: Disk>(
+fn read_listed<D: Disk, P: FromPage>(
     alloc: Global,
     pages: &mut Pages<D>,
     entries: &[CatEntry],
     most: u32,
     next: u64,
     met: &mut NumberSet,
-    cars: &mut ReadCars,
+    cars: &mut ReadCars<P>,
     buffer: &mut [u8],
 ) -> Result<(), ReadFault>
     requires pages { AllByRecursion (IsEntryThere (state pages.old).count) entries.now }
@@ -201,14 +202,14 @@ fn read_listed<D: Disk>(
 }
 
 /// The cars that a catalog lists, in order, of objects of at most so many fields, of a store with this next identity.
-pub(crate) fn read_cars<D: Disk>(
+pub(crate) fn read_cars<D: Disk, P: FromPage>(
     alloc: Global,
     pages: &mut Pages<D>,
     catalog: &[(u64, CatalogPage)],
     most: u32,
     next: u64,
     buffer: &mut [u8],
-) -> Result<ReadCars, ReadFault>
+) -> Result<ReadCars<P>, ReadFault>
     requires pages { AllByRecursion (IsEntryThere (state pages.old).count) (entries_of catalog.now) }
     requires len { length buffer.old ≡ PAGE_BYTES }
     requires most { most ≤ FIELDS }

@@ -1,8 +1,9 @@
 -- What stands once a space was opened, and why none was.
-use Rattle.std.specs.Prelude.{◌≡◌, ◌≤◌, ℕ, List, None, Err, true, false}
+use Rattle.std.specs.Prelude.{◌≡◌, ◌≤◌, ℕ, List, Option, None, Err, true, false}
 use Rattle.std.specs.List.{AllByRecursion}
 use Rattle.pm_types.specs.declared.fault.OpenFault.{OpenFault}
 use Rattle.pm_types.specs.declared.fault.OpenFault.TheVariants.{NotAStore, Version, Damaged, Malformed, Disk, Memory}
+use Rattle.pm_disk.specs.Disk.{IfTold}
 use Rattle.pm_image.specs.declared.settled.KeptPage.{KeptPage}
 use Rattle.pm_image.specs.Opening.{page_count}
 use Rattle.pm_image.specs.declared.catalog.CatEntry.{CatEntry}
@@ -45,6 +46,16 @@ pub record MakesSpace {F : Type 0} (old new : State) (parts : Parts F) (chooser 
   pub accepted : IsAccepted (listed_in entries (images_of cars)) entries old.header.next
   pub opened : IsOpened (listed_in entries (images_of cars)) entries old.header.next (view parts)
   pub on_pages : old.known ≡ false → AllByRecursion (λ (kept : KeptPage). (2 ≤ kept.page) × (new.uses kept.page ≡ Current)) cars
+
+-- A space was opened of these cars: where the disk tells these contents it is what opening makes of them, with the cars
+-- that they list; and of any disk it is what opening makes of the cars.
+pub record OpensOf {F : Type 0} (contents : Option (List ℕ)) (old new : State) (parts : Parts F) (chooser : F) (cars : List KeptPage) : Type 0 where
+  pub told : IfTold contents (λ bytes. OpensStore old new bytes (view parts) cars)
+  pub made : MakesSpace old new parts chooser cars
+
+-- a space was opened of cars that are not handed out
+abbrev pub OpensAlone : {F : Type 0} → Option (List ℕ) → State → State → Parts F → F → Type 0
+OpensAlone contents old new parts chooser = (cars : List KeptPage) × OpensOf contents old new parts chooser cars
 
 -- Pages that were known are as they were, with all that is claimed or kept. Others are known now, and nothing is claimed
 -- or kept.

@@ -9,4 +9,4 @@ mod opened_roots;
 mod opening;
 
 pub use listed::build_listed;
-pub use opening::open_space;
+pub use opening::{open_space, open_space_alone};

@@ -1,7 +1,9 @@
 //! Opening a store as a space.
 
-ghost use Rattle.std.specs.Prelude.{◌≡◌, true, false, Contains, All, IfOk, IfErr, OnOk, OnErr, MatchResult};
+ghost use Rattle.std.specs.Prelude.{◌≡◌, true, false, List, Contains, All, IfOk, IfErr, OnOk, OnErr, MatchResult};
+ghost use Rattle.std.specs.List.{AllZip};
 ghost use Rattle.pm_disk.specs.Disk.{IfTold};
+ghost use Rattle.pm_image.specs.declared.settled.KeptPage.{KeptPage};
 ghost use Rattle.pm_image.specs.Graphs.{images_of, entries_of, used_pages};
 ghost use Rattle.pm_copies.specs.Listed.{images};
 ghost use Rattle.pm_copies.specs.Accepted.{IsAccepted};
@@ -14,11 +16,12 @@ ghost use Rattle.pm_shadow.specs.Pages.{state, disk_of};
 ghost use Rattle.pm_space.specs.Shown.{view};
 ghost use Rattle.pm_graphs.specs.Reading.{IsThere};
 ghost use Rattle.pm_graphs.specs.Reopening.{IsGraphFault};
-ghost use Rattle.pm_reopen.specs.Opening.{OpensStore, MakesSpace, IsUnfrozen, KnowsPages, IsUnopened};
+ghost use Rattle.pm_reopen.specs.Opening.{OpensStore, MakesSpace, OpensOf, OpensAlone, IsUnfrozen};
+ghost use Rattle.pm_reopen.specs.Opening.{KnowsPages, IsUnopened};
 
 use crate::build_listed;
 use pm_disk::Disk;
-use pm_graphs::{Chain, flatten, read_graph, with_cars};
+use pm_graphs::{Chain, FromPage, Unpacked, flatten, read_graph, with_cars};
 use pm_image::Settled;
 use pm_place::Placement;
 use pm_settled::PackedPages;
@@ -74,6 +77,47 @@ fn know_pages<D: Disk>(alloc: Global, pages: &mut Pages<D>, used: &[u64]) -> Res
     Ok(())
 }
 
+// Opens the copy behind the current header of a store as a space with this chooser. With it comes what is made of the
+// page of each car, in the order of the cars.
+fn open_with<D: Disk, F: Drop, P: FromPage>(
+    alloc: Global,
+    pages: &mut Pages<D>,
+    place: Placement<F>,
+) -> Result<(Space<F>, Vec<P>), OpenFault>
+    requires { (state pages.old).failed ≡ false }
+    ensures opened { IfOk result (λ made. (cars : List KeptPage) × AllZip P.is_of made.1.items cars
+        × OpensOf (D.contents (disk_of pages.new)) (state pages.old) (state pages.new) made.0.parts place cars) }
+    ensures state { MatchResult result (λ made. KnowsPages (state pages.old) (state pages.new))
+        (λ fault. state pages.new ≡ state pages.old) }
+    ensures fault { IfErr result (λ fault. IfTold (D.contents (disk_of pages.old)) (λ bytes.
+        IsUnopened (state pages.old) bytes fault)) }
+    ensures cause { IfErr result (IsGraphFault (D.count (disk_of pages.old)) (D.count (disk_of pages.new))) }
+    ensures count { OnOk result (D.count (disk_of pages.new) ≡ D.count (disk_of pages.old)) }
+    ensures looks { OnlyLooks D.contents D.image D.moment D.since (disk_of pages.old) (disk_of pages.new) }
+    ensures made { D.made (disk_of pages.new) ≡ D.made (disk_of pages.old) }
+{
+    pages.keep_their_header();
+    pages.keep_the_current_copy();
+    let header = *pages.header();
+    if !is_there(header.first, pages.page_count()) {
+        return Err(OpenFault::Malformed {
+            page: pages.slot(),
+            at: 24,
+        });
+    }
+    let (chain, read) = read_graph(alloc, pages)?;
+    let (cars, made) = read.into_made();
+    let built = build_graph(alloc, place, chain, cars, header.next);
+    let Ok((space, used)) = built else {
+        return Err(OpenFault::Memory);
+    };
+    let known = know_pages(alloc, pages, used.as_slice());
+    let Ok(()) = known else {
+        return Err(OpenFault::Memory);
+    };
+    Ok((space, made))
+}
+
 /// Opens the copy behind the current header of a store as a space with this chooser. Its catalog and its cars are read,
 /// each page once, and with the space come the cars, each as its page spells it. The pages that they stand on are known
 /// from then on. Pages that are known already stay as they are, also those that are claimed or kept for a next copy.
@@ -106,24 +150,43 @@ pub fn open_space<D: Disk, F: Drop>(
     // Not even a sync, and no read past the end of what the disk told.
     ensures made { D.made (disk_of pages.new) ≡ D.made (disk_of pages.old) }
 {
-    pages.keep_their_header();
-    pages.keep_the_current_copy();
-    let header = *pages.header();
-    if !is_there(header.first, pages.page_count()) {
-        return Err(OpenFault::Malformed {
-            page: pages.slot(),
-            at: 24,
-        });
+    match open_with(alloc, pages, place) {
+        Ok((space, packed)) => Ok((space, PackedPages::from_vec(packed))),
+        Err(fault) => Err(fault),
     }
-    let (chain, read) = read_graph(alloc, pages)?;
-    let (cars, packed) = read.into_parts();
-    let built = build_graph(alloc, place, chain, cars, header.next);
-    let Ok((space, used)) = built else {
-        return Err(OpenFault::Memory);
-    };
-    let known = know_pages(alloc, pages, used.as_slice());
-    let Ok(()) = known else {
-        return Err(OpenFault::Memory);
-    };
-    Ok((space, packed))
+}
+
+/// Opens the same space as `open_space`, by the same reads and with the same refusals, where nobody wants the cars
+/// beside it: no page is packed. Which cars it was opened of is said by a list that is not handed out.
+///
+/// # Errors
+///
+/// `Damaged` and `Malformed` where the header or a page behind it is at fault: the first rule that fails; `Disk` where
+/// the disk failed, with its counts of failed calls before and after; and `Memory`. The pages are as they were then.
+pub fn open_space_alone<D: Disk, F: Drop>(
+    alloc: Global,
+    pages: &mut Pages<D>,
+    place: Placement<F>,
+) -> Result<Space<F>, OpenFault>
+    requires { (state pages.old).failed ≡ false }
+    // The space is what opening makes of the bytes of the disk, and the pages of their cars and catalog are known. Of
+    // any disk, it is what opening makes of cars that no rule refuses, which are those of the bytes where these are told.
+    ensures opened { IfOk result (λ space. OpensAlone (D.contents (disk_of pages.new))
+        (state pages.old) (state pages.new) space.parts place) }
+    ensures state { MatchResult result (λ space. KnowsPages (state pages.old) (state pages.new))
+        (λ fault. state pages.new ≡ state pages.old) }
+    // Why none was opened.
+    ensures fault { IfErr result (λ fault. IfTold (D.contents (disk_of pages.old)) (λ bytes.
+        IsUnopened (state pages.old) bytes fault)) }
+    ensures cause { IfErr result (IsGraphFault (D.count (disk_of pages.old)) (D.count (disk_of pages.new))) }
+    ensures count { OnOk result (D.count (disk_of pages.new) ≡ D.count (disk_of pages.old)) }
+    ensures looks { OnlyLooks D.contents D.image D.moment D.since (disk_of pages.old) (disk_of pages.new) }
+    // Not even a sync, and no read past the end of what the disk told.
+    ensures made { D.made (disk_of pages.new) ≡ D.made (disk_of pages.old) }
+{
+    let opened: Result<(Space<F>, Vec<Unpacked>), OpenFault> = open_with(alloc, pages, place);
+    match opened {
+        Ok((space, _)) => Ok(space),
+        Err(fault) => Err(fault),
+    }
 }

@@ -26,9 +26,9 @@ use Rattle.pm_saving.specs.Progress.{Saving}
 use Rattle.pm_serving.specs.Serving.{IsServed, Serving, just_opened, opening, world}
 use Rattle.pm_serving.specs.Images as images
 use Rattle.pm_serving.specs.Images.{IsTold}
-use Rattle.pm_engine.specs.declared.engine.Engine.{Engine}
-use Rattle.pm_engine.specs.declared.tally.Tally.{Tally}
-use Rattle.pm_engine.specs.Shown.{KeepsStart, Total, disk_in, opened_disk, serving, tally_in, tally_of}
+use Rattle.pm_events.specs.Engine.{Engine}
+use Rattle.pm_events.specs.Tally.{Tally}
+use Rattle.pm_events.specs.Shown.{KeepsStart, Total, disk_in, opened_disk, serving, tally_in, tally_of}
 use Rattle.pm_events.specs.declared.stop.Stop.{Stop}
 use Rattle.pm_events.specs.declared.stop.Stop.TheVariants.{Memory as StopMemory, Writing as StopWriting, Device as StopDevice}
 use Rattle.pm_events.specs.Causes as causes

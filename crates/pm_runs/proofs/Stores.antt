@@ -8,8 +8,8 @@ use Rattle.pm_model.specs.Text.{text}
 use Rattle.pm_script.specs.declared.line.Line.{Line}
 use Rattle.pm_model.specs.World.{begin}
 use Rattle.pm_image.specs.Stands.{StandsForCopy}
-use Rattle.pm_engine.specs.declared.tally.Tally.{Tally}
-use Rattle.pm_engine.specs.Shown.{tally_of}
+use Rattle.pm_events.specs.Tally.{Tally}
+use Rattle.pm_events.specs.Shown.{tally_of}
 use Rattle.pm_parts.specs.Asked.{requests_asked}
 use Rattle.pm_serial.specs.Writing.{tail_of}
 use Rattle.pm_ends.specs.declared.ended.Detail.{Detail}

@@ -1,7 +1,7 @@
 //! A run in threads: the source is read, the store is opened, and workers take turns at an engine over its copy.
 ghost use Rattle.std.specs.Prelude.{◌≡◌, List, ℕ, IfSome};
 ghost use Rattle.pm_place.specs.Choosers.{IsChooser};
-ghost use Rattle.pm_engine.specs.Shown.{chooser, disk_in, serving, tally_of};
+ghost use Rattle.pm_events.specs.Shown.{chooser, disk_in, serving, tally_of};
 ghost use Rattle.pm_events.specs.Running.{IsFresh};
 ghost use Rattle.pm_runs.specs.declared.writes.Writes.TheVariants.{Replies};
 ghost use Rattle.pm_threads.specs.Running.{LeavesSome};
@@ -13,7 +13,7 @@ ghost use Rattle.pm_runs.specs.Engines.{RunsEngine};
 
 use pm_disk::Disk;
 use pm_ends::{Alone, end_unopened, end_with, ended_by, not_opened, read_source};
-use pm_engine::Engine;
+use pm_events::Engine;
 use pm_io::{Sink, Source};
 use pm_place::Placement;
 use pm_script::Script;

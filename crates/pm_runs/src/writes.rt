@@ -2,7 +2,7 @@
 ghost use Rattle.pm_model.specs.Text.{text};
 ghost use Rattle.pm_script.specs.Script.{AreLines};
 ghost use Rattle.pm_place.specs.Choosers.{IsChooser};
-ghost use Rattle.pm_engine.specs.Shown.{KeepsStart, chooser, serving, tally_in};
+ghost use Rattle.pm_events.specs.Shown.{KeepsStart, chooser, serving, tally_in};
 ghost use Rattle.pm_serial.specs.Causes.{CountsSink};
 ghost use Rattle.pm_events.specs.Causes.{why};
 ghost use Rattle.pm_serial.specs.Running.{AnswersLines};
@@ -11,8 +11,7 @@ ghost use Rattle.pm_serial.specs.Writing.{tail_of};
 ghost use Rattle.pm_runs.specs.Wrote.{AcknowledgesFor, Wrote};
 
 use pm_disk::Disk;
-use pm_engine::Engine;
-use pm_events::Stop;
+use pm_events::{Engine, Stop};
 use pm_io::Sink;
 use pm_script::Line;
 use pm_serial::run_lines;

@@ -7,4 +7,5 @@ mod listed_cars;
 mod roots;
 mod saver;
 
+pub use pm_progress::SaveFault;
 pub use saver::Saver;

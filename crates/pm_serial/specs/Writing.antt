@@ -6,7 +6,7 @@ use Rattle.pm_types.specs.declared.limits.TheConstants.{CLIENTS}
 use Rattle.pm_types.specs.Replies.{IsShortReply}
 use Rattle.pm_model.specs.Text.{tail}
 use Rattle.pm_output.specs.Writing.{PutsAll, PutsPart}
-use Rattle.pm_engine.specs.Shown.{Total}
+use Rattle.pm_events.specs.Shown.{Total}
 use Rattle.pm_serial.specs.declared.behind.Behind.{Behind}
 use Rattle.pm_serial.specs.declared.behind.Behind.TheVariants.{Nothing, LastLines}
 use Rattle.pm_events.specs.declared.stop.Stop.{Stop}

@@ -4,15 +4,14 @@ ghost use Rattle.std.specs.Prelude.{◌≡◌, ◌++◌, ℕ, List, Some, length
 ghost use Rattle.pm_base.specs.Counts.{Rose};
 ghost use Rattle.pm_output.specs.Gathered.{gathered};
 ghost use Rattle.pm_output.specs.Writing.{GoesOn, PutsAll, PutsPart};
-ghost use Rattle.pm_engine.specs.Shown.{serving, tally_in};
+ghost use Rattle.pm_events.specs.Shown.{serving, tally_in};
 ghost use Rattle.pm_events.specs.Causes.{why};
 ghost use Rattle.pm_serial.specs.Stepping.{EndsSink};
 ghost use Rattle.pm_serial.specs.Writing.{tail_of, text_behind};
 
 use crate::behind::Behind;
 use pm_disk::Disk;
-use pm_engine::Engine;
-use pm_events::Stop;
+use pm_events::{Engine, Stop};
 use pm_io::{Failed, Sink};
 use pm_output::{Output, add_tail};
 

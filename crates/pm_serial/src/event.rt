@@ -4,7 +4,7 @@ ghost use Rattle.std.specs.Prelude.{◌≡◌, ◌<◌, [], ◌∷◌, None, OnO
 ghost use Rattle.pm_types.specs.declared.limits.TheConstants.{CLIENTS};
 ghost use Rattle.pm_place.specs.Choosers.{IsChooser};
 ghost use Rattle.pm_output.specs.Gathered.{gathered};
-ghost use Rattle.pm_engine.specs.Shown.{chooser, room, serving};
+ghost use Rattle.pm_events.specs.Shown.{chooser, room, serving};
 ghost use Rattle.pm_script.specs.declared.line.Line.TheVariants as says;
 ghost use Rattle.pm_serving.specs.Serving.{made_now};
 ghost use Rattle.pm_events.specs.Causes.{OnStop, why};
@@ -16,8 +16,7 @@ ghost use Rattle.pm_serial.specs.Ordered.{TellsPart};
 use crate::kind::Kind;
 use crate::telling::tell_reply;
 use pm_disk::Disk;
-use pm_engine::Engine;
-use pm_events::{Stop, collect_once, flush_once, give, stop_after};
+use pm_events::{Engine, Stop, collect_once, flush_once, give, stop_after};
 use pm_io::Sink;
 use pm_output::Output;
 use pm_types::Cmd;

@@ -4,7 +4,7 @@ ghost use Rattle.std.specs.Prelude.{◌≡◌, ◌⊎◌, [], None, Some, OnErr}
 ghost use Rattle.std.specs.List.{AllByRecursion};
 ghost use Rattle.pm_model.specs.Text.{text};
 ghost use Rattle.pm_output.specs.Gathered.{gathered};
-ghost use Rattle.pm_engine.specs.Shown.{serving, tally_in};
+ghost use Rattle.pm_events.specs.Shown.{serving, tally_in};
 ghost use Rattle.pm_events.specs.declared.stop.Stop.TheVariants.{Writing};
 ghost use Rattle.pm_events.specs.Causes.{why};
 ghost use Rattle.pm_serial.specs.Stepping.{IsGathered, SinkGoesOn};
@@ -13,8 +13,7 @@ ghost use Rattle.pm_serial.specs.Writing.{FitsLine, WroteRun, tail_of};
 use crate::behind::Behind;
 use crate::ending::end;
 use pm_disk::Disk;
-use pm_engine::Engine;
-use pm_events::Stop;
+use pm_events::{Engine, Stop};
 use pm_io::Sink;
 use pm_output::Output;
 use pm_types::Entry;

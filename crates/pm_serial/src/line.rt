@@ -6,7 +6,7 @@ ghost use Rattle.pm_place.specs.Choosers.{IsChooser};
 ghost use Rattle.pm_script.specs.Script.{AreLines, first_of};
 ghost use Rattle.pm_script.specs.Words.{IsFirst};
 ghost use Rattle.pm_output.specs.Gathered.{gathered};
-ghost use Rattle.pm_engine.specs.Shown.{chooser, room, serving};
+ghost use Rattle.pm_events.specs.Shown.{chooser, room, serving};
 ghost use Rattle.pm_parts.specs.Asked.{events_asked, request_of, requests_asked, steps_asked};
 ghost use Rattle.pm_parts.specs.Asked.{steps_of};
 ghost use Rattle.pm_events.specs.Causes.{OnStop, why};
@@ -18,8 +18,7 @@ ghost use Rattle.pm_serial.specs.Stepping.{SinkGoesOn, StopsLine, StopsLines, ev
 use crate::event::{answer_client, make_events};
 use crate::kind::Kind;
 use pm_disk::Disk;
-use pm_engine::Engine;
-use pm_events::Stop;
+use pm_events::{Engine, Stop};
 use pm_io::Sink;
 use pm_output::Output;
 use pm_script::Line;

@@ -12,7 +12,7 @@ use crate::entries::part_entries;
 use pm_disk::Disk;
 use pm_graphs::{Chain, ReadCars, flatten, read_graph, with_cars};
 use pm_image::Settled;
-use pm_settled::PackedPages;
+use pm_settled::{PackedPage, PackedPages};
 use pm_shadow::Pages;
 use pm_types::{Addr, Name, NoMemory, OpenFault};
 use std::alloc::Global;
@@ -43,7 +43,10 @@ fn is_there(page: u64, count: u64) -> bool
 }
 
 /// The catalog behind the current header and the cars that it lists.
-fn read_pages<D: Disk>(alloc: Global, pages: &mut Pages<D>) -> Result<(Chain, ReadCars), OpenFault>
+fn read_pages<D: Disk>(
+    alloc: Global,
+    pages: &mut Pages<D>,
+) -> Result<(Chain, ReadCars<PackedPage>), OpenFault>
     requires sound { (state pages.old).failed ≡ false }
     ensures whole { IfOk result
         (λ read. IsReadWhole (state pages.old).count (state pages.old).header.next read.0 read.1) }
@@ -95,7 +98,7 @@ fn take_graph(
 fn take_read(
     alloc: Global,
     chain: Chain,
-    read: ReadCars,
+    read: ReadCars<PackedPage>,
     epoch: u32,
     next: u64,
 ) -> Result<(StoreRead, PackedPages), NoMemory>

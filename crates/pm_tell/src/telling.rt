@@ -12,12 +12,13 @@ ghost use Rattle.pm_tell.specs.Told.{IsTold, IsToldOfSome};
 use crate::Teller;
 use pm_disk::Disk;
 use pm_place::Placement;
-use pm_reopen::open_space;
+use pm_reopen::open_space_alone;
 use pm_shadow::Pages;
 use pm_types::OpenFault;
 use std::alloc::Global;
+use std::mem;
 
-// Opens the store behind pages that were just found, and makes a text of it.
+// Opens the store behind pages that were just found, and makes a text of it. No page is packed, since nobody saves.
 fn tell_opened<D: Disk, T: Teller>(
     alloc: Global,
     pages: &mut Pages<D>,
@@ -37,8 +38,11 @@ fn tell_opened<D: Disk, T: Teller>(
 {
     // No object moves, so that no train is ever picked.
     let place = Placement::new(|_: &[u64]| 0);
-    let (space, _) = open_space(alloc, pages, place)?;
-    let Ok(text) = teller.tell(alloc, &space, pages.header().epoch) else {
+    let space = open_space_alone(alloc, pages, place)?;
+    let told = teller.tell(alloc, &space, pages.header().epoch);
+    // The process ends behind its text, and gives all memory back at once.
+    mem::forget(space);
+    let Ok(text) = told else {
         return Err(OpenFault::Memory);
     };
     Ok(text)
@@ -46,6 +50,9 @@ fn tell_opened<D: Disk, T: Teller>(
 
 /// Opens the store on a disk and makes a text of it. The disk is synced once, before it is read, and nothing is written.
 /// It is handed back.
+///
+/// It is meant as the last thing that a process does: it leaves the memory of the heap to the process, so who calls it
+/// again and again keeps what each call left.
 ///
 /// # Errors
 ///

@@ -10,8 +10,8 @@ use Rattle.pm_disk.specs.Disk.{LeavesOnly}
 use Rattle.pm_model.specs.Journal.{IsLegal}
 use Rattle.pm_serving.specs.Serving.{Serving, opening, world}
 use Rattle.pm_serving.specs.Images.{IsOfRun, IsSettledCopy, IsTold}
-use Rattle.pm_engine.specs.declared.engine.Engine.{Engine}
-use Rattle.pm_engine.specs.Shown.{KeepsStart, disk_in, opened_disk, serving}
+use Rattle.pm_events.specs.Engine.{Engine}
+use Rattle.pm_events.specs.Shown.{KeepsStart, disk_in, opened_disk, serving}
 use Rattle.pm_events.specs.declared.stop.Stop.{Stop}
 use Rattle.pm_events.specs.declared.stop.Stop.TheVariants.{Memory, Writing}
 use Rattle.pm_events.specs.Causes.{CountsDisk, IsDone}

@@ -4,7 +4,7 @@ ghost use Rattle.std.specs.Prelude.{◌≡◌, ◌⊎◌, ℕ, List, [], None, S
 ghost use Rattle.pm_place.specs.Choosers.{IsChooser};
 ghost use Rattle.pm_model.specs.Text.{text};
 ghost use Rattle.pm_output.specs.Gathered.{gathered};
-ghost use Rattle.pm_engine.specs.Shown.{KeepsStart, chooser, disk_in, serving, tally_in};
+ghost use Rattle.pm_events.specs.Shown.{KeepsStart, chooser, disk_in, serving, tally_in};
 ghost use Rattle.pm_events.specs.declared.stop.Stop.TheVariants.{Writing};
 ghost use Rattle.pm_events.specs.Causes.{CountsDisk, why};
 ghost use Rattle.pm_events.specs.Running.{IsFresh, RunsOnDisk};
@@ -14,8 +14,7 @@ ghost use Rattle.pm_lock.specs.Shown.{engine_in, fault_in};
 ghost use Rattle.pm_threads.specs.Running.{AnswersClients};
 
 use pm_disk::Disk;
-use pm_engine::Engine;
-use pm_events::{Stop, stop_after};
+use pm_events::{Engine, Stop, stop_after};
 use pm_io::Sink;
 use pm_lock::{Book, run_all};
 use pm_output::Output;

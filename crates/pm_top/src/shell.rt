@@ -30,7 +30,7 @@ pub fn tell<E: Sink>(errors: &mut E, detail: &Detail)
 /// Does what the program does, over any disks, streams and sink for errors, and hands back what it was lent, with the
 /// status with which it ends: 0 to 7. The replies go to `sink` alone, and to `errors` the line of the end, where the
 /// status is not 0. As `pmos` it waits for threads where a script is run in them, and else for nobody, and leaves the
-/// memory of a run's heap to the process.
+/// memory of its heap to the process.
 pub fn program<
     R: AllocGlobal + Threads + Wait + Sync,
     D: Disk + Drop + Send,

@@ -104,8 +104,8 @@ fn perform<
 ///
 /// An object moves to the train that the chooser of `place` picks.
 ///
-/// It is meant as the last thing that a process does: `run` and `trial` leave the memory of their heap to the process, so
-/// who calls them again and again keeps what each run left.
+/// It is meant as the last thing that a process does: `run`, `trial`, `inspect`, `dump` and `why` leave the memory of
+/// their heap to the process, so who calls them again and again keeps what each left.
 ///
 /// What the disks and the source hold and what the sink has is said where they tell it.
 pub fn pmos<

@@ -1,13 +1,14 @@
 //! A line of the input: a case's name, or a step.
 
+use crate::dumps::{push_cut_dump, push_dump, push_whole_dump};
+use crate::parts::{push_asked_of_long, push_long, push_parts, push_takes};
 use crate::values::{push_copies, push_digest, push_name, push_register, push_room};
 use pm_case_text::{Count, Fault, first_word, is_silent, push_case, refuse, written_out};
 use std::alloc::Global;
 
-// A step: its first word, and what follows.
-fn push_step(alloc: Global, step: &str, text: &str, out: &mut String) -> Result<(), Fault> {
+// A step on one value, which is written out: its first word, and what follows.
+fn push_value(alloc: Global, step: &str, text: &str, out: &mut String) -> Result<(), Fault> {
     match step {
-        "case" => push_case(text, out),
         "name" => push_name(alloc, text, out),
         "register" => push_register(text, out),
         "room" => push_room(text, out),
@@ -17,10 +18,25 @@ fn push_step(alloc: Global, step: &str, text: &str, out: &mut String) -> Result<
     }
 }
 
-// Takes a line that says something, written out.
-fn push_written(alloc: Global, line: &str, out: &mut String) -> Result<(), Fault> {
-    let (step, text) = first_word(line);
-    push_step(alloc, step, text, out)
+// Takes a step on one value, once it is written out.
+fn push_written(alloc: Global, step: &str, text: &str, out: &mut String) -> Result<(), Fault> {
+    let text = written_out(alloc, text, Count::None)?;
+    push_value(alloc, step, text.as_str(), out)
+}
+
+// A step: its first word, and what follows.
+fn push_step(alloc: Global, step: &str, text: &str, out: &mut String) -> Result<(), Fault> {
+    match step {
+        "case" => push_case(text, out),
+        "parts" => push_parts(alloc, text, out),
+        "takes" => push_takes(alloc, text, out),
+        "long" => push_long(alloc, text, out),
+        "asked" => push_asked_of_long(alloc, text, out),
+        "read" => push_dump(alloc, text, out),
+        "all" => push_whole_dump(alloc, text, out),
+        "cut" => push_cut_dump(alloc, text, out),
+        _ => push_written(alloc, step, text, out),
+    }
 }
 
 /// Takes a line of the input, and adds what it gives. A line that begins with `#`, and one that is empty, say nothing.
@@ -28,6 +44,6 @@ pub(crate) fn take(alloc: Global, line: &str, out: &mut String) -> Result<(), Fa
     if is_silent(line) {
         return Ok(());
     }
-    let line = written_out(alloc, line, Count::None)?;
-    push_written(alloc, line.as_str(), out)
+    let (step, text) = first_word(line);
+    push_step(alloc, step, text, out)
 }

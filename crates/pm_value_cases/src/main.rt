@@ -1,8 +1,12 @@
-//! `pm_value_cases`: reads cases from standard input, calls functions on values by themselves, and prints what they
-//! answer. `docs/TESTS.md` says how a case is written.
+//! `pm_value_cases`: reads cases from standard input, calls functions on values by themselves, parts scripts by who asks,
+//! reads dumps, and prints what they answer. `docs/TESTS.md` says how a case is written.
 #![tactic(auto)]
 
 mod case;
+mod dump_lines;
+mod dumps;
+mod parts;
+mod scripts;
 mod values;
 
 use case::take;

@@ -4,14 +4,14 @@ ghost use Rattle.std.specs.Prelude.{◌≡◌, ◌<◌, IfOk, OnErr, true, false
 
 use crate::works::Works;
 use pm_disk::Disk;
-use pm_progress::SaveFault;
+use pm_save::SaveFault;
 use pm_types::{Cmd, NoMemory, Reply};
 use std::alloc::Global;
 
 impl<D: Disk, F: Drop> Works<D, F> {
     ghost use Rattle.pm_types.specs.declared.limits.TheConstants.{CLIENTS};
-    ghost use Rattle.pm_progress.specs.Answers.{UnlessDisk};
-    ghost use Rattle.pm_writer.specs.Settling.{IsCausedBy, settling_syncs, settling_writes};
+    ghost use Rattle.pm_save.specs.Answers.{UnlessDisk};
+    ghost use Rattle.pm_save.specs.Settling.{IsCausedBy, settling_syncs, settling_writes};
     ghost use Rattle.pm_model.specs.Frames.{is_settle};
     ghost use Rattle.pm_engine.specs.Working.{Answers, FailsSo, IsLeft, IsTiedIn, LeavesDisk, MayLeave, StaysStill, place_in, saving_in, state_in};
 

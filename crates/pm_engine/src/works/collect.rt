@@ -10,7 +10,7 @@ use std::alloc::Global;
 
 impl<D: Disk, F: Fn(&[u64]) -> usize + Drop> Works<D, F> {
     ghost use Rattle.pm_place.specs.Choosers.{IsChooser};
-    ghost use Rattle.pm_evac.specs.Steps.{IsMade, KeepsWorlds};
+    ghost use Rattle.pm_reclaim.specs.Steps.{IsMade, KeepsWorlds};
     ghost use Rattle.pm_engine.specs.Working.{CollectsOn, IsLeft, IsTiedIn, place_in, room_in, view_in};
 
     /// The next event of the collector, whichever it is. After want of memory all is as it was.

@@ -4,14 +4,14 @@ ghost use Rattle.std.specs.Prelude.{◌≡◌, ◌<◌, None, IfOk, OnErr};
 
 use crate::works::Works;
 use pm_disk::Disk;
-use pm_progress::SaveFault;
+use pm_save::SaveFault;
 use pm_types::Flushed;
 use std::alloc::Global;
 
 impl<D: Disk, F: Drop> Works<D, F> {
     ghost use Rattle.pm_saving.specs.Paging.{left_of};
-    ghost use Rattle.pm_progress.specs.Answers.{OnMemory, Spares, UnlessDisk};
-    ghost use Rattle.pm_writer.specs.Settling.{IsCausedBy};
+    ghost use Rattle.pm_save.specs.Answers.{OnMemory, Spares, UnlessDisk};
+    ghost use Rattle.pm_save.specs.Settling.{IsCausedBy};
     ghost use Rattle.pm_engine.specs.Working.{FlushesOn, IsAsItWas, IsTiedIn, LastsIn, Rests, disk_at, place_in, room_in, saving_in, state_in};
 
     /// Writes the next page of the copy in progress, if one is left.

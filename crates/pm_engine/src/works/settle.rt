@@ -4,13 +4,13 @@ ghost use Rattle.std.specs.Prelude.{◌≡◌, IfOk, true};
 
 use crate::works::Works;
 use pm_disk::Disk;
-use pm_progress::SaveFault;
+use pm_save::SaveFault;
 use pm_types::{Cmd, Reply};
 use std::alloc::Global;
 
 impl<D: Disk, F: Drop> Works<D, F> {
-    ghost use Rattle.pm_progress.specs.Answers.{UnlessDisk};
-    ghost use Rattle.pm_writer.specs.Settling.{IsCausedBy, settling_syncs, settling_writes};
+    ghost use Rattle.pm_save.specs.Answers.{UnlessDisk};
+    ghost use Rattle.pm_save.specs.Settling.{IsCausedBy, settling_syncs, settling_writes};
     ghost use Rattle.pm_engine.specs.Working.{FailsSo, IsTiedIn, MayLeave, SettlesIt, place_in, saving_in, state_in};
 
     /// `settle`: the copy in progress is written to its end and published, if there is one. Its entry takes no memory

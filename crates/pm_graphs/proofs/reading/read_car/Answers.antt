@@ -18,16 +18,16 @@ returns-in-Err-clause-gives g c bytes told =
     (car_page c.args.most c.args.next (store_of c.args.pages.now.count bytes) c.args.met.now c.args.number c.args.page c.args.kept.now c.read_kept.new.buffer c.in_ok-read_kept.field-0 c.in-Err.fault
     (c.in_ok-read_kept.ensures.gives bytes told) (c.in_ok-read_kept.ensures.read bytes told) c.in-Err.ensures.exact)
 
-pub pack-requires-clause-has : goal.pack-requires-clause-has
-pack-requires-clause-has g c = page_alone c.args.most c.args.next (Some c.args.number) c.args.met.now c.in-Ok.image c.requires.most c.requires.next c.in-Ok.ensures.fits
+pub of_page-requires-clause-has : goal.of_page-requires-clause-has
+of_page-requires-clause-has g c = page_alone c.args.most c.args.next (Some c.args.number) c.args.met.now c.in-Ok.image c.requires.most c.requires.next c.in-Ok.ensures.fits
 
-pub returns-in_ok-pack-in-Ok-clause-gives : goal.returns-in_ok-pack-in-Ok-clause-gives
-returns-in_ok-pack-in-Ok-clause-gives g c bytes told =
+pub returns-in_ok-of_page-in-Ok-clause-gives : goal.returns-in_ok-of_page-in-Ok-clause-gives
+returns-in_ok-of_page-in-Ok-clause-gives g c bytes told =
     car_read c.args.most c.args.next (store_of c.args.pages.now.count bytes) c.args.met.now c.args.number c.args.page c.args.kept.now c.read_kept.new.buffer c.in_ok-read_kept.field-0 c.in-Ok.image
     (c.in_ok-read_kept.ensures.gives bytes told) (c.in_ok-read_kept.ensures.read bytes told) c.in-Ok.ensures.exact
-    ∙ ap Ok (sym c.in_ok-pack-in-Ok.ensures)
+    ∙ ap Ok (sym c.in_ok-of_page-in-Ok.ensures)
 
-pub returns-in_ok-pack-in-Ok-clause-car : goal.returns-in_ok-pack-in-Ok-clause-car
-returns-in_ok-pack-in-Ok-clause-car g c =
-    subst (IsCar c.args.pages.now.count c.args.next) (sym c.in_ok-pack-in-Ok.ensures)
+pub returns-in_ok-of_page-in-Ok-clause-car : goal.returns-in_ok-of_page-in-Ok-clause-car
+returns-in_ok-of_page-in-Ok-clause-car g c =
+    subst (IsCar c.args.pages.now.count c.args.next) (sym c.in_ok-of_page-in-Ok.ensures)
     (record { there = c.requires.page; most = c.args.most; few = c.requires.most; met = c.args.met.now; number = c.args.number; has = c.in-Ok.ensures.fits })

@@ -1,6 +1,6 @@
 use Rattle.std.proofs.Common.{◌≡◌, ℕ, List, ◌++◌, OnErr, OnOk, subst, ◌∙◌}
 use Rattle.pm_model.specs.Text.{tail}
-use Rattle.pm_engine.specs.Shown.{serving, tally_in}
+use Rattle.pm_events.specs.Shown.{serving, tally_in}
 use Rattle.pm_output.specs.Gathered.{gathered}
 use Rattle.pm_output.specs.Writing.{GoesOn, PutsPart}
 use Rattle.pm_serial.specs.Writing.{tail_of}

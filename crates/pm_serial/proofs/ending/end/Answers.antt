@@ -1,5 +1,5 @@
 use Rattle.std.proofs.Common.{Some, ap, rules}
-use Rattle.pm_engine.specs.Shown.{serving, tally_in}
+use Rattle.pm_events.specs.Shown.{serving, tally_in}
 use Rattle.pm_output.specs.Gathered.{gathered}
 use Rattle.pm_serial.specs.Causes.{IsElsewhere}
 use Rattle.pm_events.specs.Causes.{why}

@@ -1,5 +1,5 @@
 use Rattle.std.proofs.Common.{◌≡◌, ℕ, List, ◌++◌, Some, Result, Ok, Err, OnErr, OnOk, length}
-use Rattle.pm_engine.specs.Shown.{serving, tally_in}
+use Rattle.pm_events.specs.Shown.{serving, tally_in}
 use Rattle.pm_output.specs.Gathered.{gathered}
 use Rattle.pm_output.specs.Writing.{PutsAll, PutsPart}
 use Rattle.pm_serial.specs.Writing.{tail_of}

@@ -1,6 +1,6 @@
 use Rattle.std.proofs.Common.{[], ◌∷◌, Some, None, length, ap, refl, ◌∙◌}
 use Rattle.pm_serving.specs.Serving.{made_now}
-use Rattle.pm_engine.specs.Shown.{serving}
+use Rattle.pm_events.specs.Shown.{serving}
 use Rattle.pm_output.specs.Gathered.{gathered}
 use Rattle.pm_model.specs.Text.{reply_line}
 use Rattle.pm_events.specs.declared.stop.Stop.TheVariants.{Writing}

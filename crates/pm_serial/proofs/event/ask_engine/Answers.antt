@@ -1,5 +1,5 @@
 use Rattle.std.proofs.Common.{subst, sym}
-use Rattle.pm_engine.specs.Shown.{serving}
+use Rattle.pm_events.specs.Shown.{serving}
 use Rattle.pm_events.specs.Events.{Adds, EngineGoesOn, IsShort, KeepsCounts}
 use Rattle.pm_serial.proofs.Stopping.{stopped, unwritten, went_on}
 use Rattle.pm_events.specs.Causes.{why}

@@ -1,6 +1,6 @@
 use Rattle.std.proofs.Common.{List, [], inr, refl, None, Some, ap, subst, Option}
 use Rattle.pm_types.specs.declared.entry.Entry.{Entry}
-use Rattle.pm_engine.specs.Shown.{serving, tally_in}
+use Rattle.pm_events.specs.Shown.{serving, tally_in}
 use Rattle.pm_output.specs.Gathered.{gathered}
 use Rattle.pm_events.specs.declared.stop.Stop.{Stop}
 use Rattle.pm_events.specs.declared.stop.Stop.TheVariants.{Writing}

@@ -5,7 +5,7 @@ use Rattle.pm_place.specs.Choosers.{IsChooser}
 use Rattle.pm_script.specs.Script.{first_of}
 use Rattle.pm_script.specs.Words.{IsFirst}
 use Rattle.pm_script.specs.declared.line.Line.{Line}
-use Rattle.pm_engine.specs.Shown.{disk_in, room, serving}
+use Rattle.pm_events.specs.Shown.{disk_in, room, serving}
 use Rattle.pm_output.specs.Gathered.{gathered}
 use Rattle.pm_parts.specs.Asked.{events_asked, request_of, requests_asked, steps_asked, steps_of}
 use Rattle.pm_events.specs.Events.{AnswersPart}

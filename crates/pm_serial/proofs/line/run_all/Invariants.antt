@@ -1,7 +1,7 @@
 use Rattle.std.proofs.Common.{◌≡◌, List, ◌++◌, None, length}
 use Rattle.pm_output.specs.Gathered.{gathered}
 use Rattle.pm_script.specs.declared.line.Line.{Line}
-use Rattle.pm_engine.specs.Shown.{serving}
+use Rattle.pm_events.specs.Shown.{serving}
 use Rattle.pm_parts.specs.Asked.{events_asked, requests_asked, steps_asked}
 use Rattle.pm_events.specs.Events.{AnswersPart, EngineGoesOn}
 use Rattle.pm_serial.specs.Stepping.{SinkGoesOn}

@@ -1,7 +1,7 @@
 use Rattle.std.proofs.Common.{arith, refl, subst, sym}
 use Rattle.pm_script.specs.declared.line.Line.{Line}
 use Rattle.pm_script.specs.declared.line.Line.TheVariants.{Gc, Flush}
-use Rattle.pm_engine.specs.Shown.{serving}
+use Rattle.pm_events.specs.Shown.{serving}
 use Rattle.pm_output.specs.Gathered.{gathered}
 use Rattle.pm_events.specs.Causes.{OnStop, why}
 use Rattle.pm_serial.specs.Stepping.{StopsLine}

@@ -5,7 +5,7 @@ use Rattle.pm_serving.specs.Serving.{Before, Serving, world}
 use Rattle.pm_events.specs.Running.{IsFresh}
 use Rattle.pm_serial.specs.Ordered.{course_of}
 use Rattle.pm_serving.specs.Images.{IsSettledCopy, IsTold}
-use Rattle.pm_engine.specs.Shown.{disk_in, serving, tally_in}
+use Rattle.pm_events.specs.Shown.{disk_in, serving, tally_in}
 use Rattle.pm_output.specs.Gathered.{gathered}
 use Rattle.pm_events.specs.declared.stop.Stop.TheVariants.{Memory}
 use Rattle.pm_parts.specs.Asked.{events_asked, requests_asked, steps_asked}

@@ -16,12 +16,12 @@ returns-in_err-space-clause-fault g c =
 pub returns-clause-told : goal.returns-clause-told
 returns-clause-told g c bytes before =
     let first = state c.args.pages.now in
-    let last = c.open_space.new.pages in
+    let last = c.open_space_alone.new.pages in
     let disk = disk_of last in
     let space = c.in_ok-space.space in
     let opened = c.in_ok-space.ensures in
     let told = opened.looks.told ∙ before in
-    let opens = opened.opened bytes told in
+    let opens = opened.opened.1.told bytes told in
     let knows = opened.state in
     let fine = ap (λ (s : State). s.failed) (knows.first c.requires.unknown) ∙ c.requires.fine in
     let here = g.met.D.Disk.contents_stay disk bytes told in

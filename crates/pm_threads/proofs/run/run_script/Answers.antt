@@ -3,8 +3,8 @@ use Rattle.pm_types.specs.declared.fault.EngineFault.{EngineFault}
 use Rattle.pm_model.specs.Text.{text}
 use Rattle.pm_script.specs.declared.line.Line.{Line}
 use Rattle.pm_serving.specs.Serving.{Serving}
-use Rattle.pm_engine.specs.declared.engine.Engine.{Engine}
-use Rattle.pm_engine.specs.Shown.{KeepsStart, disk_in, opened_count, serving, tally_in}
+use Rattle.pm_events.specs.Engine.{Engine}
+use Rattle.pm_events.specs.Shown.{KeepsStart, disk_in, opened_count, serving, tally_in}
 use Rattle.pm_events.specs.declared.stop.Stop.TheVariants.{Memory}
 use Rattle.pm_events.specs.Causes.{CountsDisk, why}
 use Rattle.pm_events.specs.Events.{EngineGoesOn}

@@ -1,6 +1,6 @@
 use Rattle.std.proofs.Common.{List, ◌++◌, Some, inl, refl, ap}
 use Rattle.pm_model.specs.Text.{text}
-use Rattle.pm_engine.specs.Shown.{disk_in, serving, tally_in}
+use Rattle.pm_events.specs.Shown.{disk_in, serving, tally_in}
 use Rattle.pm_events.specs.declared.stop.Stop.TheVariants.{Memory}
 use Rattle.pm_parts.specs.Asked.{events_asked, requests_asked, steps_asked}
 use Rattle.pm_serial.specs.Writing.{tail_of}

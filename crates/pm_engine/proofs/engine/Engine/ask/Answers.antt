@@ -2,8 +2,8 @@ use Rattle.std.proofs.Common.{◌≡◌, ℕ, true, false, Some, Result, Err, On
 use Rattle.pm_types.specs.declared.reply.Reply.{Reply}
 use Rattle.pm_types.specs.declared.fault.EngineFault.TheVariants.{Memory}
 use Rattle.pm_model.specs.Frames.{is_settle}
-use Rattle.pm_progress.specs.declared.fault.SaveFault.{SaveFault}
-use Rattle.pm_progress.specs.Answers.{IfMemory, IsFaultOf, OnMemory}
+use Rattle.pm_save.specs.SaveFault.{SaveFault}
+use Rattle.pm_save.specs.Answers.{IfMemory, IsFaultOf, OnMemory}
 use Rattle.pm_engine.specs.Working.{IsFaultFor, IsLeft, IsShort, LastsSo, disk_at, saving_in, view_in}
 use Rattle.pm_engine.proofs.engine.Engine.ask.Goals as goal
 use Rattle.pm_engine.proofs.Asking.{ask_serves, ask_sound, fail_sound, rest_sound, stored}

@@ -1,6 +1,6 @@
 use Rattle.std.proofs.Common.{◌≡◌, true, false, Err, refl, sym, ◌∙◌, arith}
 use Rattle.pm_types.specs.declared.fault.EngineFault.TheVariants.{Memory}
-use Rattle.pm_writer.specs.Settling.{settling_syncs, settling_writes}
+use Rattle.pm_save.specs.Settling.{settling_syncs, settling_writes}
 use Rattle.pm_law_bound.proofs.Many.{kept_still}
 use Rattle.pm_engine.specs.Shown.{disk_in, pages_in, serving}
 use Rattle.pm_engine.specs.Working.{disk_at}

@@ -1,6 +1,6 @@
 use Rattle.std.proofs.Common.{ℕ, Some, ap, subst, arith}
-use Rattle.pm_progress.specs.declared.fault.SaveFault.{SaveFault}
-use Rattle.pm_progress.specs.Answers.{IfMemory, IsFaultOf}
+use Rattle.pm_save.specs.SaveFault.{SaveFault}
+use Rattle.pm_save.specs.Answers.{IfMemory, IsFaultOf}
 use Rattle.pm_engine.specs.Working.{IsAsItWas, IsTiedIn, LastsIn, disk_at}
 use Rattle.pm_engine.proofs.engine.Engine.flush_running.Goals as goal
 use Rattle.pm_engine.proofs.Asking.{flush_failed, flush_kept, leaves_settled, rest_sound, stored}

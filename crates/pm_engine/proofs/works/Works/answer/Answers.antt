@@ -1,5 +1,5 @@
 use Rattle.std.proofs.Common.{rules}
-use Rattle.pm_writer.specs.Settling.{settling_syncs, settling_writes}
+use Rattle.pm_save.specs.Settling.{settling_syncs, settling_writes}
 use Rattle.pm_engine.specs.Working.{disk_at, saving_in, state_in}
 use Rattle.pm_engine.proofs.works.Works.answer.Goals as goal
 use Rattle.pm_engine.proofs.Kept.{lasts_so, still_made, still_told}

@@ -1,7 +1,7 @@
-//! A line of the input: a case's name, or a step.
+//! Dumps that are read.
 
-use crate::spelling::lines;
-use pm_case_text::{Fault, first_word, is_silent, push_case, refuse};
+use crate::dump_lines::lines;
+use pm_case_text::{Fault, refuse};
 use pm_dump::{Dump, DumpCause, DumpFault, read_dump};
 use pm_types::SOURCE_BYTES;
 use std::alloc::Global;
@@ -73,29 +73,19 @@ fn push_read(alloc: Global, bytes: &[u8], whole: bool, out: &mut String) -> Resu
     }
 }
 
-// A step: its first word, and what follows.
-fn push_step(alloc: Global, word: &str, text: &str, out: &mut String) -> Result<(), Fault> {
-    match word {
-        "case" => push_case(text, out),
-        // The text is read.
-        "read" => push_read(alloc, lines(alloc, text)?.as_slice(), false, out),
-        // It is read, and all that it says is told.
-        "all" => push_read(alloc, lines(alloc, text)?.as_slice(), true, out),
-        // It is read without its last newline.
-        "cut" => {
-            let mut bytes = lines(alloc, text)?;
-            bytes.pop();
-            push_read(alloc, bytes.as_slice(), false, out)
-        }
-        _ => Err(refuse("no such step")),
-    }
+/// `DUMP`: how much the dump has, or why it is none.
+pub(crate) fn push_dump(alloc: Global, text: &str, out: &mut String) -> Result<(), Fault> {
+    push_read(alloc, lines(alloc, text)?.as_slice(), false, out)
 }
 
-/// Takes a line, and adds what it prints.
-pub(crate) fn take(alloc: Global, line: &str, out: &mut String) -> Result<(), Fault> {
-    if is_silent(line) {
-        return Ok(());
-    }
-    let (word, text) = first_word(line);
-    push_step(alloc, word, text, out)
+/// `DUMP`: the same, and then each object and each name.
+pub(crate) fn push_whole_dump(alloc: Global, text: &str, out: &mut String) -> Result<(), Fault> {
+    push_read(alloc, lines(alloc, text)?.as_slice(), true, out)
+}
+
+/// `DUMP`: how much the dump has without its last newline.
+pub(crate) fn push_cut_dump(alloc: Global, text: &str, out: &mut String) -> Result<(), Fault> {
+    let mut bytes = lines(alloc, text)?;
+    bytes.pop();
+    push_read(alloc, bytes.as_slice(), false, out)
 }

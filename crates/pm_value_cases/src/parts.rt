@@ -1,10 +1,10 @@
-//! A line of the input: a case's name, or a step.
+//! Lines of a script, parted by who asks.
 
 ghost use Rattle.std.specs.Prelude.{◌<◌};
 ghost use Rattle.pm_types.specs.declared.limits.TheConstants.{CLIENTS};
 
 use crate::scripts::{in_turn, spelled};
-use pm_case_text::{Fault, first_word, is_silent, push_case, refuse, small};
+use pm_case_text::{Fault, refuse, small};
 use pm_parts::{Parts, collects_asked, commands_asked, flushes_asked};
 use pm_script::Script;
 use pm_types::{CLIENTS, Cmd};
@@ -62,8 +62,8 @@ fn push_left(parts: &Parts, out: &mut String) -> Result<(), Fault> {
     Ok(())
 }
 
-// `SCRIPT`: what it asks for, and the commands of each client.
-fn push_parts(alloc: Global, text: &str, out: &mut String) -> Result<(), Fault> {
+/// `SCRIPT`: what it asks for, and the commands of each client.
+pub(crate) fn push_parts(alloc: Global, text: &str, out: &mut String) -> Result<(), Fault> {
     let script = spelled(alloc, text)?;
     push_asked(&script, out)?;
     let mut parts = Parts::split(alloc, script)?;
@@ -85,8 +85,8 @@ fn push_taken(parts: &mut Parts, word: &str, out: &mut String) -> Result<(), Fau
     push_number(parts.pop(client).as_ref(), out)
 }
 
-// `CLIENTS : SCRIPT`: these clients take their next commands, one after another.
-fn push_takes(alloc: Global, text: &str, out: &mut String) -> Result<(), Fault> {
+/// `CLIENTS : SCRIPT`: these clients take their next commands, one after another.
+pub(crate) fn push_takes(alloc: Global, text: &str, out: &mut String) -> Result<(), Fault> {
     let Some((clients, lines)) = text.split_once(" : ") else {
         return Err(refuse("no such step"));
     };
@@ -99,8 +99,8 @@ fn push_takes(alloc: Global, text: &str, out: &mut String) -> Result<(), Fault> 
     push_left(&parts, out)
 }
 
-// `N`: what a script of so many lines asks for.
-fn push_asked_of_long(alloc: Global, text: &str, out: &mut String) -> Result<(), Fault> {
+/// `N`: what a script of so many lines asks for.
+pub(crate) fn push_asked_of_long(alloc: Global, text: &str, out: &mut String) -> Result<(), Fault> {
     push_asked(&in_turn(alloc, text)?, out)?;
     out.push('\n')?;
     Ok(())
@@ -123,8 +123,8 @@ fn count_in_order(parts: &mut Parts, client: u32) -> u32
     count
 }
 
-// `N`: of a script of so many lines, how many commands of each client come in their order.
-fn push_long(alloc: Global, text: &str, out: &mut String) -> Result<(), Fault> {
+/// `N`: of a script of so many lines, how many commands of each client come in their order.
+pub(crate) fn push_long(alloc: Global, text: &str, out: &mut String) -> Result<(), Fault> {
     let script = in_turn(alloc, text)?;
     push_asked(&script, out)?;
     let mut parts = Parts::split(alloc, script)?;
@@ -133,25 +133,4 @@ fn push_long(alloc: Global, text: &str, out: &mut String) -> Result<(), Fault> {
         write!(out, " / {client}: {count}")?;
     }
     push_left(&parts, out)
-}
-
-// A step: its first word, and what follows.
-fn push_step(alloc: Global, step: &str, text: &str, out: &mut String) -> Result<(), Fault> {
-    match step {
-        "case" => push_case(text, out),
-        "parts" => push_parts(alloc, text, out),
-        "takes" => push_takes(alloc, text, out),
-        "long" => push_long(alloc, text, out),
-        "asked" => push_asked_of_long(alloc, text, out),
-        _ => Err(refuse("no such step")),
-    }
-}
-
-/// Takes a line of the input, and adds what it gives. A line that begins with `#`, and one that is empty, say nothing.
-pub(crate) fn take(alloc: Global, line: &str, out: &mut String) -> Result<(), Fault> {
-    if is_silent(line) {
-        return Ok(());
-    }
-    let (step, text) = first_word(line);
-    push_step(alloc, step, text, out)
 }

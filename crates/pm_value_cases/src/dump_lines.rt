@@ -1,4 +1,4 @@
-//! How the bytes of a case are spelled.
+//! How the bytes of a dump are spelled.
 
 use pm_case_text::{Count, Fault, written_out};
 use std::alloc::Global;

@@ -1,4 +1,4 @@
-//! The scripts of cases.
+//! The scripts that are parted.
 
 use pm_case_text::{Fault, push_lines, refuse, small};
 use pm_script::{Script, ScriptFault, read_script};

@@ -1,0 +1,9 @@
+-- What was made of pages, place by place beside their cars.
+use Rattle.std.proofs.Common.{List, [], ◌∷◌, ◌++◌}
+use Rattle.std.specs.List.{AllZip}
+
+pub zip_more : {A B : Type 0} (R : A → B → Type 0) (xs : List A) (ys : List B) (x : A) (y : B) → AllZip R xs ys → R x y → AllZip R (xs ++ x ∷ []) (ys ++ y ∷ [])
+zip_more R [] [] x y all more = (more, tt)
+zip_more R [] (b ∷ ys) x y all more = absurd all
+zip_more R (a ∷ xs) [] x y all more = absurd all
+zip_more R (a ∷ xs) (b ∷ ys) x y all more = (all.0, zip_more R xs ys x y all.1 more)
