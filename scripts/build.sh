@@ -24,7 +24,7 @@ for ((i = 0; i < ${#wanted[@]}; i++)); do
     done
 done
 
-minutes=$(((40 + processors - 1) / processors + 3))
+minutes=$(((120 + processors - 1) / processors + 5))
 echo "Proving and building ${#wanted[@]} crates on $processors processors: about $minutes minutes the first time."
 
 # A crate can begin once all below it are done.

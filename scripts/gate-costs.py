@@ -4,20 +4,22 @@
     scripts/gate-costs.py watch FILE        notes each check of the prover that runs, until it is stopped; then a table
     scripts/gate-costs.py table FILE..      the table of what was noted
     scripts/gate-costs.py chain FILE..      the longest chain of crates, each of which waits for the one before it
-    scripts/gate-costs.py ways              how many ways `rt ci` goes before its first check, by crates.txt
+    scripts/gate-costs.py ways              how many ways `rt ci` goes by itself, by crates.txt
 
 Run `watch` beside `rt ci` on a machine that does nothing else:
 
     scripts/gate-costs.py watch /tmp/costs.json & rt ci; kill %1; wait
 
 It looks at /proc once a second. A process of the prover says in its command line which crate it is for and whether it
-reads the crate with its tests, and in its folder whether it tries a must-fail edit. What it had used when it was last
-seen is what it cost, in processor seconds, user and system. Only what a run proves is seen: what an earlier run on this
-machine passed is kept, and costs nothing (`rt ci --anew` proves all).
+reads the crate with its tests, and in its folder whether it tries a must-fail edit. `rt ci` itself has a row too. What
+a process had used when it was last seen is what it cost, in processor seconds, user and system. Only what a run proves is
+seen: some kits keep what an earlier run passed, and then that costs nothing.
 
-Before its first check `rt ci` looks at each name that a clause of a crate imports, and goes each time through all ways
-that lead from the crate to a lower one. A crate that is cut in two gives each crate above it more ways, so `ways` tells
-what a cut costs: 88 million took two minutes of one processor, 102 million 2.3, 180 million 4.3.
+What `rt ci` does itself grows with the ways that lead through crates.txt from a crate to each lower one. Before its first
+check it looks at each name that a clause of a crate imports, and goes each time through all ways that lead from the crate
+to a lower one: 88 million took two minutes of one processor, 180 million 4.3. And before and behind the proof of a library
+it reads, on each such way, every file of the crate at its end: 37 million files would take most of an hour. A crate that is
+cut in two gives each crate above it more ways, unless these list the upper one alone, so `ways` tells what a cut costs.
 """
 import glob
 import json
@@ -40,9 +42,12 @@ def check_of(pid):
     """Returns (start, crate, part, processor seconds) of a check that a gate runs, or None for any other process."""
     words = text_of(f"/proc/{pid}/cmdline").split("\0")
     where = os.readlink(f"/proc/{pid}/cwd")
+    fields = text_of(f"/proc/{pid}/stat").rpartition(") ")[2].split()
+    if [os.path.basename(it) for it in words[1:3]] == ["rt", "ci"]:
+        # (without its children, which are the checks)
+        return fields[19], "rt itself", "proof", sum(int(it) for it in fields[11:13]) / TICK
     if os.path.basename(words[0]) != "rattle" or "--crate-name" not in words:
         return None
-    fields = text_of(f"/proc/{pid}/stat").rpartition(") ")[2].split()
     seconds = sum(int(it) for it in fields[11:15]) / TICK
     part = "edits" if "/rt-edit-" in where else "tests" if "--test" in words else "proof"
     return fields[19], words[words.index("--crate-name") + 1], part, seconds
@@ -104,17 +109,26 @@ def names_of(crate):
 
 
 def print_ways():
-    below, ways = crates(), {}
+    below, ways, files = crates(), {}, {}
 
     def ways_of(crate):
         if crate not in ways:
             ways[crate] = 1 + sum(ways_of(it) for it in below[crate] if it in below)
         return ways[crate]
 
+    def files_of(crate):
+        """Returns how many files stand at the ends of all ways from the crate."""
+        if crate not in files:
+            own = [it for it in glob.glob(f"crates/{crate}/**/*", recursive=True) if it.endswith((".rt", ".antt"))]
+            files[crate] = len(own) + sum(files_of(it) for it in below[crate] if it in below)
+        return files[crate]
+
     rows = sorted(((names_of(it) * ways_of(it), it) for it in below), reverse=True)
     for count, crate in rows[:12]:
         print(f"{count / 1e6:9.1f} million  {crate}: {names_of(crate)} names, {ways_of(crate)} ways")
     print(f"{sum(it[0] for it in rows) / 1e6:9.1f} million  in all")
+    libraries = [it for it in below if not os.path.isfile(f"crates/{it}/src/main.rt")]
+    print(f"{sum(files_of(it) for it in libraries) / 1e6:9.1f} million  files that the libraries are read from, twice")
 
 
 def print_chain(sums):

@@ -245,7 +245,7 @@ def told(out):
 
 def case_row(name, mode, text):
     global bad
-    case = f"case {name}\ndisk new\nwords run store.pmos {mode}\ndo {text}\nshow status written journal refused entries\n".encode()
+    case = f"part program\ncase {name}\ndisk new\nwords run store.pmos {mode}\ndo {text}\nshow status written journal refused entries\n".encode()
     status, out, _, _ = ended([], case, 0, program=cases)
     whole = told(out)
     if status or not whole or whole[0]:

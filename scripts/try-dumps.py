@@ -3,12 +3,12 @@
 
     scripts/try-dumps.py [SEED [COUNT]]
 
-Draws COUNT dumps from the seed, sound ones and spoiled ones, and has `pm_value_cases` read each: what it tells has to be
-what this reader finds, a fault with its line and its cause. Then it draws stores by `pmos make`, dumps each, and asks why
-each identity is kept: the dump has to be sound, each path has to lead to its object and be as short as the shortest one,
-and `none` has to come exactly where there is none. It ends with 0 where all agree.
+Draws COUNT dumps from the seed, sound ones and spoiled ones, and has the part `values` of `pm_cases` read each: what it
+tells has to be what this reader finds, a fault with its line and its cause. Then it draws stores by `pmos make`, dumps
+each, and asks why each identity is kept: the dump has to be sound, each path has to lead to its object and be as short as
+the shortest one, and `none` has to come exactly where there is none. It ends with 0 where all agree.
 
-It takes the programs that `rt ci` built in crates/pm_value_cases and crates/pmos.
+It takes the programs that `rt ci` built in crates/pm_cases and crates/pmos.
 """
 
 import pathlib
@@ -187,8 +187,9 @@ def try_dumps(draw, count):
         # (spaces at the ends of lines may spell other lines in a case)
         if step.split(" / ") == lines:
             kept.append((("cut " if cut else "read ") + step, told(text if cut else text + "\n")))
-    program = ROOT / "crates/pm_value_cases/out/pm_value_cases"
-    came = subprocess.run([program], input="\n".join(s for s, _ in kept) + "\n", text=True, capture_output=True, check=True).stdout.splitlines()
+    program = ROOT / "crates/pm_cases/out/pm_cases"
+    steps = ["part values", *(s for s, _ in kept)]
+    _, *came = subprocess.run([program], input="\n".join(steps) + "\n", text=True, capture_output=True, check=True).stdout.splitlines()
     differ = [(s, w, c) for (s, w), c in zip(kept, came, strict=True) if w != c]
     for step, want, got in differ[:5]:
         print(f"{step}\n  wanted {want}\n  came {got}")

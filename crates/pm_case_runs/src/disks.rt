@@ -1,7 +1,7 @@
 //! The bytes of a disk before a run.
 
 use crate::running::{RunEnd, run_script};
-use crate::setting::INIT;
+use pm_case_scripts::INIT;
 use pm_case_text::{Fault, number, numbered, part, place, placed, push_bytes, put, refuse};
 use pm_layout::digest;
 use pm_types::PAGE_BYTES;

@@ -1,9 +1,7 @@
 //! Runs in threads of scripts that are drawn.
 
-use crate::generated::generated;
-use crate::replayed::alike_in;
 use crate::running::{RunEnd, run_script};
-use crate::setting::RUN_THREADS;
+use pm_case_scripts::{RUN_THREADS, alike_in, generated};
 use pm_case_text::{Fault, refuse};
 use std::fmt::Write;
 use std::sync::Wait;

@@ -1,8 +1,8 @@
 //! Runs of one script whose disk, source or sink fails at each of its calls in turn.
 
 use crate::running::{RunEnd, run};
-use crate::setting::Setting;
 use crate::shown::push_run_in_line;
+use pm_case_scripts::Setting;
 use pm_case_text::{Fault, Texts, refuse};
 use pm_disk::{DiskCall, MemDisk};
 use std::alloc::Global;

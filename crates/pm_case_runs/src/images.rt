@@ -1,8 +1,8 @@
 //! A script that is run on the images of a disk.
 
 use crate::running::{RunEnd, run};
-use crate::setting::Setting;
 use crate::shown::push_run_in_line;
+use pm_case_scripts::Setting;
 use pm_case_text::{Fault, numbered, push_lines};
 use std::alloc::Global;
 use std::fmt::Write;

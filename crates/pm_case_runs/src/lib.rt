@@ -2,19 +2,13 @@
 //! left, what is printed of it, and runs that are made again and again.
 #![tactic(auto)]
 
-mod calls;
 mod disks;
 mod drawn;
 mod ends;
 mod failing;
-mod generated;
 mod images;
-mod printed;
-mod replayed;
 mod restored;
 mod running;
-mod scripts;
-mod setting;
 mod shown;
 
 pub use disks::{named, push_digits_at, put_digest_of, seal};
@@ -22,9 +16,7 @@ pub use drawn::push_drawn;
 pub use ends::push_memory_text;
 pub use failing::{Repeated, push_failings, push_fuses};
 pub use images::{opening, push_images};
-pub use replayed::push_alike;
+pub use pm_case_scripts::{INIT, Setting, push_alike, push_read, push_read_lines, push_texts};
 pub use restored::push_round;
 pub use running::{RunEnd, run_next};
-pub use scripts::{push_read, push_read_lines, push_texts};
-pub use setting::{INIT, Setting};
 pub use shown::{push_first, push_last, push_named, push_run};

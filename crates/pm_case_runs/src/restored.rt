@@ -1,7 +1,7 @@
 //! A store that is dumped, restored from that dump, and dumped again.
 
 use crate::running::{RunEnd, run, run_script};
-use crate::setting::{DUMP, RESTORE, Setting};
+use pm_case_scripts::{DUMP, RESTORE, Setting};
 use pm_case_text::Fault;
 use std::fmt::Write;
 use std::sync::Wait;

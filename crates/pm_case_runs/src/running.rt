@@ -3,7 +3,7 @@
 ghost use Rattle.std.specs.Prelude.{◌<◌, length};
 
 use crate::ends::{Told, tell_of};
-use crate::setting::{RUN, Setting};
+use pm_case_scripts::{RUN, Setting};
 use pm_case_text::Fault;
 use pm_disk::MemDisk;
 use pm_fuse::FuseDisk;

@@ -1,7 +1,7 @@
 //! What is printed of a run.
 
-use crate::printed::push_digest_of;
 use crate::running::RunEnd;
+use pm_case_scripts::push_digest_of;
 use pm_case_text::{Fault, push_said, push_text, refuse};
 use pm_disk::DiskCall;
 use pm_script::journal_text;

@@ -1,4 +1,4 @@
-//! What the programs of cases share: how the words and the bytes of a line are spelled, lines that are written out and
+//! What the cases of all parts share: how the words and the bytes of a line are spelled, lines that are written out and
 //! taken apart, calls one after another, what is printed, and why a step was not done.
 #![tactic(auto)]
 

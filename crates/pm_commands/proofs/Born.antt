@@ -14,7 +14,8 @@ use Rattle.pm_law_rows.proofs.News.{at_insert}
 use Rattle.pm_space.specs.Shown.{in_new_train}
 use Rattle.pm_space.specs.Places.{with_place, place_of}
 use Rattle.pm_space.proofs.Linking.{insert_twice}
-use Rattle.pm_commands.specs.Births.{open_tail, with_one_born, born_held, IsOpenedFor}
+use Rattle.pm_commands.specs.Births.{with_one_born, born_held}
+use Rattle.pm_births.specs.Births.{open_tail, IsOpenedFor}
 
 here : {X : Type 0} (m : FinMap nat_cmp X) (k : ℕ) (v : X) → get (insert m k v) k ≡ Some v
 here m k v = at_insert m k v k ∙ cond-true _ _ _ (eq-eqb k k refl)

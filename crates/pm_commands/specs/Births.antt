@@ -1,25 +1,14 @@
--- Where an object is born.
-use Rattle.std.specs.Prelude.{◌≤◌, ℕ, List, Option, Some}
+-- An object that is born and held.
+use Rattle.std.specs.Prelude.{ℕ, List, Some}
 use Rattle.pm_types.specs.declared.object.Object.{Object}
 use Rattle.pm_types.specs.declared.source.RefSource.TheVariants.{Handle}
 use Rattle.pm_types.specs.declared.reply.Reply.{Reply}
 use Rattle.pm_types.specs.declared.reply.Reply.TheVariants.{Ident}
-use Rattle.pm_trains.specs.Trains.{Trains, HasCar, youngest}
 use Rattle.pm_view.specs.View.{SpaceView}
-use Rattle.pm_view.specs.Rows.{tail_for, with_count, born, birthplace, spent, spread}
+use Rattle.pm_view.specs.Rows.{with_count, born, birthplace, spent, spread}
 use Rattle.pm_view.specs.Commands.{row_new}
-use Rattle.pm_space.specs.Places.{with_object_in, IsOpened}
+use Rattle.pm_space.specs.Places.{with_object_in}
 use Rattle.pm_commands.specs.Picked.{IsForSomeCar}
-use Rattle.pm_trains.specs.declared.trains.TheConstants.{BIRTHS}
-
--- the tail of the open train, where an object of this room fits it
-abbrev pub open_tail : SpaceView → ℕ → Option ℕ
-open_tail view room = tail_for view (youngest view.trains.trains) room
-
--- This is the space with the car in which an object of this room is born: the tail of the open train where it has
--- room, and else a new car under the least number from 1 on that no car has.
-abbrev pub IsOpenedFor : SpaceView → ℕ → SpaceView → ℕ → Type 0
-IsOpenedFor view room after car = IsOpened view (youngest view.trains.trains) (open_tail view room) after car
 
 -- an object is in the next slot of this car, and one more was born in the open train
 abbrev pub with_one_born : SpaceView → ℕ → Object → SpaceView
@@ -36,7 +25,3 @@ IsHeldNew view client reg object given = IsForSomeCar view (λ number. (Ident ob
 -- this is the row of `new`
 abbrev pub IsRowOfNew : SpaceView → ℕ → ℕ → ℕ → List ℕ → Reply × SpaceView → Type 0
 IsRowOfNew view client reg count bytes given = IsForSomeCar view (λ number. row_new view client reg count bytes number) given
-
--- where 1,024 objects were born in the open train it has a car
-abbrev pub HasCarWhereFull : Trains → Type 0
-HasCarWhereFull it = BIRTHS ≤ it.births → HasCar it.trains (youngest it.trains)

@@ -12,8 +12,8 @@ ghost use Rattle.pm_space.specs.Places.{FitsIn};
 ghost use Rattle.pm_space.specs.Shown.{view, HasBirthRoom, KeepsRest, MakesRow};
 ghost use Rattle.pm_commands.specs.Births.{with_one_born, IsHeldNew, IsRowOfNew};
 
-use crate::placing::place_for;
 use crate::reading::register;
+use pm_births::place_for;
 use pm_space::{Parts, make_room, put_into, room_of, tell_all};
 use pm_types::{
     Addr, Bytes, FIELDS, Fields, Id, LAST_ID, NoMemory, OBJECT_BYTES, Object, RefSource, Reg, Reply,

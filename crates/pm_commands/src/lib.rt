@@ -8,7 +8,6 @@ mod closing;
 mod fields;
 mod holding;
 mod naming;
-mod placing;
 mod reading;
 
 pub use birth::new;

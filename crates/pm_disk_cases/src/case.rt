@@ -15,7 +15,7 @@ use std::alloc::Global;
 
 /// What a case has come to.
 #[derive(Drop)]
-pub(crate) struct Case {
+pub struct Case {
     /// The bytes that are read.
     bytes: Vec<u8>,
 }
@@ -63,7 +63,7 @@ fn push_damaged(alloc: Global, all: &[u8], step: &str, out: &mut String) -> Resu
 
 impl Case {
     /// A case that has just begun: no byte.
-    pub(crate) fn new(alloc: Global) -> Case {
+    pub fn new(alloc: Global) -> Case {
         Case {
             bytes: Vec::new(alloc),
         }
@@ -137,12 +137,7 @@ impl Case {
 
     /// Takes a line of the input, and adds what it gives. A line that begins with `#`, and one that is empty, say
     /// nothing.
-    pub(crate) fn take(
-        &mut self,
-        alloc: Global,
-        line: &str,
-        out: &mut String,
-    ) -> Result<(), Fault> {
+    pub fn take(&mut self, alloc: Global, line: &str, out: &mut String) -> Result<(), Fault> {
         if is_silent(line) {
             return Ok(());
         }

@@ -9,7 +9,7 @@ use Rattle.pm_script.specs.declared.line.Line.TheVariants.{Client, Gc, Flush}
 use Rattle.pm_script.specs.Words.{AreSpelled}
 use Rattle.pm_script.specs.Script.{AreBodies, IsScript, said}
 use Rattle.pm_script.proofs.ScriptLaws.{lines_of_script}
-use Rattle.pm_events.specs.Shown.{Total}
+use Rattle.pm_serial.specs.events.Shown.{Total}
 use Rattle.pm_parts.specs.Asked.{events_asked, flushes_asked, flushes_of, requests_asked, steps_asked, steps_of}
 use Rattle.pm_ends.specs.Journals.{MakesAll}
 

@@ -1,6 +1,6 @@
 -- The parts of an end.
 use Rattle.std.proofs.Common.{◌≡◌, Option, sym, subst}
-use Rattle.pm_events.specs.Tally.{Tally}
+use Rattle.pm_serial.specs.events.Tally.{Tally}
 use Rattle.pm_ends.specs.declared.ended.Detail.{Detail}
 use Rattle.pm_ends.specs.declared.ended.Alone.{Alone as Ended}
 

@@ -16,11 +16,11 @@ use Rattle.pm_script.specs.Bad.{IsBad}
 use Rattle.pm_script.specs.Script.{IsScript}
 use Rattle.pm_script.proofs.BadLaws.{no_fault, one_fault}
 use Rattle.pm_script.proofs.ScriptLaws.{one_reading}
-use Rattle.pm_events.specs.Tally.{Tally}
-use Rattle.pm_events.specs.Shown.{tally_of}
+use Rattle.pm_serial.specs.events.Tally.{Tally}
+use Rattle.pm_serial.specs.events.Shown.{tally_of}
 use Rattle.pm_parts.specs.Asked.{events_asked, requests_asked}
-use Rattle.pm_events.specs.declared.stop.Stop.{Stop}
-use Rattle.pm_events.specs.Causes.{OnStop}
+use Rattle.pm_serial.specs.events.declared.stop.Stop.{Stop}
+use Rattle.pm_serial.specs.events.Causes.{OnStop}
 use Rattle.pm_serial.specs.Ordered.{StopsAmong, course_of}
 use Rattle.pm_ends.specs.declared.ended.Detail.{Detail}
 use Rattle.pm_ends.specs.declared.ended.Detail.TheVariants.{Fine, Usage, Script, Dump as BadDump, Reading, Writing, Device, NotEmpty, Refused, Standby, Ahead, Foreign, OtherDevice, Memory}

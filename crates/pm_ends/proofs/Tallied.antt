@@ -11,7 +11,7 @@ use Rattle.pm_view.specs.Counts.{standing}
 use Rattle.pm_view.specs.Watches.{lines_from}
 use Rattle.pm_bound.specs.Bounded.{IsHonest}
 use Rattle.pm_serving.specs.Serving.{IsServed, Serving, opening, world}
-use Rattle.pm_events.specs.Shown.{tally_in}
+use Rattle.pm_serial.specs.events.Shown.{tally_in}
 use Rattle.pm_ends.specs.Tallies.{ComesTo, ReachesAtMost}
 
 -- a line for each watch

@@ -11,8 +11,8 @@ use Rattle.pm_dump.specs.declared.fault.DumpCause.{DumpCause}
 use Rattle.pm_dump.specs.declared.fault.DumpCause.TheVariants as dump_cause
 use Rattle.pm_dump.specs.declared.fault.DumpFault.{DumpFault}
 use Rattle.pm_dump.specs.declared.fault.DumpFault.TheVariants as dump_fault
-use Rattle.pm_events.specs.SaveFault.{SaveFault}
-use Rattle.pm_events.specs.SaveFault.TheVariants as save_fault
+use Rattle.pm_serial.specs.events.SaveFault.{SaveFault}
+use Rattle.pm_serial.specs.events.SaveFault.TheVariants as save_fault
 use Rattle.pm_ship.specs.declared.fault.Shipped.{Shipped}
 use Rattle.pm_ship.specs.declared.fault.ShipFault.{ShipFault}
 use Rattle.pm_ship.specs.declared.fault.ShipFault.TheVariants as ship_fault
@@ -20,9 +20,9 @@ use Rattle.pm_script.specs.declared.fault.Cause.{Cause}
 use Rattle.pm_script.specs.declared.fault.Cause.TheVariants as cause
 use Rattle.pm_script.specs.declared.fault.ScriptFault.{ScriptFault}
 use Rattle.pm_script.specs.declared.fault.ScriptFault.TheVariants.{Line as BadLine, TooManyLines, TooLong, Memory as ScriptMemory}
-use Rattle.pm_events.specs.declared.stop.Stop.{Stop}
-use Rattle.pm_events.specs.declared.stop.Stop.TheVariants.{Memory as StopMemory, Writing as StopWriting, Device as StopDevice}
-use Rattle.pm_events.specs.Tally.{Tally}
+use Rattle.pm_serial.specs.events.declared.stop.Stop.{Stop}
+use Rattle.pm_serial.specs.events.declared.stop.Stop.TheVariants.{Memory as StopMemory, Writing as StopWriting, Device as StopDevice}
+use Rattle.pm_serial.specs.events.Tally.{Tally}
 use Rattle.pm_ends.specs.declared.ended.Detail.{Detail}
 use Rattle.pm_ends.specs.declared.ended.Detail.TheVariants.{Fine, Usage, Script, Dump as BadDump, Reading, Writing, Device}
 use Rattle.pm_ends.specs.declared.ended.Detail.TheVariants.{NotEmpty, Refused, Standby, Ahead, Foreign, OtherDevice, Memory}

@@ -12,10 +12,10 @@ use Rattle.pm_script.specs.declared.line.Line.TheVariants.{Client}
 use Rattle.pm_types.specs.declared.command.Cmd.TheVariants.{Settle}
 use Rattle.pm_script.specs.Bad.{IsBad}
 use Rattle.pm_script.specs.Script.{IsScript}
-use Rattle.pm_events.specs.Tally.{Tally}
-use Rattle.pm_events.specs.Shown.{Total, tally_of}
+use Rattle.pm_serial.specs.events.Tally.{Tally}
+use Rattle.pm_serial.specs.events.Shown.{Total, tally_of}
 use Rattle.pm_parts.specs.Asked.{events_asked, flushes_asked, requests_asked, steps_asked}
-use Rattle.pm_events.specs.Causes.{OnStop}
+use Rattle.pm_serial.specs.events.Causes.{OnStop}
 use Rattle.pm_serial.specs.Ordered.{StopsAmong, course_of}
 use Rattle.pm_ends.specs.declared.ended.Detail.{Detail}
 use Rattle.pm_ends.specs.declared.ended.Detail.TheVariants.{Script, Reading, Memory}

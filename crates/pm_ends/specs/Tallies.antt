@@ -9,8 +9,8 @@ use Rattle.pm_model.specs.Reachability.{IsReachable}
 use Rattle.pm_view.specs.Represents.{IsHeld}
 use Rattle.pm_bound.specs.Bounded.{IsHonest}
 use Rattle.pm_serving.specs.Serving.{IsServed, Serving, opening}
-use Rattle.pm_events.specs.Tally.{Tally}
-use Rattle.pm_events.specs.Shown.{Total, tally_in, tally_of}
+use Rattle.pm_serial.specs.events.Tally.{Tally}
+use Rattle.pm_serial.specs.events.Shown.{Total, tally_in, tally_of}
 use Rattle.pm_ends.specs.declared.ended.Detail.{Detail}
 use Rattle.pm_ends.specs.Stages.{IsPast, IsBefore, the_store, the_events}
 

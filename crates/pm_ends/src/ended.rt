@@ -1,12 +1,12 @@
 ghost use Rattle.std.specs.Prelude.{◌≡◌, [], None};
-ghost use Rattle.pm_events.specs.Causes.{why};
+ghost use Rattle.pm_serial.specs.events.Causes.{why};
 ghost use Rattle.pm_ends.specs.Ends.{status_of, ended_by, not_opened};
 
 use pm_disk::Disk;
 use pm_dump::DumpFault;
-use pm_events::{Stop, Tally};
 use pm_io::{Sink, Source};
 use pm_script::ScriptFault;
+use pm_serial::{Stop, Tally};
 use pm_types::{Entry, OpenFault};
 use std::alloc::Global;
 

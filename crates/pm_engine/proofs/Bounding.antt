@@ -22,19 +22,17 @@ use Rattle.pm_view.specs.Events.{next_row, after}
 use Rattle.pm_view.specs.Watches.{lines_from, watch_in}
 use Rattle.pm_space.specs.declared.space.Space.{Space}
 use Rattle.pm_space.specs.Shown.{view}
-use Rattle.pm_law_course.specs.Course.{completes}
-use Rattle.pm_law_course.proofs.Kept.{command_keeps}
-use Rattle.pm_law_course.proofs.Completing.{completed_then}
-use Rattle.pm_commands.specs.Picked.{IsRow}
-use Rattle.pm_reclaim.specs.Steps.{IsEvent, IsMade}
+use Rattle.pm_works.specs.law_course.Course.{completes}
+use Rattle.pm_works.proofs.law_course.Completing.{completed_then}
+use Rattle.pm_works.specs.reclaim.Steps.{IsEvent, IsMade}
 use Rattle.pm_bound.specs.Bounded.{CountsOne, KeepsBound, KeepsWatches, IsHonest}
 use Rattle.pm_law_bound.proofs.Many.{all_stay, all_with_one, all_honest, kept_still}
 use Rattle.pm_law_serving.proofs.Splitting.{splits_once}
-use Rattle.pm_serving.specs.Serving.{IsServed, opening}
-use Rattle.pm_serving.specs.Bounds.{KeepsBounds}
+use Rattle.pm_works.specs.serving.Serving.{IsServed, opening}
+use Rattle.pm_works.specs.serving.Bounds.{KeepsBounds}
 use Rattle.pm_engine.specs.declared.start.Start.{Start}
-use Rattle.pm_engine.specs.declared.works.Works.{Works}
-use Rattle.pm_engine.specs.Working.{Adds, Answers, CollectsOn, FlushesOn, IsLeft, Rests, SetsWatch, Watches, place_in, view_in, watches_in}
+use Rattle.pm_works.specs.declared.works.Works.{Works}
+use Rattle.pm_works.specs.Working.{Adds, Answers, CollectsOn, FlushesOn, IsLeft, Rests, SetsWatch, Watches, place_in, view_in, watches_in}
 use Rattle.pm_engine.specs.Seen.{IsSound, seen}
 use Rattle.pm_engine.proofs.Answering.{save_adds, save_view, settle_adds, settle_view, unsave_adds, unsave_view, watch_view}
 
@@ -49,15 +47,6 @@ made_counts old new step small event =
         → new.completed ≡ min (after old event.picked event.number (next_row old)).completed 18446744073709551615 → CountsOne old new
     by_row true rose is = (omega (arith, rose, is, small), omega (arith, rose, is, small))
     by_row false same is = (omega (arith, same, is, small), omega (arith, same, is, small))
-
--- and a command none
-pub act_counts : (old new : SpaceView) (client : ℕ) (cmd : Cmd) (r : Result Reply NoMemory) → IfOk r (λ reply. IsRow old client cmd (reply, new)) → OnErr r (new ≡ old) → CountsOne old new
-act_counts old new client cmd (Ok reply) is same =
-    let counted : new.completed ≡ old.completed = ap (λ (p : Reply × SpaceView). p.1.completed) is.2 ∙ (command_keeps old client cmd is.0).completed in
-    (omega (arith, counted), omega (arith, counted))
-act_counts old new client cmd (Err e) is same =
-    let counted = ap (λ (v : SpaceView). v.completed) same in
-    (omega (arith, counted), omega (arith, counted))
 
 -- what a command leaves
 pub kept_of : {D F : Type 0} {g : Ghosts D} (client : ℕ) (cmd : Cmd) (old new : Works D F g) (reply : Reply) → Answers client cmd old new reply → KeepsWatches (view_in old) (view_in new)

@@ -1,37 +1,27 @@
 -- What a flush leaves.
-use Rattle.std.proofs.Common.{◌≡◌, ℕ, ◌≤◌, List, [], ◌∷◌, Option, Some, None, refl, sym, ap, subst, ◌∙◌}
+use Rattle.std.proofs.Common.{◌≡◌, ℕ, ◌≤◌, List, Option, Some, None, refl, sym, ap, subst}
 use Rattle.pm_types.specs.declared.entry.Entry.{Entry}
 use Rattle.pm_types.specs.declared.event.Flushed.{Flushed}
 use Rattle.pm_types.specs.declared.event.Flushed.TheVariants.{Wrote, AllFlushed}
 use Rattle.pm_disk.specs.declared.disk.Disk.{Ghosts}
 use Rattle.pm_model.specs.Journal.{after, chain, settled_in}
-use Rattle.pm_shadow.specs.State.{State, with_kept}
+use Rattle.pm_shadow.specs.State.{State}
 use Rattle.pm_space.specs.declared.space.Space.{Space}
 use Rattle.pm_space.specs.Shown.{view}
 use Rattle.pm_view.specs.View.{Cars}
-use Rattle.pm_saving.specs.Progress.{Progress, Saving, cars_or_none}
-use Rattle.pm_saving.specs.Paging.{newly_kept}
-use Rattle.pm_saving.specs.Tied.{IsTied, with_all_kept}
-use Rattle.pm_law_saving.proofs.Next.{next_goes}
-use Rattle.pm_save.specs.Answers.{IsFlushed, Spares, TellsOn}
-use Rattle.pm_save.specs.Shown.{frozen_of}
-use Rattle.pm_serving.specs.Serving.{opening}
-use Rattle.pm_serving.specs.Events.{Flushes, StaysBegun}
+use Rattle.pm_works.specs.saving.Progress.{Progress, Saving, cars_or_none}
+use Rattle.pm_works.specs.saving.Tied.{IsTied}
+use Rattle.pm_works.proofs.law_saving.Next.{next_goes}
+use Rattle.pm_works.specs.save_below.Answers.{IsFlushed, Spares, TellsOn}
+use Rattle.pm_works.specs.save_below.Shown.{frozen_of}
+use Rattle.pm_works.specs.serving.Serving.{opening}
+use Rattle.pm_works.specs.serving.Events.{Flushes, StaysBegun}
 use Rattle.pm_engine.specs.declared.start.Start.{Start}
-use Rattle.pm_engine.specs.declared.works.Works.{Works}
-use Rattle.pm_engine.specs.Working.{FlushesOn, IsTiedIn, LastsIn, contents_in, disk_at, frozen_in, saving_in, state_in, view_in}
+use Rattle.pm_works.specs.declared.works.Works.{Works}
+use Rattle.pm_works.specs.Working.{FlushesOn, IsTiedIn, LastsIn, contents_in, disk_at, frozen_in, saving_in, state_in, view_in}
 use Rattle.pm_engine.specs.Seen.{IsSound, seen}
 use Rattle.pm_engine.proofs.Going.{lasts, serves_on, stays_same}
-use Rattle.pm_engine.proofs.Kept.{begun_from}
-
-kept_header : (pages : List ℕ) (s : State) → (with_all_kept pages s).header ≡ s.header
-kept_header [] s = refl
-kept_header (page ∷ pages) s = kept_header pages (with_kept s page)
-
--- the header stays
-pub flushed_header : (old new : Saving) (cars : Cars) (s t : State) (was now : Option (List ℕ)) (flushed : Flushed) → IsFlushed old new cars s t was now flushed → t.header ≡ s.header
-flushed_header old new cars s t was now AllFlushed is = ap (λ (it : State). it.header) is.1.state
-flushed_header old new cars s t was now (Wrote page) is = ap (λ (it : State). it.header) is.state ∙ kept_header (newly_kept is.progress) s
+use Rattle.pm_works.proofs.Kept.{begun_from}
 
 -- and so do the settled cars, and the copy in progress but for its pages
 pub flushed_stays : (old new : Saving) (frozen : Option Cars) (s t : State) (was now : Option (List ℕ)) (flushed : Flushed) → IsTied old frozen s was → IsFlushed old new (cars_or_none frozen) s t was now flushed

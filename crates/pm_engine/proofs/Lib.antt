@@ -1,4 +1,3 @@
-pub mod Kept
 pub mod Going
 pub mod Answering
 pub mod Flushed

@@ -18,19 +18,19 @@ use Rattle.pm_model.specs.Frames.{is_settle, saves}
 use Rattle.pm_shadow.specs.State.{abandoned_in}
 use Rattle.pm_view.specs.Work.{work}
 use Rattle.pm_bound.specs.Bounded.{KeepsWatches}
-use Rattle.pm_law_work.specs.Raises.{raises}
-use Rattle.pm_reclaim.specs.Steps.{IsMade}
-use Rattle.pm_saving.specs.Paging.{left_of}
-use Rattle.pm_saving.specs.Tied.{Settles}
-use Rattle.pm_saving.specs.Progress.{cars_or_none}
-use Rattle.pm_save.specs.Answers.{IsFlushed}
-use Rattle.pm_save.specs.Settling.{settling_syncs, settling_writes}
-use Rattle.pm_serving.specs.Serving.{Serving, world}
-use Rattle.pm_serving.specs.Events.{Collects, FailsAs, Flushes, Serves}
-use Rattle.pm_serving.specs.Images as images
-use Rattle.pm_serving.specs.Images.{IsCopyInProgress, IsTold}
+use Rattle.pm_works.specs.law_work.Raises.{raises}
+use Rattle.pm_works.specs.reclaim.Steps.{IsMade}
+use Rattle.pm_works.specs.saving.Paging.{left_of}
+use Rattle.pm_works.specs.saving.Tied.{Settles}
+use Rattle.pm_works.specs.saving.Progress.{cars_or_none}
+use Rattle.pm_works.specs.save_below.Answers.{IsFlushed}
+use Rattle.pm_works.specs.save_below.Settling.{settling_syncs, settling_writes}
+use Rattle.pm_works.specs.serving.Serving.{Serving, world}
+use Rattle.pm_works.specs.serving.Events.{Collects, FailsAs, Flushes, Serves}
+use Rattle.pm_works.specs.serving.Images as images
+use Rattle.pm_works.specs.serving.Images.{IsCopyInProgress, IsTold}
 use Rattle.pm_engine.specs.declared.engine.Engine.{Engine}
-use Rattle.pm_engine.specs.Acting.{ChangesSpace}
+use Rattle.pm_works.specs.Acting.{ChangesSpace}
 use Rattle.pm_engine.specs.Shown.{chooser, disk_in, opened_disk, pages_in, room, serving}
 
 -- the fault is none of the disk

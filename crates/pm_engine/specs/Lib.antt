@@ -1,9 +1,8 @@
-pub mod Course
-pub mod Working
 pub mod Seen
 pub mod Shown
 pub mod Calls
-pub mod Acting
+-- Passed on whole, so that who stands above need not list it.
+pub use Rattle.pm_works.specs as works
 -- Passed on: why the saver does not answer.
-pub use Rattle.pm_save.specs.Answers
-pub use Rattle.pm_save.specs.SaveFault
+pub use Rattle.pm_works.specs.save_below.Answers
+pub use Rattle.pm_works.specs.save_below.SaveFault

@@ -6,8 +6,8 @@ ghost use Rattle.pm_model.specs.Frames.{is_settle};
 
 use crate::Engine;
 use pm_disk::Disk;
-use pm_save::SaveFault;
 use pm_types::{Cmd, EngineFault, NoMemory, Reply};
+use pm_works::SaveFault;
 use std::alloc::Global;
 
 // The command that an entry keeps. That of `settle` takes no memory.

@@ -4,8 +4,8 @@ ghost use Rattle.std.specs.Prelude.{◌≡◌, None};
 
 use crate::Engine;
 use pm_disk::Disk;
-use pm_save::SaveFault;
 use pm_types::{EngineFault, Flushed};
+use pm_works::SaveFault;
 use std::alloc::Global;
 
 impl<D: Disk, F: Drop> Engine<D, F> {

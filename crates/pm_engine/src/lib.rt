@@ -4,14 +4,12 @@
 
 mod client;
 mod collect;
-mod course;
 mod engine;
 mod flush;
 mod open;
 mod start;
 mod tally;
-mod works;
 
 pub use engine::Engine;
-pub use pm_save::SaveFault;
+pub use pm_works::SaveFault;
 pub use tally::Tally;

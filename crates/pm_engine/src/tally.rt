@@ -2,11 +2,9 @@
 
 ghost use Rattle.std.specs.Prelude.{◌≡◌};
 
-use crate::course::Course;
 use arrayvec::ArrayVec;
-use pm_reclaim::WATCH_ROOM;
-use pm_save::Saver;
 use pm_types::{Entry, WatchLine};
+use pm_works::{Course, Saver, WATCH_ROOM};
 use std::snapshot::Snapshot;
 
 /// What an engine came to. It is made where an engine is taken apart, and nothing changes it.

@@ -15,7 +15,7 @@ use std::mem;
 
 /// What a case has come to.
 #[derive(Drop)]
-pub(crate) struct Case {
+pub struct Case {
     /// The bytes that the next run finds on the disk.
     disk: Vec<u8>,
     /// Those of the other disk.
@@ -37,7 +37,7 @@ fn new_store(alloc: Global) -> Result<Vec<u8>, Fault> {
 
 impl Case {
     /// A case that has just begun: a new store on either disk, no look, and the first train is chosen.
-    pub(crate) fn new(alloc: Global) -> Result<Case, Fault> {
+    pub fn new(alloc: Global) -> Result<Case, Fault> {
         Ok(Case {
             disk: new_store(alloc)?,
             other: new_store(alloc)?,
@@ -184,12 +184,7 @@ impl Case {
 
     /// Takes a line of the input, and adds what it gives. A line that begins with `#`, and one that is empty, say
     /// nothing.
-    pub(crate) fn take(
-        &mut self,
-        alloc: Global,
-        line: &str,
-        out: &mut String,
-    ) -> Result<(), Fault> {
+    pub fn take(&mut self, alloc: Global, line: &str, out: &mut String) -> Result<(), Fault> {
         if is_silent(line) {
             return Ok(());
         }

@@ -1,9 +1,3 @@
-pub mod Views
-pub mod Fields
-pub mod Swept
 pub mod Lawful
-pub mod Carried
-pub mod Places
 pub mod MoveRows
-pub mod Planning
 pub mod Chosen

@@ -1,5 +1,5 @@
+pub use Rattle.pm_relocate.specs.Changed
 pub mod Steps
-pub mod Named
 pub mod Noted
-pub mod Moves
-pub mod Planned
+-- Passed on whole, so that who stands above need not list these crates.
+pub use Rattle.pm_next.specs as next

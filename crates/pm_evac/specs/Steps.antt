@@ -1,9 +1,8 @@
 -- What an event answers, and the space after it.
-use Rattle.std.specs.Prelude.{◌≡◌, ◌≢◌, ◌↔◌, ℕ, ◌+◌, ◌<◌, ◌≤◌, ◌==◌, Bool, true, false, not, if◌then◌else◌, is_some, List, length, Option, Some, None, Result, IfOk, OnErr}
+use Rattle.std.specs.Prelude.{◌≡◌, ◌≢◌, ◌↔◌, ℕ, ◌+◌, ◌<◌, ◌≤◌, ◌==◌, Bool, true, false, not, is_some, List, length, Option, Some, None, Result, IfOk, OnErr}
 use Rattle.std.specs.Borrow.{Bor}
 use Rattle.std.specs.Fn.{Shared}
 use Rattle.std.specs.FinMap.{get}
-use Rattle.std.specs.Option.{unwrap_or}
 use Rattle.pm_types.specs.declared.address.Addr.{Addr}
 use Rattle.pm_types.specs.declared.no_memory.NoMemory.{NoMemory}
 use Rattle.pm_types.specs.declared.event.Step.{Step}
@@ -15,8 +14,7 @@ use Rattle.pm_model.specs.World.{World}
 use Rattle.pm_model.specs.Reachability.{IsReachable}
 use Rattle.pm_view.specs.View.{SpaceView}
 use Rattle.pm_view.specs.Represents.{IsHeld, Represents}
-use Rattle.pm_view.specs.Reading.{id_at, cars_of}
-use Rattle.pm_view.specs.Collecting.{without_car, completing}
+use Rattle.pm_view.specs.Reading.{cars_of}
 use Rattle.pm_view.specs.Events.{Row, nothing, select, apply, doom, start, fix, move_anchor, move_out, move_on, finish, sweep, free, free_doomed, next_row, after, ways_out, MayPick, MayPlace, moving_id, goal_of, ended_by}
 use Rattle.pm_view.specs.Counts.{IsStanding, IsStandingAt, IsPlaced}
 use Rattle.pm_view.specs.Stale.{IsSole}
@@ -24,21 +22,9 @@ use Rattle.pm_view.specs.Work.{work, lowers}
 use Rattle.pm_law_course.specs.Course.{completes}
 use Rattle.pm_bound.specs.Bounded.{KeepsRank, KeepsSunk}
 use Rattle.pm_space.specs.declared.parts.Parts.{Parts}
-use Rattle.pm_base.specs.Counts.{capped}
 use Rattle.pm_space.specs.Quiet.{IsQuiet}
 use Rattle.pm_space.specs.Shown.{view, KeepsRest}
-
--- a space whose count of completed collections stands still at the greatest number of 64 bits
-abbrev pub counted : SpaceView → SpaceView
-counted view = record view { completed = capped view.completed }
-
--- a car of a train goes, and where it completes the collection that is counted
-abbrev pub freed : SpaceView → ℕ → ℕ → Bool → SpaceView
-freed view train car completes = counted (if completes then completing (without_car view train car) else without_car view train car)
-
--- the identity of the object at an address
-abbrev pub identity : SpaceView → Addr → ℕ
-identity view a = unwrap_or (id_at view a) 0
+use Rattle.pm_relocate.specs.Changed.{counted, identity}
 
 -- what an event answers, where a train is picked this one
 abbrev pub step_of : SpaceView → ℕ → Row → Step

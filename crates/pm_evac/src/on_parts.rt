@@ -6,14 +6,10 @@ ghost use Rattle.pm_space.specs.Shown.{view, KeepsRest, MakesRow};
 ghost use Rattle.pm_next.specs.Seen.{seen_row};
 ghost use Rattle.pm_evac.specs.Steps.{IsChosenEvent, IsPicking};
 
-use crate::applying::apply;
 use crate::first_rows::{doom_at, select_at, start_at};
-use crate::fixing::fix;
-use crate::freeing::{finish, free};
-use crate::moving::relocate;
-use crate::sweeping::sweep;
 use pm_law_collect::there_is_a_train_to_pick;
 use pm_next::Row;
+use pm_relocate::{apply, finish, fix, free, relocate, sweep};
 use pm_space::Parts;
 use pm_types::{Addr, NoMemory, RefSource, Step};
 use pm_ways::pick_way;

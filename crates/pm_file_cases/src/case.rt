@@ -10,14 +10,14 @@ const STREAMS: u32 = 0b111;
 
 /// What a case has come to.
 #[derive(Drop)]
-pub(crate) struct Case {
+pub struct Case {
     rt: HostRuntime,
     system: System,
 }
 
 impl Case {
     /// A case that has just begun: a system with an empty file, in which the standard streams are open.
-    pub(crate) fn new(rt: HostRuntime) -> Case {
+    pub fn new(rt: HostRuntime) -> Case {
         Case {
             rt,
             system: System::new(rt.alloc(), STREAMS),
@@ -56,7 +56,7 @@ impl Case {
 
     /// Takes a line of the input, and adds what it gives. A line that begins with `#`, and one that is empty, say
     /// nothing.
-    pub(crate) fn take(&mut self, line: &str, out: &mut String) -> Result<(), Fault> {
+    pub fn take(&mut self, line: &str, out: &mut String) -> Result<(), Fault> {
         if is_silent(line) {
             return Ok(());
         }

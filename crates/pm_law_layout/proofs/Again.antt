@@ -21,8 +21,8 @@ use Rattle.pm_image.specs.Graphs.{Pages, graph_of, images_of, with_identities}
 use Rattle.pm_image.specs.Leading.{CarLeads, RootLeads}
 use Rattle.pm_image.specs.Opening.{Current, current, is_placed, page_count}
 use Rattle.pm_image.specs.Stands.{opened, pages_of}
-use Rattle.pm_copies.specs.Listed.{images}
-use Rattle.pm_copies.specs.Accepted.{HavePages}
+use Rattle.pm_law_copies.specs.copies.Listed.{images}
+use Rattle.pm_law_copies.specs.copies.Accepted.{HavePages}
 use Rattle.pm_law_copies.proofs.Pages.{have_pages}
 use Rattle.pm_law_graphs.specs.Apart.{AreOwn}
 use Rattle.pm_law_graphs.specs.Entries.{AreInOrder, listed_cars}

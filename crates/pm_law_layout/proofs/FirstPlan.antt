@@ -8,7 +8,7 @@ use Rattle.pm_types.specs.declared.object.Slot.{Slot}
 use Rattle.pm_types.specs.declared.object.Slot.TheVariants.{Live}
 use Rattle.pm_image.specs.First.{first_bytes, first_car, first_car_page, first_catalog_page, first_header}
 use Rattle.pm_image.specs.Graphs.{Pages, slot_named}
-use Rattle.pm_copies.specs.Accepted.{IsAccepted}
+use Rattle.pm_law_copies.specs.copies.Accepted.{IsAccepted}
 use Rattle.pm_law_graphs.specs.Apart.{AreApart}
 use Rattle.pm_law_layout.specs.Plans.{planned_list, planned_roots}
 use Rattle.pm_law_layout.specs.Laid.{HoldPlan, IsPlanHeader, IsPlanInRange, IsLaidBehind, IsCatalogFilled}

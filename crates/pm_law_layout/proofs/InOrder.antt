@@ -16,8 +16,8 @@ use Rattle.pm_image.specs.CarPages.{Ascend}
 use Rattle.pm_image.specs.CatalogPages.{IsEntryInRange}
 use Rattle.pm_image.specs.Graphs.{identity_through, slot_in, slot_named}
 use Rattle.pm_image.specs.Leading.{RootLeads}
-use Rattle.pm_copies.specs.Listed.{Listed, images}
-use Rattle.pm_copies.specs.Accepted.{Differ, IsAcceptedCar, NamesAscend, NeverFall, roots_in}
+use Rattle.pm_law_copies.specs.copies.Listed.{Listed, images}
+use Rattle.pm_law_copies.specs.copies.Accepted.{Differ, IsAcceptedCar, NamesAscend, NeverFall, roots_in}
 use Rattle.pm_law_copies.proofs.Naming.{all_in_cars, slot_lies}
 use Rattle.pm_law_graphs.specs.Apart.{AreApart, Follow, Neighbours, times}
 use Rattle.pm_law_graphs.specs.Entries.{AreInOrder, CarsComeFirst, ComesBefore, IsNoYounger, ListedCar, listed_addresses, listed_cars, listed_names, listed_numbers, listed_trains}

@@ -6,8 +6,8 @@ use Rattle.pm_types.specs.declared.address.Addr.{Addr}
 use Rattle.pm_types.specs.declared.object.Object.{Object}
 use Rattle.pm_types.specs.declared.object.Slot.TheVariants.{Live, Moved}
 use Rattle.pm_image.specs.Graphs.{slot_named}
-use Rattle.pm_copies.specs.Listed.{images}
-use Rattle.pm_copies.specs.Accepted.{IsAccepted, IsAcceptedCar}
+use Rattle.pm_law_copies.specs.copies.Listed.{images}
+use Rattle.pm_law_copies.specs.copies.Accepted.{IsAccepted, IsAcceptedCar}
 use Rattle.pm_law_copies.specs.Examples.{at, five, nine, object, seven}
 use Rattle.pm_law_layout.specs.Plans.{planned_list, planned_roots}
 use Rattle.pm_law_layout.specs.Laid.{IsPlanInRange, IsStorePlan}

@@ -2,7 +2,7 @@
 use Rattle.std.proofs.Common.{◌≡◌, ℕ, ◌+◌, ◌<◌, ◌≤◌, ◌==◌, Bool, true, false, [], ◌∷◌, refl, arith, if◌then◌else◌}
 use Rattle.pm_image.specs.Blank.{blank_catalog_page, blank_header}
 use Rattle.pm_image.specs.Graphs.{Pages}
-use Rattle.pm_copies.specs.Accepted.{IsAccepted}
+use Rattle.pm_law_copies.specs.copies.Accepted.{IsAccepted}
 use Rattle.pm_law_graphs.specs.Apart.{AreApart}
 use Rattle.pm_law_layout.specs.Plans.{planned_roots, planned_list}
 use Rattle.pm_law_layout.specs.Laid.{IsLaidBehind}

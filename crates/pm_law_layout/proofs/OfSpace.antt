@@ -12,8 +12,8 @@ use Rattle.pm_image.specs.Stands.{StandsForCopy, pages_of}
 use Rattle.pm_view.specs.View.{SpaceView}
 use Rattle.pm_view.specs.Law.{HeapLaw}
 use Rattle.pm_view.specs.Represents.{Represents}
-use Rattle.pm_copies.specs.Listed.{Listed, copy_listed, images, listed, root_entries}
-use Rattle.pm_copies.specs.Accepted.{IsAccepted, IsAcceptedCar}
+use Rattle.pm_law_copies.specs.copies.Listed.{Listed, copy_listed, images, listed, root_entries}
+use Rattle.pm_law_copies.specs.copies.Accepted.{IsAccepted, IsAcceptedCar}
 use Rattle.pm_law_copies.proofs.Accepting.{accepted}
 use Rattle.pm_law_copies.proofs.CopyOf.{worlds_copy}
 use Rattle.pm_law_graphs.proofs.Lists.{all_follow}

@@ -8,8 +8,8 @@ use Rattle.pm_image.specs.declared.catalog.CatEntry.{CatEntry}
 use Rattle.pm_image.specs.declared.catalog.CatalogPage.{CatalogPage}
 use Rattle.pm_image.specs.declared.settled.KeptPage.{KeptPage}
 use Rattle.pm_image.specs.Graphs.{copy_of, entries_of, heap_of, images_of, roots_of, used_pages}
-use Rattle.pm_copies.specs.Listed.{Listed, copy_listed, images}
-use Rattle.pm_copies.specs.Opened.{listed_graph, listed_in}
+use Rattle.pm_law_copies.specs.copies.Listed.{Listed, copy_listed, images}
+use Rattle.pm_law_copies.specs.copies.Opened.{listed_graph, listed_in}
 use Rattle.pm_law_layout.specs.Plans.{CarInTrain, CarPlan, PlannedPage, car_entry, cars_in, chain_of, graph_of_plan, in_list, planned_cars, planned_entries, planned_list, planned_pages, planned_roots, root_entry}
 use Rattle.pm_law_layout.specs.Cutting.{OnePage, joined}
 use Rattle.pm_law_layout.specs.Laid.{IsCatalogFilled}

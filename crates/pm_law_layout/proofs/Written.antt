@@ -18,8 +18,8 @@ use Rattle.pm_image.specs.declared.catalog.CatalogPage.{CatalogPage}
 use Rattle.pm_image.specs.declared.settled.KeptPage.{KeptPage}
 use Rattle.pm_image.specs.CarPages.{HasCarPage, Numbers, one_car}
 use Rattle.pm_image.specs.CatalogPages.{AreNext, HasCatalogPage, IsNextEntry, Met, has_next_digest, is_next_name, meeting, meeting_all, meeting_next, nothing_met}
-use Rattle.pm_copies.specs.Listed.{images}
-use Rattle.pm_copies.specs.Accepted.{Differ, IsAcceptedCar, NamesAscend, NeverFall}
+use Rattle.pm_law_copies.specs.copies.Listed.{images}
+use Rattle.pm_law_copies.specs.copies.Accepted.{Differ, IsAcceptedCar, NamesAscend, NeverFall}
 use Rattle.pm_law_copies.proofs.Pages.{are_written}
 use Rattle.pm_law_layout.specs.Plans.{CarInTrain, CarPlan, PlannedPage, car_entry, cars_in, chain_of, digest_of, first_of, in_list, planned_cars, planned_entries, planned_list, planned_roots, root_entry}
 use Rattle.pm_law_layout.specs.Cutting.{Fit, OnePage, cut, joined}

@@ -15,8 +15,8 @@ use Rattle.pm_image.specs.CarPages.{car_spelling, padded}
 use Rattle.pm_image.specs.CatalogPages.{catalog_spelling}
 use Rattle.pm_image.specs.Graphs.{Pages}
 use Rattle.pm_view.specs.View.{SpaceView}
-use Rattle.pm_copies.specs.Listed.{listed, root_entries}
-use Rattle.pm_copies.specs.Accepted.{IsAccepted}
+use Rattle.pm_law_copies.specs.copies.Listed.{listed, root_entries}
+use Rattle.pm_law_copies.specs.copies.Accepted.{IsAccepted}
 use Rattle.pm_law_graphs.specs.Apart.{AreOwn}
 use Rattle.pm_law_layout.specs.Plans.{CarInTrain, CarPlan, PlannedPage, cars_in, chain_of, digest_of, first_of, planned_cars, planned_entries, planned_list, planned_pages, planned_roots}
 use Rattle.pm_law_layout.specs.Cutting.{IsCutInto}

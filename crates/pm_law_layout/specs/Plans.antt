@@ -10,7 +10,7 @@ use Rattle.pm_image.specs.declared.settled.KeptPage.{KeptPage}
 use Rattle.pm_image.specs.CarPages.{padded}
 use Rattle.pm_image.specs.CatalogPages.{catalog_spelling}
 use Rattle.pm_image.specs.Graphs.{Catalog, Graph}
-use Rattle.pm_copies.specs.Listed.{Listed}
+use Rattle.pm_law_copies.specs.copies.Listed.{Listed}
 
 -- a train: its number, and its cars in order, each with its page and the digest of that page
 pub record PlannedTrain : Type 0 where

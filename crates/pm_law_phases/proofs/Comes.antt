@@ -4,11 +4,11 @@ use Rattle.pm_types.specs.declared.address.Addr.{Addr}
 use Rattle.pm_types.specs.declared.source.RefSource.{RefSource}
 use Rattle.pm_types.specs.declared.source.Change.{Change}
 use Rattle.pm_trains.specs.Trains.{first_car, oldest}
-use Rattle.pm_view.specs.declared.phase.Phase.{Phase}
-use Rattle.pm_view.specs.declared.phase.Phase.TheVariants.{Idle, Draining, Moving, Sweeping, Doomed}
-use Rattle.pm_view.specs.View.{SpaceView}
-use Rattle.pm_view.specs.Candidates.{queue_of, least_outside}
-use Rattle.pm_view.specs.Events.{Row, nothing, select, apply, doom, start, fix, move_anchor, move_out, move_on, finish, sweep, free, free_doomed, has_change, changed_car, to_note, to_fix, anchor_in, least, lowest_live, named_in, home, idle_row, draining_row, moving_row, sweeping_row, doomed_row, doomed_rows, row_in, next_row}
+use Rattle.pm_law_rows.specs.view.declared.phase.Phase.{Phase}
+use Rattle.pm_law_rows.specs.view.declared.phase.Phase.TheVariants.{Idle, Draining, Moving, Sweeping, Doomed}
+use Rattle.pm_law_rows.specs.view.View.{SpaceView}
+use Rattle.pm_law_rows.specs.view.Candidates.{queue_of, least_outside}
+use Rattle.pm_law_rows.specs.view.Events.{Row, nothing, select, apply, doom, start, fix, move_anchor, move_out, move_on, finish, sweep, free, free_doomed, has_change, changed_car, to_note, to_fix, anchor_in, least, lowest_live, named_in, home, idle_row, draining_row, moving_row, sweeping_row, doomed_row, doomed_rows, row_in, next_row}
 
 pub record IsSelecting (view : SpaceView) (train : ℕ) : Type 0 where
   pub idle : view.phase ≡ Idle

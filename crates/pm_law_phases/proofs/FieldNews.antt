@@ -7,10 +7,10 @@ use Rattle.std.proofs.lemmas.Bool.{eqb-true, eq-eqb, true≢false, false_from_ne
 use Rattle.pm_types.specs.declared.address.Addr.{Addr}
 use Rattle.pm_types.specs.declared.source.RefSource.{RefSource}
 use Rattle.pm_types.specs.declared.source.Change.{Change}
-use Rattle.pm_view.specs.View.{Sources}
-use Rattle.pm_view.specs.Effective.{with_source, applied, effective_in}
-use Rattle.pm_view.specs.Barrier.{news}
-use Rattle.pm_view.specs.Collecting.{field_news}
+use Rattle.pm_law_rows.specs.view.View.{Sources}
+use Rattle.pm_law_rows.specs.view.Effective.{with_source, applied, effective_in}
+use Rattle.pm_law_rows.specs.view.Barrier.{news}
+use Rattle.pm_law_rows.specs.view.Collecting.{field_news}
 use Rattle.pm_law_rows.proofs.News.{news-append}
 
 -- what a set gives after the changes for each field, one after the other

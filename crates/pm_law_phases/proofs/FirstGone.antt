@@ -9,8 +9,8 @@ use Rattle.pm_trains.specs.Sound as line
 use Rattle.pm_trains.proofs.Numbers.{rise_changed, rise_emptied}
 use Rattle.pm_trains.proofs.Found.{cars_removed, last_changed, last_emptied, home_first}
 use Rattle.pm_trains.proofs.Cars.{single_removed}
-use Rattle.pm_view.specs.Reading.{cars_of}
-use Rattle.pm_view.specs.Law.{IsOldest}
+use Rattle.pm_law_rows.specs.view.Reading.{cars_of}
+use Rattle.pm_law_rows.specs.view.Law.{IsOldest}
 use Rattle.pm_law_rows.proofs.OpenTrain.{among_home}
 use Rattle.pm_law_rows.proofs.Born.{home_among}
 use Rattle.pm_law_phases.proofs.Small.{some_same, none_some}

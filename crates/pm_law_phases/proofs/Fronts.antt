@@ -7,10 +7,10 @@ use Rattle.std.specs.Cmp.{nat_cmp_total, eq_by_cmp_equiv}
 use Rattle.std.specs.FinMap.{FinMap, get, remove, get-remove}
 use Rattle.std.proofs.lemmas.Bool.{eq-eqb}
 use Rattle.pm_trains.specs.Trains.{Train, is_among, first_car, oldest}
-use Rattle.pm_view.specs.declared.phase.Phase.TheVariants.{Sweeping}
-use Rattle.pm_view.specs.View.{SpaceView}
-use Rattle.pm_view.specs.Reading.{aside_in, is_aside}
-use Rattle.pm_view.specs.Law.{IsOldest, IsFront}
+use Rattle.pm_law_rows.specs.view.declared.phase.Phase.TheVariants.{Sweeping}
+use Rattle.pm_law_rows.specs.view.View.{SpaceView}
+use Rattle.pm_law_rows.specs.view.Reading.{aside_in, is_aside}
+use Rattle.pm_law_rows.specs.view.Law.{IsOldest, IsFront}
 use Rattle.pm_law_rows.proofs.SameSource.{tied_nat}
 use Rattle.pm_law_phases.proofs.Small.{some_same, or_left}
 use Rattle.pm_law_phases.proofs.Comes.{IsSwept, IsFirstDoomed}

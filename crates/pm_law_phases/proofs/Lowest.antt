@@ -11,8 +11,8 @@ use Rattle.pm_types.specs.declared.object.Slot.{Slot}
 use Rattle.pm_types.specs.declared.object.Slot.TheVariants.{Live, Moved}
 use Rattle.pm_cars.specs.Cars.{Car}
 use Rattle.pm_cars.specs.Entries.{holds_object}
-use Rattle.pm_view.specs.View.{SpaceView}
-use Rattle.pm_view.specs.Events.{lowest_live}
+use Rattle.pm_law_rows.specs.view.View.{SpaceView}
+use Rattle.pm_law_rows.specs.view.Events.{lowest_live}
 use Rattle.pm_law_phases.proofs.Small.{some_same, none_some}
 use Rattle.pm_law_phases.proofs.Finds.{found_entry}
 

@@ -6,10 +6,10 @@ use Rattle.pm_types.specs.declared.address.Addr.{Addr}
 use Rattle.pm_types.specs.declared.object.Object as stored_objects
 use Rattle.pm_model.specs.Heap.{Holds}
 use Rattle.pm_model.specs.World.{World}
-use Rattle.pm_view.specs.View.{SpaceView}
-use Rattle.pm_view.specs.Reading.{object_at, is_aside, named_by}
-use Rattle.pm_view.specs.Law.{HeapLaw}
-use Rattle.pm_view.specs.Represents.{names, meaning, Represents}
+use Rattle.pm_law_rows.specs.view.View.{SpaceView}
+use Rattle.pm_law_rows.specs.view.Reading.{object_at, is_aside, named_by}
+use Rattle.pm_law_rows.specs.view.Law.{HeapLaw}
+use Rattle.pm_law_rows.specs.view.Represents.{names, meaning, Represents}
 use Rattle.pm_law_rows.proofs.SpreadMeans.{stands_for}
 
 -- an object that stood means what another does: both have one identity

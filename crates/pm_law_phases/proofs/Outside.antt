@@ -8,14 +8,14 @@ use Rattle.pm_types.specs.declared.address.Addr.{Addr}
 use Rattle.pm_types.specs.declared.source.RefSource.{RefSource}
 use Rattle.pm_types.specs.declared.source.RefSource.TheVariants.{Root, Handle, Field}
 use Rattle.pm_trains.specs.Trains.{is_among, train_of}
-use Rattle.pm_view.specs.Sources.{lies_in, outside, slot_in}
-use Rattle.pm_view.specs.View.{SpaceView}
-use Rattle.pm_view.specs.Reading.{stored, cars_of, is_aside}
-use Rattle.pm_view.specs.Effective.{effective}
-use Rattle.pm_view.specs.Seen.{seen, kept}
-use Rattle.pm_view.specs.Law.{HeapLaw}
-use Rattle.pm_view.specs.Candidates.{set_of, is_beyond}
-use Rattle.pm_view.specs.Events.{home}
+use Rattle.pm_law_rows.specs.view.Sources.{lies_in, outside, slot_in}
+use Rattle.pm_law_rows.specs.view.View.{SpaceView}
+use Rattle.pm_law_rows.specs.view.Reading.{stored, cars_of, is_aside}
+use Rattle.pm_law_rows.specs.view.Effective.{effective}
+use Rattle.pm_law_rows.specs.view.Seen.{seen, kept}
+use Rattle.pm_law_rows.specs.view.Law.{HeapLaw}
+use Rattle.pm_law_rows.specs.view.Candidates.{set_of, is_beyond}
+use Rattle.pm_law_rows.specs.view.Events.{home}
 use Rattle.pm_law_rows.proofs.OpenTrain.{first_home}
 use Rattle.pm_law_rows.proofs.Born.{home_among}
 use Rattle.pm_law_phases.proofs.Comes.{IsDrained, IsMovingOn, IsFinishing}

@@ -18,17 +18,17 @@ use Rattle.pm_cars.specs.Cars.{look_of, object_of}
 use Rattle.pm_trains.specs.Trains.{Train, HasCar, cars_at, is_among, train_of, first_car, oldest, youngest, rotated}
 use Rattle.pm_trains.specs.Sound as line
 use Rattle.pm_trains.proofs.Found.{stands_over}
-use Rattle.pm_view.specs.declared.phase.Phase.TheVariants.{Idle, Draining, Moving, Sweeping, Doomed}
-use Rattle.pm_view.specs.Sources.{lies_in, slot_in}
-use Rattle.pm_view.specs.View.{Sources, SpaceView}
-use Rattle.pm_view.specs.Reading.{slot_at, object_at, stored, cars_of, aside_in, from_in, is_aside, is_from}
-use Rattle.pm_view.specs.Effective.{effective, effective_in}
-use Rattle.pm_view.specs.Seen.{seen, kept}
-use Rattle.pm_view.specs.Seen as seen_words
-use Rattle.pm_view.specs.Law.{IsOldest, IsFront, IsPhaseOf, IsAnchor, HeapLaw}
-use Rattle.pm_view.specs.Candidates.{set_of, queue_of, is_beyond, is_named_by, is_bare, is_named_from, naming_trains, candidates, least_outside, referenced_car}
-use Rattle.pm_view.specs.Collecting.{selected, doomed, anchored, started, finished}
-use Rattle.pm_view.specs.Events.{has_change, named_in, anchor_in, first_of, home, MayNote}
+use Rattle.pm_law_rows.specs.view.declared.phase.Phase.TheVariants.{Idle, Draining, Moving, Sweeping, Doomed}
+use Rattle.pm_law_rows.specs.view.Sources.{lies_in, slot_in}
+use Rattle.pm_law_rows.specs.view.View.{Sources, SpaceView}
+use Rattle.pm_law_rows.specs.view.Reading.{slot_at, object_at, stored, cars_of, aside_in, from_in, is_aside, is_from}
+use Rattle.pm_law_rows.specs.view.Effective.{effective, effective_in}
+use Rattle.pm_law_rows.specs.view.Seen.{seen, kept}
+use Rattle.pm_law_rows.specs.view.Seen as seen_words
+use Rattle.pm_law_rows.specs.view.Law.{IsOldest, IsFront, IsPhaseOf, IsAnchor, HeapLaw}
+use Rattle.pm_law_rows.specs.view.Candidates.{set_of, queue_of, is_beyond, is_named_by, is_bare, is_named_from, naming_trains, candidates, least_outside, referenced_car}
+use Rattle.pm_law_rows.specs.view.Collecting.{selected, doomed, anchored, started, finished}
+use Rattle.pm_law_rows.specs.view.Events.{has_change, named_in, anchor_in, first_of, home, MayNote}
 use Rattle.pm_law_rows.proofs.OpenTrain.{among_home}
 use Rattle.pm_law_rows.proofs.Born.{youngest_stands}
 use Rattle.pm_law_rows.proofs.Rotating.{opened, opening_keeps_law, opening_stands, oldest_rotated, youngest_rotated}

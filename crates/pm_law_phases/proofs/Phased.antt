@@ -8,12 +8,12 @@ use Rattle.pm_types.specs.declared.address.Addr.{Addr}
 use Rattle.pm_types.specs.declared.source.RefSource.{RefSource}
 use Rattle.pm_types.specs.declared.source.RefSource.TheVariants.{Root, Handle, Field}
 use Rattle.pm_trains.specs.Trains.{is_among, youngest}
-use Rattle.pm_view.specs.declared.phase.Phase.{Phase}
-use Rattle.pm_view.specs.View.{SpaceView}
-use Rattle.pm_view.specs.Reading.{stored, cars_of, aside_in, from_in, is_aside, is_from}
-use Rattle.pm_view.specs.Counts.{standing_in, live_in}
-use Rattle.pm_view.specs.Seen.{seen}
-use Rattle.pm_view.specs.Law.{IsPhaseOf, IsAnchor, HeapLaw}
+use Rattle.pm_law_rows.specs.view.declared.phase.Phase.{Phase}
+use Rattle.pm_law_rows.specs.view.View.{SpaceView}
+use Rattle.pm_law_rows.specs.view.Reading.{stored, cars_of, aside_in, from_in, is_aside, is_from}
+use Rattle.pm_law_rows.specs.view.Counts.{standing_in, live_in}
+use Rattle.pm_law_rows.specs.view.Seen.{seen}
+use Rattle.pm_law_rows.specs.view.Law.{IsPhaseOf, IsAnchor, HeapLaw}
 use Rattle.pm_law_rows.proofs.OpenTrain.{among_home, open_free}
 use Rattle.pm_law_phases.proofs.MeansSame.{MeansSame}
 use Rattle.pm_law_phases.proofs.SetAside.{NoOutside, FromPasses, law_after_set_aside}

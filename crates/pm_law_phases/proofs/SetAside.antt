@@ -6,8 +6,8 @@ use Rattle.pm_types.specs.declared.source.RefSource.{RefSource}
 use Rattle.pm_types.specs.declared.source.RefSource.TheVariants.{Root, Handle, Field}
 use Rattle.pm_cars.specs.declared.look.Look.{Look}
 use Rattle.pm_cars.specs.declared.look.Look.TheVariants.{Live, Moved, Gone}
-use Rattle.pm_view.specs.Sources.{lies_in, outside, slot_in}
-use Rattle.pm_view.specs.Seen.{Seen, kept, Leads, IsTied}
+use Rattle.pm_law_rows.specs.view.Sources.{lies_in, outside, slot_in}
+use Rattle.pm_law_rows.specs.view.Seen.{Seen, kept, Leads, IsTied}
 
 -- t is s with the cars that pass set aside too, and at most more cars are from-cars
 pub record IsSetAside (s t : Seen) (p : ℕ → Bool) : Type 0 where

@@ -4,7 +4,7 @@ use Rattle.std.proofs.lemmas.Bool.{true≢false}
 use Rattle.std.proofs.lemmas.Bool.Decides.{nat_tests}
 use Rattle.pm_types.specs.declared.address.Addr.{Addr}
 use Rattle.pm_cars.specs.Cars.{Car}
-use Rattle.pm_view.specs.Counts.{live_in}
+use Rattle.pm_law_rows.specs.view.Counts.{live_in}
 use Rattle.pm_law_rows.proofs.Shapes.{IsShapedAt}
 use Rattle.pm_law_rows.proofs.Spreading.{by_slots, changed}
 

@@ -10,14 +10,14 @@ use Rattle.pm_types.specs.declared.source.Change.{Change}
 use Rattle.pm_cars.specs.Cars.{Car, object_of, without_slot}
 use Rattle.pm_trains.specs.Trains.{Trains, train_of, youngest, rotated}
 use Rattle.pm_trains.proofs.Cars.{home_rotated}
-use Rattle.pm_view.specs.declared.phase.Phase.TheVariants.{Draining}
-use Rattle.pm_view.specs.View.{Cars, SpaceView}
-use Rattle.pm_view.specs.Reading.{slot_at, object_at, id_at, aside_in, is_aside}
-use Rattle.pm_view.specs.Counts.{IsStandingAt}
-use Rattle.pm_view.specs.Law.{HeapLaw}
-use Rattle.pm_view.specs.Rows.{put_car, spread}
-use Rattle.pm_view.specs.Candidates.{queue_of}
-use Rattle.pm_view.specs.Collecting.{selected, doomed, started, finished, applied_front, applied_in, fixed, swept_some, swept}
+use Rattle.pm_law_rows.specs.view.declared.phase.Phase.TheVariants.{Draining}
+use Rattle.pm_law_rows.specs.view.View.{Cars, SpaceView}
+use Rattle.pm_law_rows.specs.view.Reading.{slot_at, object_at, id_at, aside_in, is_aside}
+use Rattle.pm_law_rows.specs.view.Counts.{IsStandingAt}
+use Rattle.pm_law_rows.specs.view.Law.{HeapLaw}
+use Rattle.pm_law_rows.specs.view.Rows.{put_car, spread}
+use Rattle.pm_law_rows.specs.view.Candidates.{queue_of}
+use Rattle.pm_law_rows.specs.view.Collecting.{selected, doomed, started, finished, applied_front, applied_in, fixed, swept_some, swept}
 use Rattle.pm_law_rows.proofs.News.{at_insert}
 use Rattle.pm_law_rows.proofs.Places.{slot_of}
 use Rattle.pm_law_rows.proofs.Built.{aside_same}

@@ -9,11 +9,11 @@ use Rattle.pm_types.specs.declared.address.Addr.{Addr}
 use Rattle.pm_types.specs.declared.source.RefSource.{RefSource}
 use Rattle.pm_types.specs.declared.source.RefSource.TheVariants.{Root, Handle, Field}
 use Rattle.pm_types.specs.declared.source.Change.{Change}
-use Rattle.pm_view.specs.Sources.{same_source, same_address, is_field_at, slot_in}
-use Rattle.pm_view.specs.View.{Sources}
-use Rattle.pm_view.specs.Effective.{applied, effective_in}
-use Rattle.pm_view.specs.Barrier.{left, barrier, news}
-use Rattle.pm_view.specs.Collecting.{field_news}
+use Rattle.pm_law_rows.specs.view.Sources.{same_source, same_address, is_field_at, slot_in}
+use Rattle.pm_law_rows.specs.view.View.{Sources}
+use Rattle.pm_law_rows.specs.view.Effective.{applied, effective_in}
+use Rattle.pm_law_rows.specs.view.Barrier.{left, barrier, news}
+use Rattle.pm_law_rows.specs.view.Collecting.{field_news}
 use Rattle.pm_law_rows.proofs.Spreading.{by_slots, hears, heard_change, changed}
 use Rattle.pm_law_rows.proofs.News.{as_changes, effective-told, news_of_barrier}
 use Rattle.pm_law_phases.proofs.FieldNews.{folded_none, folded_field, effective_fields}

@@ -4,11 +4,11 @@ ghost use Rattle.std.specs.Prelude.{◌≡◌, ℕ, ◌==◌, true, Some};
 ghost use Rattle.pm_types.specs.declared.address.Addr.{Addr};
 ghost use Rattle.pm_types.specs.declared.source.RefSource.{RefSource};
 ghost use Rattle.pm_trains.specs.Trains.{is_among, train_of};
-ghost use Rattle.pm_view.specs.Sources.{lies_in};
-ghost use Rattle.pm_view.specs.View.{SpaceView};
-ghost use Rattle.pm_view.specs.Reading.{stored, cars_of};
-ghost use Rattle.pm_view.specs.Law.{HeapLaw};
-ghost use Rattle.pm_view.specs.Events.{doom, move_on, finish, next_row};
+ghost use Rattle.pm_law_rows.specs.view.Sources.{lies_in};
+ghost use Rattle.pm_law_rows.specs.view.View.{SpaceView};
+ghost use Rattle.pm_law_rows.specs.view.Reading.{stored, cars_of};
+ghost use Rattle.pm_law_rows.specs.view.Law.{HeapLaw};
+ghost use Rattle.pm_law_rows.specs.view.Events.{doom, move_on, finish, next_row};
 
 /// A law of what is given up: where a train is doomed, each root, register and field that stores an address in it is a
 /// field of an object of the train; where a car begins to be swept, each that stores an address in the car is a field of

@@ -12,8 +12,8 @@ use Rattle.pm_types.specs.declared.limits.TheConstants.{ROOTS}
 use Rattle.pm_types.specs.declared.address.Addr.{Addr}
 use Rattle.pm_types.specs.declared.source.RefSource.{RefSource}
 use Rattle.pm_types.specs.declared.source.RefSource.TheVariants.{Root, Handle, Field}
-use Rattle.pm_roots.specs.Bindings.{Bindings, address_at, AllNumbersDiffer, IsFree}
-use Rattle.pm_model.specs.World.{World, naming, unbinding}
+use Rattle.pm_view.specs.roots.Bindings.{Bindings, address_at, AllNumbersDiffer, IsFree}
+use Rattle.pm_view.specs.model.World.{World, naming, unbinding}
 use Rattle.pm_view.specs.Sources.{same_source}
 use Rattle.pm_view.specs.View.{SpaceView}
 use Rattle.pm_view.specs.Reading.{stored, is_aside, named_by}

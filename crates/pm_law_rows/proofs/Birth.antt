@@ -11,15 +11,15 @@ use Rattle.pm_types.specs.declared.object.Slot.{Slot}
 use Rattle.pm_types.specs.declared.object.Slot.TheVariants.{Live, Moved}
 use Rattle.pm_types.specs.declared.source.RefSource.{RefSource}
 use Rattle.pm_types.specs.declared.source.RefSource.TheVariants.{Root, Handle, Field}
-use Rattle.pm_cars.specs.declared.look.Look.{Look}
-use Rattle.pm_cars.specs.declared.look.Look.TheVariants as looks
-use Rattle.pm_cars.specs.Cars.{Car, IsSoundCar, Fits, Slots, used, object_room, slot_room, one_live, one_moved, total, live_count, moved_count, object_of, look_of, with_birth}
-use Rattle.pm_cars.proofs.Rooms.{total_insert, counted}
-use Rattle.pm_trains.specs.Trains.{train_of, youngest}
-use Rattle.pm_trains.specs.Sound as line
-use Rattle.pm_roots.specs.Bindings.{address_at, AllNumbersDiffer}
-use Rattle.pm_model.specs.Heap.{Object}
-use Rattle.pm_model.specs.World.{World, changing}
+use Rattle.pm_view.specs.cars.declared.look.Look.{Look}
+use Rattle.pm_view.specs.cars.declared.look.Look.TheVariants as looks
+use Rattle.pm_view.specs.cars.Cars.{Car, IsSoundCar, Fits, Slots, used, object_room, slot_room, one_live, one_moved, total, live_count, moved_count, object_of, look_of, with_birth}
+use Rattle.pm_view.proofs.cars.Rooms.{total_insert, counted}
+use Rattle.pm_view.specs.trains.Trains.{train_of, youngest}
+use Rattle.pm_view.specs.trains.Sound as line
+use Rattle.pm_view.specs.roots.Bindings.{address_at, AllNumbersDiffer}
+use Rattle.pm_view.specs.model.Heap.{Object}
+use Rattle.pm_view.specs.model.World.{World, changing}
 use Rattle.pm_view.specs.Sources.{same_address, slot_in}
 use Rattle.pm_view.specs.View.{SpaceView}
 use Rattle.pm_view.specs.Reading.{slot_at, object_at, field_of, stored, cars_of, is_aside, is_from, followed, resolve, id_at, named_by}

@@ -13,13 +13,13 @@ use Rattle.pm_types.specs.declared.object.Object as stored_objects
 use Rattle.pm_types.specs.declared.object.Slot.TheVariants.{Live}
 use Rattle.pm_types.specs.declared.source.RefSource.{RefSource}
 use Rattle.pm_types.specs.declared.source.Change.{Change}
-use Rattle.pm_cars.specs.Cars.{Car, IsSoundCar, Fits, used, object_room, slot_room, one_live, one_moved, new_car, live_count, moved_count, object_of, with_birth}
-use Rattle.pm_cars.proofs.Rooms.{total_empty}
-use Rattle.pm_trains.specs.Trains.{Train, HasCar, cars_at, train_of, is_among, first_car, tail, oldest, youngest, last_number, rotated}
-use Rattle.pm_trains.specs.Sound as line
-use Rattle.pm_trains.proofs.Cars.{home_appended, home_rotated}
-use Rattle.pm_trains.proofs.Found.{home_has, cars_changed}
-use Rattle.pm_trains.proofs.Kept.{sound_appended}
+use Rattle.pm_view.specs.cars.Cars.{Car, IsSoundCar, Fits, used, object_room, slot_room, one_live, one_moved, new_car, live_count, moved_count, object_of, with_birth}
+use Rattle.pm_view.proofs.cars.Rooms.{total_empty}
+use Rattle.pm_view.specs.trains.Trains.{Train, HasCar, cars_at, train_of, is_among, first_car, tail, oldest, youngest, last_number, rotated}
+use Rattle.pm_view.specs.trains.Sound as line
+use Rattle.pm_view.proofs.trains.Cars.{home_appended, home_rotated}
+use Rattle.pm_view.proofs.trains.Found.{home_has, cars_changed}
+use Rattle.pm_view.proofs.trains.Kept.{sound_appended}
 use Rattle.pm_view.specs.declared.phase.Phase.{Phase}
 use Rattle.pm_view.specs.declared.phase.Phase.TheVariants.{Idle, Draining, Moving, Sweeping, Doomed}
 use Rattle.pm_view.specs.View.{Cars, Sources, SpaceView}
@@ -37,8 +37,8 @@ use Rattle.pm_view.specs.Objects.{AddsObject}
 use Rattle.pm_law_rows.proofs.Rotating.{opened, aside_opened, youngest_rotated, opening_keeps_law, opening_stands}
 use Rattle.pm_law_rows.proofs.Birth.{IsBirth, live_after, birth_keeps_law, birth_stands, born_here, none_before, others_stay}
 use Rattle.pm_types.specs.declared.limits.TheConstants.{FIELDS, OBJECT_BYTES, CAR_HEAD_BYTES, CAR_BYTES, CAR_ROOM, LAST_SLOT}
-use Rattle.pm_model.specs.Heap.{Object}
-use Rattle.pm_model.specs.World.{World, changing}
+use Rattle.pm_view.specs.model.Heap.{Object}
+use Rattle.pm_view.specs.model.World.{World, changing}
 use Rattle.pm_view.specs.Represents.{meaning, Represents}
 
 -- a car of a train is among the train's cars

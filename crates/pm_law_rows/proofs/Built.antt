@@ -5,9 +5,9 @@ use Rattle.std.specs.FinMap.{get}
 use Rattle.pm_types.specs.declared.limits.TheConstants.{FIELDS, OBJECT_BYTES, CAR_BYTES, LAST_SLOT}
 use Rattle.pm_types.specs.declared.address.Addr.{Addr}
 use Rattle.pm_types.specs.declared.object.Object.{Object}
-use Rattle.pm_cars.specs.Cars.{Car, IsSoundCar, look_of}
-use Rattle.pm_trains.specs.Sound as line
-use Rattle.pm_trains.specs.Trains.{Trains, cars_at, train_of, oldest, youngest}
+use Rattle.pm_view.specs.cars.Cars.{Car, IsSoundCar, look_of}
+use Rattle.pm_view.specs.trains.Sound as line
+use Rattle.pm_view.specs.trains.Trains.{Trains, cars_at, train_of, oldest, youngest}
 use Rattle.pm_view.specs.View.{SpaceView}
 use Rattle.pm_view.specs.Reading.{slot_at, object_at, cars_of, aside_in, from_in, is_aside, is_from}
 use Rattle.pm_view.specs.Counts.{live_in, standing_in}

@@ -8,9 +8,9 @@ use Rattle.pm_types.specs.declared.address.Addr.{Addr}
 use Rattle.pm_types.specs.declared.object.Object as stored_objects
 use Rattle.pm_types.specs.declared.source.RefSource.{RefSource}
 use Rattle.pm_types.specs.declared.source.RefSource.TheVariants.{Root, Handle, Field}
-use Rattle.pm_cars.specs.Cars as cars
-use Rattle.pm_model.specs.Heap.{Object, with_bytes}
-use Rattle.pm_model.specs.World.{World, changing}
+use Rattle.pm_view.specs.cars.Cars as cars
+use Rattle.pm_view.specs.model.Heap.{Object, with_bytes}
+use Rattle.pm_view.specs.model.World.{World, changing}
 use Rattle.pm_view.specs.Sources.{same_address}
 use Rattle.pm_view.specs.View.{SpaceView}
 use Rattle.pm_view.specs.Reading.{object_at, field_of, stored, is_aside}

@@ -6,9 +6,9 @@ use Rattle.pm_types.specs.declared.address.Addr.{Addr}
 use Rattle.pm_types.specs.declared.object.Object.{Object}
 use Rattle.pm_types.specs.declared.object.Slot.{Slot}
 use Rattle.pm_types.specs.declared.object.Slot.TheVariants.{Live, Moved}
-use Rattle.pm_cars.specs.declared.look.Look.{Look}
-use Rattle.pm_cars.specs.declared.look.Look.TheVariants as looks
-use Rattle.pm_cars.specs.Cars.{look_of}
+use Rattle.pm_view.specs.cars.declared.look.Look.{Look}
+use Rattle.pm_view.specs.cars.declared.look.Look.TheVariants as looks
+use Rattle.pm_view.specs.cars.Cars.{look_of}
 use Rattle.pm_view.specs.View.{SpaceView}
 use Rattle.pm_view.specs.Reading.{slot_at, object_at, followed, resolve, id_at, named_by}
 use Rattle.pm_view.specs.Represents.{names, meaning}

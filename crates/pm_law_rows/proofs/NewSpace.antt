@@ -10,10 +10,10 @@ use Rattle.pm_types.specs.declared.address.Addr.{Addr}
 use Rattle.pm_types.specs.declared.source.RefSource.{RefSource}
 use Rattle.pm_types.specs.declared.source.RefSource.TheVariants.{Root, Handle, Field}
 use Rattle.pm_types.specs.declared.source.Change.{Change}
-use Rattle.pm_cars.specs.Cars.{Car, object_of, look_of}
-use Rattle.pm_cars.specs.declared.look.Look.TheVariants as looks
-use Rattle.pm_roots.specs.Bindings.{address_at, address_in}
-use Rattle.pm_model.specs.World.{empty_world}
+use Rattle.pm_view.specs.cars.Cars.{Car, object_of, look_of}
+use Rattle.pm_view.specs.cars.declared.look.Look.TheVariants as looks
+use Rattle.pm_view.specs.roots.Bindings.{address_at, address_in}
+use Rattle.pm_view.specs.model.World.{empty_world}
 use Rattle.pm_view.specs.Sources.{slot_in}
 use Rattle.pm_view.specs.View.{Sources}
 use Rattle.pm_view.specs.Reading.{slot_at, object_at, field_of, stored, named_by}

@@ -8,8 +8,8 @@ use Rattle.std.proofs.lemmas.Map.Views.{tells_apart}
 use Rattle.pm_types.specs.Orders.{name_cmp}
 use Rattle.pm_types.proofs.Orders.{names_total, names_antisymmetric}
 use Rattle.pm_types.specs.declared.address.Addr.{Addr}
-use Rattle.pm_roots.specs.Bindings.{Bindings, address_in, address_at, AllNumbersDiffer}
-use Rattle.pm_roots.proofs.Sorted.{first, second, find_below, find_first}
+use Rattle.pm_view.specs.roots.Bindings.{Bindings, address_in, address_at, AllNumbersDiffer}
+use Rattle.pm_view.proofs.roots.Sorted.{first, second, find_below, find_first}
 
 abbrev Rows : Type 0
 Rows = List (List ℕ × (ℕ × Addr))

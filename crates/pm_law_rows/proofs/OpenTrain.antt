@@ -5,9 +5,9 @@ use Rattle.std.specs.List.{slice_get}
 use Rattle.std.proofs.lemmas.Bool.{eqb-true, eq-eqb, true≢false, both_ways, cond-false, false_from_ne_true}
 use Rattle.std.proofs.lemmas.Bool.Decides.{nat_tests}
 use Rattle.pm_types.specs.declared.address.Addr.{Addr}
-use Rattle.pm_trains.specs.Trains.{Train, cars_at, train_of, is_among, first_car, tail, oldest, youngest, last_number, appended}
-use Rattle.pm_trains.specs.Sound as line
-use Rattle.pm_trains.proofs.Found.{home_back, cars_changed, last_changed, last_least, answer_home}
+use Rattle.pm_view.specs.trains.Trains.{Train, cars_at, train_of, is_among, first_car, tail, oldest, youngest, last_number, appended}
+use Rattle.pm_view.specs.trains.Sound as line
+use Rattle.pm_view.proofs.trains.Found.{home_back, cars_changed, last_changed, last_least, answer_home}
 use Rattle.pm_view.specs.declared.phase.Phase.{Phase}
 use Rattle.pm_view.specs.declared.phase.Phase.TheVariants.{Idle, Draining, Moving, Sweeping, Doomed}
 use Rattle.pm_view.specs.Reading.{cars_of, aside_in, from_in}

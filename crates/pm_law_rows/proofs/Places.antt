@@ -9,7 +9,7 @@ use Rattle.pm_types.specs.declared.address.Addr.{Addr}
 use Rattle.pm_types.specs.declared.object.Object.{Object}
 use Rattle.pm_types.specs.declared.object.Slot.{Slot}
 use Rattle.pm_types.specs.declared.object.Slot.TheVariants.{Live, Moved}
-use Rattle.pm_cars.specs.Cars.{Car, object_of, with_slot, with_field}
+use Rattle.pm_view.specs.cars.Cars.{Car, object_of, with_slot, with_field}
 use Rattle.pm_view.specs.Sources.{same_address}
 use Rattle.pm_view.specs.View.{Cars}
 use Rattle.pm_view.specs.Reading.{slot_at, object_at, field_of}

@@ -11,11 +11,11 @@ use Rattle.pm_types.specs.declared.object.Slot.{Slot}
 use Rattle.pm_types.specs.declared.object.Slot.TheVariants.{Live, Moved}
 use Rattle.pm_types.specs.declared.source.RefSource.{RefSource}
 use Rattle.pm_types.specs.declared.source.RefSource.TheVariants.{Root, Handle, Field}
-use Rattle.pm_cars.specs.Cars.{look_of}
-use Rattle.pm_roots.specs.Bindings.{address_at}
-use Rattle.pm_model.specs.Heap.{Object, Holds}
-use Rattle.pm_model.specs.World.{World}
-use Rattle.pm_model.specs.Reachability.{Leads, IsReachable}
+use Rattle.pm_view.specs.cars.Cars.{look_of}
+use Rattle.pm_view.specs.roots.Bindings.{address_at}
+use Rattle.pm_view.specs.model.Heap.{Object, Holds}
+use Rattle.pm_view.specs.model.World.{World}
+use Rattle.pm_view.specs.model.Reachability.{Leads, IsReachable}
 use Rattle.pm_view.specs.View.{SpaceView}
 use Rattle.pm_view.specs.Reading.{slot_at, object_at, field_of, stored, is_aside, followed, id_at, named_by}
 use Rattle.pm_view.specs.Counts.{IsStanding}

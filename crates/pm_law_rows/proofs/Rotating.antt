@@ -5,24 +5,24 @@ use Rattle.std.specs.List.{slice_get}
 use Rattle.std.specs.FinMap.{get}
 use Rattle.std.proofs.lemmas.Bool.{eqb-true, false_from_ne_true}
 use Rattle.pm_types.specs.declared.address.Addr.{Addr}
-use Rattle.pm_trains.specs.Trains.{Train, HasCar, cars_at, is_among, first_car, oldest, youngest, last_number, empty_train, rotated}
-use Rattle.pm_trains.specs.Sound as line
-use Rattle.pm_trains.proofs.Found.{last_least, last_greatest, last_pushed, cars_rotated}
-use Rattle.pm_trains.proofs.Cars.{home_rotated}
-use Rattle.pm_trains.proofs.Kept.{sound_rotated}
+use Rattle.pm_view.specs.trains.Trains.{Train, HasCar, cars_at, is_among, first_car, oldest, youngest, last_number, empty_train, rotated}
+use Rattle.pm_view.specs.trains.Sound as line
+use Rattle.pm_view.proofs.trains.Found.{last_least, last_greatest, last_pushed, cars_rotated}
+use Rattle.pm_view.proofs.trains.Cars.{home_rotated}
+use Rattle.pm_view.proofs.trains.Kept.{sound_rotated}
 use Rattle.pm_view.specs.declared.phase.Phase.{Phase}
 use Rattle.pm_view.specs.declared.phase.Phase.TheVariants.{Idle, Draining, Moving, Sweeping, Doomed}
 use Rattle.pm_view.specs.View.{SpaceView}
 use Rattle.pm_types.specs.declared.source.RefSource.{RefSource}
 use Rattle.pm_types.specs.declared.source.RefSource.TheVariants.{Root, Handle, Field}
-use Rattle.pm_cars.specs.Cars.{Car, look_of}
-use Rattle.pm_roots.specs.Bindings.{address_at}
+use Rattle.pm_view.specs.cars.Cars.{Car, look_of}
+use Rattle.pm_view.specs.roots.Bindings.{address_at}
 use Rattle.pm_view.specs.Effective.{effective_in}
 use Rattle.pm_view.specs.Reading.{slot_at, object_at, field_of, stored, cars_of, aside_in, from_in, is_aside}
 use Rattle.pm_view.specs.Seen.{seen, IsTied}
 use Rattle.pm_view.specs.Law.{IsCar, IsOldest, IsFront, IsPhaseOf, IsAnchor, HeapLaw}
 use Rattle.pm_view.specs.Represents.{Represents}
-use Rattle.pm_model.specs.World.{World}
+use Rattle.pm_view.specs.model.World.{World}
 use Rattle.pm_law_rows.proofs.SpreadMeans.{stands_for}
 
 -- ---- trains

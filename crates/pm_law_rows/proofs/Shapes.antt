@@ -7,8 +7,8 @@ use Rattle.pm_types.specs.declared.address.Addr.{Addr}
 use Rattle.pm_types.specs.declared.object.Object.{Object}
 use Rattle.pm_types.specs.declared.object.Slot.{Slot}
 use Rattle.pm_types.specs.declared.object.Slot.TheVariants.{Live}
-use Rattle.pm_cars.specs.Cars.{Car, Slots, total, slot_room, object_room, one_live, one_moved, used, live_count, moved_count, with_slot}
-use Rattle.pm_cars.proofs.Rooms.{total_insert, counted}
+use Rattle.pm_view.specs.cars.Cars.{Car, Slots, total, slot_room, object_room, one_live, one_moved, used, live_count, moved_count, with_slot}
+use Rattle.pm_view.proofs.cars.Rooms.{total_insert, counted}
 use Rattle.pm_view.specs.View.{Cars}
 use Rattle.pm_view.specs.Reading.{slot_at, object_at}
 use Rattle.pm_view.specs.Rows.{put_car, put_object, with_object}

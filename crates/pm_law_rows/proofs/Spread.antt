@@ -9,9 +9,9 @@ use Rattle.pm_types.specs.declared.object.Slot.{Slot}
 use Rattle.pm_types.specs.declared.object.Slot.TheVariants.{Live}
 use Rattle.pm_types.specs.declared.source.RefSource.{RefSource}
 use Rattle.pm_types.specs.declared.source.RefSource.TheVariants.{Root, Handle, Field}
-use Rattle.pm_cars.specs.declared.look.Look.{Look}
-use Rattle.pm_cars.specs.declared.look.Look.TheVariants as looks
-use Rattle.pm_cars.specs.Cars.{Car, look_of, with_field}
+use Rattle.pm_view.specs.cars.declared.look.Look.{Look}
+use Rattle.pm_view.specs.cars.declared.look.Look.TheVariants as looks
+use Rattle.pm_view.specs.cars.Cars.{Car, look_of, with_field}
 use Rattle.pm_view.specs.Sources.{same_source, same_address, slot_in}
 use Rattle.pm_view.specs.View.{Cars, SpaceView}
 use Rattle.pm_view.specs.Reading.{slot_at, object_at, stored, is_aside, from_in, SourceStands}

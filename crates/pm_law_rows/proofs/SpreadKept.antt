@@ -13,8 +13,8 @@ use Rattle.pm_types.specs.declared.object.Object.{Object}
 use Rattle.pm_types.specs.declared.source.RefSource.{RefSource}
 use Rattle.pm_types.specs.declared.source.RefSource.TheVariants.{Root, Handle, Field}
 use Rattle.pm_types.specs.declared.source.Change.{Change}
-use Rattle.pm_cars.specs.Cars.{look_of, with_field}
-use Rattle.pm_roots.specs.Bindings.{Bindings, AllNumbersDiffer}
+use Rattle.pm_view.specs.cars.Cars.{look_of, with_field}
+use Rattle.pm_view.specs.roots.Bindings.{Bindings, AllNumbersDiffer}
 use Rattle.pm_view.specs.Sources.{same_address, same_source, outside, slot_in}
 use Rattle.pm_view.specs.View.{SpaceView}
 use Rattle.pm_view.specs.Reading.{slot_at, object_at, stored, is_aside, SourceStands}

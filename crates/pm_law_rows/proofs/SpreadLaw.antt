@@ -6,8 +6,8 @@ use Rattle.pm_types.specs.declared.address.Addr.{Addr}
 use Rattle.pm_types.specs.declared.source.RefSource.{RefSource}
 use Rattle.pm_types.specs.declared.source.RefSource.TheVariants.{Root, Handle, Field}
 use Rattle.pm_view.specs.Sources.{same_source, outside, slot_in}
-use Rattle.pm_cars.specs.declared.look.Look.{Look}
-use Rattle.pm_cars.specs.declared.look.Look.TheVariants.{Live, Moved, Gone}
+use Rattle.pm_view.specs.cars.declared.look.Look.{Look}
+use Rattle.pm_view.specs.cars.declared.look.Look.TheVariants.{Live, Moved, Gone}
 use Rattle.pm_view.specs.Seen.{Seen, kept, IsLive, Leads, IsTied, MayStore}
 use Rattle.pm_law_rows.proofs.Spreading.{by_slots, change, changed, IsSpread}
 use Rattle.pm_law_rows.proofs.SameSource.{same-true, same_itself}

@@ -13,9 +13,9 @@ use Rattle.pm_types.specs.declared.address.Addr.{Addr}
 use Rattle.pm_types.specs.declared.object.Object.{Object}
 use Rattle.pm_types.specs.declared.source.RefSource.{RefSource}
 use Rattle.pm_types.specs.declared.source.RefSource.TheVariants.{Root, Handle, Field}
-use Rattle.pm_cars.specs.Cars.{with_field}
-use Rattle.pm_roots.specs.Bindings.{Bindings, address_in, address_at}
-use Rattle.pm_handles.specs.Handles.{with_register}
+use Rattle.pm_view.specs.cars.Cars.{with_field}
+use Rattle.pm_view.specs.roots.Bindings.{Bindings, address_in, address_at}
+use Rattle.pm_view.specs.handles.Handles.{with_register}
 use Rattle.pm_view.specs.Sources.{same_source, same_address}
 use Rattle.pm_view.specs.View.{Registers, SpaceView}
 use Rattle.pm_view.specs.Reading.{object_at, field_of, stored, SourceStands}

@@ -3,7 +3,7 @@ use Rattle.std.specs.Prelude.{ℕ, Bool, false, ◌==◌, ◌||◌, List, [], �
 use Rattle.pm_types.specs.declared.address.Addr.{Addr}
 use Rattle.pm_types.specs.declared.source.RefSource.{RefSource}
 use Rattle.pm_types.specs.declared.source.Change.{Change}
-use Rattle.pm_trains.specs.Trains.{Train}
+use Rattle.pm_view.specs.trains.Trains.{Train}
 use Rattle.pm_view.specs.View.{SpaceView}
 use Rattle.pm_view.specs.Rows.{new_space}
 

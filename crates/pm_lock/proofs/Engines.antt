@@ -11,8 +11,8 @@ use Rattle.pm_script.specs.declared.line.Line.{Line}
 use Rattle.pm_parts.specs.Lists.{count_left, list_of}
 use Rattle.pm_serving.specs.Serving.{Serving}
 use Rattle.pm_serving.specs.Events.{Collects, FailsAs, Flushes}
-use Rattle.pm_engine.specs.declared.engine.Engine.{Engine}
-use Rattle.pm_engine.specs.Shown.{disk_in, opened_count, room, serving}
+use Rattle.pm_events.specs.engine.declared.engine.Engine.{Engine}
+use Rattle.pm_events.specs.engine.Shown.{disk_in, opened_count, room, serving}
 use Rattle.pm_events.specs.Causes.{stop_of}
 use Rattle.pm_events.specs.Events.{Adds, EngineGoesOn, IsShort}
 use Rattle.pm_events.proofs.Going.{goes_then}

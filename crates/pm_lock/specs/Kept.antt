@@ -16,8 +16,8 @@ use Rattle.pm_script.specs.Script.{AreLines}
 use Rattle.pm_parts.specs.Asked.{events_asked, flushes_asked, requests_asked, steps_asked}
 use Rattle.pm_parts.specs.Lists.{count_left, list_of}
 use Rattle.pm_serving.specs.Serving.{Serving}
-use Rattle.pm_engine.specs.declared.engine.Engine.{Engine}
-use Rattle.pm_engine.specs.Shown.{disk_in, opened_count, room, serving}
+use Rattle.pm_events.specs.engine.declared.engine.Engine.{Engine}
+use Rattle.pm_events.specs.engine.Shown.{disk_in, opened_count, room, serving}
 use Rattle.pm_events.specs.declared.stop.Stop.{Stop}
 use Rattle.pm_events.specs.Causes.{stop_of}
 use Rattle.pm_events.specs.Events.{EngineGoesOn, IsUnfinished}

@@ -1,4 +1,5 @@
 pub mod Kept
 pub mod Shown
 pub mod Turns
-pub mod Whole
+-- Passed on whole, so that who stands above need not list these crates.
+pub use Rattle.pm_events.specs as events

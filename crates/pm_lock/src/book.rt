@@ -4,7 +4,7 @@ ghost use Rattle.pm_parts.specs.Left.{lists_in};
 ghost use Rattle.pm_lock.specs.Kept.{KeepsBook};
 
 use pm_disk::Disk;
-use pm_engine::Engine;
+use pm_events::Engine;
 use pm_parts::{Parts, collects_asked, commands_asked, flushes_asked};
 use pm_script::Script;
 use pm_types::{EngineFault, NoMemory};
@@ -38,7 +38,7 @@ impl<D: Disk, F: Drop> Book<D, F> {
     ghost use Rattle.pm_script.specs.Script.{AreLines};
     ghost use Rattle.pm_serving.specs.Serving.{opening, world};
     ghost use Rattle.pm_serving.specs.Images.{IsSettledCopy, IsTold};
-    ghost use Rattle.pm_engine.specs.Shown.{KeepsStart, disk_in, opened_count, opened_disk, room, serving};
+    ghost use Rattle.pm_events.specs.engine.Shown.{KeepsStart, disk_in, opened_count, opened_disk, room, serving};
     ghost use Rattle.pm_events.specs.Running.{IsFresh};
     ghost use Rattle.pm_events.specs.Events.{EngineGoesOn};
     ghost use Rattle.pm_lock.specs.Kept.{FitsLine, HasCauseSince, HasLeft, stop_kept, stopped_by};

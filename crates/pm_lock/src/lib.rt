@@ -3,12 +3,9 @@
 #![tactic(auto)]
 
 mod book;
-mod finish;
-mod run;
 mod step;
 mod value;
 mod workers;
 
 pub use book::Book;
-pub use run::run_all;
 pub use workers::{COLLECTOR, FLUSHER};

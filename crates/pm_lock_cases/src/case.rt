@@ -84,7 +84,7 @@ fn push_step<R: Threads + Wait + Sync>(
 }
 
 /// Takes a line of the input, and adds what it gives. A line that begins with `#`, and one that is empty, say nothing.
-pub(crate) fn take<R: Threads + Wait + Sync>(
+pub fn take<R: Threads + Wait + Sync>(
     rt: &R,
     alloc: Global,
     line: &str,

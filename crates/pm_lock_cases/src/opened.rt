@@ -4,16 +4,16 @@ ghost use Rattle.std.specs.Prelude.{◌≡◌, IfOk};
 ghost use Rattle.pm_place.specs.Choosers.{IsChooser};
 ghost use Rattle.pm_engine.specs.Shown.{chooser, serving};
 ghost use Rattle.pm_events.specs.Running.{IsFresh};
-ghost use Rattle.pm_lock.specs.Shown.{engine_in};
+ghost use Rattle.pm_workers.specs.Shown.{engine_in};
 
 use crate::turned::{push_counts, push_turns};
 use pm_case_text::{Fault, refuse};
 use pm_disk::{Disk, MemDisk};
 use pm_engine::Engine;
-use pm_lock::Book;
 use pm_place::Placement;
 use pm_script::Script;
 use pm_shadow::init;
+use pm_workers::Book;
 use std::alloc::Global;
 
 /// A disk in memory with a new store, which fails the calls of these numbers.

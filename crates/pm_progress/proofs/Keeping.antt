@@ -16,9 +16,9 @@ use Rattle.pm_shadow.proofs.CopyLemmas.{claimed_keeps}
 use Rattle.pm_law_graphs.proofs.Lists.{all_both, all_follow}
 use Rattle.pm_law_saving.proofs.Keeping.{all_kept_failed, all_kept_same, free_keeps, same_then, use_here, use_other}
 use Rattle.pm_law_saving.proofs.Staying.{held_same}
-use Rattle.pm_saving.specs.Progress as seen
-use Rattle.pm_saving.specs.Paging.{clean_page, newly_kept}
-use Rattle.pm_saving.specs.Tied.{IsOnPage, with_all_kept}
+use Rattle.pm_law_saving.specs.saving.Progress as seen
+use Rattle.pm_law_saving.specs.saving.Paging.{clean_page, newly_kept}
+use Rattle.pm_law_saving.specs.saving.Tied.{IsOnPage, with_all_kept}
 use Rattle.pm_progress.specs.declared.place.Place.{Place}
 use Rattle.pm_progress.specs.declared.place.Place.TheVariants.{Clean, Unwritten, Written}
 use Rattle.pm_progress.specs.declared.place.PlacedCar.{PlacedCar}

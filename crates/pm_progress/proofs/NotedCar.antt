@@ -9,9 +9,9 @@ use Rattle.pm_image.specs.declared.catalog.CatEntry.{CatEntry}
 use Rattle.pm_image.specs.declared.settled.KeptPage.{KeptPage}
 use Rattle.pm_law_layout.specs.Plans.{chain_of, digest_of, root_entry}
 use Rattle.pm_law_layout.specs.Cutting.{OnePage, cut}
-use Rattle.pm_saving.specs.Progress as seen
-use Rattle.pm_saving.specs.Progress.{catalog_left, draft_entry, paired, parts_of}
-use Rattle.pm_saving.specs.Paging.{CarPage, car_text, is_unwritten, place_first, unwritten, with_page}
+use Rattle.pm_law_saving.specs.saving.Progress as seen
+use Rattle.pm_law_saving.specs.saving.Progress.{catalog_left, draft_entry, paired, parts_of}
+use Rattle.pm_law_saving.specs.saving.Paging.{CarPage, car_text, is_unwritten, place_first, unwritten, with_page}
 use Rattle.pm_progress.specs.declared.place.Place.TheVariants.{Written}
 use Rattle.pm_progress.specs.declared.place.PlacedCar.{PlacedCar}
 use Rattle.pm_progress.specs.declared.place.InProgress.{InProgress}

@@ -9,9 +9,9 @@ use Rattle.pm_law_graphs.proofs.Lists.{all_both}
 use Rattle.pm_law_layout.specs.Plans.{chain_of, digest_of}
 use Rattle.pm_law_layout.specs.Cutting.{OnePage, cut}
 use Rattle.pm_view.specs.View.{Cars}
-use Rattle.pm_saving.specs.Progress as seen
-use Rattle.pm_saving.specs.Progress.{Progress, catalog_left, catalog_len, catalog_of, draft_entry, image_of, paired, parts_of, roots_of}
-use Rattle.pm_saving.specs.Paging.{CarPage, PartPage, is_unwritten, next_after, next_page, part_before, text_of, unwritten}
+use Rattle.pm_law_saving.specs.saving.Progress as seen
+use Rattle.pm_law_saving.specs.saving.Progress.{Progress, catalog_left, catalog_len, catalog_of, draft_entry, image_of, paired, parts_of, roots_of}
+use Rattle.pm_law_saving.specs.saving.Paging.{CarPage, PartPage, is_unwritten, next_after, next_page, part_before, text_of, unwritten}
 use Rattle.pm_progress.specs.declared.place.PlacedCar.{PlacedCar}
 use Rattle.pm_progress.specs.declared.place.InProgress.{InProgress}
 use Rattle.pm_progress.specs.Seen.{car_seen, progress_seen}

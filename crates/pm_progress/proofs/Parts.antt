@@ -13,12 +13,12 @@ use Rattle.pm_image.specs.declared.catalog.CatEntry.{CatEntry}
 use Rattle.pm_image.specs.declared.catalog.CatalogPage.{CatalogPage}
 use Rattle.pm_image.specs.CatalogPages.{HasCatalogPage, entry_size, has_next_digest, nothing_met}
 use Rattle.pm_law_graphs.proofs.Lists.{all_both}
-use Rattle.pm_saving.specs.Tied.{HasPage}
+use Rattle.pm_law_saving.specs.saving.Tied.{HasPage}
 use Rattle.pm_law_layout.specs.Plans.{car_entry, cars_of_train, chain_of, digest_of, first_of}
 use Rattle.pm_law_layout.specs.Cutting.{OnePage, cut, cut_from, joined, onto_first}
 use Rattle.pm_law_layout.proofs.Sizes.{lengths, lengths_by_sizes, count_by_sizes}
-use Rattle.pm_saving.specs.Progress.{Place, Clean, Unwritten, Written, PlacedCar, Progress, catalog_left, catalog_len, catalog_of, draft_entry, paired, parts_of, planned, roots_of}
-use Rattle.pm_saving.specs.Paging.{PartPage, is_unwritten, part_before}
+use Rattle.pm_law_saving.specs.saving.Progress.{Place, Clean, Unwritten, Written, PlacedCar, Progress, catalog_left, catalog_len, catalog_of, draft_entry, paired, parts_of, planned, roots_of}
+use Rattle.pm_law_saving.specs.saving.Paging.{PartPage, is_unwritten, part_before}
 use Rattle.pm_progress.specs.Kept.{counts_of}
 use Rattle.pm_progress.proofs.Slices.{before_end, last_split, last_none}
 use Rattle.pm_progress.specs.Entries.{entries_in, entry_of}

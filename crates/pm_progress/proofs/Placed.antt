@@ -2,9 +2,9 @@
 use Rattle.std.proofs.Common.{◌≡◌, ℕ, zero, suc, ◌<◌, Bool, true, false, List, [], ◌∷◌, ◌++◌, length, map, take, drop, if◌then◌else◌, Some, None, refl, ap, ◌∙◌, subst, arith}
 use Rattle.std.specs.List.{AllByRecursion, slice_get}
 use Rattle.pm_image.specs.declared.settled.KeptPage.{KeptPage}
-use Rattle.pm_saving.specs.Progress as seen
+use Rattle.pm_law_saving.specs.saving.Progress as seen
 use Rattle.pm_law_graphs.proofs.Lists.{all_front, all_back}
-use Rattle.pm_saving.specs.Paging.{first_unwritten, is_unwritten}
+use Rattle.pm_law_saving.specs.saving.Paging.{first_unwritten, is_unwritten}
 use Rattle.pm_progress.specs.declared.place.Place.{Place}
 use Rattle.pm_progress.specs.declared.place.Place.TheVariants.{Clean, Unwritten, Written}
 use Rattle.pm_progress.specs.declared.place.PlacedCar.{PlacedCar}

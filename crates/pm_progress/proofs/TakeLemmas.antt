@@ -3,8 +3,8 @@ use Rattle.std.proofs.Common.{◌≡◌, ℕ, ◌+◌, ◌<◌, List, [], ◌∷
 use Rattle.std.specs.List.{AllByRecursion, flat_map}
 use Rattle.std.proofs.lemmas.List.{drop_more, take_more}
 use Rattle.pm_image.specs.declared.settled.KeptPage.{KeptPage}
-use Rattle.pm_saving.specs.Progress as seen
-use Rattle.pm_saving.specs.Progress.{page_in}
+use Rattle.pm_law_saving.specs.saving.Progress as seen
+use Rattle.pm_law_saving.specs.saving.Progress.{page_in}
 use Rattle.pm_progress.specs.declared.place.Place.{Place}
 use Rattle.pm_progress.specs.declared.place.Place.TheVariants.{Clean, Unwritten, Written}
 use Rattle.pm_progress.specs.declared.place.PlacedCar.{PlacedCar}

@@ -9,9 +9,9 @@ use Rattle.pm_model.specs.World.{Copy}
 use Rattle.pm_image.specs.Stands.{StandsForCopy}
 use Rattle.pm_shadow.specs.State.{State}
 use Rattle.pm_view.specs.View.{Cars}
-use Rattle.pm_saving.specs.Progress.{Saving}
-use Rattle.pm_saving.specs.Paging.{left_of}
-use Rattle.pm_saving.specs.Tied.{HasCopy, WritesNext}
+use Rattle.pm_law_saving.specs.saving.Progress.{Saving}
+use Rattle.pm_law_saving.specs.saving.Paging.{left_of}
+use Rattle.pm_law_saving.specs.saving.Tied.{HasCopy, WritesNext}
 use Rattle.pm_progress.specs.declared.fault.SaveFault.{SaveFault}
 use Rattle.pm_progress.specs.declared.fault.SaveFault.TheVariants.{Disk, Memory}
 

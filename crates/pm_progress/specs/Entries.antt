@@ -2,7 +2,7 @@
 use Rattle.std.specs.Prelude.{ℕ, List, ◌++◌, map}
 use Rattle.pm_image.specs.declared.catalog.CatEntry.{CatEntry}
 use Rattle.pm_law_layout.specs.Plans.{car_entry}
-use Rattle.pm_saving.specs.Progress.{Place, Clean, Unwritten, Written, PlacedCar, Progress, draft_entry, roots_of}
+use Rattle.pm_law_saving.specs.saving.Progress.{Place, Clean, Unwritten, Written, PlacedCar, Progress, draft_entry, roots_of}
 
 -- the entry of a car, by where it stands
 abbrev pub entry_by : CatEntry → ℕ → Place → CatEntry

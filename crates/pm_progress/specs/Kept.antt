@@ -4,8 +4,8 @@ use Rattle.std.specs.List.{AllByRecursion}
 use Rattle.pm_image.specs.declared.settled.KeptPage.{KeptPage}
 use Rattle.pm_law_layout.specs.Plans.{chain_of, digest_of}
 use Rattle.pm_law_layout.specs.Cutting.{OnePage, cut}
-use Rattle.pm_saving.specs.Progress.{Progress, catalog_left, catalog_of, draft_entry, roots_of}
-use Rattle.pm_saving.specs.Beginning.{AreLast}
+use Rattle.pm_law_saving.specs.saving.Progress.{Progress, catalog_left, catalog_of, draft_entry, roots_of}
+use Rattle.pm_law_saving.specs.saving.Beginning.{AreLast}
 use Rattle.pm_progress.specs.declared.place.Place.{Place}
 use Rattle.pm_progress.specs.declared.place.Place.TheVariants.{Clean, Unwritten, Written}
 use Rattle.pm_progress.specs.declared.place.PlacedCar.{PlacedCar}

@@ -2,8 +2,8 @@
 use Rattle.std.specs.Prelude.{◌≡◌, true, take, length, IfSome}
 use Rattle.std.specs.List.{AllByRecursion, slice_get}
 use Rattle.pm_types.specs.declared.limits.TheConstants.{PAGE_BYTES}
-use Rattle.pm_saving.specs.Progress.{Progress}
-use Rattle.pm_saving.specs.Paging.{NextPage, CarPage, PartPage, text_of}
+use Rattle.pm_law_saving.specs.saving.Progress.{Progress}
+use Rattle.pm_law_saving.specs.saving.Paging.{NextPage, CarPage, PartPage, text_of}
 use Rattle.pm_progress.specs.declared.place.InProgress.{InProgress}
 use Rattle.pm_progress.specs.declared.place.PlacedCar.{PlacedCar}
 use Rattle.pm_progress.specs.declared.next.Next.{Next}

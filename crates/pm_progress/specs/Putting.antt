@@ -6,11 +6,11 @@ use Rattle.pm_image.specs.declared.settled.KeptPage.{KeptPage}
 use Rattle.pm_shadow.specs.Uses.{IsLowestFree}
 use Rattle.pm_shadow.specs.State.{State, with_claimed, with_page}
 use Rattle.pm_shadow.specs.Images.{place_of}
-use Rattle.pm_saving.specs.Progress as seen
-use Rattle.pm_saving.specs.Paging.{clean_page}
+use Rattle.pm_law_saving.specs.saving.Progress as seen
+use Rattle.pm_law_saving.specs.saving.Paging.{clean_page}
 use Rattle.pm_progress.specs.declared.place.PlacedCar.{PlacedCar}
 use Rattle.pm_progress.specs.Seen.{car_seen}
-use Rattle.pm_saving.specs.Tied.{IsOnPage, with_all_kept}
+use Rattle.pm_law_saving.specs.saving.Tied.{IsOnPage, with_all_kept}
 
 -- no publish has failed, the pages of the current copy are known, and the settled cars are on pages of it
 pub record IsReady (s : State) (settled : List KeptPage) : Type 0 where

@@ -2,8 +2,8 @@
 use Rattle.std.specs.Prelude.{List, reverse, map, Option, Some, None}
 use Rattle.std.specs.List.{slice_get}
 use Rattle.pm_image.specs.declared.settled.KeptPage.{KeptPage}
-use Rattle.pm_saving.specs.Progress.{Progress}
-use Rattle.pm_saving.specs.Progress as seen
+use Rattle.pm_law_saving.specs.saving.Progress.{Progress}
+use Rattle.pm_law_saving.specs.saving.Progress as seen
 use Rattle.pm_progress.specs.declared.place.Place.{Place}
 use Rattle.pm_progress.specs.declared.place.Place.TheVariants.{Clean, Unwritten, Written}
 use Rattle.pm_progress.specs.declared.place.PlacedCar.{PlacedCar}

@@ -2,8 +2,8 @@
 use Rattle.std.specs.Prelude.{◌≡◌, ℕ, ◌==◌, false, List, [], ◌∷◌, map}
 use Rattle.std.specs.List.{AllByRecursion, flat_map, slice_get}
 use Rattle.pm_image.specs.declared.settled.KeptPage.{KeptPage}
-use Rattle.pm_saving.specs.Progress as seen
-use Rattle.pm_saving.specs.Progress.{page_in}
+use Rattle.pm_law_saving.specs.saving.Progress as seen
+use Rattle.pm_law_saving.specs.saving.Progress.{page_in}
 use Rattle.pm_progress.specs.Kept.{IsWithin}
 use Rattle.pm_progress.specs.Seen.{car_seen, place_seen}
 use Rattle.pm_progress.specs.declared.place.Place.{Place}

@@ -4,7 +4,7 @@ ghost use Rattle.std.specs.Prelude.{◌≡◌, length, IfOk};
 ghost use Rattle.std.specs.FinSet as set;
 ghost use Rattle.pm_types.specs.declared.limits.TheConstants.{FIELDS, PAGE_BYTES};
 ghost use Rattle.pm_image.specs.CarPages.{HasCarPage, one_car};
-ghost use Rattle.pm_saving.specs.Paging.{car_text};
+ghost use Rattle.pm_law_saving.specs.saving.Paging.{car_text};
 
 use pm_image::write_slots;
 use pm_settled::PackedCar;

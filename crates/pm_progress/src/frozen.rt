@@ -5,8 +5,8 @@ ghost use Rattle.std.specs.FinSet as set;
 ghost use Rattle.pm_types.specs.declared.limits.TheConstants.{FIELDS, PAGE_BYTES};
 ghost use Rattle.pm_view.specs.View.{Cars};
 ghost use Rattle.pm_image.specs.CarPages.{HasCarPage, one_car};
-ghost use Rattle.pm_saving.specs.Paging.{car_text};
-ghost use Rattle.pm_saving.specs.Progress.{image_at};
+ghost use Rattle.pm_law_saving.specs.saving.Paging.{car_text};
+ghost use Rattle.pm_law_saving.specs.saving.Progress.{image_at};
 
 use crate::CarPage;
 use pm_types::NoMemory;

@@ -3,7 +3,7 @@
 ghost use Rattle.std.specs.Prelude.{◌≡◌, ◌+◌, ◌<◌, ℕ, List, [], ◌∷◌, ◌++◌, true, length, Some, vec_capacity, IfOk};
 ghost use Rattle.pm_image.specs.declared.settled.KeptPage.{KeptPage};
 ghost use Rattle.pm_view.specs.View.{Cars};
-ghost use Rattle.pm_saving.specs.Paging.{next_page, with_page, clean_page, newly_kept};
+ghost use Rattle.pm_law_saving.specs.saving.Paging.{next_page, with_page, clean_page, newly_kept};
 ghost use Rattle.pm_progress.specs.Seen.{progress_seen, place_seen};
 ghost use Rattle.pm_progress.specs.Kept.{IsKept, IsWithin};
 ghost use Rattle.pm_progress.specs.Next.{IsFound, Spells, next_seen};
@@ -14,7 +14,7 @@ ghost use Rattle.pm_disk.specs.Disk.{IfTold, LeavesOnly};
 ghost use Rattle.pm_disk.specs.Made.{MadeAtMost, with_write};
 ghost use Rattle.pm_shadow.specs.Images.{Holds};
 ghost use Rattle.pm_shadow.specs.Pages.{state, disk_of};
-ghost use Rattle.pm_saving.specs.Tied.{IsOnPage, with_all_kept};
+ghost use Rattle.pm_law_saving.specs.saving.Tied.{IsOnPage, with_all_kept};
 ghost use Rattle.pm_progress.specs.declared.place.PlacedCar.{PlacedCar};
 ghost use Rattle.pm_progress.specs.Answers.{HasSaveCause, OnMemory, TellsOn};
 ghost use Rattle.pm_progress.specs.Putting.{IsReady, IsWritten, pages_in};

@@ -23,7 +23,8 @@ use Rattle.pm_bound.specs.Sinking.{IsFieldOf, Sunk, Passes, IsLost}
 use Rattle.pm_bound.specs.Bounded.{KeepsRank, KeepsSunk}
 use Rattle.pm_space.specs.declared.parts.Parts.{Parts}
 use Rattle.pm_space.specs.Shown.{view, KeepsRest}
-use Rattle.pm_evac.specs.Steps.{counted, IsEvent, IsChosenEvent, KeepsWorlds, MovesOneAtMost, LowersWork, AnswersByPhase, MovesOn, MakesEvent}
+use Rattle.pm_evac.specs.Changed.{counted}
+use Rattle.pm_evac.specs.Steps.{IsEvent, IsChosenEvent, KeepsWorlds, MovesOneAtMost, LowersWork, AnswersByPhase, MovesOn, MakesEvent}
 
 -- the law says nothing of the count of completed collections
 pub counted_law : (v : SpaceView) → HeapLaw v → HeapLaw (counted v)

@@ -20,7 +20,8 @@ use Rattle.pm_view.specs.Candidates.{queue_of}
 use Rattle.pm_view.specs.Collecting.{applied_front, applied_in}
 use Rattle.pm_view.specs.Events.{Row, nothing, apply, after, has_change, changed_car, to_note, draining_row, row_in, next_row}
 use Rattle.pm_space.specs.Quiet.{IsQuiet}
-use Rattle.pm_evac.specs.Steps.{counted, IsEvent}
+use Rattle.pm_evac.specs.Changed.{counted}
+use Rattle.pm_evac.specs.Steps.{IsEvent}
 
 -- ---- lists
 

@@ -12,7 +12,8 @@ use Rattle.pm_view.specs.Stale.{IsSole, NamesOnly}
 use Rattle.pm_law_phases.proofs.Comes.{IsEmptied}
 use Rattle.pm_law_moves.proofs.MoveRows.{remembered_live}
 use Rattle.pm_law_work.proofs.StaleLooks.{stands_here}
-use Rattle.pm_evac.specs.Steps.{counted, IsEvent}
+use Rattle.pm_evac.specs.Changed.{counted}
+use Rattle.pm_evac.specs.Steps.{IsEvent}
 
 -- nothing is said of how many collections are completed
 counted_sole : (view : SpaceView) (slot : Option ℕ) → IsSole view slot → IsSole (counted view) slot

@@ -26,20 +26,20 @@ use Rattle.pm_saving.specs.Progress.{Saving}
 use Rattle.pm_serving.specs.Serving.{IsServed, Serving, just_opened, opening, world}
 use Rattle.pm_serving.specs.Images as images
 use Rattle.pm_serving.specs.Images.{IsTold}
-use Rattle.pm_events.specs.Engine.{Engine}
-use Rattle.pm_events.specs.Tally.{Tally}
-use Rattle.pm_events.specs.Shown.{KeepsStart, Total, disk_in, opened_disk, serving, tally_in, tally_of}
-use Rattle.pm_events.specs.declared.stop.Stop.{Stop}
-use Rattle.pm_events.specs.declared.stop.Stop.TheVariants.{Memory as StopMemory, Writing as StopWriting, Device as StopDevice}
-use Rattle.pm_events.specs.Causes as causes
-use Rattle.pm_events.specs.Causes.{IsDone, CountsDisk, OnStop}
-use Rattle.pm_serial.specs.Causes.{CountsSink}
+use Rattle.pm_ends.specs.serial.events.Engine.{Engine}
+use Rattle.pm_ends.specs.serial.events.Tally.{Tally}
+use Rattle.pm_ends.specs.serial.events.Shown.{KeepsStart, Total, disk_in, opened_disk, serving, tally_in, tally_of}
+use Rattle.pm_ends.specs.serial.events.declared.stop.Stop.{Stop}
+use Rattle.pm_ends.specs.serial.events.declared.stop.Stop.TheVariants.{Memory as StopMemory, Writing as StopWriting, Device as StopDevice}
+use Rattle.pm_ends.specs.serial.events.Causes as causes
+use Rattle.pm_ends.specs.serial.events.Causes.{IsDone, CountsDisk, OnStop}
+use Rattle.pm_ends.specs.serial.Causes.{CountsSink}
 use Rattle.pm_parts.specs.Asked.{events_asked, requests_asked}
-use Rattle.pm_serial.specs.Running.{AnswersLines}
+use Rattle.pm_ends.specs.serial.Running.{AnswersLines}
 use Rattle.pm_threads.specs.Running.{AnswersClients, LeavesSome}
-use Rattle.pm_events.specs.Running.{IsFresh, RunsOnDisk}
-use Rattle.pm_serial.specs.Writing.{tail_of}
-use Rattle.pm_serial.specs.Ordered.{StopsAmong, course_of}
+use Rattle.pm_ends.specs.serial.events.Running.{IsFresh, RunsOnDisk}
+use Rattle.pm_ends.specs.serial.Writing.{tail_of}
+use Rattle.pm_ends.specs.serial.Ordered.{StopsAmong, course_of}
 use Rattle.pm_ends.specs.declared.ended.Detail.{Detail}
 use Rattle.pm_ends.specs.declared.ended.Alone.{Alone as Ended}
 use Rattle.pm_runs.specs.declared.writes.Writes.{Writes}

@@ -8,9 +8,9 @@ use Rattle.pm_model.specs.Journal.{IsLegal, after}
 use Rattle.pm_model.specs.Text.{text}
 use Rattle.pm_serving.specs.Serving.{opening}
 use Rattle.pm_serving.specs.Images.{IsTold}
-use Rattle.pm_events.specs.Engine.{Engine}
-use Rattle.pm_events.specs.Shown.{disk_in, opened_disk, serving, tally_of}
-use Rattle.pm_serial.specs.Writing.{tail_of}
+use Rattle.pm_ends.specs.serial.events.Engine.{Engine}
+use Rattle.pm_ends.specs.serial.events.Shown.{disk_in, opened_disk, serving, tally_of}
+use Rattle.pm_ends.specs.serial.Writing.{tail_of}
 use Rattle.pm_ends.specs.declared.ended.Alone.{Alone as Ended}
 use Rattle.pm_runs.specs.declared.writes.Writes.{Writes}
 use Rattle.pm_ends.specs.Ends.{stop_in}

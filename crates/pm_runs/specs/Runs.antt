@@ -6,9 +6,9 @@ use Rattle.pm_io.specs.declared.sink.Sink as sink
 use Rattle.pm_model.specs.World.{begin}
 use Rattle.pm_model.specs.Text.{text}
 use Rattle.pm_image.specs.Stands.{StandsForCopy}
-use Rattle.pm_events.specs.Shown.{tally_of}
-use Rattle.pm_serial.specs.Acknowledged.{Acknowledges}
-use Rattle.pm_serial.specs.Writing.{tail_of}
+use Rattle.pm_ends.specs.serial.events.Shown.{tally_of}
+use Rattle.pm_ends.specs.serial.Acknowledged.{Acknowledges}
+use Rattle.pm_ends.specs.serial.Writing.{tail_of}
 use Rattle.pm_script.specs.declared.line.Line.{Line}
 use Rattle.pm_script.specs.Script.{IsScript}
 use Rattle.pm_threads.specs.Running.{LeavesSome}

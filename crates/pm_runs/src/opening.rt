@@ -2,8 +2,8 @@
 ghost use Rattle.std.specs.Prelude.{◌≡◌, IfSome};
 ghost use Rattle.pm_script.specs.Script.{AreLines};
 ghost use Rattle.pm_place.specs.Choosers.{IsChooser};
-ghost use Rattle.pm_events.specs.Shown.{chooser, disk_in, serving};
-ghost use Rattle.pm_events.specs.Running.{IsFresh};
+ghost use Rattle.pm_ends.specs.serial.events.Shown.{chooser, disk_in, serving};
+ghost use Rattle.pm_ends.specs.serial.events.Running.{IsFresh};
 ghost use Rattle.pm_ends.specs.Ends.{status_of, stop_in};
 ghost use Rattle.pm_ends.specs.Journals.{ServesInOrder, ServesLines};
 ghost use Rattle.pm_runs.specs.Wrote.{AcknowledgesFor};
@@ -13,8 +13,7 @@ ghost use Rattle.pm_runs.specs.Engines.{RunsEngine};
 
 use crate::writes::{Writes, write_lines};
 use pm_disk::Disk;
-use pm_ends::{Alone, end_unopened, end_with, ended_by, not_opened};
-use pm_events::Engine;
+use pm_ends::{Alone, Engine, end_unopened, end_with, ended_by, not_opened};
 use pm_io::{Sink, Source};
 use pm_place::Placement;
 use pm_script::Line;

@@ -1,8 +1,8 @@
 //! A run in threads: the source is read, the store is opened, and workers take turns at an engine over its copy.
 ghost use Rattle.std.specs.Prelude.{◌≡◌, List, ℕ, IfSome};
 ghost use Rattle.pm_place.specs.Choosers.{IsChooser};
-ghost use Rattle.pm_events.specs.Shown.{chooser, disk_in, serving, tally_of};
-ghost use Rattle.pm_events.specs.Running.{IsFresh};
+ghost use Rattle.pm_ends.specs.serial.events.Shown.{chooser, disk_in, serving, tally_of};
+ghost use Rattle.pm_ends.specs.serial.events.Running.{IsFresh};
 ghost use Rattle.pm_runs.specs.declared.writes.Writes.TheVariants.{Replies};
 ghost use Rattle.pm_threads.specs.Running.{LeavesSome};
 ghost use Rattle.pm_ends.specs.Ends.{RanShort, status_of};
@@ -12,8 +12,7 @@ ghost use Rattle.pm_runs.specs.Runs.{RunsStore, RunsTogether};
 ghost use Rattle.pm_runs.specs.Engines.{RunsEngine};
 
 use pm_disk::Disk;
-use pm_ends::{Alone, end_unopened, end_with, ended_by, not_opened, read_source};
-use pm_events::Engine;
+use pm_ends::{Alone, Engine, end_unopened, end_with, ended_by, not_opened, read_source};
 use pm_io::{Sink, Source};
 use pm_place::Placement;
 use pm_script::Script;

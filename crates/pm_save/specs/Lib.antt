@@ -3,5 +3,5 @@ pub mod Frozen
 pub mod Thawed
 -- Passed on, so that who saves need not list the crates below.
 pub use Rattle.pm_writer.specs.Settling
-pub use Rattle.pm_progress.specs.Answers
-pub use Rattle.pm_progress.specs.declared.fault.SaveFault
+pub use Rattle.pm_writer.specs.progress.Answers
+pub use Rattle.pm_writer.specs.progress.declared.fault.SaveFault

@@ -7,5 +7,5 @@ mod listed_cars;
 mod roots;
 mod saver;
 
-pub use pm_progress::SaveFault;
+pub use pm_writer::SaveFault;
 pub use saver::Saver;

@@ -8,11 +8,11 @@ ghost use Rattle.pm_space.specs.Shown.{view};
 ghost use Rattle.pm_writer.specs.Planned.{IsIndex, IsPlanned, PlansOn};
 
 use crate::clean::{index_of, place_of};
-use pm_progress::PlacedCar;
 use pm_settled::PackedPage;
 use pm_space::{Parts, is_aside};
 use pm_trains::a_car_is_found_where_it_stands;
 use pm_types::NoMemory;
+use pm_writer::PlacedCar;
 use std::alloc::Global;
 use std::collections::BTreeMap;
 

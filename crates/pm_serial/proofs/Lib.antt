@@ -5,3 +5,5 @@ pub mod Gathering
 pub mod Ordering
 pub mod Acknowledging
 pub mod Stopping
+-- Passed on whole, so that who stands above need not list these crates.
+pub use Rattle.pm_events.proofs as events

@@ -13,4 +13,5 @@ mod telling;
 
 pub use ending::finish_with_last_lines;
 pub use journal::write_journal;
+pub use pm_events::{Engine, Stop, Tally, stop_after};
 pub use run::{answer_lines, run_lines};

@@ -14,11 +14,11 @@ use Rattle.pm_parts.specs.Asked.{events_asked, flushes_asked, requests_asked, st
 use Rattle.pm_parts.specs.Lists.{count_left, list_of}
 use Rattle.pm_saving.specs.Paging.{left_of}
 use Rattle.pm_serving.specs.Serving.{Serving}
-use Rattle.pm_events.specs.declared.stop.Stop.{Stop}
-use Rattle.pm_events.specs.declared.stop.Stop.TheVariants.{Memory}
-use Rattle.pm_events.specs.Causes.{IsDone}
-use Rattle.pm_lock.specs.Kept.{AwaitsClient, HasLeft}
-use Rattle.pm_lock.specs.Whole.{MakesAllOf}
+use Rattle.pm_serial.specs.events.declared.stop.Stop.{Stop}
+use Rattle.pm_serial.specs.events.declared.stop.Stop.TheVariants.{Memory}
+use Rattle.pm_serial.specs.events.Causes.{IsDone}
+use Rattle.pm_workers.specs.Kept.{AwaitsClient, HasLeft}
+use Rattle.pm_workers.specs.Whole.{MakesAllOf}
 use Rattle.pm_threads.specs.Running.{AnswersClients, AwaitsCommand, LeavesSome}
 
 -- where no client has a command left there is none

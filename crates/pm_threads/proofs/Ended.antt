@@ -10,15 +10,15 @@ use Rattle.pm_disk.specs.Disk.{LeavesOnly}
 use Rattle.pm_model.specs.Journal.{IsLegal}
 use Rattle.pm_serving.specs.Serving.{Serving, opening, world}
 use Rattle.pm_serving.specs.Images.{IsOfRun, IsSettledCopy, IsTold}
-use Rattle.pm_events.specs.Engine.{Engine}
-use Rattle.pm_events.specs.Shown.{KeepsStart, disk_in, opened_disk, serving}
-use Rattle.pm_events.specs.declared.stop.Stop.{Stop}
-use Rattle.pm_events.specs.declared.stop.Stop.TheVariants.{Memory, Writing}
-use Rattle.pm_events.specs.Causes.{CountsDisk, IsDone}
-use Rattle.pm_events.specs.Events.{EngineGoesOn}
-use Rattle.pm_events.specs.Running.{IsFresh, RunsOnDisk}
-use Rattle.pm_events.proofs.Going.{goes_ended, goes_first, runs}
-use Rattle.pm_lock.specs.Kept.{HasCauseSince, stop_kept}
+use Rattle.pm_serial.specs.events.Engine.{Engine}
+use Rattle.pm_serial.specs.events.Shown.{KeepsStart, disk_in, opened_disk, serving}
+use Rattle.pm_serial.specs.events.declared.stop.Stop.{Stop}
+use Rattle.pm_serial.specs.events.declared.stop.Stop.TheVariants.{Memory, Writing}
+use Rattle.pm_serial.specs.events.Causes.{CountsDisk, IsDone}
+use Rattle.pm_serial.specs.events.Events.{EngineGoesOn}
+use Rattle.pm_serial.specs.events.Running.{IsFresh, RunsOnDisk}
+use Rattle.pm_serial.proofs.events.Going.{goes_ended, goes_first, runs}
+use Rattle.pm_workers.specs.Kept.{HasCauseSince, stop_kept}
 
 -- the end of a run stops it only where nothing else did
 abbrev Ends : Option Stop → Option Stop → Type 0

@@ -9,9 +9,9 @@ use Rattle.pm_script.specs.declared.line.Line.{Line}
 use Rattle.pm_parts.specs.Asked.{events_asked, flushes_asked, requests_asked, steps_asked}
 use Rattle.pm_saving.specs.Paging.{left_of}
 use Rattle.pm_serving.specs.Serving.{Serving}
-use Rattle.pm_events.specs.declared.stop.Stop.{Stop}
-use Rattle.pm_events.specs.declared.stop.Stop.TheVariants.{Memory}
-use Rattle.pm_events.specs.Causes.{IsDone}
+use Rattle.pm_serial.specs.events.declared.stop.Stop.{Stop}
+use Rattle.pm_serial.specs.events.declared.stop.Stop.TheVariants.{Memory}
+use Rattle.pm_serial.specs.events.Causes.{IsDone}
 
 -- a client's command was not answered; where it is to settle, something of the copy in progress is left to be written
 pub record AwaitsCommand (lines : List Line) (journal : List Entry) (left : ℕ) : Type 0 where

@@ -11,21 +11,21 @@ use Rattle.pm_script.proofs.BadLaws.{no_fault}
 use Rattle.pm_dump.specs.Dump.{Dump as Dumped}
 use Rattle.pm_words.specs.declared.command.Command.{Command}
 use Rattle.pm_words.specs.declared.command.Command.TheVariants.{Init, Run, RunThreads, Inspect, Dump, Restore, Why, Make, Trial}
-use Rattle.pm_ends.specs.declared.ended.Detail.{Detail}
-use Rattle.pm_ends.specs.declared.ended.Detail.TheVariants.{Fine, Usage, Script, Dump as BadDump, Reading, Writing, Device, NotEmpty, Refused, Standby, Ahead, Foreign, OtherDevice, Memory}
-use Rattle.pm_ends.specs.declared.ended.Alone.{Alone as Ended}
-use Rattle.pm_ends.specs.Ends.{ShowsReading, ShowsWriting, ShowsDevice, status_of}
-use Rattle.pm_ends.specs.Stages.{IsPast, the_words}
-use Rattle.pm_ends.specs.Journals.{IsScriptEnd}
-use Rattle.pm_ends.specs.Disks.{IsRefusedFor}
+use Rattle.pm_runs.specs.ends.declared.ended.Detail.{Detail}
+use Rattle.pm_runs.specs.ends.declared.ended.Detail.TheVariants.{Fine, Usage, Script, Dump as BadDump, Reading, Writing, Device, NotEmpty, Refused, Standby, Ahead, Foreign, OtherDevice, Memory}
+use Rattle.pm_runs.specs.ends.declared.ended.Alone.{Alone as Ended}
+use Rattle.pm_runs.specs.ends.Ends.{ShowsReading, ShowsWriting, ShowsDevice, status_of}
+use Rattle.pm_runs.specs.ends.Stages.{IsPast, the_words}
+use Rattle.pm_runs.specs.ends.Journals.{IsScriptEnd}
+use Rattle.pm_runs.specs.ends.Disks.{IsRefusedFor}
 use Rattle.pm_top.specs.Stores.{LeavesMade, LeavesRestored}
 use Rattle.pm_top.specs.Dumps.{HoldsDump, RefusesBytes}
 use Rattle.pm_runs.specs.declared.writes.Writes.TheVariants.{Replies}
-use Rattle.pm_ends.specs.Causes.{ShowsCauses}
+use Rattle.pm_runs.specs.ends.Causes.{ShowsCauses}
 use Rattle.pm_top.specs.Commands.{EndsTelling, EndsMaking, EndsRestoring, EndsTrying, Does}
 use Rattle.pm_runs.specs.Runs.{RunsStore}
 use Rattle.pm_top.specs.Needs.{HasNeeds, HoldsScript, HoldsStore, NothingFails}
-use Rattle.pm_ends.proofs.Opened.{never_shut}
+use Rattle.pm_runs.proofs.ends.Opened.{never_shut}
 use Rattle.pm_top.proofs.Restored.{no_dump_fault}
 
 abbrev pub IsComplete : Detail → Type 0

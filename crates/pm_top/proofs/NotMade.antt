@@ -7,10 +7,10 @@ use Rattle.pm_disk.specs.Disk.{IfTold, SameImages}
 use Rattle.pm_io.specs.declared.source.Source as source
 use Rattle.pm_io.specs.declared.sink.Sink as sink
 use Rattle.pm_shadow.specs.Init.{IsInitFault, IsInitFaultOf, UnlessFailed, KeepsBytes}
-use Rattle.pm_ends.specs.declared.ended.Alone.{Alone as Ended}
-use Rattle.pm_ends.specs.Ends.{not_made}
-use Rattle.pm_ends.specs.Causes.{ShowsCauses}
-use Rattle.pm_ends.proofs.Parts.{with_parts}
+use Rattle.pm_runs.specs.ends.declared.ended.Alone.{Alone as Ended}
+use Rattle.pm_runs.specs.ends.Ends.{not_made}
+use Rattle.pm_runs.specs.ends.Causes.{ShowsCauses}
+use Rattle.pm_runs.proofs.ends.Parts.{with_parts}
 use Rattle.pm_top.specs.Stores.{LeavesMade}
 
 pub none_made : {D : Type 0} (d : disk.Ghosts D) (before after : ℕ) (start end : D) (fault : InitFault)

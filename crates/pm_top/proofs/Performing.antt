@@ -13,21 +13,21 @@ use Rattle.pm_make.specs.Made.{made_text}
 use Rattle.pm_tell.specs.Told.{Telling, Reports, Dumps, GivesPath}
 use Rattle.pm_words.specs.declared.command.Command.{Command}
 use Rattle.pm_words.specs.declared.command.Command.TheVariants.{Init, Run, RunThreads, Inspect, Dump, Restore, Why, Make, Trial}
-use Rattle.pm_ends.specs.declared.ended.Detail.{Detail}
-use Rattle.pm_ends.specs.declared.ended.Detail.TheVariants.{Fine, Usage, Script, Dump as BadDump, Reading, Writing, Device, NotEmpty, Refused, Standby, Ahead, Foreign, OtherDevice, Memory}
-use Rattle.pm_ends.specs.declared.ended.Alone.{Alone as Ended}
+use Rattle.pm_runs.specs.ends.declared.ended.Detail.{Detail}
+use Rattle.pm_runs.specs.ends.declared.ended.Detail.TheVariants.{Fine, Usage, Script, Dump as BadDump, Reading, Writing, Device, NotEmpty, Refused, Standby, Ahead, Foreign, OtherDevice, Memory}
+use Rattle.pm_runs.specs.ends.declared.ended.Alone.{Alone as Ended}
 use Rattle.pm_runs.specs.declared.writes.Writes.{Writes}
 use Rattle.pm_runs.specs.declared.writes.Writes.TheVariants.{Replies, Digest}
-use Rattle.pm_ends.specs.Stages.{IsPast, unreached, the_words, the_script}
-use Rattle.pm_ends.specs.Journals.{IsScriptEnd, KeepsOrder, ReadsScript}
-use Rattle.pm_ends.specs.Wrote.{WroteText}
-use Rattle.pm_ends.specs.Causes.{ShowsCauses}
+use Rattle.pm_runs.specs.ends.Stages.{IsPast, unreached, the_words, the_script}
+use Rattle.pm_runs.specs.ends.Journals.{IsScriptEnd, KeepsOrder, ReadsScript}
+use Rattle.pm_runs.specs.ends.Wrote.{WroteText}
+use Rattle.pm_runs.specs.ends.Causes.{ShowsCauses}
 use Rattle.pm_runs.specs.Runs.{RunsStore}
 use Rattle.pm_top.specs.Commands.{EndsTrying, TriesScript, TellsStore, Does}
-use Rattle.pm_ends.proofs.Parts.{with_parts}
-use Rattle.pm_ends.proofs.Opened.{uncalled_run}
+use Rattle.pm_runs.proofs.ends.Parts.{with_parts}
+use Rattle.pm_runs.proofs.ends.Opened.{uncalled_run}
 use Rattle.pm_runs.proofs.Stores.{store_unrun}
-use Rattle.pm_ends.proofs.Scripts.{script_unknown, unordered, unserved}
+use Rattle.pm_runs.proofs.ends.Scripts.{script_unknown, unordered, unserved}
 
 module _ {K : Type 0} (k : sink.Ghosts K) where
   -- no text was written

@@ -30,15 +30,15 @@ use Rattle.pm_dump.specs.Sound.{IsSoundDump}
 use Rattle.pm_dump.specs.Answers.{IsDumpFault}
 use Rattle.pm_dump.proofs.DumpLaws.{not_both, one_fault}
 use Rattle.pm_restore.specs.Restored.{IsRestored, LeavesEither, LeavesEmpty}
-use Rattle.pm_ends.specs.declared.ended.Detail.{Detail}
-use Rattle.pm_ends.specs.declared.ended.Detail.TheVariants.{Fine, Usage, Script, Dump as BadDump, Reading, Writing, Device, NotEmpty, Refused, Standby, Ahead, Foreign, OtherDevice, Memory}
-use Rattle.pm_ends.specs.declared.ended.Alone.{Alone as Ended}
-use Rattle.pm_ends.specs.Ends.{IsOfScript, ShowsDevice, ShowsReading, no_dump, not_made, not_settled}
+use Rattle.pm_runs.specs.ends.declared.ended.Detail.{Detail}
+use Rattle.pm_runs.specs.ends.declared.ended.Detail.TheVariants.{Fine, Usage, Script, Dump as BadDump, Reading, Writing, Device, NotEmpty, Refused, Standby, Ahead, Foreign, OtherDevice, Memory}
+use Rattle.pm_runs.specs.ends.declared.ended.Alone.{Alone as Ended}
+use Rattle.pm_runs.specs.ends.Ends.{IsOfScript, ShowsDevice, ShowsReading, no_dump, not_made, not_settled}
 use Rattle.pm_top.specs.Stores.{LeavesMade, LeavesRestored, LeavesSettled}
 use Rattle.pm_top.specs.Dumps.{EndsSettling, EndsUnrestored, HasDump, IsDumpEnd, IsReadWhole, RefusesBytes}
 use Rattle.pm_top.specs.Commands.{EndsRestoring, RestoresStore}
-use Rattle.pm_ends.specs.Causes.{ShowsCauses}
-use Rattle.pm_ends.proofs.Parts.{with_parts}
+use Rattle.pm_runs.specs.ends.Causes.{ShowsCauses}
+use Rattle.pm_runs.proofs.ends.Parts.{with_parts}
 
 -- ---- what is read
 

@@ -14,14 +14,14 @@ use Rattle.pm_ship.specs.declared.fault.ShipFault.{ShipFault}
 use Rattle.pm_ship.specs.declared.fault.ShipFault.TheVariants as fault
 use Rattle.pm_ship.specs.Offers.{AreSame, offer_in}
 use Rattle.pm_ship.specs.Disks.{IsFaultBetween, ShipsDisks, StandsFor, number_in}
-use Rattle.pm_ends.specs.declared.ended.Detail.{Detail}
-use Rattle.pm_ends.specs.declared.ended.Detail.TheVariants.{Fine, Usage, Script, Dump as BadDump, Reading, Writing, Device, NotEmpty, Refused, Standby, Ahead, Foreign, OtherDevice, Memory}
-use Rattle.pm_ends.specs.declared.ended.Alone.{Alone}
-use Rattle.pm_ends.specs.declared.ended.Ended.{Ended}
-use Rattle.pm_ends.specs.Alone.{alone}
-use Rattle.pm_ends.specs.Ends.{ShowsDevice, ShowsOther, ShowsWriting, not_shipped, shipped_line}
-use Rattle.pm_ends.specs.Wrote.{IsWriting, WroteText}
-use Rattle.pm_ends.specs.Causes.{ShowsCauses}
+use Rattle.pm_runs.specs.ends.declared.ended.Detail.{Detail}
+use Rattle.pm_runs.specs.ends.declared.ended.Detail.TheVariants.{Fine, Usage, Script, Dump as BadDump, Reading, Writing, Device, NotEmpty, Refused, Standby, Ahead, Foreign, OtherDevice, Memory}
+use Rattle.pm_runs.specs.ends.declared.ended.Alone.{Alone}
+use Rattle.pm_runs.specs.ends.declared.ended.Ended.{Ended}
+use Rattle.pm_runs.specs.ends.Alone.{alone}
+use Rattle.pm_runs.specs.ends.Ends.{ShowsDevice, ShowsOther, ShowsWriting, not_shipped, shipped_line}
+use Rattle.pm_runs.specs.ends.Wrote.{IsWriting, WroteText}
+use Rattle.pm_runs.specs.ends.Causes.{ShowsCauses}
 use Rattle.pm_top.specs.Needs.{NothingFails}
 use Rattle.pm_top.specs.Ships.{MayShip, ShipsStore}
 use Rattle.pm_top.proofs.Complete.{IsComplete, rises}

@@ -13,16 +13,16 @@ use Rattle.pm_script.specs.declared.fault.ScriptFault.TheVariants.{TooLong}
 use Rattle.pm_types.specs.declared.limits.TheConstants.{MOST_TURNS}
 use Rattle.pm_words.specs.declared.command.Command.{Command}
 use Rattle.pm_words.specs.declared.command.Command.TheVariants.{Init, Run, RunThreads, Inspect, Dump, Restore, Why, Make, Trial}
-use Rattle.pm_ends.specs.declared.ended.Detail.{Detail}
-use Rattle.pm_ends.specs.declared.ended.Detail.TheVariants.{Fine, Script, Dump as BadDump, Reading, Writing, Device}
-use Rattle.pm_ends.specs.declared.ended.Detail.TheVariants.{NotEmpty, Refused, Memory}
-use Rattle.pm_ends.specs.declared.ended.Alone.{Alone as Ended}
+use Rattle.pm_runs.specs.ends.declared.ended.Detail.{Detail}
+use Rattle.pm_runs.specs.ends.declared.ended.Detail.TheVariants.{Fine, Script, Dump as BadDump, Reading, Writing, Device}
+use Rattle.pm_runs.specs.ends.declared.ended.Detail.TheVariants.{NotEmpty, Refused, Memory}
+use Rattle.pm_runs.specs.ends.declared.ended.Alone.{Alone as Ended}
 use Rattle.pm_runs.specs.declared.writes.Writes.TheVariants.{Digest}
-use Rattle.pm_ends.specs.Journals.{KeepsOrder, ReadsScript}
-use Rattle.pm_ends.specs.Disks.{IsRefusedFor}
+use Rattle.pm_runs.specs.ends.Journals.{KeepsOrder, ReadsScript}
+use Rattle.pm_runs.specs.ends.Disks.{IsRefusedFor}
 use Rattle.pm_top.specs.Stores.{LeavesMade, LeavesRestored}
 use Rattle.pm_top.specs.Dumps.{HasDump, ReadsDump}
-use Rattle.pm_ends.specs.Wrote.{IsWriting, WroteText}
+use Rattle.pm_runs.specs.ends.Wrote.{IsWriting, WroteText}
 use Rattle.pm_runs.specs.Runs.{RunsStore, RunsScript, RunsTogether}
 
 -- All is as it was.

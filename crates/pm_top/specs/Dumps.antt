@@ -7,9 +7,9 @@ use Rattle.pm_dump.specs.Dump.{Dump}
 use Rattle.pm_dump.specs.Spelled.{Spells}
 use Rattle.pm_dump.specs.Sound.{IsSoundDump}
 use Rattle.pm_dump.specs.Answers.{IsDumpFault}
-use Rattle.pm_ends.specs.declared.ended.Detail.{Detail}
-use Rattle.pm_ends.specs.declared.ended.Detail.TheVariants.{Fine, Script, Dump as BadDump, Reading, Device, NotEmpty, Memory}
-use Rattle.pm_ends.specs.Ends.{IsOfDump}
+use Rattle.pm_runs.specs.ends.declared.ended.Detail.{Detail}
+use Rattle.pm_runs.specs.ends.declared.ended.Detail.TheVariants.{Fine, Script, Dump as BadDump, Reading, Device, NotEmpty, Memory}
+use Rattle.pm_runs.specs.ends.Ends.{IsOfDump}
 
 -- a dump was read, and the disk was called
 abbrev pub HasDump : Detail → Type 0

@@ -7,12 +7,12 @@ use Rattle.pm_io.specs.declared.sink.Sink as sink
 use Rattle.pm_output.specs.Writing.{PutsAll, PutsPart}
 use Rattle.pm_words.specs.declared.command.Command.{Command}
 use Rattle.pm_words.specs.Words.{AreShip, SpellsAlone, SpellsNothing}
-use Rattle.pm_ends.specs.declared.ended.Detail.{Detail}
-use Rattle.pm_ends.specs.declared.ended.Detail.TheVariants.{Usage, Memory}
-use Rattle.pm_ends.specs.declared.ended.Ended.{Ended}
-use Rattle.pm_ends.specs.Alone.{alone}
-use Rattle.pm_ends.specs.Ends.{ShowsOther, status_of, detail_line}
-use Rattle.pm_ends.specs.Causes.{ShowsCauses}
+use Rattle.pm_runs.specs.ends.declared.ended.Detail.{Detail}
+use Rattle.pm_runs.specs.ends.declared.ended.Detail.TheVariants.{Usage, Memory}
+use Rattle.pm_runs.specs.ends.declared.ended.Ended.{Ended}
+use Rattle.pm_runs.specs.ends.Alone.{alone}
+use Rattle.pm_runs.specs.ends.Ends.{ShowsOther, status_of, detail_line}
+use Rattle.pm_runs.specs.ends.Causes.{ShowsCauses}
 use Rattle.pm_top.specs.Commands.{IsUntouched, Does}
 use Rattle.pm_top.specs.Needs.{HasNeeds, NothingFails}
 use Rattle.pm_top.specs.Ships.{MayShip, ShipsStore}

@@ -9,8 +9,8 @@ use Rattle.pm_image.specs.Blank.{blank_store}
 use Rattle.pm_shadow.specs.Init.{KeepsBytes}
 use Rattle.pm_dump.specs.Dump.{Dump}
 use Rattle.pm_restore.specs.Restored.{copy_in_dump, restored_in}
-use Rattle.pm_ends.specs.declared.ended.Detail.{Detail}
-use Rattle.pm_ends.specs.declared.ended.Detail.TheVariants.{Fine, Device, NotEmpty, Memory}
+use Rattle.pm_runs.specs.ends.declared.ended.Detail.{Detail}
+use Rattle.pm_runs.specs.ends.declared.ended.Detail.TheVariants.{Fine, Device, NotEmpty, Memory}
 
 module _ {D : Type 0} (d : disk.Ghosts D) where
   -- How making a store leaves the disk, by how it ended.

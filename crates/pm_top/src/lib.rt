@@ -15,6 +15,6 @@ mod telling;
 mod top;
 
 pub use laws::{a_run_stays_closed, ends_lie_between_stages};
-pub use pm_ends::{Alone, Detail, Ended, detail_text};
+pub use pm_runs::{Alone, Detail, Ended, detail_text};
 pub use shell::{program, tell};
 pub use top::pmos;

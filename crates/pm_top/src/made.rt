@@ -3,16 +3,15 @@ ghost use Rattle.std.specs.Prelude.{◌≡◌, ◌≤◌, IfOk};
 ghost use Rattle.pm_place.specs.Choosers.{IsChooser};
 ghost use Rattle.pm_script.specs.Script.{IsScript};
 ghost use Rattle.pm_make.specs.Made.{made_lines, made_text};
-ghost use Rattle.pm_ends.specs.Ends.{status_of};
-ghost use Rattle.pm_ends.specs.Causes.{ShowsCauses};
+ghost use Rattle.pm_runs.specs.ends.Ends.{status_of};
+ghost use Rattle.pm_runs.specs.ends.Causes.{ShowsCauses};
 ghost use Rattle.pm_top.specs.Commands.{MakesScript, TriesScript};
 
 use pm_disk::Disk;
-use pm_ends::{Alone, Detail, end_unopened, write_text};
 use pm_io::{Sink, Source};
 use pm_make::{a_seed_gives_a_script, make};
 use pm_place::Placement;
-use pm_runs::{Writes, run_bytes};
+use pm_runs::{Alone, Detail, Writes, end_unopened, run_bytes, write_text};
 use pm_types::{MOST_TURNS, NoMemory};
 use std::alloc::Global;
 

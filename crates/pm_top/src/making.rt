@@ -1,12 +1,12 @@
 //! Making a store.
 ghost use Rattle.std.specs.Prelude.{◌≡◌};
-ghost use Rattle.pm_ends.specs.Ends.{status_of, not_made};
-ghost use Rattle.pm_ends.specs.Causes.{ShowsCauses};
+ghost use Rattle.pm_runs.specs.ends.Ends.{status_of, not_made};
+ghost use Rattle.pm_runs.specs.ends.Causes.{ShowsCauses};
 ghost use Rattle.pm_top.specs.Commands.{MakesStore};
 
 use pm_disk::Disk;
-use pm_ends::{Alone, Detail, end_unopened};
 use pm_io::{Sink, Source};
+use pm_runs::{Alone, Detail, end_unopened};
 use pm_shadow::init;
 use pm_types::InitFault;
 use std::alloc::Global;

@@ -1,14 +1,14 @@
 //! The program, down to its status and to standard error.
 ghost use Rattle.std.specs.Prelude.{map};
 ghost use Rattle.pm_place.specs.Choosers.{IsChooser};
-ghost use Rattle.pm_ends.specs.Ends.{detail_line};
+ghost use Rattle.pm_runs.specs.ends.Ends.{detail_line};
 ghost use Rattle.pm_top.specs.Program.{Tells, Performs};
 
 use crate::pmos;
 use pm_disk::Disk;
-use pm_ends::{Detail, Ended, line_of};
 use pm_io::{Sink, Source};
 use pm_place::Placement;
+use pm_runs::{Detail, Ended, line_of};
 use pm_turns::Gate;
 use std::sync::Wait;
 use std::thread::Threads;

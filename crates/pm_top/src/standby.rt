@@ -1,14 +1,14 @@
 //! A standby: the store of the other disk is brought to the last settled copy of that of the first.
 ghost use Rattle.std.specs.Prelude.{◌≡◌, MatchResult};
-ghost use Rattle.pm_ends.specs.Alone.{alone};
-ghost use Rattle.pm_ends.specs.Causes.{ShowsCauses};
-ghost use Rattle.pm_ends.specs.Ends.{ShowsOther, ShowsWriting, not_shipped, shipped_line, status_of};
+ghost use Rattle.pm_runs.specs.ends.Alone.{alone};
+ghost use Rattle.pm_runs.specs.ends.Causes.{ShowsCauses};
+ghost use Rattle.pm_runs.specs.ends.Ends.{ShowsOther, ShowsWriting, not_shipped, shipped_line, status_of};
 ghost use Rattle.pm_top.specs.Ships.{ShipsStore};
-ghost use Rattle.pm_ends.specs.Wrote.{IsWriting, WroteText};
+ghost use Rattle.pm_runs.specs.ends.Wrote.{IsWriting, WroteText};
 
 use pm_disk::Disk;
-use pm_ends::{Detail, Ended, end_unopened, shipped_line, write_text};
 use pm_io::{Sink, Source};
+use pm_runs::{Detail, Ended, end_unopened, shipped_line, write_text};
 use pm_ship::{ShipEnd, ShipFault, Shipped, ship_disks};
 use std::alloc::Global;
 

@@ -6,7 +6,7 @@ use Rattle.sha2.specs.Sha256.{sha256}
 use Rattle.pm_base.specs.Counts.{Rose}
 use Rattle.pm_output.specs.Writing.{GoesOn, PutsAll, PutsPart}
 use Rattle.pm_output.proofs.Gathering.{part_behind, part_longer}
-use Rattle.pm_events.specs.declared.stop.Stop.TheVariants.{Writing}
+use Rattle.pm_serial.specs.events.declared.stop.Stop.TheVariants.{Writing}
 use Rattle.pm_trial.specs.Digested.{DigestState}
 use Rattle.pm_trial.specs.Trials.{WroteTrial, digest_line}
 

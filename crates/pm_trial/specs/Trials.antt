@@ -3,9 +3,9 @@ use Rattle.std.specs.Prelude.{◌≡◌, ℕ, codes, List, ◌++◌, Option, Som
 use Rattle.hex.specs.Hex.{encode_lower}
 use Rattle.sha2.specs.Sha256.{sha256}
 use Rattle.pm_output.specs.Writing.{PutsAll, PutsPart}
-use Rattle.pm_events.specs.declared.stop.Stop.{Stop}
+use Rattle.pm_serial.specs.events.declared.stop.Stop.{Stop}
 use Rattle.pm_serial.specs.Causes.{CountsSink, IsElsewhere}
-use Rattle.pm_events.specs.Causes.{IsDone}
+use Rattle.pm_serial.specs.events.Causes.{IsDone}
 use Rattle.pm_serial.specs.Stepping.{IsOfSink}
 
 -- `digest H`: a digest, in lower-case hexadecimal digits

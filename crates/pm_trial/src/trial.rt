@@ -7,21 +7,20 @@ ghost use Rattle.pm_model.specs.Text.{text};
 ghost use Rattle.pm_script.specs.Script.{AreLines};
 ghost use Rattle.pm_output.specs.Gathered.{gathered};
 ghost use Rattle.pm_output.specs.Writing.{PutsAll, PutsPart};
-ghost use Rattle.pm_events.specs.Shown.{KeepsStart, chooser, serving, tally_in};
-ghost use Rattle.pm_events.specs.Causes.{why};
+ghost use Rattle.pm_serial.specs.events.Shown.{KeepsStart, chooser, serving, tally_in};
+ghost use Rattle.pm_serial.specs.events.Causes.{why};
 ghost use Rattle.pm_serial.specs.Running.{AnswersLines};
-ghost use Rattle.pm_events.specs.Running.{IsFresh, RunsOnDisk};
+ghost use Rattle.pm_serial.specs.events.Running.{IsFresh, RunsOnDisk};
 ghost use Rattle.pm_serial.specs.Writing.{tail_of};
 ghost use Rattle.pm_trial.specs.Trials.{WroteTrial, shown_digest};
 
 use crate::digest_sink::DigestSink;
 use crate::line::digest_line;
 use pm_disk::Disk;
-use pm_events::{Engine, Stop};
 use pm_io::{Failed, Sink};
 use pm_output::Output;
 use pm_script::Line;
-use pm_serial::{answer_lines, finish_with_last_lines};
+use pm_serial::{Engine, Stop, answer_lines, finish_with_last_lines};
 use std::alloc::Global;
 
 // Puts the line of a digest, and behind it the lines of what the engine came to, and finishes the sink.

@@ -40,7 +40,7 @@ fn push_step(alloc: Global, step: &str, text: &str, out: &mut String) -> Result<
 }
 
 /// Takes a line of the input, and adds what it gives. A line that begins with `#`, and one that is empty, say nothing.
-pub(crate) fn take(alloc: Global, line: &str, out: &mut String) -> Result<(), Fault> {
+pub fn take(alloc: Global, line: &str, out: &mut String) -> Result<(), Fault> {
     if is_silent(line) {
         return Ok(());
     }

@@ -9,3 +9,5 @@ mod RunLemmas
 mod GateLemmas
 mod OnceLemmas
 mod SettleLemmas
+-- Passed on whole, so that who stands above need not list these crates.
+pub use Rattle.pm_progress.proofs as progress

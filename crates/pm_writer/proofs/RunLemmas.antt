@@ -21,15 +21,15 @@ use Rattle.pm_shadow.proofs.SlotLemmas.{count_le}
 use Rattle.pm_view.specs.View.{Cars}
 use Rattle.pm_law_graphs.specs.Apart.{AreApart, times}
 use Rattle.pm_law_graphs.proofs.Sets.{times_append}
-use Rattle.pm_law_saving.proofs.Members.{is_member, only_member}
-use Rattle.pm_law_saving.proofs.Keeping.{all_kept_in, all_kept_other, free_keeps, same_or_not, use_here, use_other}
-use Rattle.pm_law_saving.proofs.Written.{clean_on}
+use Rattle.pm_progress.proofs.law_saving.Members.{is_member, only_member}
+use Rattle.pm_progress.proofs.law_saving.Keeping.{all_kept_in, all_kept_other, free_keeps, same_or_not, use_here, use_other}
+use Rattle.pm_progress.proofs.law_saving.Written.{clean_on}
 use Rattle.pm_saving.specs.Progress.{Progress, Saving, cars_or_none}
 use Rattle.pm_saving.specs.Paging.{NextPage, clean_pages, left, left_of, newly_kept, next_page, put_next, put_on, text_of, with_next, written_on}
 use Rattle.pm_saving.specs.Paging as paging
 use Rattle.pm_saving.specs.Beginning.{IsInProgress}
 use Rattle.pm_saving.specs.Tied.{GoesOn, HasCopy, IsTied, WritesNext, with_all_kept}
-use Rattle.pm_law_saving.proofs.Next.{next_goes}
+use Rattle.pm_progress.proofs.law_saving.Next.{next_goes}
 use Rattle.pm_writer.proofs.FlushLemmas.{begun_from}
 use Rattle.pm_progress.specs.declared.fault.SaveFault.{SaveFault}
 use Rattle.pm_progress.specs.declared.fault.SaveFault.TheVariants.{Disk, Memory}

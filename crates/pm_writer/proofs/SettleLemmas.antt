@@ -24,11 +24,11 @@ use Rattle.pm_saving.specs.Progress.{Progress, Saving, car_pages, cars_or_none, 
 use Rattle.pm_saving.specs.Paging.{header_of, left, left_of, put_on, written_on}
 use Rattle.pm_saving.specs.Beginning.{IsInProgress}
 use Rattle.pm_saving.specs.Tied.{ChangesOnly, HasCopy, IsBegun, IsTied, IsWhole, Settles, settled_on}
-use Rattle.pm_law_saving.proofs.Giving.{gate_closed}
-use Rattle.pm_law_saving.proofs.Members.{of_member}
+use Rattle.pm_progress.proofs.law_saving.Giving.{gate_closed}
+use Rattle.pm_progress.proofs.law_saving.Members.{of_member}
 use Rattle.pm_shadow.specs.declared.page_use.PageUse.TheVariants.{Free}
-use Rattle.pm_law_saving.proofs.Whole.{copy_header, copy_whole}
-use Rattle.pm_law_saving.proofs.Publishing.{copy_held, copy_next, copy_renewed, copy_settled, copy_still}
+use Rattle.pm_progress.proofs.law_saving.Whole.{copy_header, copy_whole}
+use Rattle.pm_progress.proofs.law_saving.Publishing.{copy_held, copy_next, copy_renewed, copy_settled, copy_still}
 use Rattle.pm_progress.specs.declared.place.InProgress.{InProgress}
 use Rattle.pm_progress.specs.Seen.{progress_seen}
 use Rattle.pm_progress.specs.Kept.{AreKept, IsKept, IsPlaced}

@@ -7,8 +7,7 @@ ghost use Rattle.pm_progress.specs.Kept.{IsKept, IsWithin};
 ghost use Rattle.pm_writer.specs.Planned.{IsStarted};
 
 use crate::Writer;
-use pm_law_saving::a_listed_copy_begins_beside_the_settled_one;
-use pm_progress::{Counter, InProgress, PlacedCar};
+use pm_progress::{Counter, InProgress, PlacedCar, a_listed_copy_begins_beside_the_settled_one};
 use pm_types::{Addr, Name, NoMemory};
 use std::alloc::Global;
 

@@ -2,7 +2,7 @@
 
 use crate::Writer;
 use pm_disk::Disk;
-use pm_law_saving::a_copy_is_given_up;
+use pm_progress::a_copy_is_given_up;
 use pm_shadow::{Pages, the_next_copy_grows_beside_the_current_one};
 
 impl Writer {

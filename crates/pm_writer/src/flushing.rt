@@ -14,11 +14,11 @@ ghost use Rattle.pm_writer.specs.Steps.{IsStep};
 
 use crate::Writer;
 use pm_disk::Disk;
-use pm_law_saving::{
-    a_published_copy_is_the_settled_one, pages_of_a_copy_are_written_in_order,
+use pm_progress::{
+    Frozen, InProgress, SaveFault, a_published_copy_is_the_settled_one, find_next, note_written,
+    pages_of_a_copy_are_written_in_order, put_page, ready_next,
     the_next_page_is_written_beside_the_current_copy,
 };
-use pm_progress::{Frozen, InProgress, SaveFault, find_next, note_written, put_page, ready_next};
 use pm_settled::PackedPage;
 use pm_shadow::Pages;
 use pm_types::Flushed;

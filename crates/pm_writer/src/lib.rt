@@ -7,4 +7,8 @@ mod flushing;
 mod settling;
 mod writer;
 
+pub use pm_progress::{
+    CarPage, Frozen, Place, PlacedCar, SaveFault, a_copy_begins_beside_the_settled_one,
+    a_published_copy_is_the_settled_one, spell,
+};
 pub use writer::Writer;

@@ -8,7 +8,7 @@ use Rattle.pm_view.specs.Rows.{with_open_train}
 use Rattle.pm_space.specs.Linked.{Linked, sets_of, HasRoomFor}
 use Rattle.pm_space.specs.Shown.{view}
 use Rattle.pm_space.proofs.OpenedCars.{same_view}
-use Rattle.pm_commands.specs.Births.{IsOpenedFor}
+use Rattle.pm_births.specs.Births.{IsOpenedFor}
 use Rattle.pm_commands.proofs.RegisterRoom.{register_leads, room_stays}
 use Rattle.pm_commands.proofs.Born.{same_registers, is_vacant, born_seen}
 use Rattle.pm_commands.proofs.birth.hold_new.Goals as goal

@@ -4,9 +4,9 @@ use Rattle.pm_view.specs.Events.{select}
 use Rattle.pm_law_phases.proofs.Comes.{comes_where}
 use Rattle.pm_law_phases.proofs.PhaseRows.{oldest_has}
 use Rattle.pm_space.specs.Shown.{view}
-use Rattle.pm_evac.specs.Steps.{counted}
+use Rattle.pm_relocate.specs.Changed.{counted}
 use Rattle.pm_evac.proofs.Chosen.{made}
-use Rattle.pm_evac.proofs.Views.{is_counted}
+use Rattle.pm_relocate.proofs.Views.{is_counted}
 use Rattle.pm_evac.proofs.first_rows.select_at.Goals as goal
 
 pub select_train-requires : goal.select_train-requires

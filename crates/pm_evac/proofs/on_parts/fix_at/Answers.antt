@@ -3,10 +3,10 @@ use Rattle.pm_types.specs.declared.event.Step.TheVariants.{Fixed}
 use Rattle.pm_view.specs.Events.{fix}
 use Rattle.pm_law_phases.proofs.Comes.{comes_where}
 use Rattle.pm_space.specs.Shown.{view}
-use Rattle.pm_evac.specs.Steps.{counted}
+use Rattle.pm_relocate.specs.Changed.{counted}
 use Rattle.pm_evac.proofs.Chosen.{made}
 use Rattle.pm_evac.proofs.Lawful.{remembered_there, remembers, stale_held, emptied_kept}
-use Rattle.pm_evac.proofs.Views.{is_counted}
+use Rattle.pm_relocate.proofs.Views.{is_counted}
 use Rattle.pm_evac.proofs.on_parts.fix_at.Goals as goal
 
 pub fix-requires-clause-there : goal.fix-requires-clause-there

@@ -8,7 +8,7 @@ use Rattle.pm_law_rows.proofs.OpenTrain.{first_home}
 use Rattle.pm_law_phases.proofs.Comes.{comes_where}
 use Rattle.pm_law_phases.proofs.Fronts.{first_cars}
 use Rattle.pm_space.specs.Shown.{view}
-use Rattle.pm_evac.specs.Steps.{freed}
+use Rattle.pm_relocate.specs.Changed.{freed}
 use Rattle.pm_evac.proofs.Chosen.{made}
 use Rattle.pm_evac.proofs.Lawful.{car_stands}
 use Rattle.pm_evac.proofs.on_parts.free_doomed_at.Goals as goal

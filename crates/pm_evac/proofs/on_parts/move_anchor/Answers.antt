@@ -6,7 +6,7 @@ use Rattle.pm_space.specs.Shown.{view}
 use Rattle.pm_space.proofs.OpenedCars.{lowest_vacant}
 use Rattle.pm_evac.proofs.Chosen.{made}
 use Rattle.pm_evac.proofs.MoveRows.{may_move_anchor}
-use Rattle.pm_evac.proofs.Views.{is_counted}
+use Rattle.pm_relocate.proofs.Views.{is_counted}
 use Rattle.pm_evac.proofs.on_parts.move_anchor.Goals as goal
 
 pub relocate-requires : goal.relocate-requires

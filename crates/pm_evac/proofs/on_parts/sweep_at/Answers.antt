@@ -3,10 +3,10 @@ use Rattle.pm_types.specs.declared.event.Step.TheVariants.{Swept}
 use Rattle.pm_view.specs.Events.{sweep}
 use Rattle.pm_law_phases.proofs.Comes.{comes_where}
 use Rattle.pm_space.specs.Shown.{view}
-use Rattle.pm_evac.specs.Steps.{counted}
+use Rattle.pm_relocate.specs.Changed.{counted}
 use Rattle.pm_evac.proofs.Chosen.{made}
 use Rattle.pm_evac.proofs.Lawful.{lowest_lives}
-use Rattle.pm_evac.proofs.Views.{is_counted}
+use Rattle.pm_relocate.proofs.Views.{is_counted}
 use Rattle.pm_evac.proofs.on_parts.sweep_at.Goals as goal
 
 pub sweep-requires-clause-live : goal.sweep-requires-clause-live

@@ -1,4 +1,4 @@
-use Rattle.pm_view.specs.Events.{move_on}
+use Rattle.pm_law_rows.specs.view.Events.{move_on}
 use Rattle.pm_law_phases.proofs.Comes.{comes_where}
 use Rattle.pm_law_phases.proofs.Outside.{moving_within}
 use Rattle.pm_law_phases.proofs.laws.an_object_moves_on_where_nothing_outside_names_it.Goals as goal

@@ -1,4 +1,4 @@
-use Rattle.pm_view.specs.Events.{doom, finish}
+use Rattle.pm_law_rows.specs.view.Events.{doom, finish}
 use Rattle.pm_law_phases.proofs.Comes.{comes_where}
 use Rattle.pm_law_phases.proofs.Outside.{doomed_within, swept_within}
 use Rattle.pm_law_phases.proofs.laws.nothing_outside_names_what_is_given_up.Goals as goal

@@ -5,9 +5,9 @@ use Rattle.std.proofs.lemmas.List.{length-map, length-append}
 use Rattle.pm_image.specs.declared.settled.KeptPage.{KeptPage}
 use Rattle.pm_image.specs.declared.catalog.CatEntry.{CatEntry}
 use Rattle.pm_law_layout.specs.Plans.{root_entry}
-use Rattle.pm_saving.specs.Progress.{catalog_left, parts_of}
-use Rattle.pm_saving.specs.Paging.{NextPage, PartPage, part_before}
-use Rattle.pm_saving.specs.Tied.{HasPage}
+use Rattle.pm_law_saving.specs.saving.Progress.{catalog_left, parts_of}
+use Rattle.pm_law_saving.specs.saving.Paging.{NextPage, PartPage, part_before}
+use Rattle.pm_law_saving.specs.saving.Tied.{HasPage}
 use Rattle.pm_progress.specs.declared.place.InProgress.{InProgress}
 use Rattle.pm_progress.specs.Seen.{car_seen, progress_seen}
 use Rattle.pm_progress.specs.Entries.{entries_in, entry_of}

@@ -3,10 +3,10 @@ use Rattle.std.specs.Prelude.{IfOk, IfSome, IsSome, OnErr, option_map}
 use Rattle.std.specs.List.{AllByRecursion, slice_get}
 use Rattle.pm_image.specs.declared.settled.KeptPage.{KeptPage}
 use Rattle.pm_view.specs.View.{Cars}
-use Rattle.pm_saving.specs.Progress.{catalog_left, image_at, image_of}
-use Rattle.pm_saving.specs.Paging.{NextPage as SeenPage}
-use Rattle.pm_saving.specs.Paging.{CarPage, next_after, next_page, part_before}
-use Rattle.pm_saving.specs.Tied.{HasPage}
+use Rattle.pm_law_saving.specs.saving.Progress.{catalog_left, image_at, image_of}
+use Rattle.pm_law_saving.specs.saving.Paging.{NextPage as SeenPage}
+use Rattle.pm_law_saving.specs.saving.Paging.{CarPage, next_after, next_page, part_before}
+use Rattle.pm_law_saving.specs.saving.Tied.{HasPage}
 use Rattle.pm_progress.specs.declared.place.PlacedCar.{PlacedCar}
 use Rattle.pm_progress.specs.declared.place.InProgress.{InProgress}
 use Rattle.pm_progress.specs.declared.next.Ready.{Ready}

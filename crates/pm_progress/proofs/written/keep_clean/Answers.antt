@@ -2,8 +2,8 @@ use Rattle.std.proofs.Common.{rules, ℕ, List, take, sym, ap, ◌∙◌, subst}
 use Rattle.std.specs.List.{AllByRecursion}
 use Rattle.pm_shadow.specs.State.{State}
 use Rattle.pm_shadow.specs.Pages.{state}
-use Rattle.pm_saving.specs.Paging.{clean_page}
-use Rattle.pm_saving.specs.Tied.{IsOnPage, with_all_kept}
+use Rattle.pm_law_saving.specs.saving.Paging.{clean_page}
+use Rattle.pm_law_saving.specs.saving.Tied.{IsOnPage, with_all_kept}
 use Rattle.pm_progress.specs.Seen.{place_seen}
 use Rattle.pm_progress.specs.Putting.{pages_in}
 use Rattle.pm_progress.proofs.Keeping.{all_kept_known, kept_on_pages, kept_then, pages_more}

@@ -1,6 +1,6 @@
 use Rattle.std.proofs.Common.{◌≡◌, take}
 use Rattle.pm_shadow.specs.Pages.{state, disk_of}
-use Rattle.pm_saving.specs.Tied.{with_all_kept}
+use Rattle.pm_law_saving.specs.saving.Tied.{with_all_kept}
 use Rattle.pm_progress.specs.Putting.{pages_in}
 use Rattle.pm_progress.proofs.written.keep_clean.Given as goal
 

@@ -1,7 +1,7 @@
 use Rattle.std.proofs.Common.{◌≡◌, ℕ, List, Some, sym, ap, ◌∙◌, subst}
 use Rattle.sha2.specs.Sha256.{sha256}
 use Rattle.pm_image.specs.declared.settled.KeptPage.{KeptPage}
-use Rattle.pm_saving.specs.Paging.{PartPage, next_page, text_of, with_page}
+use Rattle.pm_law_saving.specs.saving.Paging.{PartPage, next_page, text_of, with_page}
 use Rattle.pm_progress.specs.declared.place.InProgress.{InProgress}
 use Rattle.pm_progress.specs.declared.next.Next.{Next}
 use Rattle.pm_progress.specs.declared.next.Next.TheVariants.{Car, Part}

@@ -9,8 +9,8 @@ use Rattle.std.specs.Prelude.{option_map}
 use Rattle.pm_disk.specs.Writes.{written}
 use Rattle.pm_shadow.specs.Images.{Holds, place_of}
 use Rattle.pm_shadow.specs.Pages.{state, disk_of, current_kept}
-use Rattle.pm_saving.specs.Paging.{newly_kept}
-use Rattle.pm_saving.specs.Tied.{IsOnPage, with_all_kept}
+use Rattle.pm_law_saving.specs.saving.Paging.{newly_kept}
+use Rattle.pm_law_saving.specs.saving.Tied.{IsOnPage, with_all_kept}
 use Rattle.pm_progress.specs.declared.place.InProgress.{InProgress}
 use Rattle.pm_progress.specs.Seen.{progress_seen}
 use Rattle.pm_progress.specs.Putting.{IsReady}

@@ -5,8 +5,8 @@ use Rattle.pm_disk.specs.Made.{Made}
 use Rattle.pm_copies.specs.Listed.{copy_in}
 use Rattle.pm_serving.specs.Images.{IsTold}
 use Rattle.pm_place.specs.Choosers.{IsChooser}
-use Rattle.pm_events.specs.Shown.{disk_in, opened_disk, serving}
-use Rattle.pm_events.specs.Tally.{Tally}
+use Rattle.pm_ends.specs.serial.events.Shown.{disk_in, opened_disk, serving}
+use Rattle.pm_ends.specs.serial.events.Tally.{Tally}
 use Rattle.pm_ends.specs.Ends.{not_opened, stop_in}
 use Rattle.pm_runs.specs.Wrote.{AcknowledgesFor}
 use Rattle.pm_ends.specs.Journals.{ServesInOrder, ServesLines}

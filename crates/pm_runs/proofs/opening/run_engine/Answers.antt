@@ -1,7 +1,7 @@
 use Rattle.std.proofs.Common.{◌∙◌, ap, sym, subst, List, Some}
 use Rattle.pm_types.specs.declared.entry.Entry.{Entry}
-use Rattle.pm_events.specs.Shown.{disk_in, serving}
-use Rattle.pm_events.specs.Causes.{why}
+use Rattle.pm_ends.specs.serial.events.Shown.{disk_in, serving}
+use Rattle.pm_ends.specs.serial.events.Causes.{why}
 use Rattle.pm_ends.specs.Ends.{ended_by, stop_in}
 use Rattle.pm_runs.specs.Wrote.{AcknowledgesFor}
 use Rattle.pm_ends.specs.Journals.{ServesInOrder, ServesLines}

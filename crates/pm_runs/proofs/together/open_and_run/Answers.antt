@@ -6,8 +6,8 @@ use Rattle.pm_disk.specs.Made.{Made}
 use Rattle.pm_copies.specs.Listed.{copy_in}
 use Rattle.pm_serving.specs.Images.{IsTold}
 use Rattle.pm_place.specs.Choosers.{IsChooser}
-use Rattle.pm_events.specs.Tally.{Tally}
-use Rattle.pm_events.specs.Shown.{disk_in, opened_disk, serving, tally_of}
+use Rattle.pm_ends.specs.serial.events.Tally.{Tally}
+use Rattle.pm_ends.specs.serial.events.Shown.{disk_in, opened_disk, serving, tally_of}
 use Rattle.pm_threads.specs.Running.{LeavesSome}
 use Rattle.pm_runs.specs.declared.writes.Writes.TheVariants.{Replies}
 use Rattle.pm_ends.specs.Ends.{not_opened}

@@ -2,8 +2,8 @@ use Rattle.std.proofs.Common.{◌∙◌, ap, sym, subst, List, Some}
 use Rattle.std.proofs.Math.Logic.{∥∥₁_map₂}
 use Rattle.pm_types.specs.declared.entry.Entry.{Entry}
 use Rattle.std.specs.Prelude.{IfSome}
-use Rattle.pm_events.specs.Shown.{disk_in, serving, tally_of}
-use Rattle.pm_events.specs.Causes.{why}
+use Rattle.pm_ends.specs.serial.events.Shown.{disk_in, serving, tally_of}
+use Rattle.pm_ends.specs.serial.events.Causes.{why}
 use Rattle.pm_runs.specs.declared.writes.Writes.TheVariants.{Replies}
 use Rattle.pm_threads.specs.Running.{LeavesSome}
 use Rattle.pm_ends.specs.Ends.{RanShort, ended_by}

@@ -2,7 +2,7 @@ use Rattle.std.proofs.Common.{◌∙◌, ap, subst, List}
 use Rattle.std.specs.Prelude.{IfSome}
 use Rattle.pm_script.specs.declared.line.Line.{Line}
 use Rattle.pm_script.proofs.ScriptLaws.{one_reading}
-use Rattle.pm_events.specs.Shown.{tally_of}
+use Rattle.pm_ends.specs.serial.events.Shown.{tally_of}
 use Rattle.pm_threads.specs.Running.{LeavesSome}
 use Rattle.pm_runs.specs.declared.writes.Writes.TheVariants.{Replies}
 use Rattle.pm_ends.specs.Causes.{ShowsCauses}

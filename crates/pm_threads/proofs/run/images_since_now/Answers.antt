@@ -1,4 +1,4 @@
-use Rattle.pm_events.specs.Shown.{disk_in}
+use Rattle.pm_serial.specs.events.Shown.{disk_in}
 use Rattle.pm_threads.proofs.run.images_since_now.Goals as goal
 
 pub returns : goal.returns

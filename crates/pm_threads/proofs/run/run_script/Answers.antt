@@ -3,17 +3,17 @@ use Rattle.pm_types.specs.declared.fault.EngineFault.{EngineFault}
 use Rattle.pm_model.specs.Text.{text}
 use Rattle.pm_script.specs.declared.line.Line.{Line}
 use Rattle.pm_serving.specs.Serving.{Serving}
-use Rattle.pm_events.specs.Engine.{Engine}
-use Rattle.pm_events.specs.Shown.{KeepsStart, disk_in, opened_count, serving, tally_in}
-use Rattle.pm_events.specs.declared.stop.Stop.TheVariants.{Memory}
-use Rattle.pm_events.specs.Causes.{CountsDisk, why}
-use Rattle.pm_events.specs.Events.{EngineGoesOn}
-use Rattle.pm_events.specs.Running.{RunsOnDisk}
+use Rattle.pm_serial.specs.events.Engine.{Engine}
+use Rattle.pm_serial.specs.events.Shown.{KeepsStart, disk_in, opened_count, serving, tally_in}
+use Rattle.pm_serial.specs.events.declared.stop.Stop.TheVariants.{Memory}
+use Rattle.pm_serial.specs.events.Causes.{CountsDisk, why}
+use Rattle.pm_serial.specs.events.Events.{EngineGoesOn}
+use Rattle.pm_serial.specs.events.Running.{RunsOnDisk}
 use Rattle.pm_serial.specs.Writing.{tail_of}
 use Rattle.pm_serial.proofs.Gathering.{wrote_none}
-use Rattle.pm_lock.specs.Kept.{HasCauseSince, HasLeft, stop_kept}
-use Rattle.pm_lock.specs.Shown.{collects_in, engine_in, fault_in, flushes_in, left_in, lines_in}
-use Rattle.pm_lock.specs.Whole.{MakesAllOf}
+use Rattle.pm_workers.specs.Kept.{HasCauseSince, HasLeft, stop_kept}
+use Rattle.pm_workers.specs.Shown.{collects_in, engine_in, fault_in, flushes_in, left_in, lines_in}
+use Rattle.pm_workers.specs.Whole.{MakesAllOf}
 use Rattle.pm_threads.specs.Running.{AnswersClients}
 use Rattle.pm_threads.proofs.Clients.{answers_clients, answers_none_yet}
 use Rattle.pm_threads.proofs.Ended.{counts_known, kept_memory, kept_none, past_known, runs_known, runs_none, start_known}

@@ -1,7 +1,7 @@
 use Rattle.std.proofs.Common.{◌<◌, true, false, arith}
-use Rattle.pm_ends.specs.declared.ended.Detail.{Detail}
-use Rattle.pm_ends.specs.declared.ended.Detail.TheVariants.{Fine, Usage, Script, Dump as BadDump, Reading, Writing, Device, NotEmpty, Refused, Standby, Ahead, Foreign, OtherDevice, Memory}
-use Rattle.pm_ends.specs.Stages.{behind, unreached}
+use Rattle.pm_runs.specs.ends.declared.ended.Detail.{Detail}
+use Rattle.pm_runs.specs.ends.declared.ended.Detail.TheVariants.{Fine, Usage, Script, Dump as BadDump, Reading, Writing, Device, NotEmpty, Refused, Standby, Ahead, Foreign, OtherDevice, Memory}
+use Rattle.pm_runs.specs.ends.Stages.{behind, unreached}
 use Rattle.pm_top.proofs.laws.ends_lie_between_stages.Goals as goal
 
 between : (detail : Detail) → behind detail < unreached detail

@@ -1,7 +1,7 @@
 use Rattle.pm_make.specs.Made.{made_lines}
-use Rattle.pm_ends.specs.Causes.{ShowsCauses}
+use Rattle.pm_runs.specs.ends.Causes.{ShowsCauses}
 use Rattle.pm_top.specs.Commands.{TriesScript}
-use Rattle.pm_ends.proofs.Parts.{at_end}
+use Rattle.pm_runs.proofs.ends.Parts.{at_end}
 use Rattle.pm_top.proofs.Performing.{tried, untouched_trial, memory_causes}
 use Rattle.pm_top.proofs.made.try_script.Goals as goal
 

@@ -4,13 +4,13 @@ use Rattle.pm_words.specs.declared.asked.Asked.{Asked}
 use Rattle.pm_words.specs.declared.asked.Asked.TheVariants.{Alone, Ship}
 use Rattle.pm_words.specs.declared.command.Command.{Command}
 use Rattle.pm_words.specs.Words.{Spells, SpellsNothing}
-use Rattle.pm_ends.specs.declared.ended.Alone.{Alone as OneEnd}
-use Rattle.pm_ends.specs.declared.ended.Detail.TheVariants.{Memory}
-use Rattle.pm_ends.specs.Ends.{status_of}
+use Rattle.pm_runs.specs.ends.declared.ended.Alone.{Alone as OneEnd}
+use Rattle.pm_runs.specs.ends.declared.ended.Detail.TheVariants.{Memory}
+use Rattle.pm_runs.specs.ends.Ends.{status_of}
 use Rattle.pm_top.specs.Commands.{Does}
-use Rattle.pm_ends.specs.Causes.{ShowsCauses}
+use Rattle.pm_runs.specs.ends.Causes.{ShowsCauses}
 use Rattle.pm_top.proofs.Complete.{complete}
-use Rattle.pm_ends.proofs.Parts.{at_end}
+use Rattle.pm_runs.proofs.ends.Parts.{at_end}
 use Rattle.pm_top.proofs.Performing.{untouched_does}
 use Rattle.pm_top.proofs.Shipping.{none_shipped, ship_done, ship_left}
 use Rattle.pm_top.proofs.top.pmos.Goals as goal

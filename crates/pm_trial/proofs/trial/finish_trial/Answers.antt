@@ -1,5 +1,5 @@
 use Rattle.std.proofs.Common.{◌≡◌, ℕ, List, ◌++◌, Some, length, subst, ◌∙◌}
-use Rattle.pm_events.specs.Shown.{serving, tally_in}
+use Rattle.pm_serial.specs.events.Shown.{serving, tally_in}
 use Rattle.pm_output.specs.Gathered.{gathered}
 use Rattle.pm_output.specs.Writing.{GoesOn, PutsAll, PutsPart}
 use Rattle.pm_serial.specs.Writing.{tail_of}

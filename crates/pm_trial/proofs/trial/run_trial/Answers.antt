@@ -1,15 +1,15 @@
 use Rattle.std.proofs.Common.{List, ◌++◌, Some, inl, refl, ap}
 use Rattle.pm_model.specs.Text.{text}
-use Rattle.pm_events.specs.Shown.{disk_in, serving, tally_in}
-use Rattle.pm_events.specs.declared.stop.Stop.TheVariants.{Memory}
+use Rattle.pm_serial.specs.events.Shown.{disk_in, serving, tally_in}
+use Rattle.pm_serial.specs.events.declared.stop.Stop.TheVariants.{Memory}
 use Rattle.pm_parts.specs.Asked.{events_asked, requests_asked, steps_asked}
 use Rattle.pm_serial.specs.Writing.{tail_of}
 use Rattle.pm_serving.specs.Serving.{Before}
 use Rattle.pm_serial.specs.Ordered.{course_of}
 use Rattle.pm_serial.proofs.Answering.{answers_lines}
 use Rattle.pm_serial.proofs.Cutting.{answers_unwritten, stopped_first}
-use Rattle.pm_events.proofs.Answering.{answers_nothing}
-use Rattle.pm_events.proofs.Going.{goes_first, goes_short, runs}
+use Rattle.pm_serial.proofs.events.Answering.{answers_nothing}
+use Rattle.pm_serial.proofs.events.Going.{goes_first, goes_short, runs}
 use Rattle.pm_trial.specs.Digested.{DigestState}
 use Rattle.pm_trial.specs.Trials.{shown_digest}
 use Rattle.pm_trial.proofs.Trying.{digest_is, tried_badly, tried_well}

@@ -2,14 +2,14 @@ use Rattle.std.proofs.Common.{◌≡◌, ℕ, true, false, Some, Result, Err, On
 use Rattle.pm_types.specs.declared.reply.Reply.{Reply}
 use Rattle.pm_types.specs.declared.fault.EngineFault.TheVariants.{Memory}
 use Rattle.pm_model.specs.Frames.{is_settle}
-use Rattle.pm_save.specs.SaveFault.{SaveFault}
-use Rattle.pm_save.specs.Answers.{IfMemory, IsFaultOf, OnMemory}
-use Rattle.pm_engine.specs.Working.{IsFaultFor, IsLeft, IsShort, LastsSo, disk_at, saving_in, view_in}
+use Rattle.pm_works.specs.save_below.SaveFault.{SaveFault}
+use Rattle.pm_works.specs.save_below.Answers.{IfMemory, IsFaultOf, OnMemory}
+use Rattle.pm_works.specs.Working.{IsFaultFor, IsLeft, IsShort, LastsSo, disk_at, saving_in, view_in}
 use Rattle.pm_engine.proofs.engine.Engine.ask.Goals as goal
 use Rattle.pm_engine.proofs.Asking.{ask_serves, ask_sound, fail_sound, rest_sound, stored}
 use Rattle.pm_engine.proofs.Counts.{counted_risen, counted_still}
 use Rattle.pm_engine.proofs.Crashing.{leaves_answered, leaves_failed, progress_of, settled_alone}
-use Rattle.pm_law_work.specs.Raises.{raises}
+use Rattle.pm_works.specs.law_work.Raises.{raises}
 use Rattle.pm_engine.proofs.Answering.{Told, room_of, still_works, work_of}
 use Rattle.pm_engine.proofs.Acting.{space_of}
 use Rattle.pm_law_bound.proofs.Many.{kept_still}

@@ -1,7 +1,7 @@
 use Rattle.std.proofs.Common.{ℕ, Some, ap, subst, arith}
-use Rattle.pm_save.specs.SaveFault.{SaveFault}
-use Rattle.pm_save.specs.Answers.{IfMemory, IsFaultOf}
-use Rattle.pm_engine.specs.Working.{IsAsItWas, IsTiedIn, LastsIn, disk_at}
+use Rattle.pm_works.specs.save_below.SaveFault.{SaveFault}
+use Rattle.pm_works.specs.save_below.Answers.{IfMemory, IsFaultOf}
+use Rattle.pm_works.specs.Working.{IsAsItWas, IsTiedIn, LastsIn, disk_at}
 use Rattle.pm_engine.proofs.engine.Engine.flush_running.Goals as goal
 use Rattle.pm_engine.proofs.Asking.{flush_failed, flush_kept, leaves_settled, rest_sound, stored}
 use Rattle.pm_engine.proofs.Bounding.{bounds_flushed, bounds_rested, flushed_view}

@@ -8,9 +8,9 @@ use Rattle.pm_shadow.specs.Pages.{state, disk_of}
 use Rattle.pm_space.specs.Shown.{car_of, view}
 use Rattle.pm_copies.specs.Listed.{copy_in}
 use Rattle.pm_reopen.proofs.Refusals.{graph_refused, header_refused}
-use Rattle.pm_engine.specs.declared.course.Course.TheVariants.{Nothing}
+use Rattle.pm_works.specs.declared.course.Course.TheVariants.{Nothing}
 use Rattle.pm_engine.specs.declared.start.Start.{Start}
-use Rattle.pm_engine.specs.declared.works.Works.{Works}
+use Rattle.pm_works.specs.declared.works.Works.{Works}
 use Rattle.pm_engine.proofs.engine.Engine.open_store.Goals as goal
 use Rattle.pm_engine.proofs.Bounding.{bounds_begun}
 use Rattle.pm_engine.proofs.Begun.{stands, start_sound}

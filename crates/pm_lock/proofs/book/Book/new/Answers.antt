@@ -2,7 +2,7 @@ use Rattle.std.proofs.Common.{List, ◌≡◌, ◌∙◌, ap, arith, length, sym
 use Rattle.pm_script.specs.declared.line.Line.{Line}
 use Rattle.pm_parts.specs.Asked.{requests_asked}
 use Rattle.pm_parts.specs.Left.{lists_in}
-use Rattle.pm_engine.specs.Shown.{disk_in, serving}
+use Rattle.pm_events.specs.engine.Shown.{disk_in, serving}
 use Rattle.pm_events.specs.Running.{IsFresh}
 use Rattle.pm_events.proofs.Going.{goes_still}
 use Rattle.pm_lock.proofs.Keeping.{script_begun}

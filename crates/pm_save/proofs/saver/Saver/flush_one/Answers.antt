@@ -3,7 +3,7 @@ use Rattle.std.specs.Prelude.{Option}
 use Rattle.pm_shadow.specs.Pages.{state, disk_of, current_kept}
 use Rattle.pm_view.specs.View.{Cars}
 use Rattle.pm_saving.specs.Tied.{IsTied}
-use Rattle.pm_progress.specs.Answers.{UnlessDisk}
+use Rattle.pm_writer.specs.progress.Answers.{UnlessDisk}
 use Rattle.pm_save.specs.Shown.{frozen_of, saving}
 use Rattle.pm_writer.specs.Shown.{writing}
 use Rattle.pm_writer.proofs.FlushLemmas.{spares_by, spares_still}

@@ -9,7 +9,7 @@ use Rattle.pm_progress.specs.Answers.{IsFlushed, IsMadeBy}
 use Rattle.pm_writer.specs.Shown.{writing}
 use Rattle.pm_writer.proofs.FlushLemmas.{spares_by, spares_still}
 use Rattle.pm_writer.proofs.RunLemmas.{begin_runs, fault_runs, left_some, more_runs, runs_on, spares_then, tells_then}
-use Rattle.pm_law_saving.proofs.Publishing.{copy_held}
+use Rattle.pm_progress.proofs.law_saving.Publishing.{copy_held}
 use Rattle.pm_writer.proofs.writer.Writer.write_rest.Goals as goal
 
 pub loop-page-init : goal.loop-page-init

@@ -1,0 +1,16 @@
+//! The cases of the part `containers`: calls of one container of the heap, and what they answer. `docs/TESTS.md` says how
+//! a case is written.
+#![tactic(auto)]
+
+mod anchors;
+mod case;
+mod choosers;
+mod queues;
+mod registers;
+mod roots;
+mod sets;
+mod spelling;
+mod tables;
+mod trains;
+
+pub use case::take;

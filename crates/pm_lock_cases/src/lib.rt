@@ -1,0 +1,12 @@
+//! The cases of the part `lock`: turns of a book over an engine on a disk in memory, one after another and in threads.
+//! `docs/TESTS.md` says how a case is written.
+#![tactic(auto)]
+
+mod case;
+mod opened;
+mod served;
+mod spelling;
+mod threaded;
+mod turned;
+
+pub use case::take;

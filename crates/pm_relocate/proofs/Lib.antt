@@ -1,0 +1,6 @@
+pub mod Views
+pub mod Fields
+pub mod Swept
+pub mod Carried
+pub mod Places
+pub mod Planning

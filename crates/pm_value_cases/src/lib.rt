@@ -1,0 +1,12 @@
+//! The cases of the part `values`: functions on values by themselves, scripts that are parted by who asks, and dumps that
+//! are read. `docs/TESTS.md` says how a case is written.
+#![tactic(auto)]
+
+mod case;
+mod dump_lines;
+mod dumps;
+mod parts;
+mod scripts;
+mod values;
+
+pub use case::take;
