@@ -2,6 +2,7 @@
 
 use crate::anchors::push_anchor;
 use crate::choosers::push_pick;
+use crate::numbers::{push_long_numbered, push_numbered};
 use crate::queues::{push_long_queue, push_queue};
 use crate::registers::push_registers;
 use crate::roots::{push_all_names, push_roots};
@@ -34,6 +35,8 @@ fn push_small(alloc: Global, step: &str, text: &str, out: &mut String) -> Result
         "pick" => push_pick(alloc, text, out),
         "gathered" => push_gathered(alloc, text, out),
         "long-gathered" => push_long_gathered(alloc, text, out),
+        "numbered" => push_numbered(alloc, text, out),
+        "long-numbered" => push_long_numbered(alloc, text, out),
         _ => push_of_trains(alloc, step, text, out),
     }
 }

@@ -5,6 +5,7 @@
 mod anchors;
 mod case;
 mod choosers;
+mod numbers;
 mod queues;
 mod registers;
 mod roots;

@@ -4,8 +4,8 @@ ghost use Rattle.std.specs.Prelude.{◌≡◌, IfOk, is_some};
 ghost use Rattle.pm_types.specs.declared.object.Slot.{Slot};
 ghost use Rattle.pm_graphs.specs.Linking.{identity_of, held_slots, held_cars, held_at, may_name};
 
-use crate::numbered::Numbered;
 use pm_image::KeptPage;
+use pm_numbered::Numbered;
 use pm_types::{Addr, Id, NoMemory, Slot};
 use std::alloc::Global;
 
@@ -51,7 +51,7 @@ fn identity_of(slot: &Slot) -> Option<Id>
 fn hold(alloc: Global, slots: &[(u32, Slot)]) -> Result<Held, NoMemory>
     ensures { IfOk result (λ held. held ≡ held_slots slots.now) }
 {
-    let mut held = Held::with_room(alloc, slots.len())?;
+    let mut held = Held::expecting(alloc, slots.len());
     let mut left = slots.len();
     while left > 0 {
         left -= 1;
@@ -65,7 +65,7 @@ fn hold(alloc: Global, slots: &[(u32, Slot)]) -> Result<Held, NoMemory>
 pub(crate) fn hold_all(alloc: Global, cars: &[KeptPage]) -> Result<HeldCars, NoMemory>
     ensures { IfOk result (λ held. held ≡ held_cars cars.now) }
 {
-    let mut held = HeldCars::with_room(alloc, cars.len())?;
+    let mut held = HeldCars::expecting(alloc, cars.len());
     let mut left = cars.len();
     while left > 0 {
         left -= 1;

@@ -6,13 +6,11 @@ mod fault;
 mod from_page;
 mod held;
 mod links;
-mod numbered;
 mod opening;
 mod read_cars;
 mod reading;
 
 pub use chain::Chain;
 pub use from_page::{FromPage, Unpacked};
-pub use numbered::Numbered;
 pub use opening::{flatten, read_graph, with_cars};
 pub use read_cars::ReadCars;

@@ -2,6 +2,7 @@ pub mod Results
 pub mod StandsLaws
 pub mod FrameLaws
 pub mod NumberSets
+mod Marks
 pub mod SlotFaults
 pub mod Records
 pub mod Answered

@@ -12,3 +12,4 @@ pub mod Blank
 pub mod First
 pub mod Rules
 pub mod Leading
+pub mod Marked

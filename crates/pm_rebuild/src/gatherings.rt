@@ -5,17 +5,17 @@ ghost use Rattle.std.specs.Option.{unwrap_or};
 ghost use Rattle.std.specs.FinMap as map;
 ghost use Rattle.pm_rebuild.specs.Remembering.{with_remembered};
 
+use pm_numbered::Numbered;
 use pm_remset::{Gathering, Remset};
 use pm_types::{NoMemory, RefSource};
 use std::alloc::Global;
-use std::collections::HashMap;
 use std::marker::Model;
 
 /// A remembered set for each car, which is still to be made of what it was told, seen as a finite map from the cars'
 /// numbers to the sets.
 #[derive(Drop)]
 pub(crate) struct Gatherings {
-    sets: HashMap<u64, Gathering>,
+    sets: Numbered<Gathering>,
 }
 
 impl Model for Gatherings {
@@ -29,17 +29,17 @@ impl Model for Gatherings {
 
     ghost coded = { map.code coded_ℕ gathering.the_row.coded };
 
-    ghost view = { λ it. map.from_entries it.sets.entries };
+    ghost view = { λ it. it.sets };
 }
 
 impl Gatherings {
-    /// No car has a set, and there is room for those of so many.
-    pub(crate) fn with_room(alloc: Global, many: usize) -> Result<Gatherings, NoMemory>
-        ensures { IfOk result (λ made. made ≡ map.empty) }
+    /// No car has a set, and those of so many are to come.
+    pub(crate) fn expecting(alloc: Global, many: usize) -> Gatherings
+        ensures { result ≡ map.empty }
     {
-        Ok(Gatherings {
-            sets: HashMap::with_capacity(alloc, many)?,
-        })
+        Gatherings {
+            sets: Numbered::expecting(alloc, many),
+        }
     }
 
     /// The car has a set in which nothing is remembered.
@@ -60,7 +60,7 @@ impl Gatherings {
     ) -> Result<(), NoMemory>
         ensures { OnOk result (self.new ≡ with_remembered self.old car source slot) }
     {
-        let Some(set) = self.sets.get_mut(&car) else {
+        let Some(set) = self.sets.get_mut(car) else {
             return Ok(());
         };
         set.put(source, slot)
@@ -71,7 +71,7 @@ impl Gatherings {
         ensures set { IfOk result (λ set. set ≡ unwrap_or (map.get self.old car) map.empty) }
         ensures left { self.new ≡ map.remove self.old car }
     {
-        let Some(gathering) = self.sets.remove(&car) else {
+        let Some(gathering) = self.sets.remove(car) else {
             return Ok(Remset::new(alloc));
         };
         gathering.into_set(alloc)

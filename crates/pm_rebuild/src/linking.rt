@@ -21,7 +21,7 @@ use std::alloc::Global;
 pub(crate) fn gather_cars(alloc: Global, cars: &[(u64, Car)]) -> Result<Gatherings, NoMemory>
     ensures { IfOk result (λ sets. Remember (built_cars (map placed_of cars.now)) sets []) }
 {
-    let mut sets = Gatherings::with_room(alloc, cars.len())?;
+    let mut sets = Gatherings::expecting(alloc, cars.len());
     let mut left = cars.len();
     while left > 0 {
         left -= 1;
@@ -39,7 +39,7 @@ pub(crate) fn link_cars(
     requires differ { CarsDiffer (map placed_of cars.now) }
     ensures { IfOk result (AreLinked (built_cars (map placed_of cars.now)) sets) }
 {
-    let mut links = LinkTable::new(alloc);
+    let mut links = LinkTable::expecting(alloc, cars.len());
     let mut left = cars.len();
     while left > 0 {
         left -= 1;
@@ -72,8 +72,8 @@ pub(crate) fn put_cars(alloc: Global, cars: CarList) -> Result<Table<Held>, NoMe
     ensures cars { IfOk result (λ table. cars_of table ≡ built_cars cars) }
     ensures frozen { IfOk result (λ table. table.frozen ≡ None) }
 {
-    let mut table = Table::new(alloc);
     let mut left = cars.into_vec();
+    let mut table = Table::expecting(alloc, left.len());
     while let Some((_, car)) = left.pop() {
         put_car(&mut table, car)?;
     }

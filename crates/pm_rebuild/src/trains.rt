@@ -77,7 +77,7 @@ pub(crate) fn make_trains(alloc: Global, cars: &[(u64, Car)]) -> Result<Trains, 
     requires { CarsDiffer (map placed_of cars.now) }
     ensures { IfOk result (λ trains. trains ≡ built_trains (map placed_of cars.now)) }
 {
-    let mut trains = Trains::new(alloc)?;
+    let mut trains = Trains::expecting(alloc, cars.len())?;
     let mut last = None;
     for one in cars {
         put_car(alloc, &mut trains, last, one.0, one.1.number())?;

@@ -3,8 +3,8 @@
 ghost use Rattle.std.specs.Prelude.{◌≡◌, IfOk};
 ghost use Rattle.pm_reopen.specs.Leading.{moved_to, lead_slots, lead_cars, lead_at, resolved_by};
 
-use pm_graphs::Numbered;
 use pm_image::KeptPage;
+use pm_numbered::Numbered;
 use pm_types::{Addr, NoMemory, Slot};
 use std::alloc::Global;
 
@@ -49,7 +49,7 @@ fn moved_to(slot: &Slot) -> Option<Addr>
 fn lead_slots(alloc: Global, slots: &[(u32, Slot)]) -> Result<SlotLeads, NoMemory>
     ensures { IfOk result (λ leads. leads ≡ lead_slots slots.now) }
 {
-    let mut leads = SlotLeads::with_room(alloc, slots.len())?;
+    let mut leads = SlotLeads::expecting(alloc, slots.len());
     let mut left = slots.len();
     while left > 0 {
         left -= 1;
@@ -63,7 +63,7 @@ fn lead_slots(alloc: Global, slots: &[(u32, Slot)]) -> Result<SlotLeads, NoMemor
 pub(crate) fn lead_cars(alloc: Global, cars: &[KeptPage]) -> Result<Leads, NoMemory>
     ensures { IfOk result (λ leads. leads ≡ lead_cars cars.now) }
 {
-    let mut leads = Leads::with_room(alloc, cars.len())?;
+    let mut leads = Leads::expecting(alloc, cars.len());
     let mut left = cars.len();
     while left > 0 {
         left -= 1;

@@ -8,7 +8,7 @@ ghost use Rattle.pm_image.specs.CarPages.{record_spelling};
 ghost use Rattle.pm_settled.specs.Behind.{IsBehind, IsBehindOf};
 ghost use Rattle.pm_settled.specs.Packed.{IsRecord, head_spelling};
 
-use crate::behind::{behind, behind_u16, behind_u32, behind_u64};
+use crate::behind::{behind, behind_byte, behind_null, behind_u16, behind_u32, behind_u64};
 use pm_layout::{LIVE, MOVED};
 use pm_types::{Addr, FIELDS, OBJECT_BYTES, Object, Slot};
 
@@ -33,7 +33,7 @@ fn behind_field(bytes: &[u8], reference: Option<Addr>) -> Option<&[u8]>
 {
     match reference {
         Some(to) => behind_address(bytes, to),
-        None => behind(bytes, &[0; 12]),
+        None => behind_null(bytes),
     }
 }
 
@@ -57,7 +57,7 @@ fn behind_fields<'a>(bytes: &'a [u8], fields: &[Option<Addr>]) -> Option<&'a [u8
 fn behind_head(bytes: &[u8], id: u32, fields: u16, count: u16) -> Option<&[u8]>
     ensures { IsBehind bytes.now (head_spelling id fields count) (option_map (λ rest. rest.now) result) }
 {
-    let Some(rest) = behind(bytes, &[LIVE]) else {
+    let Some(rest) = behind_byte(bytes, LIVE) else {
         return None;
     };
     let Some(rest) = behind_u64(rest, id as u64) else {
@@ -95,7 +95,7 @@ fn behind_moved(bytes: &[u8], to: Addr) -> Option<&[u8]>
         (option_map (λ rest. rest.now) result) }
     ensures range { IsInRange (Slot.Moved to) }
 {
-    let Some(rest) = behind(bytes, &[MOVED]) else {
+    let Some(rest) = behind_byte(bytes, MOVED) else {
         return None;
     };
     behind_address(rest, to)

@@ -1,5 +1,4 @@
 pub mod Shown
-pub mod Hashed
 pub mod KeySets
 pub mod Tables
 pub mod Passed

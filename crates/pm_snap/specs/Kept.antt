@@ -1,14 +1,13 @@
 -- How a table keeps its values, what they were when it was frozen, and the keys that are not used. No
 -- public clause cites this module.
-use Rattle.std.specs.Prelude.{◌≡◌, ◌≢◌, ℕ, ◌<◌, ◌≤◌, true, is_some, nat_eq, List, [], ◌∷◌, Option, Some, None}
+use Rattle.std.specs.Prelude.{◌≡◌, ◌≢◌, ℕ, ◌<◌, ◌≤◌, true, is_some, List, [], ◌∷◌, Option, Some, None}
 use Rattle.std.specs.Ordering.{nat_cmp}
-use Rattle.std.specs.FinMap.{FinMap, from_entries, insert, remove}
+use Rattle.std.specs.FinMap.{FinMap, insert, remove}
+use Rattle.std.specs.FinMap as map
 use Rattle.std.specs.FinSet.{FinSet}
 use Rattle.std.specs.FinSet as set
 use Rattle.std.specs.BTreeMap.{BTreeMap, keys}
 use Rattle.std.specs.BTreeMap as tree
-use Rattle.std.specs.HashMap.{HashMap, hash_map_len}
-use Rattle.std.specs.HashMap as hash
 use Rattle.pm_snap.specs.Freed.{FreedKeys}
 use Rattle.pm_snap.specs.Snapped.{Snapped}
 
@@ -49,40 +48,36 @@ module _ {T : Type 0} where
     pub here : is_some old ≡ true → noted new key ≡ Some (or_now (noted old key) value)
     pub others : (k : ℕ) → k ≢ key → noted new k ≡ noted old k
 
-module _ {T S : Type 0} where
-  -- what a hash map is seen as
-  abbrev pub seen : HashMap ℕ T S → FinMap nat_cmp T
-  seen m = from_entries m.entries
-
   -- what was frozen: the values now, with the old ones where one is kept
-  abbrev pub seen_frozen : HashMap ℕ T S → Option (BTreeMap ℕ (Option T)) → Option (FinMap nat_cmp T)
+  abbrev pub seen_frozen : FinMap nat_cmp T → Option (BTreeMap ℕ (Option T)) → Option (FinMap nat_cmp T)
   seen_frozen values None = None
-  seen_frozen values (Some kept) = Some (overlay (seen values) kept.entries)
+  seen_frozen values (Some kept) = Some (overlay values kept.entries)
 
   -- what a table is seen as
-  abbrev pub table_of : HashMap ℕ T S → Option (BTreeMap ℕ (Option T)) → Snapped T
-  table_of values kept = record { current = seen values; frozen = seen_frozen values kept; changed = seen_changed kept }
+  abbrev pub table_of : FinMap nat_cmp T → Option (BTreeMap ℕ (Option T)) → Snapped T
+  table_of values kept = record { current = values; frozen = seen_frozen values kept; changed = seen_changed kept }
 
   -- Keys from 1 to below the next one are used or freed, no other key is freed, the next one is not used,
-  -- and there is room to free every key that is used.
-  pub record IsKept (values : HashMap ℕ T S) (freed : FreedKeys) (next : ℕ) : Type 0 where
+  -- the used ones are counted, and there is room to free every key that is used.
+  pub record IsKept (values : FinMap nat_cmp T) (used : ℕ) (freed : FreedKeys) (next : ℕ) : Type 0 where
     pub from_one : 0 < next
-    pub zero_unused : hash.get nat_eq values 0 ≡ None
-    pub next_unused : hash.get nat_eq values next ≡ None
-    pub passed : (k : ℕ) → 0 < k → k < next → hash.get nat_eq values k ≡ None → set.contains freed.keys k ≡ true
-    pub freed_unused : (k : ℕ) → set.contains freed.keys k ≡ true → hash.get nat_eq values k ≡ None
+    pub zero_unused : map.get values 0 ≡ None
+    pub next_unused : map.get values next ≡ None
+    pub passed : (k : ℕ) → 0 < k → k < next → map.get values k ≡ None → set.contains freed.keys k ≡ true
+    pub freed_unused : (k : ℕ) → set.contains freed.keys k ≡ true → map.get values k ≡ None
     pub freed_from_one : (k : ℕ) → set.contains freed.keys k ≡ true → 0 < k
     pub freed_below : (k : ℕ) → set.contains freed.keys k ≡ true → k < next
-    pub room : hash_map_len values ≤ freed.room
+    pub counted : used ≡ map.len values
+    pub room : used ≤ freed.room
 
   -- the key is the next one once this key is used: it is another one and not used, and those between are
-  pub record IsNext (values : HashMap ℕ T S) (next key after : ℕ) : Type 0 where
+  pub record IsNext (values : FinMap nat_cmp T) (next key after : ℕ) : Type 0 where
     pub other : after ≢ key
-    pub unused : hash.get nat_eq values after ≡ None
+    pub unused : map.get values after ≡ None
     pub rises : next ≤ after
-    pub passed : (k : ℕ) → next ≤ k → k < after → k ≢ key → is_some (hash.get nat_eq values k) ≡ true
+    pub passed : (k : ℕ) → next ≤ k → k < after → k ≢ key → is_some (map.get values k) ≡ true
 
   -- the keys are kept so, and no old value is kept for the key 0
-  pub record AreKeysWhole (values : HashMap ℕ T S) (freed : FreedKeys) (next : ℕ) (kept : Option (BTreeMap ℕ (Option T))) : Type 0 where
-    pub keys : IsKept values freed next
+  pub record AreKeysWhole (values : FinMap nat_cmp T) (used : ℕ) (freed : FreedKeys) (next : ℕ) (kept : Option (BTreeMap ℕ (Option T))) : Type 0 where
+    pub keys : IsKept values used freed next
     pub zero_unnoted : noted kept 0 ≡ None

@@ -1,11 +1,12 @@
-ghost use Rattle.std.specs.Prelude.{◌≡◌, nat_eq, true, ◌||◌, not, is_some, None, IsSome, IsOk, OnOk, OnErr};
-ghost use Rattle.std.specs.HashMap as hash;
+ghost use Rattle.std.specs.Prelude.{◌≡◌, true, ◌||◌, not, is_some, None, IsSome, IsOk, OnOk, OnErr};
+ghost use Rattle.std.specs.FinMap as map;
 ghost use Rattle.pm_snap.specs.Kept.{noted, Notes, KeepsNotes};
 
 use crate::Keep;
+use pm_numbered::Numbered;
 use pm_types::NoMemory;
 use std::alloc::Global;
-use std::collections::{BTreeMap, HashMap};
+use std::collections::BTreeMap;
 
 /// Keeps the old value of the key, where the table is frozen and none is kept for it.
 pub(crate) fn note<T: Drop>(
@@ -29,20 +30,20 @@ pub(crate) fn note<T: Drop>(
 
 /// Keeps the value that the key has now, where the table is frozen and none is kept for it.
 pub(crate) fn save<T: Keep + Drop>(
-    values: &HashMap<u64, T>,
+    values: &Numbered<T>,
     kept: &mut Option<BTreeMap<u64, Option<T>>>,
     alloc: Global,
     key: u64,
 ) -> Result<(), NoMemory>
-    requires { IsSome (hash.get nat_eq values.now key) }
-    ensures ok { OnOk result (Notes kept.old kept.new key (hash.get nat_eq values.now key)) }
+    requires { IsSome (map.get values.now key) }
+    ensures ok { OnOk result (Notes kept.old kept.new key (map.get values.now key)) }
     ensures err { OnErr result (KeepsNotes kept.old kept.new) }
     ensures succeeds { (not (is_some kept.old) || is_some (noted kept.old key)) ≡ true → IsOk result }
 {
     if is_ready(kept, key) {
         return Ok(());
     }
-    let Some(value) = values.get(&key) else {
+    let Some(value) = values.get(key) else {
         unreachable!()
     };
     let value = value.keep(alloc)?;

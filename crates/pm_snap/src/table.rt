@@ -1,8 +1,7 @@
-ghost use Rattle.std.specs.Prelude.{◌≡◌, nat_eq, ◌<◌, ◌≤◌, true, Some, None, IsSome, IsNone, IfOk, IfSome, IfErr, IsOk, OnOk, OnErr};
+ghost use Rattle.std.specs.Prelude.{◌≡◌, ◌<◌, ◌≤◌, true, Some, None, IsSome, IsNone, IfOk, IfSome, IfErr, IsOk, OnOk, OnErr};
 ghost use Rattle.std.specs.Borrow.{sem};
 ghost use Rattle.std.specs.FinMap as map;
 ghost use Rattle.std.specs.FinSet as set;
-ghost use Rattle.std.specs.HashMap as hash;
 ghost use Rattle.std.specs.Option.{option_copied};
 ghost use Rattle.pm_snap.specs.Snapped.{at_key, is_ready, with_value, without, IsLowestUnused, IsSound};
 ghost use Rattle.pm_snap.specs.Kept.{IsNext};
@@ -11,9 +10,10 @@ ghost use Rattle.pm_snap.specs.Lending.{lends_value};
 use crate::Keep;
 use crate::freed::Freed;
 use crate::notes::{note, save};
+use pm_numbered::Numbered;
 use pm_types::NoMemory;
 use std::alloc::Global;
-use std::collections::{BTreeMap, HashMap};
+use std::collections::BTreeMap;
 use std::marker::Model;
 
 /// A table of values by key, seen as two finite maps, the values now and the values of the moment when
@@ -24,7 +24,9 @@ use std::marker::Model;
 /// change or to take its value then succeeds. Only `freeze` ends that.
 #[derive(Drop)]
 pub struct Table<T> {
-    values: HashMap<u64, T>,
+    values: Numbered<T>,
+    // How many keys are used.
+    used: usize,
     // The keys from 1 to below `next` that are not used.
     freed: Freed,
     // The least key that was never passed. It is not used; a key above it may be.
@@ -44,20 +46,20 @@ impl<T> Model for Table<T> {
 
     ghost view = { λ it. table_of it.values it.kept };
 
-    ghost invariant = { λ it. AreKeysWhole it.values it.freed it.next it.kept };
+    ghost invariant = { λ it. AreKeysWhole it.values it.used it.freed it.next it.kept };
 }
 
 // The next key once `key` is used: `next` itself where that is another one, and else the least key above it
 // that is not used. `None` where there is none.
-fn next_after<T>(values: &HashMap<u64, T>, next: u64, key: u64) -> Option<u64>
-    requires { hash.get nat_eq values.now next ≡ None }
+fn next_after<T>(values: &Numbered<T>, next: u64, key: u64) -> Option<u64>
+    requires { map.get values.now next ≡ None }
     ensures { IfSome result (IsNext values.now next key) }
 {
     if key != next {
         return Some(next);
     }
     for below in next..u64::MAX {
-        if !values.contains_key(&(below + 1)) {
+        if !values.has(below + 1) {
             return Some(below + 1);
         }
     }
@@ -82,8 +84,18 @@ impl<T: Keep + Drop> Table<T> {
         ensures frozen { result.frozen ≡ None }
         ensures changed { result.changed ≡ set.empty }
     {
+        Table::expecting(alloc, 0)
+    }
+
+    /// The same table, where so many values are to come, in any order of their keys.
+    pub fn expecting(alloc: Global, many: usize) -> Self
+        ensures current { result.current ≡ map.empty }
+        ensures frozen { result.frozen ≡ None }
+        ensures changed { result.changed ≡ set.empty }
+    {
         Table {
-            values: HashMap::new(alloc),
+            values: Numbered::expecting(alloc, many),
+            used: 0,
             freed: Freed::new(alloc),
             next: 1,
             kept: None,
@@ -102,7 +114,7 @@ impl<T: Keep + Drop> Table<T> {
     pub fn get(&self, key: u64) -> Option<&T>
         ensures { option_copied result ≡ map.get self.now.current key }
     {
-        self.values.get(&key)
+        self.values.get(key)
     }
 
     /// The value that the key had when the table was frozen; `None` also where it is not frozen. It takes
@@ -115,7 +127,7 @@ impl<T: Keep + Drop> Table<T> {
         };
         match kept.get(&key) {
             Some(old) => old.as_ref(),
-            None => self.values.get(&key),
+            None => self.values.get(key),
         }
     }
 
@@ -157,20 +169,21 @@ impl<T: Keep + Drop> Table<T> {
         let Some(after) = next_after(&self.values, self.next, key) else {
             return Err((value, NoMemory));
         };
-        if let Err(fault) = self.freed.reserve(self.values.len() + 1) {
+        let Some(used) = self.used.checked_add(1) else {
+            return Err((value, NoMemory));
+        };
+        if let Err(fault) = self.freed.reserve(used) {
             return Err((value, fault));
         }
-        if let Err(failed) = self.values.insert(key, value) {
-            let (_, value) = failed.value;
-            return Err((value, NoMemory));
-        }
+        self.values.insert(key, value)?;
         if let Err(fault) = note(&mut self.kept, key, None) {
-            let Some(value) = self.values.remove(&key) else {
+            let Some(value) = self.values.remove(key) else {
                 unreachable!()
             };
             return Err((value, fault));
         }
         use_freed(&mut self.freed, self.next, key);
+        self.used = used;
         self.next = after;
         Ok(())
     }
@@ -184,7 +197,7 @@ impl<T: Keep + Drop> Table<T> {
         ensures succeeds { is_ready self.old key ≡ true → IsOk result }
     {
         save(&self.values, &mut self.kept, self.alloc, key)?;
-        match self.values.get_mut(&key) {
+        match self.values.get_mut(key) {
             Some(value) => Ok(value),
             None => unreachable!(),
         }
@@ -200,9 +213,10 @@ impl<T: Keep + Drop> Table<T> {
         ensures succeeds { is_ready self.old key ≡ true → IsOk result }
     {
         save(&self.values, &mut self.kept, self.alloc, key)?;
-        let Some(value) = self.values.remove(&key) else {
+        let Some(value) = self.values.remove(key) else {
             unreachable!()
         };
+        self.used -= 1;
         if key < self.next {
             self.freed.put(key);
         }

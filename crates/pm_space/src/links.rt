@@ -5,10 +5,10 @@ ghost use Rattle.pm_view.specs.Effective.{with_source};
 ghost use Rattle.pm_space.specs.Linked.{sets_of, queues_of, HasRoom, UsesRoom, Tells, waiting, took_front, with_front, without_front, without_source};
 
 use pm_delta::Queue;
+use pm_numbered::Numbered;
 use pm_remset::Remset;
 use pm_types::{Change, NoMemory, RefSource};
 use std::alloc::Global;
-use std::collections::HashMap;
 use std::marker::Model;
 
 /// What belongs to a car beside its objects: its remembered set, and the queue of changes that wait for it.
@@ -21,7 +21,7 @@ pub struct Links {
 /// The remembered set and the queue of each car that stands, seen as a finite map from the cars' numbers.
 #[derive(Drop)]
 pub struct LinkTable {
-    links: HashMap<u64, Links>,
+    links: Numbered<Links>,
 }
 
 impl Model for LinkTable {
@@ -35,7 +35,7 @@ impl Model for LinkTable {
 
     ghost coded = { map.code coded_ℕ both.the_row.coded };
 
-    ghost view = { λ it. map.from_entries it.links.entries };
+    ghost view = { λ it. it.links };
 }
 
 // A remembered set takes a change. After want of memory it is as it was.
@@ -74,7 +74,16 @@ impl LinkTable {
         ensures { result ≡ map.empty }
     {
         LinkTable {
-            links: HashMap::new(alloc),
+            links: Numbered::new(alloc),
+        }
+    }
+
+    /// No car has links, and those of so many cars are to come, in any order of their numbers.
+    pub fn expecting(alloc: Global, many: usize) -> LinkTable
+        ensures { result ≡ map.empty }
+    {
+        LinkTable {
+            links: Numbered::expecting(alloc, many),
         }
     }
 
@@ -82,14 +91,14 @@ impl LinkTable {
     pub fn get(&self, car: u64) -> Option<&Links>
         ensures { option_copied result ≡ map.get self.now car }
     {
-        self.links.get(&car)
+        self.links.get(car)
     }
 
     /// Whether the car has links.
     pub fn has(&self, car: u64) -> bool
         ensures { result ≡ is_some (map.get self.now car) }
     {
-        self.links.contains_key(&car)
+        self.links.has(car)
     }
 
     /// Makes room in the car's queue for at least this many more changes; where no such car is, none is
@@ -100,7 +109,7 @@ impl LinkTable {
         ensures room { OnOk result (HasRoom self.new car count) }
         ensures kept { (other more : ℕ) → HasRoom self.old other more → HasRoom self.new other more }
     {
-        let Some(links) = self.links.get_mut(&car) else {
+        let Some(links) = self.links.get_mut(car) else {
             return Ok(());
         };
         links.queue.reserve(count)
@@ -114,7 +123,7 @@ impl LinkTable {
         ensures queues { Tells self.old self.new ((car, change) ∷ []) }
         ensures room { UsesRoom self.old self.new (λ other. cond (car == other) 1 0) }
     {
-        let Some(links) = self.links.get_mut(&car) else {
+        let Some(links) = self.links.get_mut(car) else {
             return;
         };
         links.queue.push(change);
@@ -132,10 +141,8 @@ impl LinkTable {
     {
         let mut queue = Queue::new(alloc);
         queue.reserve(room)?;
-        match self.links.insert(car, Links { set, queue }) {
-            Ok(_) => Ok(()),
-            Err(_) => Err(NoMemory),
-        }
+        self.links.insert(car, Links { set, queue })?;
+        Ok(())
     }
 
     /// The change that waits longest in the car's queue goes into the car's remembered set, and leaves the
@@ -147,7 +154,7 @@ impl LinkTable {
             (waiting (queues_of self.old) car)) }
         ensures err { OnErr result (self.new ≡ self.old) }
     {
-        let Some(links) = self.links.get_mut(&car) else {
+        let Some(links) = self.links.get_mut(car) else {
             return Ok(());
         };
         take_front(&mut links.set, &mut links.queue)
@@ -160,7 +167,7 @@ impl LinkTable {
         ensures queues { queues_of self.new ≡ queues_of self.old }
         ensures kept { (other more : ℕ) → HasRoom self.old other more → HasRoom self.new other more }
     {
-        let Some(links) = self.links.get_mut(&car) else {
+        let Some(links) = self.links.get_mut(car) else {
             return;
         };
         links.set.take(source);
@@ -170,6 +177,6 @@ impl LinkTable {
     pub fn remove(&mut self, car: u64)
         ensures { self.new ≡ map.remove self.old car }
     {
-        self.links.remove(&car);
+        self.links.remove(car);
     }
 }

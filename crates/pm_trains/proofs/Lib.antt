@@ -1,3 +1,4 @@
+mod Homes
 pub mod Order
 pub mod Numbers
 pub mod Cars

@@ -1,12 +1,11 @@
 ghost use Rattle.std.specs.Prelude.{◌≡◌, ◌+◌, ◌<◌, ◌++◌, ◌∷◌, [], length, drop, ℕ, OnOk, OnErr};
-ghost use Rattle.std.specs.Ordering.{nat_cmp};
-ghost use Rattle.std.specs.BTreeMap as tree;
+ghost use Rattle.std.specs.FinMap as map;
 ghost use Rattle.pm_trains.specs.Trains.{empty_train};
 ghost use Rattle.pm_trains.specs.Changes.{Notes};
 
+use pm_numbered::Numbered;
 use pm_types::NoMemory;
 use std::alloc::Global;
-use std::collections::BTreeMap;
 use std::marker::Model;
 
 /// A train, seen as its number and the list of its cars, the first car first.
@@ -58,12 +57,11 @@ impl Line {
     }
 
     /// Puts the car at the end of the train, and notes the train as its home.
-    pub fn append(&mut self, homes: &mut BTreeMap<u64, u64>, car: u64) -> Result<(), NoMemory>
+    pub fn append(&mut self, homes: &mut Numbered<u64>, car: u64) -> Result<(), NoMemory>
         ensures train { OnOk result (self.new ≡ record self.old { cars = self.old.cars ++ car ∷ [] }) }
-        ensures home { OnOk result (Notes (tree.get nat_cmp homes.old)
-            (tree.get nat_cmp homes.new) car self.old.number) }
+        ensures home { OnOk result (Notes (map.get homes.old) (map.get homes.new) car self.old.number) }
         ensures err_train { OnErr result (self.new ≡ self.old) }
-        ensures err_homes { OnErr result ((c : ℕ) → tree.get nat_cmp homes.new c ≡ tree.get nat_cmp homes.old c) }
+        ensures err_homes { OnErr result (homes.new ≡ homes.old) }
     {
         self.cars.reserve(1)?;
         homes.insert(car, self.number)?;

@@ -5,9 +5,10 @@ ghost use Rattle.pm_trains.specs.Changes.{StandsIn, opened};
 
 use crate::line::Line;
 use crate::place::{drop_empty, place_of};
+use pm_numbered::Numbered;
 use pm_types::NoMemory;
 use std::alloc::Global;
-use std::collections::{BTreeMap, VecDeque};
+use std::collections::VecDeque;
 use std::marker::Model;
 
 /// The most objects that are born in one train.
@@ -25,14 +26,13 @@ pub const MOST_TRAINS: u64 = 1 << 62;
 pub struct Trains {
     trains: VecDeque<Line>,
     /// For each car the number of its train.
-    homes: BTreeMap<u64, u64>,
+    homes: Numbered<u64>,
     births: u32,
 }
 
 impl Model for Trains {
     ghost use Rattle.std.specs.Prelude.{◌≡◌, ℕ};
-    ghost use Rattle.std.specs.Ordering.{nat_cmp};
-    ghost use Rattle.std.specs.BTreeMap as tree;
+    ghost use Rattle.std.specs.FinMap as map;
     ghost use Rattle.pm_trains.specs.Trains.{Trains as Shown, trains_code, train_of};
     ghost use Rattle.pm_trains.specs.Sound.{AreSoundTrains};
 
@@ -44,7 +44,7 @@ impl Model for Trains {
 
     ghost invariant = { λ it. record {
       sound : AreSoundTrains (record { trains = it.trains.items; births = it.births });
-      housed : (car : ℕ) → tree.get nat_cmp it.homes car ≡ train_of it.trains.items car;
+      housed : (car : ℕ) → map.get it.homes car ≡ train_of it.trains.items car;
     } };
 }
 
@@ -54,11 +54,19 @@ impl Trains {
         ensures trains { IfOk result (λ trains. trains ≡ first_trains) }
         ensures sound { IfOk result (λ trains. AreSoundTrains trains) }
     {
+        Trains::expecting(alloc, 0)
+    }
+
+    /// The same trains, where so many cars are to come, in any order of their numbers.
+    pub fn expecting(alloc: Global, many: usize) -> Result<Trains, NoMemory>
+        ensures trains { IfOk result (λ trains. trains ≡ first_trains) }
+        ensures sound { IfOk result (λ trains. AreSoundTrains trains) }
+    {
         let mut trains = VecDeque::new(alloc);
         trains.push_back(Line::new(alloc, 1))?;
         Ok(Trains {
             trains,
-            homes: BTreeMap::new(alloc),
+            homes: Numbered::expecting(alloc, many),
             births: 0,
         })
     }
@@ -153,7 +161,7 @@ impl Trains {
         ensures train { train_of self.now.trains car ≡ Some result }
         ensures car { StandsIn self.now.trains car result }
     {
-        match self.homes.get(&car) {
+        match self.homes.get(car) {
             Some(train) => *train,
             None => unreachable!(),
         }
@@ -231,7 +239,7 @@ impl Trains {
             unreachable!()
         };
         let car = self.trains[place].take_first();
-        self.homes.remove(&car);
+        self.homes.remove(car);
         drop_empty(&mut self.trains, place);
     }
 }

@@ -20,6 +20,13 @@ impl From<AllocError> for NoMemory {
     }
 }
 
+// The value that came back is let go.
+impl<T: Drop> From<(T, NoMemory)> for NoMemory {
+    fn from(_e: (T, NoMemory)) -> NoMemory {
+        NoMemory
+    }
+}
+
 impl<T: Drop> From<AllocFailed<T>> for NoMemory {
     fn from(_e: AllocFailed<T>) -> NoMemory {
         NoMemory

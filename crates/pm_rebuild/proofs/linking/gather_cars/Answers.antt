@@ -6,7 +6,7 @@ use Rattle.pm_rebuild.proofs.linking.gather_cars.Goals as goal
 
 pub loop-left-init : goal.loop-left-init
 loop-left-init c = record {
-  gathered = gathered_none c.args.cars.now c.in_ok-sets.sets c.in_ok-sets.ensures;
+  gathered = gathered_none c.args.cars.now c.expecting-sets.result c.expecting-sets.ensures;
   inside = omega arith;
 }
 

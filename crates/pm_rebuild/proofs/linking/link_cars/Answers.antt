@@ -8,7 +8,7 @@ use Rattle.pm_rebuild.proofs.linking.link_cars.Goals as goal
 
 pub loop-left-init : goal.loop-left-init
 loop-left-init c = record {
-  linked = linked_none c.args.cars.now c.args.sets c.new-links.result c.new-links.ensures;
+  linked = linked_none c.args.cars.now c.args.sets c.expecting-links.result c.expecting-links.ensures;
   others = λ n none. refl;
   inside = omega arith;
 }

@@ -3,7 +3,7 @@ use Rattle.pm_rebuild.proofs.LinkLaws.{none_put, put_full, put_new, put_more, al
 use Rattle.pm_rebuild.proofs.linking.put_cars.Goals as goal
 
 pub loop-car-init : goal.loop-car-init
-loop-car-init c = none_put c.args.cars c.into_vec-left.result.items c.new-table.result c.into_vec-left.ensures c.new-table.ensures.current c.new-table.ensures.frozen
+loop-car-init c = none_put c.args.cars c.into_vec-left.result.items c.expecting-table.result c.into_vec-left.ensures c.expecting-table.ensures.current c.expecting-table.ensures.frozen
 
 pub put_car-requires-clause-from_one : goal.put_car-requires-clause-from_one
 put_car-requires-clause-from_one c = (put_full c.args.cars c.loop-car.left.items c.pop.new.self.items c.loop-car.table (c.in-Some.field-0-0, c.in-Some.car) c.loop-car.invariant c.in-Some.ensures.items c.requires.full).from_one

@@ -14,5 +14,5 @@ returns-in-Some-clause-behind c =
 pub returns-in-None-clause-behind : goal.returns-in-None-clause-behind
 unfolding field
 returns-in-None-clause-behind c =
-    subst (λ (reference : Option Addr). IsBehindOf (HasCar reference) c.args.bytes.now (field reference) (option_map (λ rest. rest.now) c.behind.result)) (sym c.in-None.is)
-    (behind_of (HasCar None) c.args.bytes.now (replicate 12 0) (option_map (λ rest. rest.now) c.behind.result) tt c.behind.ensures)
+    subst (λ (reference : Option Addr). IsBehindOf (HasCar reference) c.args.bytes.now (field reference) (option_map (λ rest. rest.now) c.behind_null.result)) (sym c.in-None.is)
+    (behind_of (HasCar None) c.args.bytes.now (replicate 12 0) (option_map (λ rest. rest.now) c.behind_null.result) tt c.behind_null.ensures)

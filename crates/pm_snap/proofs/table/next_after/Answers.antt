@@ -4,9 +4,9 @@ use Rattle.pm_snap.proofs.table.next_after.Goals as goal
 
 pub loop-below-preserved : goal.loop-below-preserved
 loop-below-preserved g c =
-    used_more c.args.values.now c.args.next c.loop-below.below c.loop-below.invariant (sym c.contains_key.ensures ∙ c.if-not-contains_key.false)
+    used_more c.args.values.now c.args.next c.loop-below.below c.loop-below.invariant (sym c.has.ensures ∙ c.if-not-has.false)
 
-pub returns-then-not-contains_key : goal.returns-then-not-contains_key
-returns-then-not-contains_key g c =
+pub returns-then-not-has : goal.returns-then-not-has
+returns-then-not-has g c =
     next_found c.args.values.now c.args.next c.args.key c.loop-below.below c.if-key-next.false c.loop-below.auto.below c.loop-below.invariant
-    (sym c.contains_key.ensures ∙ c.if-not-contains_key.true)
+    (sym c.has.ensures ∙ c.if-not-has.true)

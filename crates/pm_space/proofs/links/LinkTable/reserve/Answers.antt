@@ -1,8 +1,5 @@
-use Rattle.std.proofs.Common.{ℕ, refl, ap, sym, subst, ◌∙◌, IsSome}
-use Rattle.std.specs.HashMap.{HashMap}
-use Rattle.std.specs.Ordering.{nat_cmp}
-use Rattle.std.specs.FinMap.{from_entries}
-use Rattle.pm_snap.proofs.Hashed.{gotten, inserted}
+use Rattle.std.proofs.Common.{refl, ap, sym, subst, ◌∙◌, IsSome}
+use Rattle.pm_numbered.proofs.Lent.{found_in, written_in}
 use Rattle.pm_space.specs.declared.links.Links.{Links}
 use Rattle.pm_space.specs.Linked.{sets_of, queues_of, HasRoomOf, HasRoom}
 use Rattle.pm_space.proofs.Linking.{sets_kept, queues_kept, room_kept, room_there, on_ok}
@@ -10,34 +7,34 @@ use Rattle.pm_space.proofs.links.LinkTable.reserve.Goals as goal
 
 pub returns-in_default-clause-room : goal.returns-in_default-clause-room
 returns-in_default-clause-room c =
-    let none = gotten c.self.inside.links c.args.self.now c.self.view_is c.args.car _ c.in_default.ensures.value in
-    let same = ap (λ (t : HashMap ℕ Links _). from_entries {R = nat_cmp} t.entries) c.get_mut.follows.holds-at-none ∙ c.self.view_is in
+    let none = found_in c.self.inside.links c.args.self.now c.self.view_is c.args.car _ c.in_default.ensures.value in
+    let same = c.get_mut.follows.holds-at-none ∙ c.self.view_is in
     subst (λ v. HasRoom v c.args.car c.args.count) (sym same) (subst (λ o. HasRoomOf o c.args.count) none tt)
 
 pub returns-clause-sets : goal.returns-clause-sets
 returns-clause-sets c =
     let w : Links = record { set = c.in-Some.links.now.set; queue = c.reserve.new.self } in
-    let found = gotten c.self.inside.links c.args.self.now c.self.view_is c.args.car _ c.in-Some.ensures.value in
-    let new = inserted c.self.inside.links (c.get_mut.follows.lender w) c.args.self.now c.self.view_is c.args.car w ((c.get_mut.follows.holds w).3 (subst IsSome c.in-Some.ensures.value refl)) in
+    let found = found_in c.self.inside.links c.args.self.now c.self.view_is c.args.car _ c.in-Some.ensures.value in
+    let new = written_in c.self.inside.links c.args.self.now c.self.view_is c.args.car c.get_mut.result (c.get_mut.follows.lender w) w (c.get_mut.follows.holds w) (subst IsSome (sym c.in-Some.is) refl) in
     ap sets_of new ∙ sets_kept c.args.self.now c.args.car c.in-Some.links.now w (sym found) refl
 
 pub returns-clause-queues : goal.returns-clause-queues
 returns-clause-queues c =
     let w : Links = record { set = c.in-Some.links.now.set; queue = c.reserve.new.self } in
-    let found = gotten c.self.inside.links c.args.self.now c.self.view_is c.args.car _ c.in-Some.ensures.value in
-    let new = inserted c.self.inside.links (c.get_mut.follows.lender w) c.args.self.now c.self.view_is c.args.car w ((c.get_mut.follows.holds w).3 (subst IsSome c.in-Some.ensures.value refl)) in
+    let found = found_in c.self.inside.links c.args.self.now c.self.view_is c.args.car _ c.in-Some.ensures.value in
+    let new = written_in c.self.inside.links c.args.self.now c.self.view_is c.args.car c.get_mut.result (c.get_mut.follows.lender w) w (c.get_mut.follows.holds w) (subst IsSome (sym c.in-Some.is) refl) in
     ap queues_of new ∙ queues_kept c.args.self.now c.args.car c.in-Some.links.now w (sym found) c.reserve.ensures.changes
 
 pub returns-clause-room : goal.returns-clause-room
 returns-clause-room c =
     let w : Links = record { set = c.in-Some.links.now.set; queue = c.reserve.new.self } in
-    let found = gotten c.self.inside.links c.args.self.now c.self.view_is c.args.car _ c.in-Some.ensures.value in
-    let new = inserted c.self.inside.links (c.get_mut.follows.lender w) c.args.self.now c.self.view_is c.args.car w ((c.get_mut.follows.holds w).3 (subst IsSome c.in-Some.ensures.value refl)) in
+    let found = found_in c.self.inside.links c.args.self.now c.self.view_is c.args.car _ c.in-Some.ensures.value in
+    let new = written_in c.self.inside.links c.args.self.now c.self.view_is c.args.car c.get_mut.result (c.get_mut.follows.lender w) w (c.get_mut.follows.holds w) (subst IsSome (sym c.in-Some.is) refl) in
     on_ok c.reserve.result (λ fits. subst (λ v. HasRoom v c.args.car c.args.count) (sym new) (room_there c.args.self.now c.args.car c.in-Some.links.now w (sym found) c.args.count fits)) c.reserve.ensures.spare
 
 pub returns-clause-kept : goal.returns-clause-kept
 returns-clause-kept c = λ other more room.
     let w : Links = record { set = c.in-Some.links.now.set; queue = c.reserve.new.self } in
-    let found = gotten c.self.inside.links c.args.self.now c.self.view_is c.args.car _ c.in-Some.ensures.value in
-    let new = inserted c.self.inside.links (c.get_mut.follows.lender w) c.args.self.now c.self.view_is c.args.car w ((c.get_mut.follows.holds w).3 (subst IsSome c.in-Some.ensures.value refl)) in
+    let found = found_in c.self.inside.links c.args.self.now c.self.view_is c.args.car _ c.in-Some.ensures.value in
+    let new = written_in c.self.inside.links c.args.self.now c.self.view_is c.args.car c.get_mut.result (c.get_mut.follows.lender w) w (c.get_mut.follows.holds w) (subst IsSome (sym c.in-Some.is) refl) in
     subst (λ v. HasRoom v other more) (sym new) (room_kept c.args.self.now c.args.car c.in-Some.links.now w (sym found) c.reserve.ensures.kept other more room)

@@ -1,6 +1,5 @@
 use Rattle.std.proofs.Common.{ap, ◌∙◌}
-use Rattle.std.specs.Ordering.{nat_cmp}
-use Rattle.std.specs.BTreeMap as tree
+use Rattle.std.specs.FinMap as map
 use Rattle.pm_trains.specs.Trains.{Trains, appended}
 use Rattle.pm_trains.proofs.Kept.{appended_there, appended_sound, appended_housed}
 use Rattle.pm_trains.proofs.trains.Trains.append_car.Goals as goal
@@ -15,7 +14,7 @@ invariant_of-self-2 c =
     let sound = c.self.invariant.sound in
     record {
       sound = appended_sound it.trains.items it.births c.args.train c.args.car c.in-Some.place old new sound at c.index_mut.ensures.value c.in_ok-append.ensures.train none;
-      housed = appended_housed it.trains.items it.births c.args.train c.args.car c.in-Some.place old new sound at c.index_mut.ensures.value c.in_ok-append.ensures.train none (tree.get nat_cmp it.homes) (tree.get nat_cmp c.append.new.homes) c.self.invariant.housed c.in_ok-append.ensures.home;
+      housed = appended_housed it.trains.items it.births c.args.train c.args.car c.in-Some.place old new sound at c.index_mut.ensures.value c.in_ok-append.ensures.train none (map.get it.homes) (map.get c.append.new.homes) c.self.invariant.housed c.in_ok-append.ensures.home;
     }
 
 pub returns-clause-ok : goal.returns-clause-ok

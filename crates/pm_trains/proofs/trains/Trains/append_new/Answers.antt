@@ -1,6 +1,5 @@
 use Rattle.std.proofs.Common.{◌+◌, ◌==◌, cond, Some, [], ◌∷◌, ◌++◌, List, ap, ◌∙◌}
-use Rattle.std.specs.Ordering.{nat_cmp}
-use Rattle.std.specs.BTreeMap as tree
+use Rattle.std.specs.FinMap as map
 use Rattle.pm_trains.specs.Trains.{Train, Trains, appended, rotated, youngest}
 use Rattle.pm_trains.proofs.Kept.{opened_there, opened_sound, opened_housed}
 use Rattle.pm_trains.proofs.trains.Trains.append_new.Goals as goal
@@ -16,8 +15,8 @@ invariant_of-self-2 c =
     let pushed = c.push_back_reserved.ensures.items ∙ ap (λ (ts : List Train). ts ++ line ∷ []) c.in_ok-reserve.ensures.items in
     record {
       sound = opened_sound it.trains.items it.births (c.youngest-number.result + 1) c.args.car line c.push_back_reserved.new.self.items c.self.invariant.sound last is pushed none has;
-      housed = opened_housed it.trains.items it.births (c.youngest-number.result + 1) c.args.car line c.push_back_reserved.new.self.items c.self.invariant.sound last is pushed none (tree.get nat_cmp it.homes) (tree.get nat_cmp c.append.new.homes) c.self.invariant.housed
-          (λ q. c.in_ok-append.ensures.home q ∙ ap (λ (t : Train). cond (q == c.args.car) (Some t.number) (tree.get nat_cmp it.homes q)) c.new-line.ensures);
+      housed = opened_housed it.trains.items it.births (c.youngest-number.result + 1) c.args.car line c.push_back_reserved.new.self.items c.self.invariant.sound last is pushed none (map.get it.homes) (map.get c.append.new.homes) c.self.invariant.housed
+          (λ q. c.in_ok-append.ensures.home q ∙ ap (λ (t : Train). cond (q == c.args.car) (Some t.number) (map.get it.homes q)) c.new-line.ensures);
     }
 
 pub returns-clause-ok : goal.returns-clause-ok

@@ -1,9 +1,8 @@
-use Rattle.std.proofs.Common.{◌≡◌, ℕ, ◌==◌, cond, None, ap, ◌∙◌, arith}
-use Rattle.std.specs.Ordering.{nat_cmp, is_eq}
-use Rattle.std.specs.BTreeMap as tree
-use Rattle.std.proofs.lemmas.Bool.Decides.{nat_tests}
+use Rattle.std.proofs.Common.{ap, ◌∙◌}
+use Rattle.std.specs.FinMap as map
 use Rattle.pm_trains.specs.Trains.{Trains, without_first}
 use Rattle.pm_trains.proofs.Numbers.{cars_read}
+use Rattle.pm_trains.proofs.Homes.{forgotten}
 use Rattle.pm_trains.proofs.Kept.{removed_there, removed_sound, removed_housed}
 use Rattle.pm_trains.proofs.trains.Trains.remove_first.Goals as goal
 
@@ -13,9 +12,6 @@ take_first-car-requires c =
     let has = rw (← c.self.view_is) at c.requires in
     let has = rw (cars_read 0 c.self.inside.trains.items c.args.train c.in-Some.place c.index_mut.result.now c.self.invariant.sound.rising at c.index_mut.ensures.value) at has in
     has
-
-tied : (car q : ℕ) → is_eq (nat_cmp car q) ≡ (q == car)
-tied car q = grind (arith, nat_tests)
 
 pub invariant_of-self : goal.invariant_of-self
 invariant_of-self c =
@@ -28,7 +24,7 @@ invariant_of-self c =
     record {
       sound = removed_sound it.trains.items it.births c.args.train taken.result c.in-Some.place old taken.new.self sound at c.index_mut.ensures.value taken.ensures.first taken.ensures.number c.drop_empty.new.trains.items is;
       housed = removed_housed it.trains.items it.births c.args.train taken.result c.in-Some.place old taken.new.self sound at c.index_mut.ensures.value taken.ensures.first taken.ensures.number c.drop_empty.new.trains.items is
-          (tree.get nat_cmp it.homes) (tree.get nat_cmp c.remove.new.self) c.self.invariant.housed (λ q. c.remove.ensures.updates.0 q ∙ ap (λ b. cond b None (tree.get nat_cmp it.homes q)) (tied taken.result q));
+          (map.get it.homes) (map.get c.remove.new.self) c.self.invariant.housed (λ q. ap (λ m. map.get m q) c.remove.ensures.after ∙ forgotten it.homes taken.result q);
     }
 
 pub returns-clause-after : goal.returns-clause-after

@@ -1,5 +1,4 @@
-use Rattle.std.specs.Ordering.{nat_cmp}
-use Rattle.std.specs.BTreeMap as tree
+use Rattle.std.specs.FinMap as map
 use Rattle.pm_trains.proofs.Kept.{rotated_sound, rotated_housed}
 use Rattle.pm_trains.proofs.trains.Trains.rotate.Goals as goal
 
@@ -10,7 +9,7 @@ invariant_of-self-2 c =
     let it = c.self.inside in
     record {
       sound = rotated_sound it.trains.items it.births c.youngest-number.result c.new.result c.push_back.new.self.items c.self.invariant.sound last c.new.ensures c.in_ok-push_back.ensures.items car;
-      housed = rotated_housed it.trains.items it.births c.youngest-number.result c.new.result c.push_back.new.self.items c.self.invariant.sound last c.new.ensures c.in_ok-push_back.ensures.items (tree.get nat_cmp it.homes) c.self.invariant.housed;
+      housed = rotated_housed it.trains.items it.births c.youngest-number.result c.new.result c.push_back.new.self.items c.self.invariant.sound last c.new.ensures c.in_ok-push_back.ensures.items (map.get it.homes) c.self.invariant.housed;
     }
 
 pub returns-clause-sound : goal.returns-clause-sound

@@ -1,9 +1,9 @@
 use Rattle.std.proofs.Common.{refl}
 use Rattle.pm_snap.proofs.Passed.{kept_new}
-use Rattle.pm_snap.proofs.table.Table.new.Goals as goal
+use Rattle.pm_snap.proofs.table.Table.expecting.Goals as goal
 
 pub invariant_of-result : goal.invariant_of-result
 invariant_of-result g c = record {
-  keys = kept_new c.new.result c.new-2.result c.new.ensures.empty c.new.ensures.len c.new-2.ensures;
+  keys = kept_new c.expecting.result c.new.result c.expecting.ensures c.new.ensures;
   zero_unnoted = refl;
 }

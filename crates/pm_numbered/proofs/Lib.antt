@@ -1,0 +1,3 @@
+pub mod Hashed
+mod Fills
+pub mod Lent

@@ -1,0 +1,7 @@
+//! Values at numbers.
+#![tactic(auto)]
+
+mod near;
+mod numbered;
+
+pub use numbered::Numbered;
