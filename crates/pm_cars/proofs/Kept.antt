@@ -198,8 +198,8 @@ module _ (es : List Entry) (next all live first spare capacity : ℕ) (kept : Is
     gone_by : (f : Slot → ℕ) → total f (slots_of (without es k)) + f held ≡ total f (slots_of es)
     gone_by f = omega (arith, ap (total f) (slots_without es k kept.ascending), total_remove f (slots_of es) k, here_by f)
 
-    pub kept_without : (left alive place : ℕ) → left + slot_room held ≡ all → alive + one_live held ≡ live → place ≡ first_place (without es k) → IsKept (without es k) next left alive place spare capacity
-    kept_without left alive place is lives lowest =
+    pub kept_without : (left alive place now : ℕ) → capacity ≤ now + 1 → left + slot_room held ≡ all → alive + one_live held ≡ live → place ≡ first_place (without es k) → IsKept (without es k) next left alive place spare now
+    kept_without left alive place now memory is lives lowest =
         let at = held_place es k held found in
         let before = none_before es kept.ascending k at.0 at.1 in
         record {
@@ -210,7 +210,7 @@ module _ (es : List Entry) (next all live first spare capacity : ℕ) (kept : Is
           within = omega (arith, kept.within, is);
           lives = omega (arith, kept.lives, gone_by one_live, lives);
           lowest = lowest;
-          space = omega (arith, kept.space, length_without es k);
+          space = omega (arith, kept.space, length_without es k at.0 at.1.within at.1.here before);
         }
 
     pub seen_without : (number : ℕ) → seen number (without es k) next ≡ without_slot (seen number es next) k

@@ -1,10 +1,10 @@
 -- Where a search among entries in order ends, and which entry is the first that is Live.
-use Rattle.std.proofs.Common.{◌≡◌, ℕ, suc, ◌+◌, ◌<◌, ◌≤◌, ◌==◌, Bool, true, false, not, cond, refl, ap, sym, subst, ◌∙◌, arith, List, [], ◌∷◌, ◌++◌, length, get_or, slice_index, Option, Some, None, Result, Ok, Err, IfSome, IfNone, inl, inr}
+use Rattle.std.proofs.Common.{◌≡◌, ℕ, suc, ◌+◌, ◌-◌, ◌<◌, ◌≤◌, ◌==◌, Bool, true, false, not, cond, refl, ap, sym, subst, ◌∙◌, arith, List, [], ◌∷◌, ◌++◌, length, drop, get_or, slice_index, Option, Some, None, Result, Ok, Err, IfSome, IfNone, inl, inr}
 use Rattle.std.specs.List.Sorted.{IsSearchInRange, IsBinarySearchResult, IsNonDecreasingBy}
 use Rattle.std.specs.Ordering.{nat_cmp, ordering_index}
 use Rattle.std.specs.Result.{result_ok}
 use Rattle.std.proofs.lemmas.Cmp.{ranked}
-use Rattle.std.proofs.lemmas.List.{get_or-map, length-map}
+use Rattle.std.proofs.lemmas.List.{get_or-map, get_or-drop, length-map, length-drop}
 use Rattle.std.proofs.lemmas.List.Sums.{fails_before_first, passes_at_first, prefix_len-le-length}
 use Rattle.std.proofs.lemmas.List.Sorted.{IsNonDecreasingBy-from_default}
 use Rattle.std.proofs.lemmas.Bool.{cases_lt, eqb-true}
@@ -23,6 +23,17 @@ number_at es i d lt = get_or-map (λ (e : Entry). e.0) es i d 0 lt
 
 pub length_numbers : (es : List Entry) → length (numbers es) ≡ length es
 length_numbers es = length-map es (λ (e : Entry). e.0)
+
+-- where the first entries are left out, each stands that much earlier
+pub at_later : (es : List Entry) (k b i : ℕ) → b ≤ i → IsAt es k i → IsAt (drop b es) k (i - b)
+at_later es k b i le at =
+    let longer = length-drop b es in
+    let within : i - b < length (drop b es) = omega (arith, at.within) in
+    let same : b + (i - b) ≡ i = omega arith in
+    record {
+      within = within;
+      here = number_at (drop b es) (i - b) blank within ∙ ap (λ (e : Entry). e.0) (get_or-drop b es (i - b) blank ∙ ap (λ n. get_or es n blank) same) ∙ sym (number_at es i blank at.within) ∙ at.here;
+    }
 
 module _ (es : List Entry) (ascending : IsAscending (numbers es)) (k : ℕ) where
   rising : (i j : ℕ) → i < j → j < length es → (get_or es i blank).0 < (get_or es j blank).0

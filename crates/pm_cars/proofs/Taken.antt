@@ -1,5 +1,5 @@
 -- A list of entries in order: as a map it lists just these, and an entry that is taken away leaves the others.
-use Rattle.std.proofs.Common.{◌≡◌, ℕ, zero, suc, ◌+◌, ◌<◌, ◌≤◌, ◌==◌, Bool, true, false, cond, refl, ap, sym, subst, ◌∙◌, arith, List, [], ◌∷◌, length, slice_index, Option, Some, None}
+use Rattle.std.proofs.Common.{◌≡◌, ℕ, zero, suc, ◌+◌, ◌<◌, ◌≤◌, ◌==◌, Bool, true, false, cond, refl, ap, sym, subst, ◌∙◌, arith, List, [], ◌∷◌, length, take, drop, slice_index, Option, Some, None}
 use Rattle.std.specs.List.{remove}
 use Rattle.std.specs.Ordering.{nat_cmp}
 use Rattle.std.specs.declared.cmp.Ordering.{Ordering}
@@ -10,7 +10,7 @@ use Rattle.std.specs.FinMap as finite
 use Rattle.std.specs.FinMap.Entries.{by_order}
 use Rattle.std.proofs.lemmas.Bool.{eqb-true}
 use Rattle.std.proofs.lemmas.Bool.Decides.{nat_tests}
-use Rattle.std.proofs.lemmas.List.{length-map}
+use Rattle.std.proofs.lemmas.List.{length-map, length-append, length-take, length-drop}
 use Rattle.pm_types.specs.declared.object.Slot.{Slot}
 use Rattle.pm_cars.specs.Entries.{Entry, numbers, content_at, slots_of, without, IsAscending, HasNone}
 use Rattle.pm_cars.proofs.Listed.{NoneBefore, get_slots, tied_nat, not_here, here, differs, same, before_later, content_absent, cond_swap}
@@ -57,13 +57,10 @@ without_absent [] k none = refl
 without_absent (e ∷ es) k none =
     not_here (e.0 == k) _ _ (differs e.0 k (none 0 (omega arith))) ∙ ap (λ rest. e ∷ rest) (without_absent es k (λ i lt. none (suc i) (omega arith)))
 
-shorter : (b : Bool) (e : Entry) (es rest : List Entry) → length rest ≤ length es → length (cond b es (e ∷ rest)) ≤ suc (length es)
-shorter true e es rest le = omega arith
-shorter false e es rest le = omega arith
-
-pub length_without : (es : List Entry) (k : ℕ) → length (without es k) ≤ length es
-length_without [] k = omega arith
-length_without (e ∷ es) k = shorter (e.0 == k) e es (without es k) (length_without es k)
+pub length_without : (es : List Entry) (k i : ℕ) → i < length es → slice_index (numbers es) i ≡ k → NoneBefore es k i → length (without es k) + 1 ≡ length es
+length_without es k i lt is none =
+    let same = ap length (without_present es k i lt is none) in
+    omega (arith, length-append (take i es) (drop (suc i) es), length-take i es, length-drop (suc i) es)
 
 gone_here : (b c : Bool) (content : Slot) (x : Option Slot) → (b ≡ true → x ≡ None) → (b ≡ false → c ≡ false) → x ≡ cond b None (cond c (Some content) x)
 gone_here true c content x none apart = none refl

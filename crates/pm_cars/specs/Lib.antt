@@ -1,3 +1,4 @@
 pub mod Cars
 pub mod Entries
+pub mod Rows
 pub mod Sums

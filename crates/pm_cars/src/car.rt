@@ -5,11 +5,10 @@ ghost use Rattle.pm_types.specs.declared.object.Slot.TheVariants.{Moved};
 ghost use Rattle.pm_cars.specs.declared.look.Look.TheVariants as looks;
 ghost use Rattle.pm_cars.specs.Cars.{object_room, slot_room, used, live_count, moved_count, FitsAt, Fits, IsSoundCar, look_of, object_at, IsLive, HasField, HasBytes, IsLowestLive, new_car, placed, with_birth, with_next, told, IsEdited, without_slot, with_field, with_bytes};
 
-use crate::entry::{
-    Entry, content_of, copy_all, exchange, first_live, make_space, put_back, take_object,
-};
+use crate::entry::{content_of, exchange, first_live, put_back, take_object};
 use crate::look::Look;
 use crate::object::{room_of, set_bytes, set_field};
+use crate::row::{NOWHERE, Row};
 use pm_types::{
     Addr, CAR_BYTES, CAR_HEAD_BYTES, Id, LAST_SLOT, MOVED_BYTES, NoMemory, Object, Slot,
 };
@@ -24,7 +23,7 @@ use std::marker::Model;
 pub struct Car {
     number: u64,
     // The Live and the Moved slots, in their order.
-    entries: Vec<Entry>,
+    entries: Row,
     next: u32,
     // The room of the head and of all slots, in bytes.
     used: u32,
@@ -35,11 +34,7 @@ pub struct Car {
     spare: usize,
 }
 
-/// What stands in a slot while its object is changed.
-const NOWHERE: Slot = Slot::Moved(Addr { car: 0, slot: 0 });
-
 impl Model for Car {
-    ghost use Rattle.std.specs.Prelude.{◌≤◌, ◌+◌, vec_capacity};
     ghost use Rattle.pm_cars.specs.Cars.{CarAndSpare, car_and_spare_code};
 
     ghost Value = { CarAndSpare };
@@ -50,7 +45,7 @@ impl Model for Car {
 
     ghost view = { λ c. record { car = record { number = c.number; slots = slots_of c.entries.items; next = c.next }; spare = c.spare } };
 
-    ghost invariant = { λ c. IsKept c.entries.items c.next c.used c.live c.first c.spare (vec_capacity c.entries) };
+    ghost invariant = { λ c. IsKept c.entries.items c.next c.used c.live c.first c.spare c.entries.capacity };
 }
 
 impl Car {
@@ -60,7 +55,7 @@ impl Car {
     {
         Car {
             number,
-            entries: Vec::new(alloc),
+            entries: Row::new(alloc),
             next: 0,
             used: CAR_HEAD_BYTES,
             live: 0,
@@ -129,7 +124,7 @@ impl Car {
         ensures succeeds { 0 < self.old.spare → IsOk result }
     {
         if self.spare == 0 {
-            make_space(&mut self.entries)?;
+            self.entries.make_space()?;
             self.spare = 1;
         }
         Ok(())
@@ -198,7 +193,7 @@ impl Car {
     pub fn slots(&self) -> &[(u32, Slot)]
         ensures { result.now ≡ entries self.now.car.slots }
     {
-        &self.entries
+        self.entries.as_slice()
     }
 
     /// The slot's object, lent.
@@ -276,7 +271,7 @@ impl Car {
         let object = exchange(&mut self.entries, slot, Slot::Moved(to));
         self.used = self.used + MOVED_BYTES - room_of(&object);
         self.live -= 1;
-        self.first = first_live(&self.entries, self.first);
+        self.first = first_live(self.entries.as_slice(), self.first);
         object
     }
 
@@ -289,7 +284,7 @@ impl Car {
         let dropped = take_object(&mut self.entries, slot);
         self.used -= room_of(&dropped);
         self.live -= 1;
-        self.first = first_live(&self.entries, self.first);
+        self.first = first_live(self.entries.as_slice(), self.first);
         dropped
     }
 
@@ -297,8 +292,9 @@ impl Car {
     pub fn lowest_live(&self) -> Option<u32>
         ensures { IsLowestLive self.now.car result }
     {
-        if self.first < self.entries.len() {
-            Some(self.entries[self.first].0)
+        let entries = self.entries.as_slice();
+        if self.first < entries.len() {
+            Some(entries[self.first].0)
         } else {
             None
         }
@@ -308,7 +304,7 @@ impl Car {
     pub fn copy(&self, alloc: Global) -> Result<Car, NoMemory>
         ensures { IfOk result (λ copied. copied ≡ self.now) }
     {
-        let entries = copy_all(alloc, &self.entries, self.spare)?;
+        let entries = self.entries.copy(alloc, self.spare)?;
         Ok(Car {
             number: self.number,
             entries,

@@ -1,12 +1,11 @@
-ghost use Rattle.std.specs.Prelude.{◌≡◌, ◌+◌, ◌<◌, ◌≤◌, ◌^◌, true, length, Some, IsSome, IfSome, IfNone, IfOk, OnOk, vec_capacity, option_copied};
+ghost use Rattle.std.specs.Prelude.{◌≡◌, ◌+◌, ◌<◌, ◌≤◌, ◌^◌, true, length, Some, IsSome, IfSome, IfNone, IfOk, vec_capacity, option_copied};
 ghost use Rattle.pm_types.specs.declared.object.Slot.TheVariants.{Live};
 ghost use Rattle.pm_cars.specs.Cars.{object_of};
 ghost use Rattle.pm_cars.specs.Entries.{numbers, content_at, with_content, without, holds_object, first_place, IsAscending, IsAt, HasNone};
 
+use crate::row::Row;
 use pm_types::{NoMemory, Object, Slot};
 use std::alloc::Global;
-use std::cmp::max;
-use std::mem;
 
 /// A slot, and what it holds. A slot that is Gone has no entry.
 pub(crate) type Entry = (u32, Slot);
@@ -17,8 +16,8 @@ fn is_live(content: &Slot) -> bool
     matches!(content, Slot::Live(_))
 }
 
-// Whether the slot's entry is at this place.
-fn is_at(entries: &[Entry], slot: u32, place: usize) -> bool
+/// Whether the slot's entry is at this place.
+pub(crate) fn is_at(entries: &[Entry], slot: u32, place: usize) -> bool
     ensures { result ≡ true → IsAt entries.now slot place }
 {
     match entries.get(place) {
@@ -36,49 +35,47 @@ fn search(entries: &[Entry], slot: u32) -> Option<usize>
     entries.binary_search_by_key(&slot, |entry| entry.0).ok()
 }
 
-// The place of the slot's entry. Where no slot before it is Gone its number is its place, so that is looked at first.
-fn place_of(entries: &[Entry], slot: u32) -> Option<usize>
-    requires { IsAscending (numbers entries.now) }
-    ensures found { IfSome result (IsAt entries.now slot) }
-    ensures absent { IfNone result (HasNone entries.now slot) }
+// The place of the slot's entry. Where its number alone tells its place, that is looked at first.
+fn place_of(entries: &Row, slot: u32) -> Option<usize>
+    requires { IsAscending (numbers entries.now.items) }
+    ensures found { IfSome result (IsAt entries.now.items slot) }
+    ensures absent { IfNone result (HasNone entries.now.items slot) }
 {
-    let number = slot as usize;
-    if is_at(entries, slot, number) {
-        return Some(number);
+    if let Some(place) = entries.numbered_place(slot) {
+        return Some(place);
     }
-    search(entries, slot)
+    search(entries.as_slice(), slot)
 }
 
 /// What the slot holds.
 #[tactic(auto, using(crate::proofs::Listed::content_absent))]
-pub(crate) fn content_of(entries: &[Entry], slot: u32) -> Option<&Slot>
-    requires { IsAscending (numbers entries.now) }
-    ensures { option_copied result ≡ content_at entries.now slot }
+pub(crate) fn content_of(entries: &Row, slot: u32) -> Option<&Slot>
+    requires { IsAscending (numbers entries.now.items) }
+    ensures { option_copied result ≡ content_at entries.now.items slot }
 {
     let place = place_of(entries, slot)?;
-    Some(&entries[place].1)
+    Some(entries.content(place))
 }
 
 // Lets the slot hold this, where it has an entry, and hands back what it held.
 #[tactic(auto, using(crate::proofs::Listed::content_absent))]
-fn replace(entries: &mut Vec<Entry>, slot: u32, content: Slot) -> Option<Slot>
+fn replace(entries: &mut Row, slot: u32, content: Slot) -> Option<Slot>
     requires { IsAscending (numbers entries.old.items) }
     ensures held { result ≡ content_at entries.old.items slot }
     ensures items { entries.new.items ≡ with_content entries.old.items slot content }
-    ensures capacity { vec_capacity entries.new ≡ vec_capacity entries.old }
+    ensures capacity { entries.new.capacity ≡ entries.old.capacity }
 {
     let place = place_of(entries, slot)?;
-    let entry = &mut entries[place];
-    Some(mem::replace(&mut entry.1, content))
+    Some(entries.replace(place, content))
 }
 
 /// Lets a Live slot hold this, and hands its object back.
-pub(crate) fn exchange(entries: &mut Vec<Entry>, slot: u32, content: Slot) -> Object
+pub(crate) fn exchange(entries: &mut Row, slot: u32, content: Slot) -> Object
     requires ascending { IsAscending (numbers entries.old.items) }
     requires live { IsSome (object_of (content_at entries.old.items slot)) }
     ensures object { content_at entries.old.items slot ≡ Some (Live result) }
     ensures items { entries.new.items ≡ with_content entries.old.items slot content }
-    ensures capacity { vec_capacity entries.new ≡ vec_capacity entries.old }
+    ensures capacity { entries.new.capacity ≡ entries.old.capacity }
 {
     match replace(entries, slot, content) {
         Some(Slot::Live(object)) => object,
@@ -87,21 +84,21 @@ pub(crate) fn exchange(entries: &mut Vec<Entry>, slot: u32, content: Slot) -> Ob
 }
 
 /// Lets the slot, which has an entry, hold the object.
-pub(crate) fn put_back(entries: &mut Vec<Entry>, slot: u32, object: Object)
+pub(crate) fn put_back(entries: &mut Row, slot: u32, object: Object)
     requires ascending { IsAscending (numbers entries.old.items) }
     ensures items { entries.new.items ≡ with_content entries.old.items slot (Live object) }
-    ensures capacity { vec_capacity entries.new ≡ vec_capacity entries.old }
+    ensures capacity { entries.new.capacity ≡ entries.old.capacity }
 {
     replace(entries, slot, Slot::Live(object));
 }
 
-// Takes the slot's entry away, where it has one, and hands back what it held. The entries after it move up.
+// Takes the slot's entry away, where it has one, and hands back what it held.
 #[tactic(auto, using(crate::proofs::Listed::content_absent))]
-fn take(entries: &mut Vec<Entry>, slot: u32) -> Option<Slot>
+fn take(entries: &mut Row, slot: u32) -> Option<Slot>
     requires { IsAscending (numbers entries.old.items) }
     ensures held { result ≡ content_at entries.old.items slot }
     ensures items { entries.new.items ≡ without entries.old.items slot }
-    ensures capacity { vec_capacity entries.new ≡ vec_capacity entries.old }
+    ensures capacity { entries.old.capacity ≤ entries.new.capacity + 1 }
 {
     let place = place_of(entries, slot)?;
     let entry = entries.remove(place);
@@ -109,31 +106,17 @@ fn take(entries: &mut Vec<Entry>, slot: u32) -> Option<Slot>
 }
 
 /// Lets a Live slot be Gone, and hands its object back.
-pub(crate) fn take_object(entries: &mut Vec<Entry>, slot: u32) -> Object
+pub(crate) fn take_object(entries: &mut Row, slot: u32) -> Object
     requires ascending { IsAscending (numbers entries.old.items) }
     requires live { IsSome (object_of (content_at entries.old.items slot)) }
     ensures object { content_at entries.old.items slot ≡ Some (Live result) }
     ensures items { entries.new.items ≡ without entries.old.items slot }
-    ensures capacity { vec_capacity entries.new ≡ vec_capacity entries.old }
+    ensures capacity { entries.old.capacity ≤ entries.new.capacity + 1 }
 {
     match take(entries, slot) {
         Some(Slot::Live(object)) => object,
         _ => unreachable!(),
     }
-}
-
-/// Makes space for one entry more, where there is none: for a quarter more than there are, and for four at least. So
-/// little of what cars take is left unused, and the entries are moved seldom.
-pub(crate) fn make_space(entries: &mut Vec<Entry>) -> Result<(), NoMemory>
-    ensures items { entries.new.items ≡ entries.old.items }
-    ensures ok { OnOk result (length entries.old.items < vec_capacity entries.new) }
-    ensures kept { vec_capacity entries.old ≤ vec_capacity entries.new }
-{
-    let count = entries.len();
-    if count == entries.capacity() {
-        entries.reserve_exact(max(4, count / 4))?;
-    }
-    Ok(())
 }
 
 /// The place of the first Live entry, or the number of entries. None before `from` is Live.

@@ -6,6 +6,7 @@ mod entry;
 mod law;
 mod look;
 mod object;
+mod row;
 
 pub use car::Car;
 pub use law::slots_are_counted;

@@ -5,7 +5,6 @@ use Rattle.pm_types.specs.declared.object.Slot.{Slot}
 use Rattle.pm_layout.specs.declared.fault.LayoutFault.{LayoutFault}
 use Rattle.pm_layout.specs.declared.fault.LayoutFault.TheVariants.{Short, Kind, Fields}
 use Rattle.pm_layout.specs.Reading.{number_from, end_at, ident_at, field_count_at, live_at, moved_at, slot_at}
-use Rattle.pm_base.specs.Results.{◌>>=◌}
 use Rattle.pm_layout.proofs.Steps.{chosen, holds, passes}
 use Rattle.pm_base.proofs.Results.{bind_ok, bound, if_ok, if_not}
 

@@ -68,16 +68,6 @@ pub fn put_u16(out: &mut Vec<u8>, number: u16)
     put_bytes(out, &bytes);
 }
 
-/// Appends a number of four bytes, which there is room for.
-pub fn put_u32(out: &mut Vec<u8>, number: u32)
-    requires { HasRoom out.old 4 }
-    ensures { Appends out.old out.new (big_bytes 4 number) }
-{
-    let mut bytes = [0; 4];
-    BigEndian::write_u32(&mut bytes, number);
-    put_bytes(out, &bytes);
-}
-
 /// Appends a number of eight bytes, which there is room for.
 pub fn put_u64(out: &mut Vec<u8>, number: u64)
     requires { HasRoom out.old 8 }

@@ -1,10 +1,12 @@
-ghost use Rattle.std.specs.Prelude.{◌≡◌, ◌+◌, ◌*◌, ◌++◌, length, OnOk, OnErr, IsOk};
+ghost use Rattle.std.specs.Prelude.{◌≡◌, ◌+◌, ◌*◌, ◌++◌, ◌∷◌, length, OnOk, OnErr, IsOk};
 ghost use Rattle.std.specs.List.{flat_map};
+ghost use Rattle.byteorder.specs.Endian.{big_bytes};
 ghost use Rattle.pm_layout.specs.Spelling.{HasSpelling, IsWithinLimits, address, field, spelling, slot_size};
 ghost use Rattle.pm_layout.specs.Room.{HasRoom, Appends};
 
 use crate::kind::{LIVE, MOVED};
-use crate::number::{put_bytes, put_u8, put_u16, put_u32, put_u64};
+use crate::number::put_bytes;
+use byteorder::{BigEndian, ByteOrder};
 use pm_types::{Addr, FIELDS, NoMemory, Object, Slot};
 
 /// How many bytes the slot is spelled in.
@@ -23,59 +25,95 @@ pub fn size(slot: &Slot) -> u32
     }
 }
 
-/// Appends an address, of twelve bytes, which there is room for.
+// Writes an address over twelve bytes.
 #[tactic(auto, unfolding(crate::specs::Spelling::address))]
+fn fill_address(out: &mut [u8], to: &Addr)
+    requires { length out.old ≡ 12 }
+    ensures { out.new ≡ address to.now }
+{
+    BigEndian::write_u64(out, to.car);
+    BigEndian::write_u32(&mut out[8..], to.slot);
+}
+
+/// Appends an address, of twelve bytes, which there is room for.
 pub fn put_address(out: &mut Vec<u8>, to: &Addr)
     requires { HasRoom out.old 12 }
     ensures { Appends out.old out.new (address to.now) }
 {
-    put_u64(out, to.car);
-    put_u32(out, to.slot);
+    let mut bytes = [0; 12];
+    fill_address(&mut bytes, to);
+    put_bytes(out, &bytes);
 }
 
+// Writes a field over twelve bytes.
 #[tactic(auto, unfolding(crate::specs::Spelling::field))]
-fn put_field(out: &mut Vec<u8>, reference: &Option<Addr>)
-    requires { HasRoom out.old 12 }
-    ensures { Appends out.old out.new (field reference.now) }
+fn fill_field(out: &mut [u8], reference: &Option<Addr>)
+    requires { length out.old ≡ 12 }
+    ensures { out.new ≡ field reference.now }
 {
     match reference {
-        Some(to) => put_address(out, to),
-        None => put_bytes(out, &[0; 12]),
+        Some(to) => fill_address(out, to),
+        None => out.copy_from_slice(&[0; 12]),
     }
 }
 
-fn put_fields(out: &mut Vec<u8>, fields: &[Option<Addr>])
-    requires { HasRoom out.old (12 * length fields.now) }
-    ensures { Appends out.old out.new (flat_map field fields.now) }
+// Writes fields over twelve bytes each.
+fn fill_fields(out: &mut [u8], fields: &[Option<Addr>])
+    requires { length out.old ≡ 12 * length fields.now }
+    ensures { out.new ≡ flat_map field fields.now }
 {
-    for reference in fields {
-        put_field(out, reference);
+    for i in 0..fields.len() {
+        fill_field(&mut out[12 * i..12 * i + 12], &fields[i]);
     }
+}
+
+// Writes the head of an object over thirteen bytes: its kind, its identity, and how many fields and bytes it has.
+fn fill_head(out: &mut [u8], id: u32, fields: u16, bytes: u16)
+    requires { length out.old ≡ 13 }
+    ensures { out.new ≡ 1 ∷ (big_bytes 8 id ++ (big_bytes 2 fields ++ big_bytes 2 bytes)) }
+{
+    let (kind, numbers) = out.split_at_mut(1);
+    kind.copy_from_slice(&[LIVE]);
+    BigEndian::write_u64(numbers, id as u64);
+    BigEndian::write_u16(&mut numbers[8..], fields);
+    BigEndian::write_u16(&mut numbers[10..], bytes);
 }
 
 #[tactic(auto, unfolding(crate::specs::Spelling::spelling))]
-fn put_object(out: &mut Vec<u8>, object: &Object)
-    requires fits { HasSpelling FIELDS (Slot.Live object.now) }
-    requires room { HasRoom out.old (slot_size (Slot.Live object.now)) }
-    ensures { Appends out.old out.new (spelling (Slot.Live object.now)) }
+fn fill_object(out: &mut [u8], object: &Object)
+    requires has { HasSpelling FIELDS (Slot.Live object.now) }
+    requires size { length out.old ≡ slot_size (Slot.Live object.now) }
+    ensures { out.new ≡ spelling (Slot.Live object.now) }
 {
     let fields = object.fields.as_slice();
     let bytes = object.bytes.as_slice();
-    put_u8(out, LIVE);
-    put_u64(out, object.id as u64);
-    put_u16(out, fields.len() as u16);
-    put_u16(out, bytes.len() as u16);
-    put_fields(out, fields);
-    put_bytes(out, bytes);
+    let (head, rest) = out.split_at_mut(13);
+    let (places, data) = rest.split_at_mut(12 * fields.len());
+    fill_head(head, object.id, fields.len() as u16, bytes.len() as u16);
+    fill_fields(places, fields);
+    data.copy_from_slice(bytes);
 }
 
 #[tactic(auto, unfolding(crate::specs::Spelling::spelling))]
-fn put_moved(out: &mut Vec<u8>, to: &Addr)
-    requires { HasRoom out.old 13 }
-    ensures { Appends out.old out.new (spelling (Slot.Moved to.now)) }
+fn fill_moved(out: &mut [u8], to: &Addr)
+    requires { length out.old ≡ 13 }
+    ensures { out.new ≡ spelling (Slot.Moved to.now) }
 {
-    put_u8(out, MOVED);
-    put_address(out, to);
+    let (kind, address) = out.split_at_mut(1);
+    kind.copy_from_slice(&[MOVED]);
+    fill_address(address, to);
+}
+
+/// Writes the bytes of the slot over bytes, which are as many.
+pub fn fill_slot(out: &mut [u8], slot: &Slot)
+    requires has { HasSpelling FIELDS slot.now }
+    requires size { length out.old ≡ slot_size slot.now }
+    ensures { out.new ≡ spelling slot.now }
+{
+    match slot {
+        Slot::Live(object) => fill_object(out, object),
+        Slot::Moved(to) => fill_moved(out, to),
+    }
 }
 
 /// Appends the bytes of the slot. After `NoMemory` nothing was appended. Where `out` has room for them it
@@ -86,10 +124,8 @@ pub fn write_slot(slot: &Slot, out: &mut Vec<u8>) -> Result<(), NoMemory>
     ensures err { OnErr result (out.new.items ≡ out.old.items) }
     ensures room { HasRoom out.old (slot_size slot.now) → IsOk result }
 {
-    out.reserve(size(slot) as usize)?;
-    match slot {
-        Slot::Live(object) => put_object(out, object),
-        Slot::Moved(to) => put_moved(out, to),
-    }
+    let from = out.len();
+    out.resize(from + size(slot) as usize, 0)?;
+    fill_slot(&mut out[from..], slot);
     Ok(())
 }

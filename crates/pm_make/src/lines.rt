@@ -6,7 +6,6 @@ ghost use Rattle.pm_make.specs.Made.{two_bytes, new_line, store_line, root_lines
 use crate::drawing::Turn;
 use itoa::Buffer;
 use pm_types::NoMemory;
-use std::alloc::Global;
 
 // Appends bytes.
 fn append(out: &mut Vec<u8>, bytes: &[u8]) -> Result<(), NoMemory>
@@ -25,24 +24,27 @@ fn append_number(out: &mut Vec<u8>, number: u32) -> Result<(), NoMemory>
 }
 
 // Appends the two bytes of a number as pairs of digits.
-fn append_pairs(alloc: Global, out: &mut Vec<u8>, number: u32) -> Result<(), NoMemory>
+fn append_pairs(out: &mut Vec<u8>, number: u32) -> Result<(), NoMemory>
     requires { number < 65536 }
     ensures { OnOk result (out.new.items ≡ out.old.items ++ pairs (two_bytes number)) }
 {
     let bytes = [(number / 256) as u8, (number % 256) as u8];
-    let digits = hex::encode(alloc, bytes.as_slice())?;
-    append(out, digits.as_bytes())
+    let mut digits = [0; 4];
+    let Ok(()) = hex::encode_to_slice(bytes.as_slice(), &mut digits) else {
+        unreachable!()
+    };
+    append(out, &digits)
 }
 
 // Appends the line that makes an object.
-fn append_new(alloc: Global, out: &mut Vec<u8>, turn: &Turn) -> Result<(), NoMemory>
+fn append_new(out: &mut Vec<u8>, turn: &Turn) -> Result<(), NoMemory>
     requires { turn.now.bytes < 65536 }
     ensures { OnOk result (out.new.items ≡ out.old.items ++ text_of (new_line turn.now ∷ [])) }
 {
     append(out, b"0 new ")?;
     append_number(out, turn.register)?;
     append(out, b" 4 ")?;
-    append_pairs(alloc, out, turn.bytes)?;
+    append_pairs(out, turn.bytes)?;
     append(out, b"\n")
 }
 
@@ -74,11 +76,11 @@ fn append_root(out: &mut Vec<u8>, name: Option<u32>, register: u32) -> Result<()
 }
 
 /// Appends the lines of a turn.
-pub(crate) fn append_turn(alloc: Global, out: &mut Vec<u8>, turn: &Turn) -> Result<(), NoMemory>
+pub(crate) fn append_turn(out: &mut Vec<u8>, turn: &Turn) -> Result<(), NoMemory>
     requires { turn.now.bytes < 65536 }
     ensures { OnOk result (out.new.items ≡ out.old.items ++ text_of (turn_lines turn.now)) }
 {
-    append_new(alloc, out, turn)?;
+    append_new(out, turn)?;
     append_store(out, turn)?;
     append_root(out, turn.name, turn.register)?;
     append(out, b"! gc 3\n")

@@ -15,7 +15,7 @@ pub fn make(alloc: Global, seed: u32, turns: u32) -> Result<Vec<u8>, NoMemory>
     let mut draws = Draws::new(seed);
     for turn in 0..turns {
         let drawn = draws.turn();
-        append_turn(alloc, &mut out, &drawn)?;
+        append_turn(&mut out, &drawn)?;
         append_thousandth(&mut out, turn + 1)?;
     }
     append_last(&mut out)?;

@@ -1,11 +1,10 @@
 -- A car that was prepared for an object: that it fits there, and the room that its queue and the others have.
-use Rattle.std.proofs.Common.{◌≡◌, ℕ, ◌≤◌, ◌==◌, Bool, true, false, nat_le, refl, ap, sym, subst, ◌∙◌, ⊎_elim, List, length, Option, Some, None, IsSome, IsSomeAnd, IfSome, is_some, arith}
+use Rattle.std.proofs.Common.{◌≡◌, ℕ, ◌≤◌, ◌==◌, Bool, true, false, nat_le, refl, ap, sym, subst, ◌∙◌, ⊎_elim, Option, Some, None, IsSome, IsSomeAnd, IfSome, is_some, arith}
 use Rattle.std.specs.Ordering.{nat_cmp}
 use Rattle.std.specs.Option.{option_map}
 use Rattle.std.specs.FinMap.{get, insert, empty}
 use Rattle.std.proofs.lemmas.Bool.{cond-false, eqb-true, cases_Bool, true≢false}
 use Rattle.std.proofs.lemmas.Bool.Decides.{nat_tests}
-use Rattle.std.proofs.lemmas.List.Sums.{count_by-le-length}
 use Rattle.pm_base.proofs.Mapped.{get-mapped}
 use Rattle.pm_cars.specs.Cars.{Car, Fits, with_slot}
 use Rattle.pm_view.specs.View.{Cars, SpaceView}
@@ -14,7 +13,7 @@ use Rattle.pm_types.specs.declared.object.Slot.{Slot}
 use Rattle.pm_view.specs.Rows.{put_car, with_slot_at, IsVacant}
 use Rattle.pm_law_rows.proofs.News.{at_insert}
 use Rattle.pm_space.specs.declared.links.Links.{Links}
-use Rattle.pm_space.specs.Linked.{Linked, set_of, sets_of, HasRoom, HasRoomOf, KeepsRoom, times}
+use Rattle.pm_space.specs.Linked.{Linked, set_of, sets_of, HasRoom, HasRoomOf, KeepsRoom}
 use Rattle.pm_space.specs.Places.{FitsIn, with_place, place_of}
 use Rattle.pm_space.proofs.Places.{fits_opened}
 use Rattle.pm_relocate.proofs.Fields.{less_room}
@@ -38,10 +37,6 @@ one_vacant cars m n one other = by_tests (nat_le m n) refl (nat_le n m) refl
 
 -- ---- room in queues
 
--- a car stands in a list at most as often as the list is long
-pub times_few : (cars : List ℕ) (car : ℕ) → times car cars ≤ length cars
-times_few cars car = count_by-le-length (λ c. c == car) cars
-
 no_links : (links : Linked) (car : ℕ) → is_some (get (sets_of links) car) ≡ false → get links car ≡ None
 no_links links car none = by_case (get links car) (sym (ap is_some (get-mapped nat_cmp set_of links car)) ∙ none)
   where
@@ -50,19 +45,19 @@ no_links links car none = by_case (get links car) (sym (ap is_some (get-mapped n
     by_case (Some it) none = absurd (true≢false none)
 
 -- a car that was opened has the room that it was opened with, and the others what they had
-pub room_opened : (old new : Linked) (number : ℕ) (cars : List ℕ) → sets_of new ≡ insert (sets_of old) number empty → KeepsRoom old new → HasRoom new number (length cars)
-    → ((car : ℕ) → HasRoom old car (times car cars)) → (car : ℕ) → HasRoom new car (times car cars)
-room_opened old new number cars sets kept made room car = by_old (get old car) refl
+pub room_opened : (old new : Linked) (number room : ℕ) → sets_of new ≡ insert (sets_of old) number empty → KeepsRoom old new → HasRoom new number room
+    → (car count : ℕ) → count ≤ room → HasRoom old car count → HasRoom new car count
+room_opened old new number room sets kept made car count within had = by_old (get old car) refl
   where
-    by_old : (o : Option Links) → get old car ≡ o → HasRoom new car (times car cars)
-    by_old (Some it) is = kept car (times car cars) (ap is_some is) (room car)
+    by_old : (o : Option Links) → get old car ≡ o → HasRoom new car count
+    by_old (Some it) is = kept car count (ap is_some is) had
     by_old None is =
         ⊎_elim
-        (λ (same : (number == car) ≡ true). subst (λ c. HasRoom new c (times c cars)) (eqb-true number car same) (less_room new number (length cars) (times number cars) (times_few cars number) made))
+        (λ (same : (number == car) ≡ true). subst (λ c. HasRoom new c count) (eqb-true number car same) (less_room new number room count within made))
         (λ (differs : (number == car) ≡ false).
         let gone : is_some (get (sets_of new) car) ≡ false =
         ap (λ m. is_some (get m car)) sets ∙ ap is_some (at_insert (sets_of old) number empty car ∙ cond-false _ _ _ differs) ∙ ap is_some (get-mapped nat_cmp set_of old car) ∙ ap (λ o. is_some (option_map set_of o)) is in
-        subst (λ o. HasRoomOf o (times car cars)) (sym (no_links new car gone)) tt)
+        subst (λ o. HasRoomOf o count) (sym (no_links new car gone)) tt)
         (cases_Bool (number == car))
 
 -- ---- an object that is carried

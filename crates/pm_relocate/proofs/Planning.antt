@@ -1,5 +1,5 @@
 -- What was planned for an object that moves, once the car to which it goes was prepared.
-use Rattle.std.proofs.Common.{◌≡◌, ℕ, ◌≤◌, ◌==◌, arith, Bool, true, false, if◌then◌else◌, refl, ap, sym, subst, ◌∙◌, length, Option, Some, None, IsSome, is_some}
+use Rattle.std.proofs.Common.{◌≡◌, ℕ, ◌+◌, ◌≤◌, ◌==◌, arith, Bool, true, false, if◌then◌else◌, refl, ap, sym, subst, ◌∙◌, length, Option, Some, None, IsSome, is_some}
 use Rattle.std.specs.Option.{option_map, option_and_then, unwrap_or}
 use Rattle.std.specs.FinMap.{get}
 use Rattle.std.proofs.lemmas.Bool.{cond-false, eqb-true, true≢false, false_from_ne_true}
@@ -18,10 +18,11 @@ use Rattle.pm_law_rows.proofs.News.{at_insert}
 use Rattle.pm_law_rows.proofs.Places.{slot_of}
 use Rattle.pm_law_rows.proofs.Born.{small_room}
 use Rattle.pm_law_phases.proofs.Small.{none_some}
-use Rattle.pm_space.specs.Linked.{Linked, HasRoom, times}
+use Rattle.pm_space.specs.Linked.{Linked, HasRoom}
 use Rattle.pm_space.specs.Places.{FitsIn, with_place, place_of, IsOpened}
 use Rattle.pm_relocate.specs.declared.moving.Plan.{Plan}
 use Rattle.pm_relocate.specs.Changed.{identity}
+use Rattle.pm_relocate.specs.Named.{named_by}
 use Rattle.pm_relocate.specs.Moves.{led, led_fields, carried, MayCarry}
 use Rattle.pm_relocate.specs.Planned.{IsPlan}
 use Rattle.pm_relocate.proofs.Places.{one_vacant, fits_placed}
@@ -94,7 +95,7 @@ module _ (v w : SpaceView) (from : Addr) (train : ℕ) (plan : Plan) (law : Heap
   small : object_room is.object ≤ 16370
   small = small_room is.object is.fields_few is.bytes_few
 
-  pub may_carry : (links : Linked) → ((car : ℕ) → HasRoom links car (times car plan.told.items)) → MayCarry w links plan.to is.object plan.fields.items
+  pub may_carry : (links : Linked) → ((car : ℕ) → HasRoom links car (named_by is.object.fields car + named_by plan.fields.items car)) → MayCarry w links plan.to is.object plan.fields.items
   may_carry links room =
       let few = is.fields_few in
       record {
@@ -102,7 +103,7 @@ module _ (v w : SpaceView) (from : Addr) (train : ℕ) (plan : Plan) (law : Heap
         same = ap length is.fields ∙ length-map is.object.fields (option_map (led v.cars from plan.to));
         fits = subst (λ n. FitsIn w.cars n (object_room is.object)) (sym (car_is ∙ opened.place))
             (subst (λ (u : SpaceView). FitsIn u.cars (place_of plan.tail opened.number) (object_room is.object)) (sym opened.space) (fits_placed v train plan.tail opened.number (object_room is.object) small is.fits));
-        room = λ car. subst (HasRoom links car) (is.told car) (room car);
+        room = room;
       }
 
   pub carried_moved : carried w from plan.to is.object plan.fields.items ≡ moved v from train opened.number

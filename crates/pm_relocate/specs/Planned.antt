@@ -1,5 +1,5 @@
 -- How an object is to move.
-use Rattle.std.specs.Prelude.{◌≡◌, ℕ, ◌+◌, ◌≤◌, Some, IfSome, length}
+use Rattle.std.specs.Prelude.{◌≡◌, ℕ, ◌≤◌, Some, IfSome, length}
 use Rattle.pm_types.specs.declared.limits.TheConstants.{FIELDS, OBJECT_BYTES}
 use Rattle.pm_types.specs.declared.address.Addr.{Addr}
 use Rattle.pm_types.specs.declared.object.Object.{Object}
@@ -7,10 +7,8 @@ use Rattle.pm_cars.specs.Cars.{object_room}
 use Rattle.pm_view.specs.View.{SpaceView}
 use Rattle.pm_view.specs.Reading.{object_at}
 use Rattle.pm_view.specs.Rows.{tail_for, place_in, IsVacant}
-use Rattle.pm_space.specs.Linked.{times}
 use Rattle.pm_space.specs.Places.{FitsIn}
 use Rattle.pm_relocate.specs.declared.moving.Plan.{Plan}
-use Rattle.pm_relocate.specs.Named.{named_by}
 use Rattle.pm_relocate.specs.Moves.{led_fields}
 
 -- this is how the object at an address goes to a train
@@ -25,4 +23,3 @@ pub record IsPlan (view : SpaceView) (from : Addr) (train : ℕ) (plan : Plan) :
   pub fits : IfSome plan.tail (λ car. FitsIn view.cars car (object_room object))
   pub to : plan.to ≡ place_in view.cars plan.tail number
   pub fields : plan.fields.items ≡ led_fields view.cars from plan.to object.fields
-  pub told : (car : ℕ) → times car plan.told.items ≡ named_by object.fields car + named_by plan.fields.items car

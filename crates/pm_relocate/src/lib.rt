@@ -7,6 +7,7 @@ mod fixing;
 mod freeing;
 mod moving;
 mod placing;
+mod rooms;
 mod sweeping;
 mod telling;
 

@@ -1,34 +1,34 @@
-ghost use Rattle.std.specs.Prelude.{◌≡◌, ℕ, ◌==◌, true, false, ◌+◌, Some, IsSome, IfOk, OnErr, option_map};
+ghost use Rattle.std.specs.Prelude.{◌≡◌, ℕ, ◌==◌, true, false, ◌+◌, Some, IsSome, IfOk, OnOk, OnErr, option_map};
+ghost use Rattle.pm_types.specs.declared.object.Object.{Object};
 ghost use Rattle.pm_snap.specs.Snapped.{is_ready};
 ghost use Rattle.pm_trains.specs.Trains.{cars_at, tail};
 ghost use Rattle.pm_view.specs.declared.phase.Phase.TheVariants.{Moving};
 ghost use Rattle.pm_view.specs.Law.{HeapLaw};
 ghost use Rattle.pm_view.specs.Reading.{object_at};
 ghost use Rattle.pm_view.specs.Sources.{same_address};
-ghost use Rattle.pm_space.specs.Linked.{sets_of, AreHoused, times};
+ghost use Rattle.pm_space.specs.Linked.{sets_of, queues_of, AreHoused, HasRoom};
 ghost use Rattle.pm_space.specs.Shown.{view, cars_of, HasBirthRoom, KeepsRest};
 ghost use Rattle.pm_relocate.specs.Changed.{identity};
-ghost use Rattle.pm_relocate.specs.Named.{named_by};
+ghost use Rattle.pm_relocate.specs.Named.{named_by, naming};
 ghost use Rattle.pm_relocate.specs.Moves.{led, led_fields, MayGo, IsCarried, IsMovedTo};
 ghost use Rattle.pm_relocate.specs.Planned.{IsPlan};
 
 use crate::placing::{place_in, prepare_place, take_away};
-use crate::telling::{add_named, tell_moved};
+use crate::rooms::make_room_for_named;
+use crate::telling::tell_moved;
 use pm_snap::Table;
 use pm_space::{
-    Held, Parts, make_ready, make_room_for_each, object_at, put_into, resolve, room_of, tail_for,
+    Held, LinkTable, Parts, make_ready, object_at, put_into, resolve, room_of, tail_for,
 };
 use pm_types::{Addr, Fields, Id, NoMemory, Object};
 use std::alloc::Global;
 
-// What moves an object: where it goes, the tail in which it fits, where it fits one, what its fields store there, and
-// the cars that may hear of that, each as often as it may.
+// What moves an object: where it goes, the tail in which it fits, where it fits one, and what its fields store there.
 #[derive(Drop)]
 pub struct Plan {
     to: Addr,
     tail: Option<u64>,
     fields: Vec<Option<Addr>>,
-    told: Vec<u64>,
 }
 
 // Whether two addresses are one.
@@ -66,21 +66,6 @@ fn led_fields(
     Ok(there)
 }
 
-// The cars that these and those fields name, each as often as it is named.
-fn told_cars(
-    alloc: Global,
-    old: &[Option<Addr>],
-    new: &[Option<Addr>],
-) -> Result<Vec<u64>, NoMemory>
-    ensures { IfOk result (λ cars. (car : ℕ) → times car cars.items
-        ≡ named_by old.now car + named_by new.now car) }
-{
-    let mut cars = Vec::new(alloc);
-    add_named(&mut cars, old)?;
-    add_named(&mut cars, new)?;
-    Ok(cars)
-}
-
 // Plans how the object at an address goes to a train.
 fn plan_of<F>(parts: &Parts<F>, alloc: Global, from: Addr, train: u64) -> Result<Plan, NoMemory>
     requires law { HeapLaw (view parts.now) }
@@ -94,15 +79,33 @@ fn plan_of<F>(parts: &Parts<F>, alloc: Global, from: Addr, train: u64) -> Result
     };
     let tail = tail_for(parts, train, room_of(object));
     let to = place_in(&parts.cars, tail, number);
-    let old = object.fields.as_slice();
-    let fields = led_fields(&parts.cars, alloc, from, to, old)?;
-    let told = told_cars(alloc, old, &fields)?;
-    Ok(Plan {
-        to,
-        tail,
-        fields,
-        told,
-    })
+    let fields = led_fields(&parts.cars, alloc, from, to, object.fields.as_slice())?;
+    Ok(Plan { to, tail, fields })
+}
+
+// Makes room in queues for what is told where the object at an address goes to another, and stores these fields there.
+// It answers how many of its fields and of these name a car.
+fn make_room_to_move(
+    links: &mut LinkTable,
+    alloc: Global,
+    cars: &Table<Held>,
+    from: Addr,
+    fields: &[Option<Addr>],
+) -> Result<u64, NoMemory>
+    requires live { IsSome (object_at (cars_of cars.now) from) }
+    ensures sets { sets_of links.new ≡ sets_of links.old }
+    ensures queues { queues_of links.new ≡ queues_of links.old }
+    ensures room { OnOk result ((object : Object) → object_at (cars_of cars.now) from ≡ Some object
+        → (car : ℕ) → HasRoom links.new car (named_by object.fields car + named_by fields.now car)) }
+    ensures many { IfOk result (λ many. (object : Object) → object_at (cars_of cars.now) from ≡ Some object
+        → many ≡ naming object.fields + naming fields.now) }
+{
+    let Some(object) = object_at(cars, from) else {
+        // The caller shows that an object lies here.
+        unreachable!()
+    };
+    let many = make_room_for_named(links, alloc, object.fields.as_slice(), fields)?;
+    Ok(many)
 }
 
 // The object at an address goes to another car, which is prepared, and stores these fields there; its slot says where
@@ -154,9 +157,9 @@ pub fn relocate<F>(
     ensures rest { KeepsRest parts.old parts.new }
 {
     let plan = plan_of(parts, alloc, from, train)?;
-    make_room_for_each(&mut parts.links, alloc, &plan.told)?;
+    let room = make_room_to_move(&mut parts.links, alloc, &parts.cars, from, &plan.fields)?;
     make_ready(&mut parts.cars, from.car)?;
-    prepare_place(parts, alloc, train, plan.tail, &plan.told)?;
+    prepare_place(parts, alloc, train, plan.tail, room)?;
     let id = carry(parts, from, plan.to, plan.fields);
     Ok(id)
 }

@@ -1,11 +1,11 @@
-ghost use Rattle.std.specs.Prelude.{◌≡◌, ℕ, true, IsSome, IsSomeAnd, IfSome, IfOk, OnOk, OnErr};
+ghost use Rattle.std.specs.Prelude.{◌≡◌, ℕ, ◌≤◌, true, IsSome, IsSomeAnd, IfSome, IfOk, OnOk, OnErr};
 ghost use Rattle.std.specs.FinMap.{get};
 ghost use Rattle.pm_trains.specs.Trains.{cars_at};
 ghost use Rattle.pm_snap.specs.Snapped.{is_ready};
 ghost use Rattle.pm_types.specs.declared.object.Slot.TheVariants.{Moved};
 ghost use Rattle.pm_view.specs.Reading.{object_at};
 ghost use Rattle.pm_view.specs.Rows.{place_in, with_slot_at};
-ghost use Rattle.pm_space.specs.Linked.{HasRoom, times};
+ghost use Rattle.pm_space.specs.Linked.{HasRoom};
 ghost use Rattle.pm_space.specs.Places.{IsOpened};
 ghost use Rattle.pm_space.specs.Shown.{view, cars_of, HasBirthRoom, IsLinked, KeepsReady, KeepsRest};
 
@@ -34,24 +34,23 @@ pub(crate) fn place_in(cars: &Table<Held>, tail: Option<u64>, number: u64) -> Ad
 }
 
 /// Prepares the car that is given for a birth, or else opens one at the end of a train, and answers its number. In the
-/// queues there is room, as before, for as many changes as a car stands in the list. After want of memory what is seen
-/// is as it was.
+/// queues there is room as before, for as many changes as are given. After want of memory what is seen is as it was.
 pub(crate) fn prepare_place<F>(
     parts: &mut Parts<F>,
     alloc: Global,
     train: u64,
     tail: Option<u64>,
-    told: &[u64],
+    room: u64,
 ) -> Result<u64, NoMemory>
     requires train { IsSome (cars_at parts.old.trains.trains train) }
     requires linked { IsLinked (view parts.old) }
     requires tail { IfSome tail (λ car. IsSome (get (view parts.old).cars car)) }
-    requires room { (car : ℕ) → HasRoom parts.old.links car (times car told.now) }
     ensures place { IfOk result (λ car. IsOpened (view parts.old) train tail (view parts.new) car) }
     ensures birth { IfOk result (λ car. HasBirthRoom parts.new.cars car) }
     ensures ready { IfOk result (λ car. is_ready parts.new.cars car ≡ true) }
     ensures others { KeepsReady parts.old.cars parts.new.cars }
-    ensures room { OnOk result ((car : ℕ) → HasRoom parts.new.links car (times car told.now)) }
+    ensures room { OnOk result ((car count : ℕ) → count ≤ room
+        → HasRoom parts.old.links car count → HasRoom parts.new.links car count) }
     ensures linked { IsLinked (view parts.new) }
     ensures err { OnErr result (view parts.new ≡ view parts.old) }
     ensures rest { KeepsRest parts.old parts.new }
@@ -64,7 +63,7 @@ pub(crate) fn prepare_place<F>(
             Ok(car)
         }
         None => {
-            let car = open_car(parts, alloc, train, told.len() as u64)?;
+            let car = open_car(parts, alloc, train, room)?;
             Ok(car)
         }
     }

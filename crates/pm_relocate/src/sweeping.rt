@@ -1,27 +1,18 @@
 ghost use Rattle.std.specs.Prelude.{◌≡◌, ℕ, IfOk, OnOk, OnErr, IsSome, Some, length, ◌<◌, ◌^◌};
 ghost use Rattle.pm_view.specs.Reading.{object_at, aside_in};
 ghost use Rattle.pm_view.specs.Collecting.{without_slot_at, swept};
-ghost use Rattle.pm_space.specs.Linked.{sets_of, queues_of, AreHoused, HasRoom, Tells, times};
+ghost use Rattle.pm_space.specs.Linked.{sets_of, queues_of, AreHoused, HasRoom, Tells};
 ghost use Rattle.pm_space.specs.Shown.{view, cars_of, KeepsRest};
 ghost use Rattle.pm_relocate.specs.Changed.{identity};
 ghost use Rattle.pm_relocate.specs.Named.{named_by, withdrawals};
 
-use crate::telling::add_named;
+use crate::rooms::make_room_for_named;
 use pm_snap::Table;
-use pm_space::{Held, LinkTable, Parts, make_room_for_each, object_at, tell_all};
+use pm_space::{Held, LinkTable, Parts, object_at, tell_all};
 use pm_trains::Trains;
 use pm_types::{Addr, Id, NoMemory, Object, RefSource};
 use pm_view::Phase;
 use std::alloc::Global;
-
-// The cars that these fields name, each as often as it is named.
-fn named_cars(alloc: Global, fields: &[Option<Addr>]) -> Result<Vec<u64>, NoMemory>
-    ensures { IfOk result (λ cars. (car : ℕ) → times car cars.items ≡ named_by fields.now car) }
-{
-    let mut cars = Vec::new(alloc);
-    add_named(&mut cars, fields)?;
-    Ok(cars)
-}
 
 // Makes room in queues for what is told where these fields become null.
 fn make_room_to_withdraw(
@@ -33,8 +24,8 @@ fn make_room_to_withdraw(
     ensures queues { queues_of links.new ≡ queues_of links.old }
     ensures room { OnOk result ((car : ℕ) → HasRoom links.new car (named_by fields.now car)) }
 {
-    let cars = named_cars(alloc, fields)?;
-    make_room_for_each(links, alloc, &cars)
+    make_room_for_named(links, alloc, fields, &[])?;
+    Ok(())
 }
 
 // Tells the cars that the fields of an object name that they do no more, in room that was made before.

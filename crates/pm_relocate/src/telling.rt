@@ -1,27 +1,14 @@
-ghost use Rattle.std.specs.Prelude.{◌≡◌, ℕ, ◌+◌, ◌<◌, ◌^◌, length, None, OnOk};
+ghost use Rattle.std.specs.Prelude.{◌≡◌, ℕ, ◌+◌, ◌<◌, ◌^◌, length, None};
 ghost use Rattle.pm_types.specs.declared.source.RefSource.TheVariants.{Field};
 ghost use Rattle.pm_view.specs.Reading.{aside_in};
-ghost use Rattle.pm_space.specs.Linked.{sets_of, AreHoused, HasRoom, Tells, UsesRoom, times, told_by};
+ghost use Rattle.pm_space.specs.Linked.{sets_of, AreHoused, HasRoom, Tells, UsesRoom, told_by};
 ghost use Rattle.pm_relocate.specs.Named.{named_by};
 ghost use Rattle.pm_relocate.specs.Moves.{move_tells, moves_told};
 
 use pm_space::{LinkTable, tell_all};
 use pm_trains::Trains;
-use pm_types::{Addr, NoMemory, RefSource};
+use pm_types::{Addr, RefSource};
 use pm_view::Phase;
-
-/// Appends the cars that these fields name to a list, each as often as it is named.
-pub(crate) fn add_named(cars: &mut Vec<u64>, fields: &[Option<Addr>]) -> Result<(), NoMemory>
-    ensures { OnOk result ((car : ℕ) → times car cars.new.items
-        ≡ times car cars.old.items + named_by fields.now car) }
-{
-    for field in fields {
-        if let Some(at) = field {
-            cars.push(at.car)?;
-        }
-    }
-    Ok(())
-}
 
 // Tells the cars that hear of it that a field of an object that moves leaves its old place, and stores this address at
 // the new one, in room that was made before.

@@ -18,5 +18,5 @@ pub mod SpellingLaws
 pub mod TextLemmas
 pub mod CutLemmas
 pub mod ReadLines
-pub mod ReadValues
-pub mod WordRoom
+pub mod VerbTable
+pub mod TakingLaws

@@ -1,15 +1,19 @@
 -- Numerals: digits with no leading zero.
-use Rattle.std.proofs.Common.{◌≡◌, ℕ, zero, suc, ◌<◌, ◌≤◌, ◌^◌, Bool, true, false, ◌&&◌, ◌||◌, not, List, length, nat_lt, Some, None, Ok, Err, refl, sym, ap, subst, ◌∙◌, arith, rules, if◌then◌else◌, slice_index, decimal, ◌==◌, lit<}
+use Rattle.std.proofs.Common.{◌≡◌, ℕ, zero, suc, ◌<◌, ◌≤◌, ◌^◌, Bool, true, false, ◌&&◌, ◌||◌, not, List, length, nat_lt, Some, None, refl, take, get_or, ◌+◌, ◌*◌, sym, ap, subst, ◌∙◌, arith, rules, if◌then◌else◌, slice_index, decimal, ◌==◌, lit<}
 use borrow.Author.Tests.{ltb-true}
 use Rattle.std.proofs.lemmas.Bool.{eqb-true, lt-ltb}
 use Rattle.std.proofs.lemmas.Bool.Decides.{nat_tests}
-use Rattle.std.proofs.lemmas.Str.{IsUtf8-from_ascii}
-use Rattle.std.proofs.lemmas.Str.Parse.{IsDigitsTest, IsNumeralModel, numerals_by_value, parse_digits}
-use Rattle.std.proofs.lemmas.Fmt.{IsAscii-from_digits, digits_value-decimal, decimal-digits_value, digits_decimal, decimal_nonempty, first_decimal, decimal_digit}
+use Rattle.std.proofs.lemmas.Str.{IsUtf8-from_ascii, digit_value_digit}
+use Rattle.std.proofs.lemmas.Int.Digits.{digits_value_more}
+use Rattle.std.proofs.lemmas.List.Folds.{list_all_more}
+use Rattle.std.proofs.lemmas.Str.Parse.{IsDigitsTest, IsNumeralModel, numerals_by_value, digits_value_short}
+use Rattle.std.proofs.lemmas.Fmt.{IsAscii-from_digits, digits_value-decimal, decimal-digits_value, digits_decimal, decimal_nonempty, first_decimal, decimal_digit, length-decimal-le}
 use Rattle.std.specs.List.{list_all}
+use Rattle.std.specs.Char.{digit_value}
 use Rattle.std.specs.Str.{IsUtf8}
-use Rattle.std.specs.Str.Parse.{digits_value, ParsesUnsigned}
+use Rattle.std.specs.Str.Parse.{digits_value}
 use Rattle.pm_script.specs.Values.{is_digit, is_numeral, number_of}
+use Rattle.pm_script.proofs.Both.{both_true}
 
 -- a word of digits alone
 AreDigits : List ℕ → Type 0
@@ -47,21 +51,25 @@ chosen false b v is = cc
 below : (v : ℕ) → v < 2 ^ 32 → (if nat_lt v (2 ^ 32) then Some v else None) ≡ Some v
 below v lt = grind (arith, nat_tests)
 
-not_below : (v : ℕ) → (v < 2 ^ 32 → ⊥) → (if nat_lt v (2 ^ 32) then Some v else None) ≡ None
-not_below v above = let ge : 2 ^ 32 ≤ v = omega (arith, above) in grind (arith, nat_tests)
-
--- what std reads of a numeral
-pub parsed_some : (E : Type 0) (word : List ℕ) (x : ℕ) → is_numeral word ≡ true → ParsesUnsigned {E = E} 32 10 word (Ok x) → Some x ≡ number_of word
+-- ten digits write less than 10 ^ 10
+pub digits_below : (word : List ℕ) → list_all is_digit word ≡ true → length word ≤ 10 → digits_value 10 word < 10 ^ 10
 unfolding AreDigits
-parsed_some E word x is parses =
-    let read = parse_digits own {E = E} 32 word (Ok x) parses (first_test _ _ _ is) in
-    ap Some read.1 ∙ sym (chosen (is_numeral word) _ (digits_value 10 word) is ∙ below (digits_value 10 word) read.0.1)
+digits_below word all short = digits_value_short own word 10 all short
 
-pub parsed_none : (E : Type 0) (word : List ℕ) (e : E) → is_numeral word ≡ true → ParsesUnsigned {E = E} 32 10 word (Err e) → None ≡ number_of word
-unfolding AreDigits
-parsed_none E word e is parses =
-    let unread = parse_digits own {E = E} 32 word (Err e) parses (first_test _ _ _ is) in
-    sym (chosen (is_numeral word) _ (digits_value 10 word) is ∙ not_below (digits_value 10 word) (λ lt. unread (ltb-true _ _ (second_test _ _ _ is), lt)))
+is_in : (byte worth : ℕ) → worth ≤ 9 → byte ≡ 48 + worth → is_digit byte ≡ true
+is_in byte worth low is = grind (arith, nat_tests)
+
+-- one digit more
+pub digits_go_on : (word : List ℕ) (i byte worth : ℕ) → i < length word → byte ≡ get_or word i 0 → worth ≤ 9 → byte ≡ 48 + worth → list_all is_digit (take i word) ≡ true → list_all is_digit (take (i + 1) word) ≡ true
+digits_go_on word i byte worth lt at low is all =
+    list_all_more is_digit word i 0 lt
+    ∙ both_true (list_all is_digit (take i word)) (is_digit (get_or word i 0)) all (subst (λ b. is_digit b ≡ true) at (is_in byte worth low is))
+
+pub value_goes_on : (word : List ℕ) (i byte worth value : ℕ) → i < length word → byte ≡ get_or word i 0 → worth ≤ 9 → byte ≡ 48 + worth → value ≡ digits_value 10 (take i word) → value * 10 + worth ≡ digits_value 10 (take (i + 1) word)
+value_goes_on word i byte worth value lt at low is sum =
+    let digit : digit_value byte + 48 ≡ byte = digit_value_digit byte (omega (arith, is), omega (arith, is, low)) in
+    let next : digits_value 10 (take (i + 1) word) ≡ digits_value 10 (take i word) * 10 + digit_value byte = digits_value_more 10 word i lt ∙ ap (λ b. digits_value 10 (take i word) * 10 + digit_value b) (sym at) in
+    omega (arith, is, digit, next, sum)
 
 no_zero_first : (a b c d : Bool) → (a && b && (not c || d)) ≡ true → c ≡ true → d ≡ true
 no_zero_first true true c true is first = refl
@@ -107,3 +115,17 @@ number_of_decimal n small =
 pub decimal_digits : (n : ℕ) → n < 2 ^ 32 → list_all is_digit (decimal n) ≡ true
 unfolding AreDigits
 decimal_digits n small = digits_decimal own n (omega arith)
+
+none_unless : (a b : Bool) (v : ℕ) → (a ≡ true → b ≡ true → ⊥) → None ≡ (if a && b then Some v else None)
+none_unless true true v not = absurd (not refl refl)
+none_unless true false v not = refl
+none_unless false b v not = refl
+
+-- a number has ten digits at most
+pub too_long : (word : List ℕ) → 10 < length word → None ≡ number_of word
+too_long word long =
+    none_unless (is_numeral word) (nat_lt (digits_value 10 word) (2 ^ 32)) (digits_value 10 word)
+    (λ is small.
+    let value = ltb-true _ _ small in
+    let short = subst (λ (ds : List ℕ). length ds ≤ 10) (numeral_spelled word is value) (length-decimal-le 10 (digits_value 10 word) (lit< tt) (omega (arith, value)) (omega (arith, value))) in
+    omega (arith, short, long))

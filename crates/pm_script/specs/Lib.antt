@@ -6,3 +6,4 @@ pub mod Values
 pub mod Reading
 pub mod Bad
 pub mod Texts
+pub mod Taking

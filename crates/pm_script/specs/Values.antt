@@ -1,7 +1,7 @@
 -- What single words and lists of values stand for: nothing, where they stand for none.
-use Rattle.std.specs.Prelude.{◌≡◌, ℕ, ◌^◌, ◌&&◌, ◌||◌, ◌==◌, Bool, not, List, [], ◌∷◌, length, Option, Some, None, Result, Ok, Err, nat_le, nat_lt, slice_index, codes, if◌then◌else◌}
-use Rattle.std.specs.List.{list_all, find}
-use Rattle.std.specs.Option.{MatchOption, option_map}
+use Rattle.std.specs.Prelude.{ℕ, ◌^◌, ◌&&◌, ◌||◌, ◌==◌, Bool, not, List, [], ◌∷◌, length, Option, Some, None, Result, Ok, Err, nat_eq, nat_le, nat_lt, slice_index, codes, if◌then◌else◌}
+use Rattle.std.specs.List.{list_all, find, filter}
+use Rattle.std.specs.Option.{option_map}
 use Rattle.std.specs.Cmp.Lexicographic.{pointwise}
 use Rattle.std.specs.Str.Parse.{digits_value}
 use Rattle.hex.specs.Hex.{decode_of}
@@ -60,6 +60,10 @@ hex_of word = if pointwise ◌==◌ word (codes "-") then Some [] else some_byte
 unfoldable pub first_at : List ℕ → Option First
 first_at word = if pointwise ◌==◌ word (codes "!") then Some first.Bang else option_map (λ client. first.Client client) (number_below CLIENTS word)
 
+-- what is named by a word of so many bytes
+abbrev pub verbs_of : ℕ → List Verb
+verbs_of bytes = filter (λ verb. nat_eq (length (word_of verb)) bytes) verbs
+
 -- what the word names, of what may be asked after that first word
 unfoldable pub verb_at : First → List ℕ → Option Verb
 verb_at first word = find (λ verb. pointwise ◌==◌ word (word_of verb) && belongs first verb) verbs
@@ -87,10 +91,6 @@ bytes_in values = None
 abbrev pub name_in : List Value → Option (List ℕ × List Value)
 name_in (value.Name name ∷ values) = Some (name, values)
 name_in values = None
-
--- what was taken from the front, and what is left
-abbrev pub Takes : {X : Type 0} → Option X → Option (X × List Value) → List Value → Type 0
-Takes taken read left = MatchOption taken (read ≡ None) (λ x. read ≡ Some (x, left))
 
 -- the command that a client asks so
 unfoldable pub command_of : Verb → List Value → Option Cmd

@@ -1,143 +1,163 @@
 ghost use Rattle.std.specs.Prelude.{◌≡◌};
-ghost use Rattle.pm_script.specs.Values.{Takes, register_in, number_in, bytes_in, name_in, command_of, events_of, line_of};
+ghost use Rattle.pm_script.specs.Lines.{parts_in};
+ghost use Rattle.pm_script.specs.Reading.{Gives};
+ghost use Rattle.pm_script.specs.Taking.{Takes, register_at, number_at, bytes_at, name_at, command_at, events_at, asked_at};
 
+use crate::fault::{Cause, LineFault};
 use crate::line::Line;
-use crate::value::Value;
+use crate::parts::take_word;
+use crate::value::{hex_word, name_word, number_of, register_of};
 use crate::verb::{First, Verb};
 use pm_types::{Bytes, Cmd, Name, Reg};
-use std::collections::VecDeque;
+use std::alloc::Global;
 
-// The register that stands first.
-fn register(values: &mut VecDeque<Value>) -> Option<Reg>
-    ensures { Takes result (register_in values.old.items) values.new.items }
+// The register that stands first of the words that are left.
+fn register(words: &mut Option<&[u8]>) -> Result<Reg, LineFault>
+    ensures { Takes result (register_at (parts_in 32 words.old)) (parts_in 32 words.new) }
 {
-    match values.pop_front()? {
-        Value::Register(reg) => Some(reg),
-        _ => None,
+    let Some((word, rest)) = take_word(*words) else {
+        return Err(LineFault::Bad(Cause::Count));
+    };
+    *words = rest;
+    match register_of(word) {
+        Some(register) => Ok(register),
+        None => Err(LineFault::Bad(Cause::Number)),
     }
 }
 
 // The number that stands first.
-fn number(values: &mut VecDeque<Value>) -> Option<u32>
-    ensures { Takes result (number_in values.old.items) values.new.items }
+fn number(words: &mut Option<&[u8]>) -> Result<u32, LineFault>
+    ensures { Takes result (number_at (parts_in 32 words.old)) (parts_in 32 words.new) }
 {
-    match values.pop_front()? {
-        Value::Number(number) => Some(number),
-        _ => None,
+    let Some((word, rest)) = take_word(*words) else {
+        return Err(LineFault::Bad(Cause::Count));
+    };
+    *words = rest;
+    match number_of(word) {
+        Some(number) => Ok(number),
+        None => Err(LineFault::Bad(Cause::Number)),
     }
 }
 
 // The bytes that stand first.
-fn bytes(values: &mut VecDeque<Value>) -> Option<Bytes>
-    ensures { Takes result (bytes_in values.old.items) values.new.items }
+fn bytes(alloc: Global, words: &mut Option<&[u8]>) -> Result<Bytes, LineFault>
+    ensures { Takes result (bytes_at (parts_in 32 words.old)) (parts_in 32 words.new) }
 {
-    match values.pop_front()? {
-        Value::Hex(bytes) => Some(bytes),
-        _ => None,
-    }
+    let Some((word, rest)) = take_word(*words) else {
+        return Err(LineFault::Bad(Cause::Count));
+    };
+    *words = rest;
+    hex_word(alloc, word)
 }
 
 // The name that stands first.
-fn name(values: &mut VecDeque<Value>) -> Option<Name>
-    ensures { Takes result (name_in values.old.items) values.new.items }
+fn name(alloc: Global, words: &mut Option<&[u8]>) -> Result<Name, LineFault>
+    ensures { Takes result (name_at (parts_in 32 words.old)) (parts_in 32 words.new) }
 {
-    match values.pop_front()? {
-        Value::Name(name) => Some(name),
-        _ => None,
-    }
+    let Some((word, rest)) = take_word(*words) else {
+        return Err(LineFault::Bad(Cause::Count));
+    };
+    *words = rest;
+    name_word(alloc, word)
 }
 
 // The command that a client asks so.
-#[tactic(auto, unfolding(crate::specs::Values::command_of))]
-fn command(verb: Verb, values: &mut VecDeque<Value>) -> Option<Cmd>
-    ensures { result ≡ command_of verb values.old.items }
+#[tactic(auto, unfolding(crate::specs::Taking::command_at))]
+fn command(alloc: Global, verb: Verb, words: &mut Option<&[u8]>) -> Result<Cmd, LineFault>
+    ensures { Gives result (command_at verb (parts_in 32 words.old)) }
 {
-    Some(match verb {
+    Ok(match verb {
         Verb::New => Cmd::New {
-            reg: register(values)?,
-            count: number(values)?,
-            bytes: bytes(values)?,
+            reg: register(words)?,
+            count: number(words)?,
+            bytes: bytes(alloc, words)?,
         },
         Verb::Load => Cmd::Load {
-            to: register(values)?,
-            reg: register(values)?,
-            index: number(values)?,
+            to: register(words)?,
+            reg: register(words)?,
+            index: number(words)?,
         },
         Verb::Store => Cmd::Store {
-            reg: register(values)?,
-            index: number(values)?,
-            value: register(values)?,
+            reg: register(words)?,
+            index: number(words)?,
+            value: register(words)?,
         },
         Verb::Clear => Cmd::Clear {
-            reg: register(values)?,
-            index: number(values)?,
+            reg: register(words)?,
+            index: number(words)?,
         },
         Verb::Data => Cmd::Show {
-            reg: register(values)?,
+            reg: register(words)?,
         },
         Verb::Put => Cmd::Put {
-            reg: register(values)?,
-            at: number(values)?,
-            bytes: bytes(values)?,
+            reg: register(words)?,
+            at: number(words)?,
+            bytes: bytes(alloc, words)?,
         },
         Verb::Copy => Cmd::Copy {
-            to: register(values)?,
-            reg: register(values)?,
+            to: register(words)?,
+            reg: register(words)?,
         },
         Verb::Id => Cmd::IdOf {
-            reg: register(values)?,
+            reg: register(words)?,
         },
         Verb::Drop => Cmd::Forget {
-            reg: register(values)?,
+            reg: register(words)?,
         },
         Verb::Root => Cmd::Bind {
-            name: name(values)?,
-            reg: register(values)?,
+            name: name(alloc, words)?,
+            reg: register(words)?,
         },
         Verb::Unroot => Cmd::Unbind {
-            name: name(values)?,
+            name: name(alloc, words)?,
         },
         Verb::Find => Cmd::Find {
-            to: register(values)?,
-            name: name(values)?,
+            to: register(words)?,
+            name: name(alloc, words)?,
         },
         Verb::Save => Cmd::Save,
         Verb::Settle => Cmd::Settle,
         Verb::Watch => Cmd::Watch,
         Verb::Close => Cmd::Close,
         Verb::Swap => Cmd::Swap {
-            reg: register(values)?,
-            index: number(values)?,
-            old: register(values)?,
-            value: register(values)?,
+            reg: register(words)?,
+            index: number(words)?,
+            old: register(words)?,
+            value: register(words)?,
         },
         Verb::Unsave => Cmd::Unsave,
-        Verb::Gc | Verb::Flush => return None,
+        Verb::Gc | Verb::Flush => return Err(LineFault::Bad(Cause::Count)),
     })
 }
 
 // The line that asks for events so.
-#[tactic(auto, unfolding(crate::specs::Values::events_of))]
-fn events(verb: Verb, values: &mut VecDeque<Value>) -> Option<Line>
-    ensures { result ≡ events_of verb values.old.items }
+#[tactic(auto, unfolding(crate::specs::Taking::events_at))]
+fn events(verb: Verb, words: &mut Option<&[u8]>) -> Result<Line, LineFault>
+    ensures { Gives result (events_at verb (parts_in 32 words.old)) }
 {
     match verb {
-        Verb::Gc => Some(Line::Gc(number(values)?)),
-        Verb::Flush => Some(Line::Flush(number(values)?)),
-        _ => None,
+        Verb::Gc => Ok(Line::Gc(number(words)?)),
+        Verb::Flush => Ok(Line::Flush(number(words)?)),
+        _ => Err(LineFault::Bad(Cause::Count)),
     }
 }
 
-/// The line that is said so, which is there where the values are of the kinds that stand after that word.
-#[tactic(auto, unfolding(crate::specs::Values::line_of))]
-pub(crate) fn line(first: First, verb: Verb, values: &mut VecDeque<Value>) -> Option<Line>
-    ensures { result ≡ line_of first verb values.old.items }
+/// The line that is said so by the words that are left. There are as many as stand after such a verb.
+#[tactic(auto, unfolding(crate::specs::Taking::asked_at))]
+pub(crate) fn line(
+    alloc: Global,
+    first: First,
+    verb: Verb,
+    words: Option<&[u8]>,
+) -> Result<Line, LineFault>
+    ensures { Gives result (asked_at first verb (parts_in 32 words.entry)) }
 {
+    let mut words = words;
     match first {
         First::Client(client) => {
-            let cmd = command(verb, values)?;
-            Some(Line::Client { client, cmd })
+            let cmd = command(alloc, verb, &mut words)?;
+            Ok(Line::Client { client, cmd })
         }
-        First::Bang => events(verb, values),
+        First::Bang => events(verb, &mut words),
     }
 }

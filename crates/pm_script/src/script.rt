@@ -1,4 +1,4 @@
-ghost use Rattle.std.specs.Prelude.{◌≡◌, ◌≤◌, ◌<◌, List, length, nat_eq, count_by, IfOk, IfErr, Ok, Err, ◌⊎◌};
+ghost use Rattle.std.specs.Prelude.{◌≡◌, ◌≤◌, ◌<◌, List, length, nat_eq, IfOk, IfErr, Ok, Err, ◌⊎◌};
 ghost use Rattle.std.specs.List.{slice_split};
 ghost use Rattle.pm_types.specs.declared.limits.TheConstants.{SCRIPT_LINES, SOURCE_BYTES};
 ghost use Rattle.pm_script.specs.declared.fault.ScriptFault.{ScriptFault as Fault};
@@ -12,12 +12,9 @@ ghost use Rattle.pm_script.specs.Script.{IsScript, AreLines};
 use crate::body::read_line;
 use crate::fault::{LineFault, ScriptFault};
 use crate::line::Line;
-use crate::parts::take_part;
-use crate::value::Value;
-use memchr::memchr_iter;
+use crate::parts::{count_byte, take_part};
 use pm_types::{SCRIPT_LINES, SOURCE_BYTES};
 use std::alloc::Global;
-use std::collections::VecDeque;
 use std::marker::Model;
 
 /// The lines of a script that say something, in order, seen as a list of them. There are at most 65,536, and each
@@ -83,36 +80,23 @@ fn last_unended(bytes: &[u8]) -> &[u8]
     bytes.strip_suffix(b"\n").unwrap_or(bytes)
 }
 
-// How many newlines there are.
-fn newlines(bytes: &[u8]) -> usize
-    ensures { result ≡ count_by (λ b. nat_eq b 10) bytes.now }
-{
-    memchr_iter(b'\n', bytes).count()
-}
-
 // Reads the line of this number, which says something.
-fn read_numbered(
-    alloc: Global,
-    number: u32,
-    body: &[u8],
-    values: &mut VecDeque<Value>,
-) -> Result<Line, ScriptFault>
+fn read_numbered(alloc: Global, number: u32, body: &[u8]) -> Result<Line, ScriptFault>
     ensures { Answers result (numbered number (line_at body.now)) }
 {
-    match read_line(alloc, body, values) {
+    match read_line(alloc, body) {
         Ok(line) => Ok(line),
         Err(LineFault::Bad(cause)) => Err(ScriptFault::Line { number, cause }),
         Err(LineFault::Memory) => Err(ScriptFault::Memory),
     }
 }
 
-// Reads the lines between newlines.
-fn read_lines(alloc: Global, bytes: &[u8]) -> Result<Vec<Line>, ScriptFault>
+// Reads the lines between newlines, with room for so many of them.
+fn read_lines(alloc: Global, bytes: &[u8], room: usize) -> Result<Vec<Line>, ScriptFault>
     requires { length (slice_split (λ b. nat_eq b 10) bytes.now) ≤ SCRIPT_LINES }
     ensures { Tells (λ lines. lines.items) result (lines_at 1 (slice_split (λ b. nat_eq b 10) bytes.now)) }
 {
-    let mut lines = Vec::new(alloc);
-    let mut values = VecDeque::new(alloc);
+    let mut lines = Vec::with_capacity(alloc, room)?;
     let mut number = 0;
     let mut rest = Some(bytes);
     while let Some((body, after)) = take_part(rest, b'\n') {
@@ -121,7 +105,7 @@ fn read_lines(alloc: Global, bytes: &[u8]) -> Result<Vec<Line>, ScriptFault>
         if is_silent(body) {
             continue;
         }
-        let line = read_numbered(alloc, number, body, &mut values)?;
+        let line = read_numbered(alloc, number, body)?;
         lines.push(line)?;
     }
     Ok(lines)
@@ -137,10 +121,11 @@ fn read_all(alloc: Global, bytes: &[u8]) -> Result<Vec<Line>, ScriptFault>
         return Ok(Vec::new(alloc));
     }
     let bytes = last_unended(bytes);
-    if newlines(bytes) >= SCRIPT_LINES {
+    let ended = count_byte(bytes, b'\n');
+    if ended >= SCRIPT_LINES {
         return Err(ScriptFault::TooManyLines);
     }
-    read_lines(alloc, bytes)
+    read_lines(alloc, bytes, ended + 1)
 }
 
 /// The lines that the bytes spell, of those that say something. There are at most 268,435,456 bytes. `Line` tells the

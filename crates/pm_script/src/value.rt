@@ -1,20 +1,24 @@
-ghost use Rattle.std.specs.Prelude.{◌≡◌, ◌==◌, true, IfOk};
+ghost use Rattle.std.specs.Prelude.{◌≡◌, ◌+◌, ◌≤◌, ◌==◌, true, false, length, IfOk};
 ghost use Rattle.std.specs.List.{list_all};
+ghost use Rattle.std.specs.Option.{MatchOption};
+ghost use Rattle.std.specs.Str.Parse.{digits_value};
 ghost use Rattle.std.specs.Cmp.Lexicographic.{pointwise};
 ghost use Rattle.hex.specs.Hex.{decode_of};
 ghost use Rattle.pm_script.specs.declared.fault.Cause.TheVariants as causes;
 ghost use Rattle.pm_types.specs.declared.limits.TheConstants.{CLIENTS, REGISTERS};
-ghost use Rattle.pm_script.specs.Values.{is_digit, is_numeral, number_of, number_below, name_of, some_bytes, hex_of, first_at, value_of};
+ghost use Rattle.pm_script.specs.Values.{is_digit, is_numeral, number_of, number_below, name_of, some_bytes, hex_of, first_at};
 ghost use Rattle.pm_script.specs.Reading.{Finds};
-ghost use Rattle.pm_script.specs.Words.{kind_cause};
 
 use crate::fault::{Cause, LineFault};
-use crate::verb::{First, Kind};
+use crate::verb::First;
 use hex::FromHexError;
 use pm_types::{Bytes, CLIENTS, Name, NameFault, NoMemory, Reg};
 use std::alloc::Global;
 
-/// What a word after the one that names a command stands for.
+// The most digits of a number below 2^32.
+const NUMBER_DIGITS: usize = 10;
+
+/// What a word after the one that names a command stands for, as definitions speak of it.
 #[derive(Debug, Drop)]
 pub(crate) enum Value {
     Register(Reg),
@@ -42,26 +46,44 @@ pub fn is_numeral(word: &[u8]) -> bool
     all_digits(word) && !word.is_empty() && (word[0] != b'0' || word.len() == 1)
 }
 
-// The value of a numeral, where it is below 2^32.
-fn value_of(numeral: &[u8]) -> Option<u32>
-    requires { is_numeral numeral.now ≡ true }
-    ensures { result ≡ number_of numeral.now }
+// What a byte is worth as a digit.
+fn digit(byte: u8) -> Option<u64>
+    ensures { MatchOption result (is_digit byte ≡ false) (λ worth. (worth ≤ 9) × (byte ≡ 48 + worth)) }
 {
-    match str::from_utf8(numeral) {
-        Ok(text) => match text.parse::<u32>() {
-            Ok(value) => Some(value),
-            Err(_) => None,
-        },
-        Err(_) => None,
+    match byte {
+        b'0'..=b'9' => Some(u64::from(byte - b'0')),
+        _ => None,
     }
 }
 
-// The number that a word spells: digits with no leading zero, of a value below 2^32.
-fn number_of(word: &[u8]) -> Option<u32>
+// The number that digits write, of which there are ten at most. `None` where a byte is no digit.
+fn digits(word: &[u8]) -> Option<u64>
+    requires { length word.now ≤ NUMBER_DIGITS }
+    ensures { MatchOption result (list_all is_digit word.now ≡ false)
+        (λ value. (list_all is_digit word.now ≡ true) × (value ≡ digits_value 10 word.now)) }
+{
+    let mut value = 0;
+    for byte in word {
+        let worth = digit(*byte)?;
+        value = value * 10 + worth;
+    }
+    Some(value)
+}
+
+/// The number that a word spells: digits with no leading zero, of a value below 2^32.
+pub(crate) fn number_of(word: &[u8]) -> Option<u32>
     ensures { result ≡ number_of word.now }
 {
-    if is_numeral(word) {
-        value_of(word)
+    let first = *word.first()?;
+    if word.len() > NUMBER_DIGITS {
+        return None;
+    }
+    if first == b'0' && word.len() > 1 {
+        return None;
+    }
+    let value = digits(word)?;
+    if value <= u64::from(u32::MAX) {
+        Some(value as u32)
     } else {
         None
     }
@@ -75,8 +97,9 @@ fn client(word: &[u8]) -> Option<u32>
     if number < CLIENTS { Some(number) } else { None }
 }
 
+/// The register that a word spells.
 #[tactic(auto, unfolding(crate::specs::Values::number_below))]
-fn register(word: &[u8]) -> Option<Reg>
+pub(crate) fn register_of(word: &[u8]) -> Option<Reg>
     ensures { result ≡ number_below REGISTERS word.now }
 {
     let number = number_of(word)?;
@@ -113,8 +136,8 @@ fn pairs(alloc: Global, word: &[u8]) -> Result<Bytes, LineFault>
     }
 }
 
-// The bytes that a word spells: a dash for none, or pairs of digits.
-fn hex_word(alloc: Global, word: &[u8]) -> Result<Bytes, LineFault>
+/// The bytes that a word spells: a dash for none, or pairs of digits.
+pub(crate) fn hex_word(alloc: Global, word: &[u8]) -> Result<Bytes, LineFault>
     ensures { Finds result causes.Hex (hex_of word.now) }
 {
     if is_word(word, b"-") {
@@ -137,39 +160,14 @@ pub fn read_hex(alloc: Global, word: &[u8]) -> Result<Option<Bytes>, NoMemory>
     }
 }
 
-// The name that a word is.
+/// The name that a word is.
 #[tactic(auto, using(crate::proofs::NameTests::name_passes, crate::proofs::NameTests::fault_fails))]
-fn name_word(alloc: Global, word: &[u8]) -> Result<Name, LineFault>
+pub(crate) fn name_word(alloc: Global, word: &[u8]) -> Result<Name, LineFault>
     ensures { Finds result causes.Name (name_of word.now) }
 {
     match Name::read(alloc, word) {
         Ok(name) => Ok(name),
         Err(NameFault::Memory) => Err(LineFault::Memory),
         Err(_) => Err(LineFault::Bad(Cause::Name)),
-    }
-}
-
-/// The value of a word of this kind.
-#[tactic(auto, unfolding(crate::specs::Values::value_of))]
-pub(crate) fn read_value(alloc: Global, kind: Kind, word: &[u8]) -> Result<Value, LineFault>
-    ensures { Finds result (kind_cause kind) (value_of kind word.now) }
-{
-    match kind {
-        Kind::Register => match register(word) {
-            Some(register) => Ok(Value::Register(register)),
-            None => Err(LineFault::Bad(Cause::Number)),
-        },
-        Kind::Number => match number_of(word) {
-            Some(number) => Ok(Value::Number(number)),
-            None => Err(LineFault::Bad(Cause::Number)),
-        },
-        Kind::Hex => {
-            let bytes = hex_word(alloc, word)?;
-            Ok(Value::Hex(bytes))
-        }
-        Kind::Name => {
-            let name = name_word(alloc, word)?;
-            Ok(Value::Name(name))
-        }
     }
 }

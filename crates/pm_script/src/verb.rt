@@ -1,7 +1,8 @@
 ghost use Rattle.std.specs.Prelude.{◌≡◌, ◌==◌, ◌&&◌};
+ghost use Rattle.std.specs.List.{find};
 ghost use Rattle.std.specs.Cmp.Lexicographic.{pointwise};
 ghost use Rattle.pm_script.specs.Words.{word_of, kinds, is_event, belongs};
-ghost use Rattle.pm_script.specs.Values.{verb_at};
+ghost use Rattle.pm_script.specs.Values.{verb_at, verbs_of};
 
 /// What a line asks, by the word that names it.
 #[derive(Clone, Copy, Debug, PartialEq, Eq)]
@@ -49,29 +50,6 @@ pub(crate) enum First {
     /// The exclamation mark, for what no client asks.
     Bang,
 }
-
-const VERBS: [Verb; 20] = [
-    Verb::New,
-    Verb::Load,
-    Verb::Store,
-    Verb::Clear,
-    Verb::Data,
-    Verb::Put,
-    Verb::Copy,
-    Verb::Id,
-    Verb::Drop,
-    Verb::Root,
-    Verb::Unroot,
-    Verb::Find,
-    Verb::Save,
-    Verb::Settle,
-    Verb::Watch,
-    Verb::Close,
-    Verb::Swap,
-    Verb::Unsave,
-    Verb::Gc,
-    Verb::Flush,
-];
 
 impl Verb {
     // The word that names it.
@@ -129,6 +107,35 @@ impl Verb {
         matches!(self, Verb::Gc | Verb::Flush)
     }
 
+    // Those that are named by so many bytes.
+    fn of_length(bytes: usize) -> &'static [Verb]
+        ensures { result.now ≡ verbs_of bytes }
+    {
+        match bytes {
+            2 => &[Verb::Id, Verb::Gc],
+            3 => &[Verb::New, Verb::Put],
+            4 => &[
+                Verb::Load,
+                Verb::Data,
+                Verb::Copy,
+                Verb::Drop,
+                Verb::Root,
+                Verb::Find,
+                Verb::Save,
+                Verb::Swap,
+            ],
+            5 => &[
+                Verb::Store,
+                Verb::Clear,
+                Verb::Watch,
+                Verb::Close,
+                Verb::Flush,
+            ],
+            6 => &[Verb::Unroot, Verb::Settle, Verb::Unsave],
+            _ => &[],
+        }
+    }
+
     // Whether this word names it, and it may be asked after that first word.
     fn is_named(self, first: First, word: &[u8]) -> bool
         ensures { result ≡ (pointwise ◌==◌ word.now (word_of self) && belongs first self) }
@@ -140,14 +147,20 @@ impl Verb {
         word == self.word() && asked
     }
 
-    /// What the word names, of what may be asked after that first word.
-    #[tactic(auto, unfolding(crate::specs::Values::verb_at))]
-    pub fn read(first: First, word: &[u8]) -> Option<Verb>
-        ensures { result ≡ verb_at first word.now }
+    // The first of these that the word names after that first word.
+    fn read_among(verbs: &[Verb], first: First, word: &[u8]) -> Option<Verb>
+        ensures { result ≡ find (λ verb. pointwise ◌==◌ word.now (word_of verb) && belongs first verb) verbs.now }
     {
-        VERBS
+        verbs
             .iter()
             .copied()
             .find(|verb| verb.is_named(first, word))
+    }
+
+    /// What the word names, of what may be asked after that first word.
+    pub fn read(first: First, word: &[u8]) -> Option<Verb>
+        ensures { result ≡ verb_at first word.now }
+    {
+        Verb::read_among(Verb::of_length(word.len()), first, word)
     }
 }

@@ -1,7 +1,7 @@
 -- Texts that stand one behind the other.
 use Rattle.std.proofs.Common.{◌≡◌, ℕ, suc, ◌+◌, ◌<◌, List, ◌++◌, length, get_or, take, drop, Option, Some, None, refl, sym, ap, subst, ◌∙◌, append_assoc}
 use Rattle.std.specs.List.{flat_map, AllByRecursion}
-use Rattle.std.specs.Prelude.{◌==◌, true, false, MatchOption, option_map}
+use Rattle.std.specs.Prelude.{◌==◌, Bool, true, false, not}
 use Rattle.std.specs.Cmp.Lexicographic.{pointwise, bytes_decides}
 use Rattle.std.proofs.lemmas.List.{append_cancel_left, take_more, take_at, take-append-drop}
 use Rattle.pm_types.specs.declared.address.Addr.{Addr}
@@ -50,19 +50,24 @@ module _ {A : Type 0} (f : A → List ℕ) (Has : A → Type 0) (bytes mid : Lis
       (sym first.0 ∙ same ∙ ap (λ (t : List ℕ). t ++ rest) (flat_split f xs i d inside) ∙ append_assoc (flat_map f (take i xs)) (f (get_or xs i d) ++ flat_map f (drop (suc i) xs)) rest
       ∙ ap (λ (t : List ℕ). flat_map f (take i xs) ++ t) (append_assoc (f (get_or xs i d)) (flat_map f (drop (suc i) xs)) rest)))
 
--- ---- what is stripped
+-- ---- what is compared
 
--- where the first so many bytes are the text, what is left stands behind it, and else nothing does
-pub stripped : {X : Type 0} (now : X → List ℕ) (bytes text : List ℕ) (result : Option X)
-    → MatchOption result (pointwise ◌==◌ (take (length text) bytes) text ≡ false) (λ x. (pointwise ◌==◌ (take (length text) bytes) text ≡ true) × (now x ≡ drop (length text) bytes) × (length (now x) + length text ≡ length bytes))
-    → IsBehind bytes text (option_map now result)
-stripped now bytes text None apart = λ rest is.
-    let same : take (length text) bytes ≡ text = ap (λ (t : List ℕ). take (length text) t) is ∙ take_at text rest (length text) refl in
-    let begins = (bytes_decides (take (length text) bytes) text).1 same in
-    absurd (cc (begins, apart))
-stripped now bytes text (Some x) begins =
-    let same = (bytes_decides (take (length text) bytes) text).0 begins.0 in
-    sym (take-append-drop (length text) bytes) ∙ (λ i. same i ++ sym begins.1 i)
+not_false : (b : Bool) → not b ≡ false → b ≡ true
+not_false true is = refl
+not_false false is = absurd cc
+
+-- where the first so many bytes are not the text, nothing stands behind it
+pub other_front : (bytes text front : List ℕ) (other : Bool) → front ≡ take (length text) bytes → other ≡ not (pointwise ◌==◌ front text) → other ≡ true → IsBehind bytes text None
+other_front bytes text front other is compared differs = λ rest whole.
+    let same : front ≡ text = is ∙ ap (λ (t : List ℕ). take (length text) t) whole ∙ take_at text rest (length text) refl in
+    let begins = (bytes_decides front text).1 same in
+    absurd (cc (begins, compared, differs))
+
+-- and where they are, what is left does
+pub same_front : (bytes text front rest : List ℕ) (other : Bool) → front ≡ take (length text) bytes → rest ≡ drop (length text) bytes → other ≡ not (pointwise ◌==◌ front text) → other ≡ false → IsBehind bytes text (Some rest)
+same_front bytes text front rest other is behind compared alike =
+    let same : front ≡ text = (bytes_decides front text).0 (not_false (pointwise ◌==◌ front text) (sym compared ∙ alike)) in
+    sym (take-append-drop (length text) bytes) ∙ (λ i. (sym is ∙ same) i ++ sym behind i)
 
 -- ---- the text of an object
 

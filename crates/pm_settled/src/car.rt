@@ -77,7 +77,7 @@ impl PackedCar {
     {
         know_records(slots);
         let end = used(slots);
-        let records = page[RECORDS_AT..end].to_vec(alloc)?;
+        let records = Vec::from_slice(alloc, &page[RECORDS_AT..end])?;
         Ok(PackedCar {
             number,
             count: slots.len(),

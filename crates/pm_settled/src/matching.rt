@@ -5,25 +5,22 @@ ghost use Rattle.std.specs.List.{flat_map, AllByRecursion};
 ghost use Rattle.pm_types.specs.declared.limits.TheConstants.{FIELDS};
 ghost use Rattle.pm_layout.specs.Spelling.{HasCar, HasSpelling, IsAddress, IsInRange, address, field, spelling};
 ghost use Rattle.pm_image.specs.CarPages.{record_spelling};
-ghost use Rattle.pm_settled.specs.Behind.{IsBehind, IsBehindOf};
-ghost use Rattle.pm_settled.specs.Packed.{IsRecord, head_spelling};
+ghost use Rattle.pm_settled.specs.Behind.{IsBehindOf};
+ghost use Rattle.pm_settled.specs.Packed.{IsRecord};
 
-use crate::behind::{behind, behind_byte, behind_null, behind_u16, behind_u32, behind_u64};
-use pm_layout::{LIVE, MOVED};
+use crate::behind::{behind, behind_address, behind_byte, behind_head, behind_u32};
+use pm_layout::MOVED;
 use pm_types::{Addr, FIELDS, OBJECT_BYTES, Object, Slot};
 
 // The bytes behind an address, which has a car.
-fn behind_address(bytes: &[u8], to: Addr) -> Option<&[u8]>
+fn behind_target(bytes: &[u8], to: Addr) -> Option<&[u8]>
     ensures behind { IsBehindOf (0 < to.car) bytes.now (address to) (option_map (λ rest. rest.now) result) }
     ensures range { IsAddress to }
 {
     if to.car == 0 {
         return None;
     }
-    let Some(rest) = behind_u64(bytes, to.car) else {
-        return None;
-    };
-    behind_u32(rest, to.slot)
+    behind_address(bytes, to)
 }
 
 // The bytes behind a field, which is null or has a car.
@@ -32,8 +29,8 @@ fn behind_field(bytes: &[u8], reference: Option<Addr>) -> Option<&[u8]>
     ensures range { IfSome reference IsAddress }
 {
     match reference {
-        Some(to) => behind_address(bytes, to),
-        None => behind_null(bytes),
+        Some(to) => behind_target(bytes, to),
+        None => behind_address(bytes, Addr { car: 0, slot: 0 }),
     }
 }
 
@@ -51,22 +48,6 @@ fn behind_fields<'a>(bytes: &'a [u8], fields: &[Option<Addr>]) -> Option<&'a [u8
         rest = next;
     }
     Some(rest)
-}
-
-// The bytes behind the head of an object's spelling.
-fn behind_head(bytes: &[u8], id: u32, fields: u16, count: u16) -> Option<&[u8]>
-    ensures { IsBehind bytes.now (head_spelling id fields count) (option_map (λ rest. rest.now) result) }
-{
-    let Some(rest) = behind_byte(bytes, LIVE) else {
-        return None;
-    };
-    let Some(rest) = behind_u64(rest, id as u64) else {
-        return None;
-    };
-    let Some(rest) = behind_u16(rest, fields) else {
-        return None;
-    };
-    behind_u16(rest, count)
 }
 
 // The bytes behind an object, which has a spelling.
@@ -98,7 +79,7 @@ fn behind_moved(bytes: &[u8], to: Addr) -> Option<&[u8]>
     let Some(rest) = behind_byte(bytes, MOVED) else {
         return None;
     };
-    behind_address(rest, to)
+    behind_target(rest, to)
 }
 
 // The bytes behind a slot, which has a spelling.

@@ -1,23 +1,13 @@
 -- Room for as many changes as cars stand in a list.
-use Rattle.std.proofs.Common.{◌≡◌, ℕ, ◌<◌, ◌≤◌, ◌+◌, ◌==◌, arith, true, false, cond, ap, sym, subst, ◌∙◌, List, length, take, get_or, ⊎_elim, Option, Some, None}
+use Rattle.std.proofs.Common.{◌≡◌, ℕ, ◌<◌, ◌≤◌, ◌+◌, ◌==◌, arith, true, false, cond, ap, sym, subst, ◌∙◌, List, length, take, get_or, ⊎_elim}
 use Rattle.std.proofs.lemmas.Bool.{cases_Bool, cond-false, eqb-true}
 use Rattle.std.proofs.lemmas.List.Sums.{sum_by_more, count_by-le-length}
 use Rattle.std.proofs.lemmas.List.{length-take}
-use Rattle.std.specs.FinMap.{get}
-use Rattle.pm_space.specs.declared.links.Links.{Links}
-use Rattle.pm_space.specs.Linked.{Linked, HasRoom, HasRoomOf, times}
+use Rattle.pm_space.specs.Linked.{Linked, HasRoom, times}
 
 -- a car stands in the front of a list at most as often as the front is long
 pub few_times : (cars : List ℕ) (i car : ℕ) → times car (take i cars) ≤ i
 few_times cars i car = let few = count_by-le-length (λ c. c == car) (take i cars) in let short = length-take i cars in omega (arith, few, short)
-
-less_of : (links : Option Links) (less more : ℕ) → less ≤ more → HasRoomOf links more → HasRoomOf links less
-less_of None less more fits room = tt
-less_of (Some links) less more fits room = omega arith
-
--- who has room for more changes has it for less
-pub room_less : (links : Linked) (car less more : ℕ) → less ≤ more → HasRoom links car more → HasRoom links car less
-room_less links car less more fits room = less_of (get links car) less more fits room
 
 -- how often a car stands in a list up to the next place
 pub once_more : (cars : List ℕ) (i car : ℕ) → i < length cars → times car (take (i + 1) cars) ≡ times car (take i cars) + cond (get_or cars i 0 == car) 1 0

@@ -51,23 +51,6 @@ pub fn count_car(counts: &mut BTreeMap<u64, u64>, car: u64) -> Result<u64, NoMem
     Ok(count)
 }
 
-// So many cars are few: each of them gets room for as many changes.
-const FEW: usize = 8;
-
-// Makes room in the queue of each of these cars for as many changes as cars stand in the list, and counts none. What
-// waits stays, and so does all room that was made before, also after want of memory.
-fn make_room_for_few(links: &mut LinkTable, cars: &[u64]) -> Result<(), NoMemory>
-    ensures sets { sets_of links.new ≡ sets_of links.old }
-    ensures queues { queues_of links.new ≡ queues_of links.old }
-    ensures room { OnOk result ((car : ℕ) → HasRoom links.new car (times car cars.now)) }
-    ensures kept { (other more : ℕ) → HasRoom links.old other more → HasRoom links.new other more }
-{
-    for car in cars {
-        links.reserve(*car, cars.len() as u64)?;
-    }
-    Ok(())
-}
-
 /// Makes room in the queues of these cars: for as many changes as a car stands in the list. What waits stays,
 /// and so does all room that was made before, also after want of memory.
 pub fn make_room_for_each(
@@ -80,9 +63,6 @@ pub fn make_room_for_each(
     ensures room { OnOk result ((car : ℕ) → HasRoom links.new car (times car cars.now)) }
     ensures kept { (other more : ℕ) → HasRoom links.old other more → HasRoom links.new other more }
 {
-    if cars.len() <= FEW {
-        return make_room_for_few(links, cars);
-    }
     let mut counts = BTreeMap::new(alloc);
     for car in cars {
         let count = count_car(&mut counts, *car)?;

@@ -1,3 +1,4 @@
 pub mod Links
 pub mod Choices
 pub mod Homes
+pub mod Only

@@ -23,7 +23,7 @@ use std::io::{ErrorKind, Read, Write};
 use std::process::ExitCode;
 use std::sync::Wait;
 use std::thread::Threads;
-use std::{env, io};
+use std::{env, io, mem};
 
 // The words behind the program's name, all of them.
 fn behind_name(alloc: Global, mut all: Args) -> Result<Vec<String>, AllocError>
@@ -158,7 +158,14 @@ fn run_all<R: AllocGlobal + Env + Threads + Wait + Sync, I: Read + Drop, O: Writ
 {
     let words = words(rt)?;
     let ended = run_words(rt, files, words.as_slice(), reader, writer, errors)?;
-    Ok(ended.status)
+    let Ended {
+        status,
+        journal,
+        ..
+    } = ended;
+    // The process ends now, and gives all memory back at once.
+    mem::forget(journal);
+    Ok(status)
 }
 
 // The status with which the program ends. Where there is no memory for its words or for the file's name, that is told.

@@ -1,9 +1,8 @@
-use Rattle.std.proofs.Common.{◌+◌, sym, ap, subst, ◌∙◌, IfSome}
+use Rattle.std.proofs.Common.{sym, ap, subst, ◌∙◌, IfSome}
 use Rattle.pm_view.specs.Rows.{tail_for}
 use Rattle.pm_space.specs.Places.{FitsIn}
 use Rattle.pm_space.specs.Shown.{view}
 use Rattle.pm_space.proofs.OpenedCars.{lowest_vacant}
-use Rattle.pm_relocate.specs.Named.{named_by}
 use Rattle.pm_relocate.specs.Moves.{led_fields}
 use Rattle.pm_relocate.proofs.moving.plan_of.Goals as goal
 
@@ -28,6 +27,5 @@ returns g c =
       tail = c.tail_for-tail.ensures.tail ∙ ap (tail_for v c.args.train) c.room_of.ensures.room;
       fits = subst (λ room. IfSome c.tail_for-tail.result (λ car. FitsIn v.cars car room)) c.room_of.ensures.room c.tail_for-tail.ensures.fits;
       to = c.place_in-to.ensures;
-      fields = c.in_ok-fields.ensures ∙ ap (led_fields v.cars c.args.from c.place_in-to.result) c.as_slice-old.ensures;
-      told = λ car. c.in_ok-told.ensures car ∙ (λ i. named_by (c.as_slice-old.ensures i) car + named_by (c.deref.ensures.value i) car);
+      fields = c.in_ok-fields.ensures ∙ ap (led_fields v.cars c.args.from c.place_in-to.result) c.as_slice.ensures;
     }

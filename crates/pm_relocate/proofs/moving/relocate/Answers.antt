@@ -1,13 +1,16 @@
-use Rattle.std.proofs.Common.{◌≡◌, ℕ, true, refl, sym, ap, subst, ◌∙◌, List, IsSomeAnd}
+use Rattle.std.proofs.Common.{◌≡◌, ℕ, ◌+◌, true, refl, sym, ap, subst, ◌∙◌, List, Option, IsSomeAnd}
 use Rattle.std.specs.FinMap.{get}
 use Rattle.pm_base.specs.Mapped.{mapped}
 use Rattle.pm_view.specs.View.{SpaceView}
-use Rattle.pm_space.specs.Linked.{HasRoom, times}
+use Rattle.pm_types.specs.declared.address.Addr.{Addr}
+use Rattle.pm_space.specs.Linked.{HasRoom}
 use Rattle.pm_snap.specs.Snapped.{is_ready}
 use Rattle.pm_space.specs.Shown.{view, car_of, HasBirthRoom}
 use Rattle.pm_space.specs.Places.{IsOpened}
 use Rattle.pm_space.proofs.HeldCars.{has_car}
+use Rattle.pm_relocate.specs.Named.{named_by, naming}
 use Rattle.pm_relocate.specs.Moves.{MayCarry, carried}
+use Rattle.pm_relocate.proofs.Naming.{named_in_both}
 use Rattle.pm_relocate.proofs.Planning.{car_is, object_then, to_apart, may_carry, carried_moved, same_identity}
 use Rattle.pm_relocate.proofs.moving.relocate.Goals as goal
 
@@ -20,11 +23,15 @@ carry-id-requires-clause-may g c =
     let w = view c.prepare_place.new.parts in
     let plan = c.in_ok-plan.plan in
     let is = c.in_ok-plan.ensures in
-    let same : view (record c.args.parts.now { links = c.make_room_for_each.new.links; cars = c.make_ready.new.cars }) ≡ v =
-    λ i. record v { cars = ap (mapped car_of) c.in_ok-make_ready.ensures.current i; sets = c.in_ok-make_room_for_each.ensures.sets i; queues = c.in_ok-make_room_for_each.ensures.queues i } in
+    let same : view (record c.args.parts.now { links = c.make_room_to_move.new.links; cars = c.make_ready.new.cars }) ≡ v =
+    λ i. record v { cars = ap (mapped car_of) c.in_ok-make_ready.ensures.current i; sets = c.make_room_to_move.ensures.sets i; queues = c.make_room_to_move.ensures.queues i } in
     let opened : IsOpened v c.args.train plan.tail w c.in_ok-prepare_place.field-0 = subst (λ (u : SpaceView). IsOpened u c.args.train plan.tail w c.in_ok-prepare_place.field-0) same c.in_ok-prepare_place.ensures.place in
     let links = c.prepare_place.new.parts.links in
-    let room : (car : ℕ) → HasRoom links car (times car plan.told.items) = λ car. subst (λ (told : List ℕ). HasRoom links car (times car told)) c.deref-2.ensures.value (c.in_ok-prepare_place.ensures.room car) in
+    let fields = is.object.fields in
+    let room : (car : ℕ) → HasRoom links car (named_by fields car + named_by plan.fields.items car) = λ car.
+    let made = subst (λ (new : List (Option Addr)). HasRoom c.make_room_to_move.new.links car (named_by fields car + named_by new car)) c.deref.ensures.value (c.in_ok-room.ensures.room is.object is.here car) in
+    let most : c.in_ok-room.room ≡ naming fields + naming plan.fields.items = c.in_ok-room.ensures.many is.object is.here ∙ (λ i. naming fields + naming (c.deref.ensures.value i)) in
+    c.in_ok-prepare_place.ensures.room car (named_by fields car + named_by plan.fields.items car) (named_in_both fields plan.fields.items car c.in_ok-room.room most) made in
     subst (λ o. IsSomeAnd o (λ object. MayCarry w links plan.to object plan.fields.items)) (sym (object_then v w c.args.from c.args.train plan c.requires.law c.requires.moving c.requires.train c.requires.apart is c.in_ok-prepare_place.field-0 opened))
     (may_carry v w c.args.from c.args.train plan c.requires.law c.requires.moving c.requires.train c.requires.apart is c.in_ok-prepare_place.field-0 opened links room)
 
@@ -34,8 +41,8 @@ carry-id-requires-clause-apart g c =
     let w = view c.prepare_place.new.parts in
     let plan = c.in_ok-plan.plan in
     let is = c.in_ok-plan.ensures in
-    let same : view (record c.args.parts.now { links = c.make_room_for_each.new.links; cars = c.make_ready.new.cars }) ≡ v =
-    λ i. record v { cars = ap (mapped car_of) c.in_ok-make_ready.ensures.current i; sets = c.in_ok-make_room_for_each.ensures.sets i; queues = c.in_ok-make_room_for_each.ensures.queues i } in
+    let same : view (record c.args.parts.now { links = c.make_room_to_move.new.links; cars = c.make_ready.new.cars }) ≡ v =
+    λ i. record v { cars = ap (mapped car_of) c.in_ok-make_ready.ensures.current i; sets = c.make_room_to_move.ensures.sets i; queues = c.make_room_to_move.ensures.queues i } in
     let opened : IsOpened v c.args.train plan.tail w c.in_ok-prepare_place.field-0 = subst (λ (u : SpaceView). IsOpened u c.args.train plan.tail w c.in_ok-prepare_place.field-0) same c.in_ok-prepare_place.ensures.place in
     to_apart v w c.args.from c.args.train plan c.requires.law c.requires.moving c.requires.train c.requires.apart is c.in_ok-prepare_place.field-0 opened
 
@@ -45,8 +52,8 @@ carry-id-requires-clause-ready g c =
     let w = view c.prepare_place.new.parts in
     let plan = c.in_ok-plan.plan in
     let is = c.in_ok-plan.ensures in
-    let same : view (record c.args.parts.now { links = c.make_room_for_each.new.links; cars = c.make_ready.new.cars }) ≡ v =
-    λ i. record v { cars = ap (mapped car_of) c.in_ok-make_ready.ensures.current i; sets = c.in_ok-make_room_for_each.ensures.sets i; queues = c.in_ok-make_room_for_each.ensures.queues i } in
+    let same : view (record c.args.parts.now { links = c.make_room_to_move.new.links; cars = c.make_ready.new.cars }) ≡ v =
+    λ i. record v { cars = ap (mapped car_of) c.in_ok-make_ready.ensures.current i; sets = c.make_room_to_move.ensures.sets i; queues = c.make_room_to_move.ensures.queues i } in
     let opened : IsOpened v c.args.train plan.tail w c.in_ok-prepare_place.field-0 = subst (λ (u : SpaceView). IsOpened u c.args.train plan.tail w c.in_ok-prepare_place.field-0) same c.in_ok-prepare_place.ensures.place in
     subst (λ n. is_ready c.prepare_place.new.parts.cars n ≡ true) (sym (car_is v w c.args.from c.args.train plan c.requires.law c.requires.moving c.requires.train c.requires.apart is c.in_ok-prepare_place.field-0 opened)) c.in_ok-prepare_place.ensures.ready
 
@@ -56,8 +63,8 @@ carry-id-requires-clause-birth g c =
     let w = view c.prepare_place.new.parts in
     let plan = c.in_ok-plan.plan in
     let is = c.in_ok-plan.ensures in
-    let same : view (record c.args.parts.now { links = c.make_room_for_each.new.links; cars = c.make_ready.new.cars }) ≡ v =
-    λ i. record v { cars = ap (mapped car_of) c.in_ok-make_ready.ensures.current i; sets = c.in_ok-make_room_for_each.ensures.sets i; queues = c.in_ok-make_room_for_each.ensures.queues i } in
+    let same : view (record c.args.parts.now { links = c.make_room_to_move.new.links; cars = c.make_ready.new.cars }) ≡ v =
+    λ i. record v { cars = ap (mapped car_of) c.in_ok-make_ready.ensures.current i; sets = c.make_room_to_move.ensures.sets i; queues = c.make_room_to_move.ensures.queues i } in
     let opened : IsOpened v c.args.train plan.tail w c.in_ok-prepare_place.field-0 = subst (λ (u : SpaceView). IsOpened u c.args.train plan.tail w c.in_ok-prepare_place.field-0) same c.in_ok-prepare_place.ensures.place in
     subst (HasBirthRoom c.prepare_place.new.parts.cars) (sym (car_is v w c.args.from c.args.train plan c.requires.law c.requires.moving c.requires.train c.requires.apart is c.in_ok-prepare_place.field-0 opened)) c.in_ok-prepare_place.ensures.birth
 
@@ -67,8 +74,8 @@ returns-clause-ok g c =
     let w = view c.prepare_place.new.parts in
     let plan = c.in_ok-plan.plan in
     let is = c.in_ok-plan.ensures in
-    let same : view (record c.args.parts.now { links = c.make_room_for_each.new.links; cars = c.make_ready.new.cars }) ≡ v =
-    λ i. record v { cars = ap (mapped car_of) c.in_ok-make_ready.ensures.current i; sets = c.in_ok-make_room_for_each.ensures.sets i; queues = c.in_ok-make_room_for_each.ensures.queues i } in
+    let same : view (record c.args.parts.now { links = c.make_room_to_move.new.links; cars = c.make_ready.new.cars }) ≡ v =
+    λ i. record v { cars = ap (mapped car_of) c.in_ok-make_ready.ensures.current i; sets = c.make_room_to_move.ensures.sets i; queues = c.make_room_to_move.ensures.queues i } in
     let opened : IsOpened v c.args.train plan.tail w c.in_ok-prepare_place.field-0 = subst (λ (u : SpaceView). IsOpened u c.args.train plan.tail w c.in_ok-prepare_place.field-0) same c.in_ok-prepare_place.ensures.place in
     let u = view c.carry-id.new.parts in
     record {
@@ -84,7 +91,7 @@ returns-clause-id g c =
     let w = view c.prepare_place.new.parts in
     let plan = c.in_ok-plan.plan in
     let is = c.in_ok-plan.ensures in
-    let same : view (record c.args.parts.now { links = c.make_room_for_each.new.links; cars = c.make_ready.new.cars }) ≡ v =
-    λ i. record v { cars = ap (mapped car_of) c.in_ok-make_ready.ensures.current i; sets = c.in_ok-make_room_for_each.ensures.sets i; queues = c.in_ok-make_room_for_each.ensures.queues i } in
+    let same : view (record c.args.parts.now { links = c.make_room_to_move.new.links; cars = c.make_ready.new.cars }) ≡ v =
+    λ i. record v { cars = ap (mapped car_of) c.in_ok-make_ready.ensures.current i; sets = c.make_room_to_move.ensures.sets i; queues = c.make_room_to_move.ensures.queues i } in
     let opened : IsOpened v c.args.train plan.tail w c.in_ok-prepare_place.field-0 = subst (λ (u : SpaceView). IsOpened u c.args.train plan.tail w c.in_ok-prepare_place.field-0) same c.in_ok-prepare_place.ensures.place in
     c.carry-id.ensures.id ∙ same_identity v w c.args.from c.args.train plan c.requires.law c.requires.moving c.requires.train c.requires.apart is c.in_ok-prepare_place.field-0 opened

@@ -26,5 +26,5 @@ returns-in_ok-make_room_for_birth-in-Some-clause-place g c =
 
 pub returns-in_ok-car-in-None-clause-room : goal.returns-in_ok-car-in-None-clause-room
 returns-in_ok-car-in-None-clause-room g c =
-    room_opened c.args.parts.now.links c.open_car.new.parts.links c.in_ok-car-in-None.car c.args.told.now (ap (λ (v : SpaceView). v.sets) c.in_ok-car-in-None.ensures.ok) c.in_ok-car-in-None.ensures.kept
-    c.in_ok-car-in-None.ensures.prepared.changes c.requires.room
+    room_opened c.args.parts.now.links c.open_car.new.parts.links c.in_ok-car-in-None.car c.args.room (ap (λ (v : SpaceView). v.sets) c.in_ok-car-in-None.ensures.ok) c.in_ok-car-in-None.ensures.kept
+    c.in_ok-car-in-None.ensures.prepared.changes

@@ -7,20 +7,20 @@ use Rattle.pm_script.specs.Reading.{Tells, lines_at}
 use Rattle.pm_script.proofs.ScriptLaws.{script_many, script_few}
 use Rattle.pm_script.proofs.script.read_all.Goals as goal
 
-pub returns-then-newlines-ge-SCRIPT_LINES : goal.returns-then-newlines-ge-SCRIPT_LINES
-returns-then-newlines-ge-SCRIPT_LINES c =
+pub returns-then-ended-ge-SCRIPT_LINES : goal.returns-then-ended-ge-SCRIPT_LINES
+returns-then-ended-ge-SCRIPT_LINES c =
     let count = length-slice_split (λ b. nat_eq b 10) c.last_unended-bytes.result.now in
     let same = ap length c.last_unended-bytes.ensures in
-    script_many c.args.bytes.now (omega (arith, count, same, c.newlines.ensures, c.if-newlines-ge-SCRIPT_LINES.true))
+    script_many c.args.bytes.now (omega (arith, count, same, c.count_byte-ended.ensures, c.if-ended-ge-SCRIPT_LINES.true))
 
 pub read_lines-requires : goal.read_lines-requires
 read_lines-requires c =
     let count = length-slice_split (λ b. nat_eq b 10) c.last_unended-bytes.result.now in
-    omega (arith, count, c.newlines.ensures, c.if-newlines-ge-SCRIPT_LINES.false)
+    omega (arith, count, c.count_byte-ended.ensures, c.if-ended-ge-SCRIPT_LINES.false)
 
 pub returns : goal.returns
 returns c =
     let count = length-slice_split (λ b. nat_eq b 10) c.last_unended-bytes.result.now in
     let same = ap length c.last_unended-bytes.ensures in
-    let few : length (lines_of c.args.bytes.now) ≤ 65536 = omega (arith, count, same, c.newlines.ensures, c.if-newlines-ge-SCRIPT_LINES.false) in
+    let few : length (lines_of c.args.bytes.now) ≤ 65536 = omega (arith, count, same, c.count_byte-ended.ensures, c.if-ended-ge-SCRIPT_LINES.false) in
     subst (λ (r : Result (List Line) ScriptFault). Tells (λ lines. lines.items) c.read_lines.result r) (ap (lines_at 1) c.last_unended-bytes.ensures ∙ sym (script_few c.args.bytes.now few)) c.read_lines.ensures

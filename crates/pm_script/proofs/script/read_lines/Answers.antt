@@ -10,7 +10,7 @@ overflow_add-number c = omega (arith, ap length c.in-Some.ensures, c.loop-body.i
 
 pub returns-in_err-line : goal.returns-in_err-line
 returns-in_err-line c =
-    let p = err_from_is_err_and c.from_residual.result c.from_residual.ensures.1 in
+    let p = err_from_is_err_and c.from_residual-in_err-line.result c.from_residual-in_err-line.ensures.1 in
     rw (p.1, p.2)
     (bad_ends c.in_err-line.field-0.0 c.loop-body.lines.items (parts_in 10 c.loop-body.rest) (parts_in 10 c.in-Some.after) (lines_at 1 (parts c.args.bytes.now)) (c.loop-body.number + 1) c.in-Some.body.now
     c.in-Some.ensures (sym c.is_silent.ensures ∙ c.if-is_silent.false) c.loop-body.invariant.read c.in_err-line.ensures)

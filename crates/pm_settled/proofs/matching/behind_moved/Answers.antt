@@ -13,5 +13,5 @@ returns-in_default-clause-behind c has = none_first c.args.bytes.now (2 ∷ []) 
 pub returns-clause-behind : goal.returns-clause-behind
 unfolding spelling
 returns-clause-behind c =
-    both_of (HasSpelling FIELDS (Moved c.args.to)) (0 < c.args.to.car) c.args.bytes.now c.in-Some.rest.now (2 ∷ []) (address c.args.to) (option_map (λ rest. rest.now) c.behind_address.result)
-    (λ has. has.numbered) (λ car. record { within = tt; numbered = car }) c.in-Some.ensures c.behind_address.ensures.behind
+    both_of (HasSpelling FIELDS (Moved c.args.to)) (0 < c.args.to.car) c.args.bytes.now c.in-Some.rest.now (2 ∷ []) (address c.args.to) (option_map (λ rest. rest.now) c.behind_target.result)
+    (λ has. has.numbered) (λ car. record { within = tt; numbered = car }) c.in-Some.ensures c.behind_target.ensures.behind

@@ -24,7 +24,7 @@ overflow_sub-self-2 c = some_live _ _ _ _ _ _ _ c.self.invariant c.args.slot c.t
 pub first_live-self-inside-requires : goal.first_live-self-inside-requires
 first_live-self-inside-requires c =
     let es = c.self.inside.entries.items in
-    subst (λ (es : List Entry). c.self.inside.first ≤ first_place es) (sym (c.deref.ensures.value ∙ c.take_object-dropped.ensures.items))
+    subst (λ (es : List Entry). c.self.inside.first ≤ first_place es) (sym (c.as_slice.ensures ∙ c.take_object-dropped.ensures.items))
     (omega (arith, first_without es c.args.slot (ap is_object c.take_object-dropped.ensures.object), c.self.invariant.lowest))
 
 pub invariant_of-self : goal.invariant_of-self
@@ -32,10 +32,10 @@ invariant_of-self c =
     let found = c.take_object-dropped.ensures.object in
     let within = room_within _ _ _ _ _ _ _ c.self.invariant c.args.slot (Live c.take_object-dropped.result) found in
     let some = some_live _ _ _ _ _ _ _ c.self.invariant c.args.slot c.take_object-dropped.result found in
-    rw (c.take_object-dropped.ensures.items, c.take_object-dropped.ensures.capacity)
-    (kept_without _ _ _ _ _ _ _ c.self.invariant c.args.slot (Live c.take_object-dropped.result) found _ _ _
+    rw c.take_object-dropped.ensures.items
+    (kept_without _ _ _ _ _ _ _ c.self.invariant c.args.slot (Live c.take_object-dropped.result) found _ _ _ _ c.take_object-dropped.ensures.capacity
     (omega (arith, c.room_of.ensures, within)) (omega (arith, some))
-    (c.first_live-self-inside.ensures ∙ ap first_place (c.deref.ensures.value ∙ c.take_object-dropped.ensures.items)))
+    (c.first_live-self-inside.ensures ∙ ap first_place (c.as_slice.ensures ∙ c.take_object-dropped.ensures.items)))
 
 pub returns-clause-object : goal.returns-clause-object
 returns-clause-object c =

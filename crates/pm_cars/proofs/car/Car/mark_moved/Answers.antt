@@ -24,7 +24,7 @@ overflow_sub-self-2 c = some_live _ _ _ _ _ _ _ c.self.invariant c.args.slot c.e
 pub first_live-self-inside-requires : goal.first_live-self-inside-requires
 first_live-self-inside-requires c =
     let es = c.self.inside.entries.items in
-    subst (λ (es : List Entry). c.self.inside.first ≤ first_place es) (sym (c.deref.ensures.value ∙ c.exchange-object.ensures.items))
+    subst (λ (es : List Entry). c.self.inside.first ≤ first_place es) (sym (c.as_slice.ensures ∙ c.exchange-object.ensures.items))
     (omega (arith, first_with es c.args.slot (Moved c.args.to) refl, c.self.invariant.lowest))
 
 pub invariant_of-self : goal.invariant_of-self
@@ -35,7 +35,7 @@ invariant_of-self c =
     rw (c.exchange-object.ensures.items, c.exchange-object.ensures.capacity)
     (kept_with _ _ _ _ _ _ _ c.self.invariant c.args.slot (Live c.exchange-object.result) found (Moved c.args.to) _ _ _
     (omega (arith, c.room_of.ensures)) (omega (arith, some)) (omega (arith, c.self.invariant.within))
-    (c.first_live-self-inside.ensures ∙ ap first_place (c.deref.ensures.value ∙ c.exchange-object.ensures.items)))
+    (c.first_live-self-inside.ensures ∙ ap first_place (c.as_slice.ensures ∙ c.exchange-object.ensures.items)))
 
 pub returns-clause-object : goal.returns-clause-object
 returns-clause-object c =

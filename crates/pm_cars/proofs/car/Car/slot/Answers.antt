@@ -1,16 +1,14 @@
-use Rattle.std.proofs.Common.{sym, ap, ◌∙◌, List}
+use Rattle.std.proofs.Common.{sym, ap, ◌∙◌}
 use Rattle.std.specs.FinMap.{get}
 use Rattle.pm_cars.specs.Cars.{CarAndSpare}
-use Rattle.pm_cars.specs.Entries.{Entry, content_at}
 use Rattle.pm_cars.proofs.Listed.{get_slots}
 use Rattle.pm_cars.proofs.Kept.{lent_within}
 use Rattle.pm_cars.proofs.car.Car.slot.Goals as goal
 
 pub returns-clause-content : goal.returns-clause-content
 returns-clause-content c =
-    c.content_of.ensures ∙ ap (λ (es : List Entry). content_at es c.args.slot) c.deref.ensures.value
-    ∙ sym (get_slots c.self.inside.entries.items c.args.slot) ∙ ap (λ (it : CarAndSpare). get it.car.slots c.args.slot) c.self.view_is
+    c.content_of.ensures ∙ sym (get_slots c.self.inside.entries.items c.args.slot) ∙ ap (λ (it : CarAndSpare). get it.car.slots c.args.slot) c.self.view_is
 
 pub returns-clause-small : goal.returns-clause-small
 returns-clause-small c =
-    lent_within _ _ _ _ _ _ _ c.self.invariant c.args.slot _ (c.content_of.ensures ∙ ap (λ (es : List Entry). content_at es c.args.slot) c.deref.ensures.value)
+    lent_within _ _ _ _ _ _ _ c.self.invariant c.args.slot _ c.content_of.ensures

@@ -19,13 +19,13 @@ copied car page items end are spelled used =
 pub invariant_of-result : goal.invariant_of-result
 invariant_of-result c =
     let car : CarImage = record { number = c.args.number; slots = c.args.slots.now } in
-    let items = copied car c.args.page.now c.in_ok-records.records.items c.used-end.result (c.in_ok-records.ensures.items_if_clones_equal (λ x y is. is)) c.requires.page c.used-end.ensures.used in
+    let items = copied car c.args.page.now c.in_ok-records.records.items c.used-end.result c.in_ok-records.ensures.items c.requires.page c.used-end.ensures.used in
     subst (IsPacked (length car.slots)) (sym items) (is_packed car.slots (under_none car c.requires.has) c.know_records.ensures)
 
 pub returns : goal.returns
 returns c =
     let car : CarImage = record { number = c.args.number; slots = c.args.slots.now } in
-    let items = copied car c.args.page.now c.in_ok-records.records.items c.used-end.result (c.in_ok-records.ensures.items_if_clones_equal (λ x y is. is)) c.requires.page c.used-end.ensures.used in
+    let items = copied car c.args.page.now c.in_ok-records.records.items c.used-end.result c.in_ok-records.ensures.items c.requires.page c.used-end.ensures.used in
     let slots : unpacked (length car.slots) c.in_ok-records.records.items ≡ car.slots =
     ap (unpacked (length car.slots)) items ∙ unpacked_again car.slots (under_none car c.requires.has) c.know_records.ensures in
     λ i. record { number = car.number; slots = slots i }
