@@ -1,5 +1,5 @@
 -- A line is read as the line that it spells, and as no other.
-use Rattle.std.proofs.Common.{◌≡◌, ℕ, ◌≤◌, ◌==◌, Bool, true, false, List, [], ◌∷◌, length, map, Some, Result, Ok, Err, refl, ap, sym, subst, ◌∙◌, arith, nat_lt, lit<, if◌then◌else◌}
+use Rattle.std.proofs.Common.{◌≡◌, ℕ, ◌≤◌, ◌==◌, Bool, true, false, List, [], ◌∷◌, length, Result, Ok, Err, refl, ap, sym, subst, ◌∙◌, arith, nat_lt, lit<, if◌then◌else◌}
 use Rattle.std.proofs.lemmas.Bool.{eqb-true}
 use Rattle.std.proofs.lemmas.Bool.Decides.{nat_tests}
 use Rattle.std.proofs.lemmas.List.Splits.{join_with_byte-slice_split}
@@ -10,19 +10,18 @@ use Rattle.pm_base.proofs.Results.{bind_ok}
 use Rattle.pm_script.specs.declared.fault.Cause.{Cause}
 use Rattle.pm_script.specs.declared.fault.Cause.TheVariants as cause
 use Rattle.pm_script.specs.declared.verb.Verb.{Verb}
-use Rattle.pm_script.specs.declared.verb.Kind.{Kind}
 use Rattle.pm_script.specs.declared.verb.First.{First}
-use Rattle.pm_script.specs.declared.value.Value.{Value}
 use Rattle.pm_script.specs.declared.line.Line.{Line}
 use Rattle.pm_script.specs.Lines.{is_silent, words_of}
-use Rattle.pm_script.specs.Words.{word_of, kinds, kind_of, first_word, IsFirst, AreSpelled}
-use Rattle.pm_script.specs.Values.{first_at, verb_at, line_of}
-use Rattle.pm_script.specs.Reading.{values_at, counted_at, said_at, first_said_at, line_at}
+use Rattle.pm_script.specs.Words.{word_of, kinds, belongs, first_word, IsFirst, Value, AreSpelled}
+use Rattle.pm_script.specs.Values.{first_at, verb_at}
+use Rattle.pm_script.specs.Taking.{asked_at}
+use Rattle.pm_script.specs.Reading.{counted_at, said_at, first_said_at, line_at}
 use Rattle.pm_script.specs.Script.{said, first_of, IsBody}
 use Rattle.pm_script.proofs.ResultSteps.{some_ok}
-use Rattle.pm_script.proofs.ValuesLaws.{values_found, values_again, as_many}
 use Rattle.pm_script.proofs.FirstLaws.{first_found, first_again, verb_found, verb_again}
-use Rattle.pm_script.proofs.SaidLaws.{Made, made_of, line_again, line_kinds, line_belongs}
+use Rattle.pm_script.proofs.SaidLaws.{line_kinds, line_belongs, as_many}
+use Rattle.pm_script.proofs.TakingLaws.{IsTold, told_found, told_again}
 use Rattle.pm_script.proofs.PlainWords.{IsPlain, Lacks, values_plain, verb_plain, first_plain, all_lack, split_joined, joined_lacks, begun_spoken}
 
 -- the words spell the line
@@ -39,37 +38,31 @@ record IsAsked (f : First) (words : List (List ℕ)) (line : Line) : Type 0 wher
   values : AreSpelled (said line).1 rest
   whole : words ≡ word_of (said line).0 ∷ rest
 
-counted_by : (test : Bool) (read : Result (List Value) Cause) (values : List Value) → (if test then read else Err cause.Count) ≡ Ok values → (test ≡ true) × (read ≡ Ok values)
-counted_by true read values is = (refl, is)
-counted_by false read values is = absurd cc
+counted_by : (test : Bool) (read : Result Line Cause) (line : Line) → (if test then read else Err cause.Count) ≡ Ok line → (test ≡ true) × (read ≡ Ok line)
+counted_by true read line is = (refl, is)
+counted_by false read line is = absurd cc
 
-pub counted_found : (ks : List Kind) (words : List (List ℕ)) (values : List Value) → counted_at ks words ≡ Ok values → (map kind_of values ≡ ks) × AreSpelled values words
+counted_found : (f : First) (v : Verb) (words : List (List ℕ)) (line : Line) → belongs f v ≡ true → counted_at f v words ≡ Ok line → IsTold f v words line
 unfolding counted_at
-counted_found ks words values is =
-    let here = counted_by (length words == length ks) (values_at ks words) values is in
-    values_found ks words values (eqb-true _ _ here.0) here.1
+counted_found f v words line may is =
+    let here = counted_by (length words == length (kinds v)) (asked_at f v words) line is in
+    told_found f v words line may (eqb-true _ _ here.0) here.1
 
-asked_by : (f : First) (v : Verb) (word : List ℕ) (words : List (List ℕ)) (values : List Value) (line : Line) → word ≡ word_of v → AreSpelled values words → Made f v values → line_of f v values ≡ Some line → IsAsked f (word ∷ words) line
-asked_by f v word words values line names are made is =
-    let same : made.line ≡ line = cc (made.is, is) in
-    let says : said line ≡ (v, values) = sym (ap said same) ∙ made.said in
-    record {
-      rest = words;
-      first = sym (ap first_of same) ∙ made.first;
-      values = subst (λ (vs : List Value). AreSpelled vs words) (sym (ap (λ (p : Verb × List Value). p.1) says)) are;
-      whole = ap (λ w. w ∷ words) (names ∙ sym (ap (λ (p : Verb × List Value). word_of p.0) says));
-    }
+asked_by : (f : First) (v : Verb) (word : List ℕ) (words : List (List ℕ)) (line : Line) → word ≡ word_of v → IsTold f v words line → IsAsked f (word ∷ words) line
+asked_by f v word words line names told = record {
+  rest = words;
+  first = told.says.first;
+  values = subst (λ (vs : List Value). AreSpelled vs words) (sym (ap (λ (p : Verb × List Value). p.1) told.says.said)) told.spelled;
+  whole = ap (λ w. w ∷ words) (names ∙ sym (ap (λ (p : Verb × List Value). word_of p.0) told.says.said));
+}
 
 asked_found : (f : First) (words : List (List ℕ)) (line : Line) → said_at f words ≡ Ok line → IsAsked f words line
 unfolding said_at
 asked_found f [] line is = absurd cc
 asked_found f (word ∷ words) line is =
-    let named = bind_ok (ok_or (verb_at f word) cause.Word) (λ v. counted_at (kinds v) words >>= λ values. ok_or (line_of f v values) cause.Count) line is in
-    let v = named.0 in
-    let counted = bind_ok (counted_at (kinds v) words) (λ values. ok_or (line_of f v values) cause.Count) line named.2 in
-    let verb = verb_found f word v (some_ok _ _ _ named.1) in
-    let are = counted_found (kinds v) words counted.0 counted.1 in
-    asked_by f v word words counted.0 line verb.0 are.1 (made_of f v counted.0 verb.1 are.0) (some_ok _ _ _ counted.2)
+    let named = bind_ok (ok_or (verb_at f word) cause.Word) (λ v. counted_at f v words) line is in
+    let verb = verb_found f word named.0 (some_ok _ _ _ named.1) in
+    asked_by f named.0 word words line verb.0 (counted_found f named.0 words line verb.1 named.2)
 
 said_by : (f : First) (word : List ℕ) (words : List (List ℕ)) (line : Line) → IsFirst f × (word ≡ first_word f) → IsAsked f words line → IsSaid (word ∷ words) line
 said_by f word words line begins asked =
@@ -91,18 +84,15 @@ said_found (word ∷ words) line is =
 pub same_count : (m n : ℕ) → m ≡ n → (m == n) ≡ true
 same_count m n is = grind (arith, nat_tests)
 
-counted_again : (values : List Value) (words : List (List ℕ)) → AreSpelled values words → counted_at (map kind_of values) words ≡ Ok values
+counted_again : (line : Line) (words : List (List ℕ)) → AreSpelled (said line).1 words → counted_at (first_of line) (said line).0 words ≡ Ok line
 unfolding counted_at
-counted_again values words are =
-    ap (λ b. if b then values_at (map kind_of values) words else Err cause.Count) (same_count _ _ (as_many values words are)) ∙ values_again values words are
+counted_again line words are =
+    ap (λ b. if b then asked_at (first_of line) (said line).0 words else Err cause.Count) (same_count _ _ (as_many (said line).1 words are ∙ ap length (line_kinds line))) ∙ told_again line words are
 
 asked_again : (line : Line) (words : List (List ℕ)) → AreSpelled (said line).1 words → said_at (first_of line) (word_of (said line).0 ∷ words) ≡ Ok line
 unfolding said_at
 asked_again line words are =
-    let f = first_of line in
-    ap (λ o. ok_or o cause.Word >>= λ v. counted_at (kinds v) words >>= λ values. ok_or (line_of f v values) cause.Count) (verb_again f (said line).0 (line_belongs line))
-    ∙ ap (λ (r : Result (List Value) Cause). r >>= λ values. ok_or (line_of f (said line).0 values) cause.Count) (ap (λ ks. counted_at ks words) (sym (line_kinds line)) ∙ counted_again (said line).1 words are)
-    ∙ ap (λ o. ok_or o cause.Count) (line_again line)
+    ap (λ o. ok_or o cause.Word >>= λ v. counted_at (first_of line) v words) (verb_again (first_of line) (said line).0 (line_belongs line)) ∙ counted_again line words are
 
 said_so : (line : Line) (words : List (List ℕ)) → IsFirst (first_of line) → AreSpelled (said line).1 words → first_said_at (first_word (first_of line) ∷ word_of (said line).0 ∷ words) ≡ Ok line
 unfolding first_said_at

@@ -1,5 +1,5 @@
 -- The cause that is told of a bad line is the first that applies, and the first that applies is told.
-use Rattle.std.proofs.Common.{◌≡◌, ◌⊎◌, inl, inr, ℕ, suc, ◌<◌, ◌≤◌, ◌==◌, Bool, true, false, List, [], ◌∷◌, length, Option, Some, None, Result, Ok, Err, refl, ap, sym, subst, ◌∙◌, arith, nat_lt, if◌then◌else◌}
+use Rattle.std.proofs.Common.{◌≡◌, ◌⊎◌, inl, inr, ℕ, ◌<◌, ◌≤◌, ◌==◌, Bool, true, false, List, [], ◌∷◌, length, Option, Some, None, Ok, Err, refl, ap, sym, subst, ◌∙◌, arith, nat_lt, if◌then◌else◌}
 use Rattle.std.proofs.lemmas.Bool.{eqb-true}
 use Rattle.std.proofs.lemmas.Bool.Decides.{nat_tests}
 use Rattle.std.specs.Option.{ok_or}
@@ -10,17 +10,16 @@ use Rattle.pm_script.specs.declared.verb.Verb.{Verb}
 use Rattle.pm_script.specs.declared.verb.Kind.{Kind}
 use Rattle.pm_script.specs.declared.verb.Kind.TheVariants as kind
 use Rattle.pm_script.specs.declared.verb.First.{First}
-use Rattle.pm_script.specs.declared.value.Value.{Value}
 use Rattle.pm_script.specs.Lines.{words_of}
 use Rattle.pm_script.specs.Words.{word_of, kinds, belongs, kind_cause, first_word, IsFirst}
-use Rattle.pm_script.specs.Values.{first_at, verb_at, value_of, line_of}
-use Rattle.pm_script.specs.Reading.{values_at, counted_at, said_at, first_said_at, line_at}
-use Rattle.pm_script.specs.Bad.{LacksFirst, LacksVerb, Asks, HasOtherCount, IsOfKind, IsFirstWrong, HasWrongWord, IsCause}
-use Rattle.pm_script.proofs.ResultSteps.{some_ok, none_err, first_err}
-use Rattle.pm_script.proofs.ValueLaws.{value_found, value_again}
+use Rattle.pm_script.specs.Values.{first_at, verb_at}
+use Rattle.pm_script.specs.Taking.{asked_at}
+use Rattle.pm_script.specs.Reading.{counted_at, said_at, first_said_at, line_at}
+use Rattle.pm_script.specs.Bad.{LacksFirst, LacksVerb, Asks, HasOtherCount, IsFirstWrong, HasWrongWord, IsCause}
+use Rattle.pm_script.proofs.ResultSteps.{some_ok, none_err}
 use Rattle.pm_script.proofs.FirstLaws.{first_found, first_again, verb_found, verb_again}
-use Rattle.pm_script.proofs.SaidLaws.{made_of}
-use Rattle.pm_script.proofs.BodyLaws.{counted_found, same_count, within, not_long}
+use Rattle.pm_script.proofs.TakingLaws.{wrong_found, wrong_again}
+use Rattle.pm_script.proofs.BodyLaws.{same_count, within, not_long}
 use Rattle.pm_base.proofs.Results.{either_fails}
 
 -- what the words of a line that is not too long tell
@@ -30,45 +29,6 @@ IsWordsCause cause.Client words = LacksFirst words
 IsWordsCause cause.Word words = LacksVerb words
 IsWordsCause cause.Count words = HasOtherCount words
 IsWordsCause c words = HasWrongWord words c
-
-of_kind : (k : Kind) (word : List ℕ) (v : Value) → value_of k word ≡ Some v → IsOfKind k word
-of_kind k word v is = let it = value_found k word v is in record { value = v; is_kind = it.0; spelled = it.1 }
-
-there : (k : Kind) (word : List ℕ) → IsOfKind k word → (v : Value) × (value_of k word ≡ Some v)
-there k word is = (is.value, subst (λ (k : Kind). value_of k word ≡ Some is.value) is.is_kind (value_again is.value word is.spelled))
-
-not_there : (k : Kind) (word : List ℕ) → value_of k word ≡ None → IsOfKind k word → ⊥
-not_there k word none is = let some = there k word is in let bad : None ≡ Some some.0 = sym none ∙ some.1 in cc bad
-
-none_there : (k : Kind) (word : List ℕ) (o : Option Value) → value_of k word ≡ o → (IsOfKind k word → ⊥) → value_of k word ≡ None
-none_there k word None is none = is
-none_there k word (Some v) is none = absurd (none (of_kind k word v is))
-
-wrong_by : (k : Kind) (ks : List Kind) (word : List ℕ) (words : List (List ℕ)) (c : Cause)
-    → (ok_or (value_of k word) (kind_cause k) ≡ Err c) ⊎ ((v : Value) × (ok_or (value_of k word) (kind_cause k) ≡ Ok v) × ((values_at ks words >>= λ vs. Ok (v ∷ vs)) ≡ Err c))
-    → (values_at ks words ≡ Err c → IsFirstWrong ks words c) → IsFirstWrong (k ∷ ks) (word ∷ words) c
-wrong_by k ks word words c (inl first) more = let none = none_err (value_of k word) (kind_cause k) c first in inl (none.1, not_there k word none.0)
-wrong_by k ks word words c (inr (v, read, later)) more = inr (of_kind k word v (some_ok (value_of k word) (kind_cause k) v read), more (first_err (values_at ks words) (λ vs. v ∷ vs) c later))
-
--- the first wrong word is told
-wrong_found : (ks : List Kind) (words : List (List ℕ)) (c : Cause) → length words ≡ length ks → values_at ks words ≡ Err c → IsFirstWrong ks words c
-unfolding values_at
-wrong_found [] words c same is = absurd cc
-wrong_found (k ∷ ks) [] c same is = absurd (let bad : 0 ≡ suc (length ks) = same in omega (arith, bad))
-wrong_found (k ∷ ks) (word ∷ words) c same is =
-    let long : suc (length words) ≡ suc (length ks) = same in
-    wrong_by k ks word words c (either_fails (ok_or (value_of k word) (kind_cause k)) (λ v. values_at ks words >>= λ vs. Ok (v ∷ vs)) c is) (wrong_found ks words c (omega (arith, long)))
-
-wrong_again : (ks : List Kind) (words : List (List ℕ)) (c : Cause) → IsFirstWrong ks words c → values_at ks words ≡ Err c
-unfolding values_at
-wrong_again [] words c is = absurd is
-wrong_again (k ∷ ks) [] c is = absurd is
-wrong_again (k ∷ ks) (word ∷ words) c (inl (is, none)) =
-    ap (λ o. ok_or o (kind_cause k) >>= λ v. values_at ks words >>= λ vs. Ok (v ∷ vs)) (none_there k word (value_of k word) refl none) ∙ ap Err is
-wrong_again (k ∷ ks) (word ∷ words) c (inr (one, later)) =
-    let some = there k word one in
-    ap (λ o. ok_or o (kind_cause k) >>= λ v. values_at ks words >>= λ vs. Ok (v ∷ vs)) some.1
-    ∙ ap (λ (r : Result (List Value) Cause). r >>= λ vs. Ok (some.0 ∷ vs)) (wrong_again ks words c later)
 
 -- a cause of a single word
 is_word_cause : Cause → Bool
@@ -109,28 +69,20 @@ other_count m n false is other = is
 Counted : First → Verb → List (List ℕ) → Cause → Type 0
 Counted f v rest c = ((cause.Count ≡ c) × (length rest ≡ length (kinds v) → ⊥)) ⊎ ((length rest ≡ length (kinds v)) × IsFirstWrong (kinds v) rest c)
 
-counted_by : (f : First) (v : Verb) (rest : List (List ℕ)) (c : Cause) (test : Bool) → (length rest == length (kinds v)) ≡ test → (if test then values_at (kinds v) rest else Err cause.Count) ≡ Err c → Counted f v rest c
+counted_by : (f : First) (v : Verb) (rest : List (List ℕ)) (c : Cause) (test : Bool) → belongs f v ≡ true → (length rest == length (kinds v)) ≡ test → (if test then asked_at f v rest else Err cause.Count) ≡ Err c → Counted f v rest c
 unfolding Counted
-counted_by f v rest c true same is = let long = eqb-true _ _ same in inr (long, wrong_found (kinds v) rest c long is)
-counted_by f v rest c false same is = inl (cc is, not_same _ _ same)
+counted_by f v rest c true may same is = let long = eqb-true _ _ same in inr (long, wrong_found f v rest c may long is)
+counted_by f v rest c false may same is = inl (cc is, not_same _ _ same)
 
-counted_err : (f : First) (v : Verb) (rest : List (List ℕ)) (c : Cause) → counted_at (kinds v) rest ≡ Err c → Counted f v rest c
+counted_err : (f : First) (v : Verb) (rest : List (List ℕ)) (c : Cause) → belongs f v ≡ true → counted_at f v rest ≡ Err c → Counted f v rest c
 unfolding counted_at
-counted_err f v rest c is = counted_by f v rest c (length rest == length (kinds v)) refl is
+counted_err f v rest c may is = counted_by f v rest c (length rest == length (kinds v)) may refl is
 
 told_count : (f : First) (v : Verb) (words rest : List (List ℕ)) (c : Cause) → Asks words f v rest → Counted f v rest c → IsWordsCause c words
 unfolding Counted
 told_count f v words rest c asks (inl (is, other)) = subst (λ (c : Cause). IsWordsCause c words) is (record { first = f; verb = v; rest = rest; asks = asks; other = other })
 told_count f v words rest c asks (inr (long, wrong)) =
     word_cause c words (record { first = f; verb = v; rest = rest; asks = asks; count = long; wrong = wrong }) (wrong_of_word (kinds v) rest c wrong)
-
-values_told : (f : First) (v : Verb) (words rest : List (List ℕ)) (c : Cause) → Asks words f v rest
-    → (counted_at (kinds v) rest ≡ Err c) ⊎ ((values : List Value) × (counted_at (kinds v) rest ≡ Ok values) × (ok_or (line_of f v values) cause.Count ≡ Err c)) → IsWordsCause c words
-values_told f v words rest c asks (inl err) = told_count f v words rest c asks (counted_err f v rest c err)
-values_told f v words rest c asks (inr (values, read, later)) =
-    let made = made_of f v values asks.may (counted_found (kinds v) rest values read).0 in
-    let bad : None ≡ Some made.line = sym (none_err (line_of f v values) cause.Count c later).0 ∙ made.is in
-    absurd (cc bad)
 
 lacks_verb : (f : First) (rest : List (List ℕ)) → IsFirst f → ((verb : Verb) (more : List (List ℕ)) → belongs f verb ≡ true → rest ≡ word_of verb ∷ more → ⊥) → LacksVerb (first_word f ∷ rest)
 lacks_verb f rest is none = record { first = f; rest = rest; is_first = is; begins = refl; none = none }
@@ -145,21 +97,19 @@ no_words : (f : First) (verb : Verb) (more : List (List ℕ)) → belongs f verb
 no_words f verb more may is = cc is
 
 verb_told : (f : First) (word : List ℕ) (rest : List (List ℕ)) (c : Cause) → IsFirst f
-    → (ok_or (verb_at f word) cause.Word ≡ Err c) ⊎ ((v : Verb) × (ok_or (verb_at f word) cause.Word ≡ Ok v) × ((counted_at (kinds v) rest >>= λ values. ok_or (line_of f v values) cause.Count) ≡ Err c))
-    → IsWordsCause c (first_word f ∷ word ∷ rest)
+    → (ok_or (verb_at f word) cause.Word ≡ Err c) ⊎ ((v : Verb) × (ok_or (verb_at f word) cause.Word ≡ Ok v) × (counted_at f v rest ≡ Err c)) → IsWordsCause c (first_word f ∷ word ∷ rest)
 verb_told f word rest c is (inl err) =
     let none = none_err (verb_at f word) cause.Word c err in
     subst (λ (c : Cause). IsWordsCause c (first_word f ∷ word ∷ rest)) none.1 (lacks_verb f (word ∷ rest) is (no_verb f word rest none.0))
 verb_told f word rest c is (inr (v, read, later)) =
     let named = verb_found f word v (some_ok (verb_at f word) cause.Word v read) in
-    values_told f v (first_word f ∷ word ∷ rest) rest c (record { is_first = is; may = named.1; begins = ap (λ w. first_word f ∷ w ∷ rest) named.0 })
-    (either_fails (counted_at (kinds v) rest) (λ values. ok_or (line_of f v values) cause.Count) c later)
+    told_count f v (first_word f ∷ word ∷ rest) rest c (record { is_first = is; may = named.1; begins = ap (λ w. first_word f ∷ w ∷ rest) named.0 }) (counted_err f v rest c named.1 later)
 
 said_told : (f : First) (rest : List (List ℕ)) (c : Cause) → IsFirst f → said_at f rest ≡ Err c → IsWordsCause c (first_word f ∷ rest)
 unfolding said_at
 said_told f [] c is err = let word : cause.Word ≡ c = cc err in subst (λ (c : Cause). IsWordsCause c (first_word f ∷ [])) word (lacks_verb f [] is (no_words f))
 said_told f (word ∷ rest) c is err =
-    verb_told f word rest c is (either_fails (ok_or (verb_at f word) cause.Word) (λ v. counted_at (kinds v) rest >>= λ values. ok_or (line_of f v values) cause.Count) c err)
+    verb_told f word rest c is (either_fails (ok_or (verb_at f word) cause.Word) (λ v. counted_at f v rest) c err)
 
 no_first : (word : List ℕ) (words : List (List ℕ)) → first_at word ≡ None → LacksFirst (word ∷ words)
 no_first word words none f rest is begins =
@@ -227,26 +177,23 @@ word_again : (f : First) (rest : List (List ℕ)) → ((verb : Verb) (more : Lis
 unfolding said_at
 word_again f [] none = refl
 word_again f (word ∷ rest) none =
-    ap (λ o. ok_or o cause.Word >>= λ v. counted_at (kinds v) rest >>= λ values. ok_or (line_of f v values) cause.Count) (none_verb f word rest (verb_at f word) refl none)
+    ap (λ o. ok_or o cause.Word >>= λ v. counted_at f v rest) (none_verb f word rest (verb_at f word) refl none)
 
-asked_again : (f : First) (v : Verb) (words rest : List (List ℕ)) → Asks words f v rest → first_said_at words ≡ (counted_at (kinds v) rest >>= λ values. ok_or (line_of f v values) cause.Count)
+asked_again : (f : First) (v : Verb) (words rest : List (List ℕ)) → Asks words f v rest → first_said_at words ≡ counted_at f v rest
 unfolding said_at
 asked_again f v words rest asks =
-    begun_again f words (word_of v ∷ rest) asks.is_first asks.begins
-    ∙ ap (λ o. ok_or o cause.Word >>= λ v. counted_at (kinds v) rest >>= λ values. ok_or (line_of f v values) cause.Count) (verb_again f v asks.may)
+    begun_again f words (word_of v ∷ rest) asks.is_first asks.begins ∙ ap (λ o. ok_or o cause.Word >>= λ v. counted_at f v rest) (verb_again f v asks.may)
 
-count_again : (v : Verb) (rest : List (List ℕ)) → (length rest ≡ length (kinds v) → ⊥) → counted_at (kinds v) rest ≡ Err cause.Count
+count_again : (f : First) (v : Verb) (rest : List (List ℕ)) → (length rest ≡ length (kinds v) → ⊥) → counted_at f v rest ≡ Err cause.Count
 unfolding counted_at
-count_again v rest other = ap (λ b. if b then values_at (kinds v) rest else Err cause.Count) (other_count (length rest) (length (kinds v)) (length rest == length (kinds v)) refl other)
+count_again f v rest other = ap (λ b. if b then asked_at f v rest else Err cause.Count) (other_count (length rest) (length (kinds v)) (length rest == length (kinds v)) refl other)
 
-wrong_counted : (v : Verb) (rest : List (List ℕ)) (c : Cause) → length rest ≡ length (kinds v) → IsFirstWrong (kinds v) rest c → counted_at (kinds v) rest ≡ Err c
+wrong_counted : (f : First) (v : Verb) (rest : List (List ℕ)) (c : Cause) → belongs f v ≡ true → length rest ≡ length (kinds v) → IsFirstWrong (kinds v) rest c → counted_at f v rest ≡ Err c
 unfolding counted_at
-wrong_counted v rest c same wrong = ap (λ b. if b then values_at (kinds v) rest else Err cause.Count) (same_count (length rest) (length (kinds v)) same) ∙ wrong_again (kinds v) rest c wrong
+wrong_counted f v rest c may same wrong = ap (λ b. if b then asked_at f v rest else Err cause.Count) (same_count (length rest) (length (kinds v)) same) ∙ wrong_again f v rest c may same wrong
 
 has_wrong : (words : List (List ℕ)) (c : Cause) → HasWrongWord words c → first_said_at words ≡ Err c
-has_wrong words c has =
-    asked_again has.first has.verb words has.rest has.asks
-    ∙ ap (λ (r : Result (List Value) Cause). r >>= λ values. ok_or (line_of has.first has.verb values) cause.Count) (wrong_counted has.verb has.rest c has.count has.wrong)
+has_wrong words c has = asked_again has.first has.verb words has.rest has.asks ∙ wrong_counted has.first has.verb has.rest c has.asks.may has.count has.wrong
 
 short_again : (body : List ℕ) (c : Cause) → length body ≤ 16384 → first_said_at (words_of body) ≡ Err c → line_at body ≡ Err c
 unfolding line_at
@@ -266,8 +213,7 @@ cause_again cause.Word body is =
 cause_again cause.Count body is =
     let has = is.1 in
     short_again body cause.Count is.0
-    (asked_again has.first has.verb (words_of body) has.rest has.asks
-    ∙ ap (λ (r : Result (List Value) Cause). r >>= λ values. ok_or (line_of has.first has.verb values) cause.Count) (count_again has.verb has.rest has.other))
+    (asked_again has.first has.verb (words_of body) has.rest has.asks ∙ count_again has.first has.verb has.rest has.other)
 cause_again cause.Number body is = short_again body cause.Number is.0 (has_wrong (words_of body) cause.Number is.1)
 cause_again cause.Hex body is = short_again body cause.Hex is.0 (has_wrong (words_of body) cause.Hex is.1)
 cause_again cause.Name body is = short_again body cause.Name is.0 (has_wrong (words_of body) cause.Name is.1)

@@ -6,7 +6,6 @@ pub mod Hexes
 pub mod Steps
 pub mod ResultSteps
 pub mod ValueLaws
-pub mod ValuesLaws
 pub mod FirstLaws
 pub mod SaidLaws
 pub mod PlainWords

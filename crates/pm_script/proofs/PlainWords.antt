@@ -10,10 +10,8 @@ use Rattle.pm_script.specs.declared.verb.Verb.{Verb}
 use Rattle.pm_script.specs.declared.verb.Verb.TheVariants as verb
 use Rattle.pm_script.specs.declared.verb.First.{First}
 use Rattle.pm_script.specs.declared.verb.First.TheVariants as first
-use Rattle.pm_script.specs.declared.value.Value.{Value}
-use Rattle.pm_script.specs.declared.value.Value.TheVariants as value
 use Rattle.pm_script.specs.Lines.{is_silent}
-use Rattle.pm_script.specs.Words.{word_of, first_word, IsFirst, IsSpelled, AreSpelled}
+use Rattle.pm_script.specs.Words.{word_of, first_word, IsFirst, Value, Register, Number, Hex, Name, IsSpelled, AreSpelled}
 use Rattle.pm_script.specs.Values.{is_digit}
 use Rattle.pm_script.proofs.Both.{first_true, second_true, both_true}
 use Rattle.pm_script.proofs.Hexes.{hex_plain}
@@ -44,10 +42,10 @@ name_plain : (name : List ℕ) → IsName name → IsPlain name
 name_plain name named = implied is_name_byte (λ b. nat_lt 32 b) name_byte_plain name (name_tests name named.each)
 
 value_plain : (value : Value) (word : List ℕ) → IsSpelled value word → IsPlain word
-value_plain (value.Register register) word has = subst IsPlain (sym has.1) (decimal_plain register (omega (arith, has.0)))
-value_plain (value.Number number) word has = subst IsPlain (sym has.1) (decimal_plain number has.0)
-value_plain (value.Hex bytes) word has = hex_plain word bytes has
-value_plain (value.Name name) word has = subst IsPlain (sym has.1) (name_plain name has.0)
+value_plain (Register register) word has = subst IsPlain (sym has.1) (decimal_plain register (omega (arith, has.0)))
+value_plain (Number number) word has = subst IsPlain (sym has.1) (decimal_plain number has.0)
+value_plain (Hex bytes) word has = hex_plain word bytes has
+value_plain (Name name) word has = subst IsPlain (sym has.1) (name_plain name has.0)
 
 pub values_plain : (values : List Value) (words : List (List ℕ)) → AreSpelled values words → AllByRecursion IsPlain words
 values_plain [] [] are = tt

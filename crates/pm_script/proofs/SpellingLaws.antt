@@ -2,21 +2,19 @@
 use Rattle.std.proofs.Common.{◌≡◌, ℕ, ◌≤◌, Bool, true, false, cond, not, List, [], ◌∷◌, ◌++◌, length, map, refl, ap, sym, subst, ◌∙◌, arith, nat_eq, append_assoc, if◌then◌else◌}
 use Rattle.std.proofs.lemmas.List.{length-map}
 use Rattle.std.specs.List.{AllByRecursion, onto_first}
-use Rattle.pm_script.specs.declared.value.Value.{Value}
-use Rattle.pm_script.specs.declared.value.Value.TheVariants as value
 use Rattle.pm_script.specs.declared.line.Line.{Line}
 use Rattle.pm_script.specs.Lines.{lines_of, spoken, ended}
-use Rattle.pm_script.specs.Words.{IsSpelled, AreSpelled, IsValue, value_word}
+use Rattle.pm_script.specs.Words.{Value, Register, Number, Hex, Name, IsSpelled, AreSpelled, IsValue, value_word}
 use Rattle.pm_script.specs.Script.{said, IsBody, AreBodies, IsScript, IsLine, spelling, text_of, HasSpelling}
 use Rattle.pm_script.proofs.HexDigits.{printed_again}
 use Rattle.pm_script.proofs.PlainWords.{Lacks}
 use Rattle.pm_script.proofs.BodyLaws.{body_spoken, body_lacks}
 
 value_spelled : (v : Value) → IsValue v → IsSpelled v (value_word v)
-value_spelled (value.Register register) is = (is, refl)
-value_spelled (value.Number number) is = (is, refl)
-value_spelled (value.Hex bytes) is = printed_again bytes is
-value_spelled (value.Name name) is = (is, refl)
+value_spelled (Register register) is = (is, refl)
+value_spelled (Number number) is = (is, refl)
+value_spelled (Hex bytes) is = printed_again bytes is
+value_spelled (Name name) is = (is, refl)
 
 values_spelled : (values : List Value) → AllByRecursion IsValue values → AreSpelled values (map value_word values)
 values_spelled [] are = tt

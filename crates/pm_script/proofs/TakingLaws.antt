@@ -1,12 +1,12 @@
--- Words that are taken one after the other, and their values read at once.
-use Rattle.std.proofs.Common.{◌≡◌, ℕ, suc, ◌+◌, ◌-◌, ◌<◌, ◌≤◌, true, false, nat_eq, nat_lt, count_by, Bor, List, [], ◌∷◌, length, Option, Some, None, Result, Ok, Err, refl, sym, ap, subst, ◌∙◌, arith, ◌==◌, if◌then◌else◌}
-use Rattle.std.proofs.lemmas.Bool.{eqb-true}
+-- Words that are taken one after the other: they are read as what they spell, and the first wrong one is told.
+use Rattle.std.proofs.Common.{◌≡◌, ◌⊎◌, inl, inr, ℕ, suc, ◌+◌, ◌-◌, ◌<◌, ◌≤◌, true, false, nat_eq, nat_lt, count_by, Bor, List, [], ◌∷◌, length, map, Option, Some, None, Result, Ok, Err, refl, sym, ap, subst, ◌∙◌, arith, ◌==◌, if◌then◌else◌}
 use Rattle.std.proofs.lemmas.Bool.Decides.{nat_tests}
 use Rattle.std.proofs.lemmas.List.Splits.{length-slice_split}
-use Rattle.std.specs.Option.{ok_or, option_map}
+use Rattle.std.specs.Option.{ok_or}
 use Rattle.pm_base.specs.Results.{◌>>=◌}
-use Rattle.pm_types.specs.declared.limits.TheConstants.{REGISTERS}
+use Rattle.pm_base.proofs.Results.{ok_same, err_same}
 use Rattle.pm_types.specs.declared.command.Cmd.{Cmd}
+use Rattle.pm_types.specs.declared.command.Cmd.TheVariants as cmd
 use Rattle.pm_script.specs.declared.fault.Cause.{Cause}
 use Rattle.pm_script.specs.declared.fault.Cause.TheVariants as cause
 use Rattle.pm_script.specs.declared.fault.LineFault.{LineFault}
@@ -16,17 +16,16 @@ use Rattle.pm_script.specs.declared.verb.Verb.TheVariants as verb
 use Rattle.pm_script.specs.declared.verb.First.{First}
 use Rattle.pm_script.specs.declared.verb.First.TheVariants as first
 use Rattle.pm_script.specs.declared.verb.Kind.{Kind}
-use Rattle.pm_script.specs.declared.verb.Kind.TheVariants as kind
-use Rattle.pm_script.specs.declared.value.Value.{Value}
-use Rattle.pm_script.specs.declared.value.Value.TheVariants as value
 use Rattle.pm_script.specs.declared.line.Line.{Line}
 use Rattle.pm_script.specs.declared.line.Line.TheVariants as line
 use Rattle.pm_script.specs.Lines.{parts_in}
-use Rattle.pm_script.specs.Words.{kinds, belongs}
-use Rattle.pm_script.specs.Values.{number_below, number_of, hex_of, name_of, verb_at, value_of, command_of, events_of, line_of}
-use Rattle.pm_script.specs.Reading.{Gives, values_at, counted_at, said_at}
-use Rattle.pm_script.proofs.FirstLaws.{verb_found}
-use Rattle.pm_script.specs.Taking.{taken, Takes, register_at, number_at, bytes_at, name_at, command_at, events_at, asked_at}
+use Rattle.pm_script.specs.Words.{kinds, belongs, Value, kind_of, kind_cause, IsSpelled, AreSpelled}
+use Rattle.pm_script.specs.Script.{command_said, said, first_of}
+use Rattle.pm_script.specs.Bad.{IsOfKind, IsFirstWrong}
+use Rattle.pm_script.specs.Values.{verb_at}
+use Rattle.pm_script.specs.Taking.{taken, command_at, events_at, asked_at}
+use Rattle.pm_script.specs.Reading.{Gives, Takes, counted_at, said_at}
+use Rattle.pm_script.proofs.ValueLaws.{IsReader, registers, numbers, hexes, names}
 
 with_rest : {X : Type 0} (r : Result X LineFault) (o : Option X) (why : Cause) (rest : List (List ℕ)) → Gives r (ok_or o why) → Takes r (ok_or o why >>= λ x. Ok (x, rest)) rest
 with_rest (Ok x) o why rest is = ap (λ (r : Result _ Cause). r >>= λ x. Ok (x, rest)) is
@@ -38,134 +37,198 @@ pub takes : {X : Type 0} (r : Result X LineFault) (read : List ℕ → Option X)
     → words ≡ word ∷ rest → Gives r (ok_or (read word) why) → Takes r (taken read why words) rest
 takes r read why words word rest is given = subst (λ (ws : List (List ℕ)). Takes r (taken read why ws) rest) (sym is) (with_rest r (read word) why rest given)
 
-regroup : {X : Type 0} (rest : Result (List Value) Cause) (v : Value) (f : List Value → Result X Cause) → ((rest >>= λ vs. Ok (v ∷ vs)) >>= f) ≡ (rest >>= λ vs. f (v ∷ vs))
-regroup (Ok vs) v f = refl
-regroup (Err why) v f = refl
+-- the words spell values of the kinds, and what was read says these
+record IsRead {X : Type 0} (ks : List Kind) (words : List (List ℕ)) (read : Result X Cause) (says : X → List Value → Type 0) : Type 0 where
+  made : X
+  values : List Value
+  ok : read ≡ Ok made
+  so : says made values
+  are_kinds : map kind_of values ≡ ks
+  spelled : AreSpelled values words
 
-one_step : {A X : Type 0} (o : Option A) (as_value : A → Value) (why : Cause) (ws : List (List ℕ)) (k : A × List (List ℕ) → Result X Cause) (rest : Result (List Value) Cause) (f : List Value → Result X Cause)
-    → ((x : A) → k (x, ws) ≡ (rest >>= λ vs. f (as_value x ∷ vs)))
-    → ((ok_or o why >>= λ x. Ok (x, ws)) >>= k) ≡ ((ok_or (option_map as_value o) why >>= λ v. rest >>= λ vs. Ok (v ∷ vs)) >>= f)
-one_step None as_value why ws k rest f so = refl
-one_step (Some x) as_value why ws k rest f so = so x ∙ sym (regroup rest (as_value x) f)
+-- one of them is wrong, and the first such is told
+record IsWrong {X : Type 0} (ks : List Kind) (words : List (List ℕ)) (read : Result X Cause) : Type 0 where
+  why : Cause
+  err : read ≡ Err why
+  wrong : IsFirstWrong ks words why
 
--- a register that stands first
-register_first : {X : Type 0} (words : List (List ℕ)) (ks : List Kind) (k : ℕ × List (List ℕ) → Result X Cause) (f : List Value → Result X Cause) → length words ≡ suc (length ks)
-    → ((ws : List (List ℕ)) → length ws ≡ length ks → (x : ℕ) → k (x, ws) ≡ (values_at ks ws >>= λ vs. f (value.Register x ∷ vs)))
-    → (register_at words >>= k) ≡ (values_at (kind.Register ∷ ks) words >>= f)
-unfolding values_at value_of
-register_first [] ks k f long so = absurd (omega (arith, long))
-register_first (word ∷ ws) ks k f long so = one_step (number_below REGISTERS word) (λ x. value.Register x) cause.Number ws k (values_at ks ws) f (so ws (omega (arith, long)))
+abbrev Judged : {X : Type 0} → List Kind → List (List ℕ) → Result X Cause → (X → List Value → Type 0) → Type 0
+Judged ks words read says = IsRead ks words read says ⊎ IsWrong ks words read
 
--- a number
-number_first : {X : Type 0} (words : List (List ℕ)) (ks : List Kind) (k : ℕ × List (List ℕ) → Result X Cause) (f : List Value → Result X Cause) → length words ≡ suc (length ks)
-    → ((ws : List (List ℕ)) → length ws ≡ length ks → (x : ℕ) → k (x, ws) ≡ (values_at ks ws >>= λ vs. f (value.Number x ∷ vs)))
-    → (number_at words >>= k) ≡ (values_at (kind.Number ∷ ks) words >>= f)
-unfolding values_at value_of
-number_first [] ks k f long so = absurd (omega (arith, long))
-number_first (word ∷ ws) ks k f long so = one_step (number_of word) (λ x. value.Number x) cause.Number ws k (values_at ks ws) f (so ws (omega (arith, long)))
+one_more : {X : Type 0} (k : Kind) (ks : List Kind) (v : Value) (word : List ℕ) (ws : List (List ℕ)) (read : Result X Cause) (says : X → List Value → Type 0)
+    → kind_of v ≡ k → IsSpelled v word → Judged ks ws read (λ x vs. says x (v ∷ vs)) → Judged (k ∷ ks) (word ∷ ws) read says
+one_more k ks v word ws read says is spells (inl rest) =
+    inl (record { made = rest.made; values = v ∷ rest.values; ok = rest.ok; so = rest.so; are_kinds = (λ i. is i ∷ rest.are_kinds i); spelled = (spells, rest.spelled) })
+one_more k ks v word ws read says is spells (inr rest) = inr (record { why = rest.why; err = rest.err; wrong = inr (record { value = v; is_kind = is; spelled = spells }, rest.wrong) })
 
--- bytes
-bytes_first : {X : Type 0} (words : List (List ℕ)) (ks : List Kind) (k : List ℕ × List (List ℕ) → Result X Cause) (f : List Value → Result X Cause) → length words ≡ suc (length ks)
-    → ((ws : List (List ℕ)) → length ws ≡ length ks → (x : List ℕ) → k (x, ws) ≡ (values_at ks ws >>= λ vs. f (value.Hex x ∷ vs)))
-    → (bytes_at words >>= k) ≡ (values_at (kind.Hex ∷ ks) words >>= f)
-unfolding values_at value_of
-bytes_first [] ks k f long so = absurd (omega (arith, long))
-bytes_first (word ∷ ws) ks k f long so = one_step (hex_of word) (λ x. value.Hex x) cause.Hex ws k (values_at ks ws) f (so ws (omega (arith, long)))
+never : {A : Type 0} {read : List ℕ → Option A} {as_value : A → Value} {k : Kind} → IsReader read as_value k → (word : List ℕ) → read word ≡ None → IsOfKind k word → ⊥
+never reader word none is =
+    let it = reader.only is.value is.is_kind in
+    let bad : None ≡ Some it.0 = sym none ∙ reader.again it.0 word (subst (λ (v : Value). IsSpelled v word) it.1 is.spelled) in
+    cc bad
 
--- a name
-name_first : {X : Type 0} (words : List (List ℕ)) (ks : List Kind) (k : List ℕ × List (List ℕ) → Result X Cause) (f : List Value → Result X Cause) → length words ≡ suc (length ks)
-    → ((ws : List (List ℕ)) → length ws ≡ length ks → (x : List ℕ) → k (x, ws) ≡ (values_at ks ws >>= λ vs. f (value.Name x ∷ vs)))
-    → (name_at words >>= k) ≡ (values_at (kind.Name ∷ ks) words >>= f)
-unfolding values_at value_of
-name_first [] ks k f long so = absurd (omega (arith, long))
-name_first (word ∷ ws) ks k f long so = one_step (name_of word) (λ x. value.Name x) cause.Name ws k (values_at ks ws) f (so ws (omega (arith, long)))
+next_by : {A X : Type 0} {read : List ℕ → Option A} {as_value : A → Value} {k : Kind} → IsReader read as_value k → (ks : List Kind) (word : List ℕ) (ws : List (List ℕ)) (f : A × List (List ℕ) → Result X Cause) (says : X → List Value → Type 0) (o : Option A) → read word ≡ o
+    → ((x : A) → Judged ks ws (f (x, ws)) (λ y vs. says y (as_value x ∷ vs))) → Judged (k ∷ ks) (word ∷ ws) ((ok_or o (kind_cause k) >>= λ x. Ok (x, ws)) >>= f) says
+next_by {k = k} reader ks word ws f says None is rest = inr (record { why = kind_cause k; err = refl; wrong = inl (refl, never reader word is) })
+next_by {as_value = as_value} {k = k} reader ks word ws f says (Some x) is rest = one_more k ks (as_value x) word ws (f (x, ws)) says (reader.kinds x) (reader.found word x is) (rest x)
 
--- the command of values, and the line of events
-command_made : Verb → List Value → Result Cmd Cause
-command_made v values = ok_or (command_of v values) cause.Count
+-- a word that stands first, and what is read of those after it
+next : {A X : Type 0} {read : List ℕ → Option A} {as_value : A → Value} {k : Kind} → IsReader read as_value k → {ks : List Kind} (words : List (List ℕ)) (f : A × List (List ℕ) → Result X Cause) {says : X → List Value → Type 0} → length words ≡ suc (length ks)
+    → ((x : A) (ws : List (List ℕ)) → length ws ≡ length ks → Judged ks ws (f (x, ws)) (λ y vs. says y (as_value x ∷ vs))) → Judged (k ∷ ks) words (taken read (kind_cause k) words >>= f) says
+next reader [] f long rest = absurd (omega (arith, long))
+next {read = read} reader {ks} (word ∷ ws) f {says} long rest = next_by reader ks word ws f says (read word) refl (λ x. rest x ws (omega (arith, long)))
 
-events_made : Verb → List Value → Result Line Cause
-events_made v values = ok_or (events_of v values) cause.Count
+-- no more words
+done : {X : Type 0} (x : X) (words : List (List ℕ)) (says : X → List Value → Type 0) → length words ≡ 0 → says x [] → Judged [] words (Ok x) says
+done x [] says long so = inl (record { made = x; values = []; ok = refl; so = so; are_kinds = refl; spelled = tt })
+done x (word ∷ words) says long so = absurd (omega (arith, long))
 
 -- where the words are as many as stand after such a verb
-command_asked : (client : ℕ) (v : Verb) (words : List (List ℕ)) → belongs (first.Client client) v ≡ true → length words ≡ length (kinds v) → command_at v words ≡ (values_at (kinds v) words >>= λ vs. ok_or (command_of v vs) cause.Count)
-unfolding command_at command_of values_at command_made
-command_asked client verb.New words may long = register_first words (kind.Number ∷ kind.Hex ∷ []) _ (command_made verb.New) long (λ ws long a. number_first ws (kind.Hex ∷ []) _ (λ vs. command_made verb.New (value.Register a ∷ vs)) long (λ ws long b. bytes_first ws [] _ (λ vs. command_made verb.New (value.Register a ∷ value.Number b ∷ vs)) long (λ ws long c. refl)))
-command_asked client verb.Load words may long = register_first words (kind.Register ∷ kind.Number ∷ []) _ (command_made verb.Load) long (λ ws long a. register_first ws (kind.Number ∷ []) _ (λ vs. command_made verb.Load (value.Register a ∷ vs)) long (λ ws long b. number_first ws [] _ (λ vs. command_made verb.Load (value.Register a ∷ value.Register b ∷ vs)) long (λ ws long c. refl)))
-command_asked client verb.Store words may long = register_first words (kind.Number ∷ kind.Register ∷ []) _ (command_made verb.Store) long (λ ws long a. number_first ws (kind.Register ∷ []) _ (λ vs. command_made verb.Store (value.Register a ∷ vs)) long (λ ws long b. register_first ws [] _ (λ vs. command_made verb.Store (value.Register a ∷ value.Number b ∷ vs)) long (λ ws long c. refl)))
-command_asked client verb.Clear words may long = register_first words (kind.Number ∷ []) _ (command_made verb.Clear) long (λ ws long a. number_first ws [] _ (λ vs. command_made verb.Clear (value.Register a ∷ vs)) long (λ ws long b. refl))
-command_asked client verb.Data words may long = register_first words [] _ (command_made verb.Data) long (λ ws long a. refl)
-command_asked client verb.Put words may long = register_first words (kind.Number ∷ kind.Hex ∷ []) _ (command_made verb.Put) long (λ ws long a. number_first ws (kind.Hex ∷ []) _ (λ vs. command_made verb.Put (value.Register a ∷ vs)) long (λ ws long b. bytes_first ws [] _ (λ vs. command_made verb.Put (value.Register a ∷ value.Number b ∷ vs)) long (λ ws long c. refl)))
-command_asked client verb.Copy words may long = register_first words (kind.Register ∷ []) _ (command_made verb.Copy) long (λ ws long a. register_first ws [] _ (λ vs. command_made verb.Copy (value.Register a ∷ vs)) long (λ ws long b. refl))
-command_asked client verb.Id words may long = register_first words [] _ (command_made verb.Id) long (λ ws long a. refl)
-command_asked client verb.Drop words may long = register_first words [] _ (command_made verb.Drop) long (λ ws long a. refl)
-command_asked client verb.Root words may long = name_first words (kind.Register ∷ []) _ (command_made verb.Root) long (λ ws long a. register_first ws [] _ (λ vs. command_made verb.Root (value.Name a ∷ vs)) long (λ ws long b. refl))
-command_asked client verb.Unroot words may long = name_first words [] _ (command_made verb.Unroot) long (λ ws long a. refl)
-command_asked client verb.Find words may long = register_first words (kind.Name ∷ []) _ (command_made verb.Find) long (λ ws long a. name_first ws [] _ (λ vs. command_made verb.Find (value.Register a ∷ vs)) long (λ ws long b. refl))
-command_asked client verb.Save words may long = refl
-command_asked client verb.Settle words may long = refl
-command_asked client verb.Watch words may long = refl
-command_asked client verb.Close words may long = refl
-command_asked client verb.Swap words may long = register_first words (kind.Number ∷ kind.Register ∷ kind.Register ∷ []) _ (command_made verb.Swap) long (λ ws long a. number_first ws (kind.Register ∷ kind.Register ∷ []) _ (λ vs. command_made verb.Swap (value.Register a ∷ vs)) long (λ ws long b. register_first ws (kind.Register ∷ []) _ (λ vs. command_made verb.Swap (value.Register a ∷ value.Number b ∷ vs)) long (λ ws long c. register_first ws [] _ (λ vs. command_made verb.Swap (value.Register a ∷ value.Number b ∷ value.Register c ∷ vs)) long (λ ws long d. refl))))
-command_asked client verb.Unsave words may long = refl
-command_asked client verb.Gc words may long = absurd cc
-command_asked client verb.Flush words may long = absurd cc
+command_judged : (client : ℕ) (v : Verb) (words : List (List ℕ)) → belongs (first.Client client) v ≡ true → length words ≡ length (kinds v) → Judged (kinds v) words (command_at v words) (λ cmd vs. command_said cmd ≡ (v, vs))
+unfolding command_at
+command_judged client verb.New words may long = next registers words _ long (λ a ws long. next numbers ws _ long (λ b ws long. next hexes ws _ long (λ c ws long. done (cmd.New a b c) ws _ long refl)))
+command_judged client verb.Load words may long = next registers words _ long (λ a ws long. next registers ws _ long (λ b ws long. next numbers ws _ long (λ c ws long. done (cmd.Load a b c) ws _ long refl)))
+command_judged client verb.Store words may long = next registers words _ long (λ a ws long. next numbers ws _ long (λ b ws long. next registers ws _ long (λ c ws long. done (cmd.Store a b c) ws _ long refl)))
+command_judged client verb.Clear words may long = next registers words _ long (λ a ws long. next numbers ws _ long (λ b ws long. done (cmd.Clear a b) ws _ long refl))
+command_judged client verb.Data words may long = next registers words _ long (λ a ws long. done (cmd.Show a) ws _ long refl)
+command_judged client verb.Put words may long = next registers words _ long (λ a ws long. next numbers ws _ long (λ b ws long. next hexes ws _ long (λ c ws long. done (cmd.Put a b c) ws _ long refl)))
+command_judged client verb.Copy words may long = next registers words _ long (λ a ws long. next registers ws _ long (λ b ws long. done (cmd.Copy a b) ws _ long refl))
+command_judged client verb.Id words may long = next registers words _ long (λ a ws long. done (cmd.IdOf a) ws _ long refl)
+command_judged client verb.Drop words may long = next registers words _ long (λ a ws long. done (cmd.Forget a) ws _ long refl)
+command_judged client verb.Root words may long = next names words _ long (λ a ws long. next registers ws _ long (λ b ws long. done (cmd.Bind a b) ws _ long refl))
+command_judged client verb.Unroot words may long = next names words _ long (λ a ws long. done (cmd.Unbind a) ws _ long refl)
+command_judged client verb.Find words may long = next registers words _ long (λ a ws long. next names ws _ long (λ b ws long. done (cmd.Find a b) ws _ long refl))
+command_judged client verb.Save words may long = done cmd.Save words _ long refl
+command_judged client verb.Settle words may long = done cmd.Settle words _ long refl
+command_judged client verb.Watch words may long = done cmd.Watch words _ long refl
+command_judged client verb.Close words may long = done cmd.Close words _ long refl
+command_judged client verb.Swap words may long = next registers words _ long (λ a ws long. next numbers ws _ long (λ b ws long. next registers ws _ long (λ c ws long. next registers ws _ long (λ d ws long. done (cmd.Swap a b c d) ws _ long refl))))
+command_judged client verb.Unsave words may long = done cmd.Unsave words _ long refl
+command_judged client verb.Gc words may long = absurd cc
+command_judged client verb.Flush words may long = absurd cc
 
-events_asked : (v : Verb) (words : List (List ℕ)) → belongs first.Bang v ≡ true → length words ≡ length (kinds v) → events_at v words ≡ (values_at (kinds v) words >>= λ vs. ok_or (events_of v vs) cause.Count)
-unfolding events_at events_of values_at events_made
-events_asked verb.Gc words may long = number_first words [] _ (events_made verb.Gc) long (λ ws long a. refl)
-events_asked verb.Flush words may long = number_first words [] _ (events_made verb.Flush) long (λ ws long a. refl)
-events_asked verb.New words may long = absurd cc
-events_asked verb.Load words may long = absurd cc
-events_asked verb.Store words may long = absurd cc
-events_asked verb.Clear words may long = absurd cc
-events_asked verb.Data words may long = absurd cc
-events_asked verb.Put words may long = absurd cc
-events_asked verb.Copy words may long = absurd cc
-events_asked verb.Id words may long = absurd cc
-events_asked verb.Drop words may long = absurd cc
-events_asked verb.Root words may long = absurd cc
-events_asked verb.Unroot words may long = absurd cc
-events_asked verb.Find words may long = absurd cc
-events_asked verb.Save words may long = absurd cc
-events_asked verb.Settle words may long = absurd cc
-events_asked verb.Watch words may long = absurd cc
-events_asked verb.Close words may long = absurd cc
-events_asked verb.Swap words may long = absurd cc
-events_asked verb.Unsave words may long = absurd cc
+-- the line is said by this first word, this verb and these values
+pub record Says (f : First) (v : Verb) (line : Line) (values : List Value) : Type 0 where
+  pub first : first_of line ≡ f
+  pub said : said line ≡ (v, values)
 
-as_line : {A B : Type 0} (o : Option A) (f : A → B) (why : Cause) → (ok_or o why >>= λ x. Ok (f x)) ≡ ok_or (option_map f o) why
-as_line None f why = refl
-as_line (Some x) f why = refl
+as_line : (client : ℕ) (v : Verb) (ks : List Kind) (words : List (List ℕ)) (read : Result Cmd Cause) → Judged ks words read (λ cmd vs. command_said cmd ≡ (v, vs)) → Judged ks words (read >>= λ cmd. Ok (line.Client client cmd)) (Says (first.Client client) v)
+as_line client v ks words read (inl is) =
+    inl (record {
+      made = line.Client client is.made;
+      values = is.values;
+      ok = ap (λ (r : Result Cmd Cause). r >>= λ cmd. Ok (line.Client client cmd)) is.ok;
+      so = record { first = refl; said = is.so };
+      are_kinds = is.are_kinds;
+      spelled = is.spelled;
+    })
+as_line client v ks words read (inr is) = inr (record { why = is.why; err = ap (λ (r : Result Cmd Cause). r >>= λ cmd. Ok (line.Client client cmd)) is.err; wrong = is.wrong })
 
-made_line : {A B : Type 0} (r : Result (List Value) Cause) (made : List Value → Option A) (f : A → B) (why : Cause) → ((r >>= λ vs. ok_or (made vs) why) >>= λ x. Ok (f x)) ≡ (r >>= λ vs. ok_or (option_map f (made vs)) why)
-made_line (Ok vs) made f why = as_line (made vs) f why
-made_line (Err e) made f why = refl
+asked_judged : (f : First) (v : Verb) (words : List (List ℕ)) → belongs f v ≡ true → length words ≡ length (kinds v) → Judged (kinds v) words (asked_at f v words) (Says f v)
+unfolding asked_at events_at
+asked_judged (first.Client client) v words may long = as_line client v (kinds v) words (command_at v words) (command_judged client v words may long)
+asked_judged first.Bang verb.Gc words may long = next numbers words _ long (λ a ws long. done (line.Gc a) ws _ long (record { first = refl; said = refl }))
+asked_judged first.Bang verb.Flush words may long = next numbers words _ long (λ a ws long. done (line.Flush a) ws _ long (record { first = refl; said = refl }))
+asked_judged first.Bang v words may long = absurd cc
 
--- the line that the words ask is the one of their values
-pub asked_by_values : (f : First) (v : Verb) (words : List (List ℕ)) → belongs f v ≡ true → length words ≡ length (kinds v) → asked_at f v words ≡ (values_at (kinds v) words >>= λ vs. ok_or (line_of f v vs) cause.Count)
-unfolding asked_at line_of
-asked_by_values (first.Client client) v words may long =
-    ap (λ (r : Result Cmd Cause). r >>= λ cmd. Ok (line.Client client cmd)) (command_asked client v words may long)
-    ∙ made_line (values_at (kinds v) words) (command_of v) (λ cmd. line.Client client cmd) cause.Count
-asked_by_values first.Bang v words may long = events_asked v words may long
+none_wrong : (values : List Value) (words : List (List ℕ)) (c : Cause) → AreSpelled values words → IsFirstWrong (map kind_of values) words c → ⊥
+none_wrong [] words c are wrong = wrong
+none_wrong (v ∷ values) [] c are wrong = wrong
+none_wrong (v ∷ values) (word ∷ words) c are (inl (is, none)) = none (record { value = v; is_kind = refl; spelled = are.0 })
+none_wrong (v ∷ values) (word ∷ words) c are (inr (one, later)) = none_wrong values words c are.1 later
+
+one_wrong : (ks : List Kind) (words : List (List ℕ)) (c d : Cause) → IsFirstWrong ks words c → IsFirstWrong ks words d → c ≡ d
+one_wrong [] words c d is other = absurd is
+one_wrong (k ∷ ks) [] c d is other = absurd is
+one_wrong (k ∷ ks) (word ∷ words) c d (inl (is, none)) (inl (other, not)) = sym is ∙ other
+one_wrong (k ∷ ks) (word ∷ words) c d (inl (is, none)) (inr (one, later)) = absurd (none one)
+one_wrong (k ∷ ks) (word ∷ words) c d (inr (one, later)) (inl (other, not)) = absurd (not one)
+one_wrong (k ∷ ks) (word ∷ words) c d (inr (one, later)) (inr (two, last)) = one_wrong ks words c d later last
+
+-- what is read of the words that say a line
+pub record IsTold (f : First) (v : Verb) (words : List (List ℕ)) (line : Line) : Type 0 where
+  pub values : List Value
+  pub says : Says f v line values
+  pub spelled : AreSpelled values words
+
+told_by : (f : First) (v : Verb) (words : List (List ℕ)) (line : Line) → Judged (kinds v) words (asked_at f v words) (Says f v) → asked_at f v words ≡ Ok line → IsTold f v words line
+told_by f v words line (inl it) is = let same : it.made ≡ line = ok_same _ _ (sym it.ok ∙ is) in record { values = it.values; says = subst (λ (l : Line). Says f v l it.values) same it.so; spelled = it.spelled }
+told_by f v words line (inr it) is = absurd (let bad : ◌≡◌ {A = Result Line Cause} (Err it.why) (Ok line) = sym it.err ∙ is in cc bad)
+
+-- words that are read as a line spell it
+pub told_found : (f : First) (v : Verb) (words : List (List ℕ)) (line : Line) → belongs f v ≡ true → length words ≡ length (kinds v) → asked_at f v words ≡ Ok line → IsTold f v words line
+told_found f v words line may long is = told_by f v words line (asked_judged f v words may long) is
+
+wrong_by : (f : First) (v : Verb) (words : List (List ℕ)) (c : Cause) → Judged (kinds v) words (asked_at f v words) (Says f v) → asked_at f v words ≡ Err c → IsFirstWrong (kinds v) words c
+wrong_by f v words c (inl it) is = absurd (let bad : ◌≡◌ {A = Result Line Cause} (Ok it.made) (Err c) = sym it.ok ∙ is in cc bad)
+wrong_by f v words c (inr it) is = let same : it.why ≡ c = err_same {A = Line} _ _ (sym it.err ∙ is) in subst (λ (c : Cause). IsFirstWrong (kinds v) words c) same it.wrong
+
+-- the cause that is told is that of the first wrong word
+pub wrong_found : (f : First) (v : Verb) (words : List (List ℕ)) (c : Cause) → belongs f v ≡ true → length words ≡ length (kinds v) → asked_at f v words ≡ Err c → IsFirstWrong (kinds v) words c
+wrong_found f v words c may long is = wrong_by f v words c (asked_judged f v words may long) is
+
+again_by : (f : First) (v : Verb) (words : List (List ℕ)) (c : Cause) → Judged (kinds v) words (asked_at f v words) (Says f v) → IsFirstWrong (kinds v) words c → asked_at f v words ≡ Err c
+again_by f v words c (inl it) wrong = absurd (none_wrong it.values words c it.spelled (subst (λ (ks : List Kind). IsFirstWrong ks words c) (sym it.are_kinds) wrong))
+again_by f v words c (inr it) wrong = it.err ∙ ap Err (one_wrong (kinds v) words it.why c it.wrong wrong)
+
+-- and that of the first wrong word is told
+pub wrong_again : (f : First) (v : Verb) (words : List (List ℕ)) (c : Cause) → belongs f v ≡ true → length words ≡ length (kinds v) → IsFirstWrong (kinds v) words c → asked_at f v words ≡ Err c
+wrong_again f v words c may long wrong = again_by f v words c (asked_judged f v words may long) wrong
+
+-- the words spell these values
+record Spell (values : List Value) (words : List (List ℕ)) : Type 0 where
+  each : AreSpelled values words
+
+-- a value that stands first, and the words after it
+again : {A X : Type 0} {read : List ℕ → Option A} {as_value : A → Value} {k : Kind} → IsReader read as_value k → (a : A) {vs : List Value} (words : List (List ℕ)) (f : A × List (List ℕ) → Result X Cause) {x : X} → Spell (as_value a ∷ vs) words
+    → ((ws : List (List ℕ)) → Spell vs ws → f (a, ws) ≡ Ok x) → (taken read (kind_cause k) words >>= f) ≡ Ok x
+again reader a [] f are rest = absurd are.each
+again {k = k} reader a (word ∷ ws) f are rest = ap (λ o. (ok_or o (kind_cause k) >>= λ x. Ok (x, ws)) >>= f) (reader.again a word are.each.0) ∙ rest ws (record { each = are.each.1 })
+
+command_again : (command : Cmd) (words : List (List ℕ)) → Spell (command_said command).1 words → command_at (command_said command).0 words ≡ Ok command
+unfolding command_at
+command_again (cmd.New a b c) words are = again registers a words _ are (λ ws are. again numbers b ws _ are (λ ws are. again hexes c ws _ are (λ ws are. refl)))
+command_again (cmd.Load a b c) words are = again registers a words _ are (λ ws are. again registers b ws _ are (λ ws are. again numbers c ws _ are (λ ws are. refl)))
+command_again (cmd.Store a b c) words are = again registers a words _ are (λ ws are. again numbers b ws _ are (λ ws are. again registers c ws _ are (λ ws are. refl)))
+command_again (cmd.Clear a b) words are = again registers a words _ are (λ ws are. again numbers b ws _ are (λ ws are. refl))
+command_again (cmd.Show a) words are = again registers a words _ are (λ ws are. refl)
+command_again (cmd.Put a b c) words are = again registers a words _ are (λ ws are. again numbers b ws _ are (λ ws are. again hexes c ws _ are (λ ws are. refl)))
+command_again (cmd.Copy a b) words are = again registers a words _ are (λ ws are. again registers b ws _ are (λ ws are. refl))
+command_again (cmd.IdOf a) words are = again registers a words _ are (λ ws are. refl)
+command_again (cmd.Forget a) words are = again registers a words _ are (λ ws are. refl)
+command_again (cmd.Bind a b) words are = again names a words _ are (λ ws are. again registers b ws _ are (λ ws are. refl))
+command_again (cmd.Unbind a) words are = again names a words _ are (λ ws are. refl)
+command_again (cmd.Find a b) words are = again registers a words _ are (λ ws are. again names b ws _ are (λ ws are. refl))
+command_again cmd.Save words are = refl
+command_again cmd.Settle words are = refl
+command_again cmd.Watch words are = refl
+command_again cmd.Close words are = refl
+command_again (cmd.Swap a b c d) words are = again registers a words _ are (λ ws are. again numbers b ws _ are (λ ws are. again registers c ws _ are (λ ws are. again registers d ws _ are (λ ws are. refl))))
+command_again cmd.Unsave words are = refl
+
+line_again : (l : Line) (words : List (List ℕ)) → Spell (said l).1 words → asked_at (first_of l) (said l).0 words ≡ Ok l
+unfolding asked_at events_at
+line_again (line.Client client command) words are = ap (λ (r : Result Cmd Cause). r >>= λ cmd. Ok (line.Client client cmd)) (command_again command words are)
+line_again (line.Gc count) words are = again numbers count words _ are (λ ws are. refl)
+line_again (line.Flush count) words are = again numbers count words _ are (λ ws are. refl)
+
+-- words that spell a line's values are read as the line
+pub told_again : (l : Line) (words : List (List ℕ)) → AreSpelled (said l).1 words → asked_at (first_of l) (said l).0 words ≡ Ok l
+told_again l words are = line_again l words (record { each = are })
+
+named : (f : First) (v : Verb) (words : List (List ℕ)) (word : List ℕ) (rest : List (List ℕ)) → words ≡ word ∷ rest → verb_at f word ≡ Some v → said_at f words ≡ counted_at f v rest
+unfolding said_at
+named f v words word rest is names = ap (said_at f) is ∙ ap (λ (o : Option Verb). ok_or o cause.Word >>= λ v. counted_at f v rest) names
 
 -- the words after the first, where the second names what is asked
 pub asked_so : (f : First) (v : Verb) (words : List (List ℕ)) (word : List ℕ) (rest : List (List ℕ)) → words ≡ word ∷ rest → verb_at f word ≡ Some v → (length rest == length (kinds v)) ≡ true → asked_at f v rest ≡ said_at f words
-unfolding said_at counted_at
-asked_so f v words word rest is names long =
-    let counted : counted_at (kinds v) rest ≡ values_at (kinds v) rest = ap (λ b. if b then values_at (kinds v) rest else Err cause.Count) long in
-    asked_by_values f v rest (verb_found f word v names).1 (eqb-true _ _ long)
-    ∙ sym (ap (said_at f) is ∙ ap (λ (o : Option Verb). ok_or o cause.Word >>= λ v. counted_at (kinds v) rest >>= λ values. ok_or (line_of f v values) cause.Count) names
-    ∙ ap (λ (r : Result (List Value) Cause). r >>= λ values. ok_or (line_of f v values) cause.Count) counted)
+unfolding counted_at
+asked_so f v words word rest is names long = sym (named f v words word rest is names ∙ ap (λ b. if b then asked_at f v rest else Err cause.Count) long)
 
 -- where the words are fewer or more than stand after such a verb
 pub miscounted : (f : First) (v : Verb) (words : List (List ℕ)) (word : List ℕ) (rest : List (List ℕ)) → words ≡ word ∷ rest → verb_at f word ≡ Some v → (length rest == length (kinds v)) ≡ false → said_at f words ≡ Err cause.Count
-unfolding said_at counted_at
-miscounted f v words word rest is names other =
-    let counted : counted_at (kinds v) rest ≡ Err cause.Count = ap (λ b. if b then values_at (kinds v) rest else Err cause.Count) other in
-    ap (said_at f) is ∙ ap (λ (o : Option Verb). ok_or o cause.Word >>= λ v. counted_at (kinds v) rest >>= λ values. ok_or (line_of f v values) cause.Count) names
-    ∙ ap (λ (r : Result (List Value) Cause). r >>= λ values. ok_or (line_of f v values) cause.Count) counted
+unfolding counted_at
+miscounted f v words word rest is names other = named f v words word rest is names ∙ ap (λ b. if b then asked_at f v rest else Err cause.Count) other
 
 one_less : (n count m : ℕ) → 0 < count → m ≡ n + 1 → nat_eq n (count - 1) ≡ (m == count)
 one_less n count m some is = grind (arith, nat_tests)

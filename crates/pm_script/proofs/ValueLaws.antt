@@ -1,18 +1,15 @@
 -- What a word stands for is what spells it.
 use Rattle.std.proofs.Common.{◌≡◌, ℕ, ◌<◌, ◌^◌, Bool, true, ◌&&◌, List, [], ◌∷◌, length, Option, Some, None, refl, ap, sym, subst, ◌∙◌, arith, nat_lt, nat_le, decimal, IsTrue, if◌then◌else◌}
 use Rattle.std.proofs.lemmas.Bool.{ltb-true, leb-true, lt-ltb}
-use Rattle.std.specs.Option.{option_map}
 use Rattle.std.specs.List.{AllByRecursion, list_all}
 use Rattle.pm_base.specs.Options.{◌>>=◌}
 use Rattle.pm_types.specs.Names.{is_name_byte, IsName}
 use Rattle.pm_script.specs.declared.verb.Kind.{Kind}
 use Rattle.pm_script.specs.declared.verb.Kind.TheVariants as kind
-use Rattle.pm_script.specs.declared.value.Value.{Value}
-use Rattle.pm_script.specs.declared.value.Value.TheVariants as value
-use Rattle.pm_script.specs.Words.{kind_of, IsSpelled}
-use Rattle.pm_script.specs.Values.{number_of, number_below, is_name, name_of, hex_of, value_of}
+use Rattle.pm_script.specs.Words.{Value, Register, Number, Hex, Name, kind_of, IsSpelled}
+use Rattle.pm_script.specs.Values.{number_of, number_below, is_name, name_of, hex_of}
 use Rattle.pm_script.proofs.Both.{first_true, second_true}
-use Rattle.pm_script.proofs.Steps.{both, mapped, guarded, passed}
+use Rattle.pm_script.proofs.Steps.{both, guarded, passed}
 use Rattle.pm_script.proofs.Hexes.{hex_spelled, hex_read}
 use Rattle.pm_script.proofs.Numerals.{numeral_spelled, number_of_decimal}
 use Rattle.pm_script.proofs.NameTests.{name_passes}
@@ -51,27 +48,42 @@ is_name_found word is =
 name_found : (word name : List ℕ) → name_of word ≡ Some name → IsName name × (word ≡ name)
 name_found word name is = let here = guarded (is_name word) word name is in (subst IsName here.1 (is_name_found word here.0), here.1)
 
--- a word that stands for a value of a kind spells it
-pub value_found : (kind : Kind) (word : List ℕ) (v : Value) → value_of kind word ≡ Some v → (kind_of v ≡ kind) × IsSpelled v word
-unfolding value_of
-value_found kind.Register word v is =
-    let it = mapped (λ register. value.Register register) (number_below 1024 word) v is in
-    subst (λ (v : Value). (kind_of v ≡ kind.Register) × IsSpelled v word) it.2 (refl, below_found 1024 word it.0 it.1)
-value_found kind.Number word v is =
-    let it = mapped (λ number. value.Number number) (number_of word) v is in
-    subst (λ (v : Value). (kind_of v ≡ kind.Number) × IsSpelled v word) it.2 (refl, number_found word it.0 it.1)
-value_found kind.Hex word v is =
-    let it = mapped (λ bytes. value.Hex bytes) (hex_of word) v is in
-    subst (λ (v : Value). (kind_of v ≡ kind.Hex) × IsSpelled v word) it.2 (refl, hex_spelled word it.0 it.1)
-value_found kind.Name word v is =
-    let it = mapped (λ name. value.Name name) (name_of word) v is in
-    subst (λ (v : Value). (kind_of v ≡ kind.Name) × IsSpelled v word) it.2 (refl, name_found word it.0 it.1)
+-- what reads the words of a kind: it gives the value that a word spells, and nothing where it spells none
+pub record IsReader {A : Type 0} (read : List ℕ → Option A) (as_value : A → Value) (kind : Kind) : Type 0 where
+  pub kinds : (x : A) → kind_of (as_value x) ≡ kind
+  pub only : (v : Value) → kind_of v ≡ kind → (x : A) × (v ≡ as_value x)
+  pub found : (word : List ℕ) (x : A) → read word ≡ Some x → IsSpelled (as_value x) word
+  pub again : (x : A) (word : List ℕ) → IsSpelled (as_value x) word → read word ≡ Some x
 
--- a word that spells a value stands for it
-pub value_again : (v : Value) (word : List ℕ) → IsSpelled v word → value_of (kind_of v) word ≡ Some v
-unfolding value_of
-value_again (value.Register register) word has = ap (λ w. option_map (λ register. value.Register register) (number_below 1024 w)) has.1 ∙ ap (option_map (λ register. value.Register register)) (below_again 1024 register (omega arith) has.0)
-value_again (value.Number number) word has = ap (λ w. option_map (λ number. value.Number number) (number_of w)) has.1 ∙ ap (option_map (λ number. value.Number number)) (number_of_decimal number has.0)
-value_again (value.Hex bytes) word has = ap (option_map (λ bytes. value.Hex bytes)) (hex_read word bytes has)
-value_again (value.Name name) word has =
-    ap (λ w. option_map (λ name. value.Name name) (name_of w)) has.1 ∙ ap (option_map (λ name. value.Name name)) (passed (is_name name) name (name_passes name has.0))
+register_only : (v : Value) → kind_of v ≡ kind.Register → (register : ℕ) × (v ≡ Register register)
+register_only (Register register) is = (register, refl)
+register_only v is = absurd cc
+
+number_only : (v : Value) → kind_of v ≡ kind.Number → (number : ℕ) × (v ≡ Number number)
+number_only (Number number) is = (number, refl)
+number_only v is = absurd cc
+
+hex_only : (v : Value) → kind_of v ≡ kind.Hex → (bytes : List ℕ) × (v ≡ Hex bytes)
+hex_only (Hex bytes) is = (bytes, refl)
+hex_only v is = absurd cc
+
+name_only : (v : Value) → kind_of v ≡ kind.Name → (name : List ℕ) × (v ≡ Name name)
+name_only (Name name) is = (name, refl)
+name_only v is = absurd cc
+
+pub registers : IsReader (number_below 1024) (λ register. Register register) kind.Register
+registers = record {
+  kinds = λ register. refl;
+  only = register_only;
+  found = below_found 1024;
+  again = λ register word has. ap (number_below 1024) has.1 ∙ below_again 1024 register (omega arith) has.0;
+}
+
+pub numbers : IsReader number_of (λ number. Number number) kind.Number
+numbers = record { kinds = λ number. refl; only = number_only; found = number_found; again = λ number word has. ap number_of has.1 ∙ number_of_decimal number has.0 }
+
+pub hexes : IsReader hex_of (λ bytes. Hex bytes) kind.Hex
+hexes = record { kinds = λ bytes. refl; only = hex_only; found = hex_spelled; again = λ bytes word has. hex_read word bytes has }
+
+pub names : IsReader name_of (λ name. Name name) kind.Name
+names = record { kinds = λ name. refl; only = name_only; found = name_found; again = λ name word has. ap name_of has.1 ∙ passed (is_name name) name (name_passes name has.0) }

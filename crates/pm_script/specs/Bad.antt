@@ -9,10 +9,9 @@ use Rattle.pm_script.specs.declared.fault.ScriptFault.TheVariants as fault
 use Rattle.pm_script.specs.declared.verb.Verb.{Verb}
 use Rattle.pm_script.specs.declared.verb.Kind.{Kind}
 use Rattle.pm_script.specs.declared.verb.First.{First}
-use Rattle.pm_script.specs.declared.value.Value.{Value}
 use Rattle.pm_script.specs.declared.line.Line.{Line}
 use Rattle.pm_script.specs.Lines.{lines_of, is_silent, spoken, words_of}
-use Rattle.pm_script.specs.Words.{word_of, kinds, belongs, first_word, IsFirst, kind_of, kind_cause, IsSpelled}
+use Rattle.pm_script.specs.Words.{word_of, kinds, belongs, first_word, IsFirst, Value, kind_of, kind_cause, IsSpelled}
 use Rattle.pm_script.specs.Script.{AreBodies}
 
 -- the first word is neither a client nor an exclamation mark

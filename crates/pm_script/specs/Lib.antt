@@ -3,7 +3,7 @@ pub mod Words
 pub mod Lines
 pub mod Script
 pub mod Values
+pub mod Taking
 pub mod Reading
 pub mod Bad
 pub mod Texts
-pub mod Taking

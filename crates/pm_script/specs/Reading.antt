@@ -10,13 +10,13 @@ use Rattle.pm_script.specs.declared.fault.LineFault.{LineFault}
 use Rattle.pm_script.specs.declared.fault.LineFault.TheVariants as line_fault
 use Rattle.pm_script.specs.declared.fault.ScriptFault.{ScriptFault}
 use Rattle.pm_script.specs.declared.fault.ScriptFault.TheVariants as script_fault
-use Rattle.pm_script.specs.declared.verb.Kind.{Kind}
+use Rattle.pm_script.specs.declared.verb.Verb.{Verb}
 use Rattle.pm_script.specs.declared.verb.First.{First}
-use Rattle.pm_script.specs.declared.value.Value.{Value}
 use Rattle.pm_script.specs.declared.line.Line.{Line}
 use Rattle.pm_script.specs.Lines.{lines_of, is_silent, words_of}
-use Rattle.pm_script.specs.Words.{kinds, kind_cause}
-use Rattle.pm_script.specs.Values.{first_at, verb_at, value_of, line_of}
+use Rattle.pm_script.specs.Words.{kinds}
+use Rattle.pm_script.specs.Values.{first_at, verb_at}
+use Rattle.pm_script.specs.Taking.{asked_at}
 
 -- a fault of a line is what reading gives; want of memory may come at any time
 abbrev pub Fails : {X : Type 0} → LineFault → Result X Cause → Type 0
@@ -31,6 +31,11 @@ Gives (Err fault) read = Fails fault read
 -- the same of a reader of one word, which is not of its kind for this cause
 abbrev pub Finds : {X : Type 0} → Result X LineFault → Cause → Option X → Type 0
 Finds result cause found = Gives result (ok_or found cause)
+
+-- what a reader took from the front, and the words that it left, unless memory ran out
+abbrev pub Takes : {X : Type 0} → Result X LineFault → Result (X × List (List ℕ)) Cause → List (List ℕ) → Type 0
+Takes (Ok x) read left = read ≡ Ok (x, left)
+Takes (Err fault) read left = Fails fault read
 
 -- a fault of a script is what reading gives; want of memory may come at any time
 abbrev pub Stops : {X : Type 0} → ScriptFault → Result X ScriptFault → Type 0
@@ -47,26 +52,16 @@ abbrev pub Tells : {X Y : Type 0} → (X → Y) → Result X ScriptFault → Res
 Tells view (Ok x) read = read ≡ Ok (view x)
 Tells view (Err fault) read = Stops fault read
 
--- the values of the words, from left to right
-unfoldable pub values_at : List Kind → List (List ℕ) → Result (List Value) Cause
-values_at [] words = Ok []
-values_at (kind ∷ kinds) [] = Ok []
-values_at (kind ∷ kinds) (word ∷ words) = do
-  value ← ok_or (value_of kind word) (kind_cause kind)
-  values ← values_at kinds words
-  Ok (value ∷ values)
-
--- their number is looked at before the words
-unfoldable pub counted_at : List Kind → List (List ℕ) → Result (List Value) Cause
-counted_at kinds words = if length words == length kinds then values_at kinds words else Err cause.Count
+-- the words after the one that names what is asked: their number is looked at before them
+unfoldable pub counted_at : First → Verb → List (List ℕ) → Result Line Cause
+counted_at first verb words = if length words == length (kinds verb) then asked_at first verb words else Err cause.Count
 
 -- the words after the first
 unfoldable pub said_at : First → List (List ℕ) → Result Line Cause
 said_at first [] = Err cause.Word
 said_at first (word ∷ words) = do
   verb ← ok_or (verb_at first word) cause.Word
-  values ← counted_at (kinds verb) words
-  ok_or (line_of first verb values) cause.Count
+  counted_at first verb words
 
 -- all words
 unfoldable pub first_said_at : List (List ℕ) → Result Line Cause

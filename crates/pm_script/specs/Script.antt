@@ -9,12 +9,10 @@ use Rattle.pm_script.specs.declared.verb.Verb.{Verb}
 use Rattle.pm_script.specs.declared.verb.Verb.TheVariants as verb
 use Rattle.pm_script.specs.declared.verb.First.{First}
 use Rattle.pm_script.specs.declared.verb.First.TheVariants as first
-use Rattle.pm_script.specs.declared.value.Value.{Value}
-use Rattle.pm_script.specs.declared.value.Value.TheVariants.{Register, Number, Hex, Name}
 use Rattle.pm_script.specs.declared.line.Line.{Line}
 use Rattle.pm_script.specs.declared.line.Line.TheVariants as line
 use Rattle.pm_script.specs.Lines.{lines_of, spoken, ended}
-use Rattle.pm_script.specs.Words.{word_of, first_word, IsFirst, AreSpelled, IsValue, value_word}
+use Rattle.pm_script.specs.Words.{word_of, first_word, IsFirst, Value, Register, Number, Hex, Name, AreSpelled, IsValue, value_word}
 
 -- how a command is said: what names it, and the values after that
 abbrev pub command_said : Cmd → Verb × List Value

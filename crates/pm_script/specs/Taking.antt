@@ -1,5 +1,5 @@
 -- Reading of words from the front: each step gives what its word stands for and the words after it, or the cause why the line is bad.
-use Rattle.std.specs.Prelude.{◌≡◌, ℕ, List, [], ◌∷◌, Option, Result, Ok, Err}
+use Rattle.std.specs.Prelude.{ℕ, List, [], ◌∷◌, Option, Result, Ok, Err}
 use Rattle.std.specs.Option.{ok_or}
 use Rattle.pm_base.specs.Results.{◌>>=◌}
 use Rattle.pm_types.specs.declared.limits.TheConstants.{REGISTERS}
@@ -7,14 +7,12 @@ use Rattle.pm_types.specs.declared.command.Cmd.{Cmd}
 use Rattle.pm_types.specs.declared.command.Cmd.TheVariants as cmd
 use Rattle.pm_script.specs.declared.fault.Cause.{Cause}
 use Rattle.pm_script.specs.declared.fault.Cause.TheVariants as cause
-use Rattle.pm_script.specs.declared.fault.LineFault.{LineFault}
 use Rattle.pm_script.specs.declared.verb.Verb.{Verb}
 use Rattle.pm_script.specs.declared.verb.Verb.TheVariants as verb
 use Rattle.pm_script.specs.declared.verb.First.{First}
 use Rattle.pm_script.specs.declared.verb.First.TheVariants as first
 use Rattle.pm_script.specs.declared.line.Line.{Line}
 use Rattle.pm_script.specs.declared.line.Line.TheVariants as line
-use Rattle.pm_script.specs.Reading.{Fails}
 use Rattle.pm_script.specs.Values.{number_below, number_of, hex_of, name_of}
 
 -- the first word, read so, and the words after it
@@ -33,11 +31,6 @@ bytes_at words = taken hex_of cause.Hex words
 
 abbrev pub name_at : List (List ℕ) → Result (List ℕ × List (List ℕ)) Cause
 name_at words = taken name_of cause.Name words
-
--- what a reader took from the front, and the words that it left, unless memory ran out
-abbrev pub Takes : {X : Type 0} → Result X LineFault → Result (X × List (List ℕ)) Cause → List (List ℕ) → Type 0
-Takes (Ok x) read left = read ≡ Ok (x, left)
-Takes (Err fault) read left = Fails fault read
 
 -- the command that a client asks so
 unfoldable pub command_at : Verb → List (List ℕ) → Result Cmd Cause

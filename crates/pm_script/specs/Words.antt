@@ -12,8 +12,6 @@ use Rattle.pm_script.specs.declared.verb.Kind.{Kind}
 use Rattle.pm_script.specs.declared.verb.Kind.TheVariants as kind
 use Rattle.pm_script.specs.declared.verb.First.{First}
 use Rattle.pm_script.specs.declared.verb.First.TheVariants as first
-use Rattle.pm_script.specs.declared.value.Value.{Value}
-use Rattle.pm_script.specs.declared.value.Value.TheVariants as value
 use Rattle.pm_script.specs.HexDigits.{ArePairsOf}
 
 -- the word that names what is asked
@@ -89,12 +87,19 @@ abbrev pub IsFirst : First → Type 0
 IsFirst (first.Client client) = client < CLIENTS
 IsFirst first.Bang = Unit {0}
 
+-- what a word after the one that names a command stands for
+pub data Value : Type 0 where
+  Register : ℕ → Value
+  Number : ℕ → Value
+  Hex : List ℕ → Value
+  Name : List ℕ → Value
+
 -- the kind of a value
 abbrev pub kind_of : Value → Kind
-kind_of (value.Register register) = kind.Register
-kind_of (value.Number number) = kind.Number
-kind_of (value.Hex bytes) = kind.Hex
-kind_of (value.Name name) = kind.Name
+kind_of (Register register) = kind.Register
+kind_of (Number number) = kind.Number
+kind_of (Hex bytes) = kind.Hex
+kind_of (Name name) = kind.Name
 
 -- why a word is not of its kind
 abbrev pub kind_cause : Kind → Cause
@@ -110,10 +115,10 @@ IsHexWord word (byte ∷ bytes) = ArePairsOf (byte ∷ bytes) word
 
 -- the word spells the value
 abbrev pub IsSpelled : Value → List ℕ → Type 0
-IsSpelled (value.Register register) word = (register < REGISTERS) × (word ≡ decimal register)
-IsSpelled (value.Number number) word = (number < 2 ^ 32) × (word ≡ decimal number)
-IsSpelled (value.Hex bytes) word = IsHexWord word bytes
-IsSpelled (value.Name name) word = IsName name × (word ≡ name)
+IsSpelled (Register register) word = (register < REGISTERS) × (word ≡ decimal register)
+IsSpelled (Number number) word = (number < 2 ^ 32) × (word ≡ decimal number)
+IsSpelled (Hex bytes) word = IsHexWord word bytes
+IsSpelled (Name name) word = IsName name × (word ≡ name)
 
 -- as many words as values, each of which spells the value in its place
 abbrev pub AreSpelled : List Value → List (List ℕ) → Type 0
@@ -123,14 +128,14 @@ AreSpelled values words = ⊥
 
 -- a value that has a spelling
 abbrev pub IsValue : Value → Type 0
-IsValue (value.Register register) = register < REGISTERS
-IsValue (value.Number number) = number < 2 ^ 32
-IsValue (value.Hex bytes) = IsBytes bytes
-IsValue (value.Name name) = IsName name
+IsValue (Register register) = register < REGISTERS
+IsValue (Number number) = number < 2 ^ 32
+IsValue (Hex bytes) = IsBytes bytes
+IsValue (Name name) = IsName name
 
 -- one word that spells it: bytes are spelled in lower case
 abbrev pub value_word : Value → List ℕ
-value_word (value.Register register) = decimal register
-value_word (value.Number number) = decimal number
-value_word (value.Hex bytes) = pairs bytes
-value_word (value.Name name) = name
+value_word (Register register) = decimal register
+value_word (Number number) = decimal number
+value_word (Hex bytes) = pairs bytes
+value_word (Name name) = name

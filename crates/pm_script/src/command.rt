@@ -1,7 +1,7 @@
 ghost use Rattle.std.specs.Prelude.{◌≡◌};
 ghost use Rattle.pm_script.specs.Lines.{parts_in};
-ghost use Rattle.pm_script.specs.Reading.{Gives};
-ghost use Rattle.pm_script.specs.Taking.{Takes, register_at, number_at, bytes_at, name_at, command_at, events_at, asked_at};
+ghost use Rattle.pm_script.specs.Reading.{Gives, Takes};
+ghost use Rattle.pm_script.specs.Taking.{register_at, number_at, bytes_at, name_at, command_at, events_at, asked_at};
 
 use crate::fault::{Cause, LineFault};
 use crate::line::Line;

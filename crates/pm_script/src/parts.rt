@@ -3,7 +3,7 @@ ghost use Rattle.std.specs.List.{slice_split, position};
 ghost use Rattle.std.specs.Option.{MatchOption};
 ghost use Rattle.pm_script.specs.Lines.{parts_in};
 
-use memchr::{memchr, memchr_iter};
+use memchr::memchr;
 
 /// What stands before the first mark of a text, and what stands behind it; nothing where the text has no mark.
 #[tactic(auto, using(crate::proofs::CutLemmas::inside))]
@@ -47,14 +47,20 @@ fn count_in_few(text: &[u8], mark: u8) -> usize
     count
 }
 
-/// How many times a byte stands in a text.
+/// How many times a byte stands in a text. In a longer one each search begins behind the mark that was found before.
 pub(crate) fn count_byte(text: &[u8], mark: u8) -> usize
     ensures { result ≡ count_by (λ b. nat_eq b mark) text.now }
 {
     if text.len() <= FEW {
         return count_in_few(text, mark);
     }
-    memchr_iter(mark, text).count()
+    let mut count = 0;
+    let mut rest = text;
+    while let Some((_, after)) = cut(rest, mark) {
+        count += 1;
+        rest = after;
+    }
+    count
 }
 
 // The first few bytes of a text, or all of fewer.

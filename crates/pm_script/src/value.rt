@@ -18,15 +18,6 @@ use std::alloc::Global;
 // The most digits of a number below 2^32.
 const NUMBER_DIGITS: usize = 10;
 
-/// What a word after the one that names a command stands for, as definitions speak of it.
-#[derive(Debug, Drop)]
-pub(crate) enum Value {
-    Register(Reg),
-    Number(u32),
-    Hex(Bytes),
-    Name(Name),
-}
-
 fn is_word(word: &[u8], text: &[u8]) -> bool
     ensures { result ≡ pointwise ◌==◌ word.now text.now }
 {

@@ -1,7 +1,6 @@
-use Rattle.std.proofs.Common.{ap, length, List, ℕ, ◌∙◌}
-use Rattle.memchr.specs.Find.{is_byte}
-use Rattle.memchr.proofs.lemmas.CallerLemmas.{length-places}
+use Rattle.std.proofs.Common.{ap, length, nat_eq, arith}
+use Rattle.std.proofs.lemmas.List.Splits.{length-slice_split}
 use Rattle.pm_script.proofs.parts.count_byte.Goals as goal
 
 pub returns : goal.returns
-returns c = c.count.ensures ∙ ap (λ (places : List ℕ). length places) c.memchr_iter.ensures.value ∙ length-places (is_byte c.args.mark) c.args.text.now
+returns c = omega (arith, ap length c.in_default.ensures.parts, c.loop-after.invariant.counted, length-slice_split (λ b. nat_eq b c.args.mark) c.args.text.now)
