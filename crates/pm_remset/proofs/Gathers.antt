@@ -39,7 +39,7 @@ gathered_more told after source slot is = ap gathered is ∙ told_last told empt
 turned : (q k : RefSource) → eq_by_cmp source_cmp q k ≡ eq_by_cmp ghosts.cmp k q
 turned q k = (eq_by_cmp_equiv sources_total).symm q k ∙ ap (λ R. eq_by_cmp R k q) (sym derived_is)
 
-get_told : (told : List (RefSource × ℕ)) (set : Remembered) (f : RefSource → Option ℕ) → ((q : RefSource) → get set q ≡ f q) → (q : RefSource) → get (fold with_told set told) q ≡ update_all (eq_by_cmp ghosts.cmp) f told q
+pub get_told : (told : List (RefSource × ℕ)) (set : Remembered) (f : RefSource → Option ℕ) → ((q : RefSource) → get set q ≡ f q) → (q : RefSource) → get (fold with_told set told) q ≡ update_all (eq_by_cmp ghosts.cmp) f told q
 get_told [] set f is q = is q
 get_told (e ∷ told) set f is q =
     get_told told (insert set e.0 e.1) (update (eq_by_cmp ghosts.cmp) f e.0 (Some e.1))

@@ -5,3 +5,4 @@ pub mod Nexts
 pub mod Slots
 pub mod First
 pub mod Gathers
+pub mod Lists

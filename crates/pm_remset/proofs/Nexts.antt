@@ -19,7 +19,7 @@ use Rattle.pm_base.proofs.Shown.{get_shown}
 use Rattle.pm_remset.proofs.Sources.{derived_is}
 
 -- a source that is below another, which is below all keys, is below all keys
-below_all : (x y : RefSource) (ks : List RefSource) → source_cmp x y ≡ Less → AllByRecursion (λ k. source_cmp y k ≡ Less) ks → AllByRecursion (λ k. source_cmp x k ≡ Less) ks
+pub below_all : (x y : RefSource) (ks : List RefSource) → source_cmp x y ≡ Less → AllByRecursion (λ k. source_cmp y k ≡ Less) ks → AllByRecursion (λ k. source_cmp x k ≡ Less) ks
 below_all x y [] less h = tt
 below_all x y (k ∷ ks) less h = (sources_total.trans x y k less h.0, below_all x y ks less h.1)
 

@@ -1,3 +1,5 @@
 pub mod Remembered
 pub mod Indexed
 pub mod Gathered
+pub mod Listed
+pub mod Kept

@@ -3,7 +3,9 @@
 
 mod gathering;
 mod law;
+mod list;
 mod remset;
+mod trees;
 
 pub use gathering::Gathering;
 pub use law::the_first_is_the_least;

@@ -1,20 +1,28 @@
 ghost use Rattle.std.specs.Prelude.{◌≡◌, IfOk, OnOk, OnErr};
 ghost use Rattle.std.specs.FinMap as map;
 ghost use Rattle.pm_remset.specs.Gathered.{gathered};
-ghost use Rattle.pm_remset.specs.Indexed.{IsIndexed};
 ghost use Rattle.pm_remset.specs.Remembered.{FindsLeastOf, FindsAtOrAfter, FindsPassing, AppendsSources};
 
+use crate::list::SourceList;
+use crate::trees::SourceTrees;
 use pm_types::{NoMemory, RefSource};
 use std::alloc::Global;
-use std::collections::{BTreeMap, BTreeSet};
 use std::marker::Model;
+
+// So many sources stand in a list at most.
+const FEW: usize = 256;
+
+// Few sources stand in a list, and go into trees once they are more.
+#[derive(Drop)]
+enum Kept {
+    Few(SourceList),
+    Many(SourceTrees),
+}
 
 /// The sources outside a car that name a slot of it, seen as a finite map from sources to slots.
 #[derive(Drop)]
 pub struct Remset {
-    slots: BTreeMap<RefSource, u32>,
-    // Each slot beside each source that names it.
-    index: BTreeSet<(u32, RefSource)>,
+    kept: Kept,
 }
 
 impl Model for Remset {
@@ -23,30 +31,13 @@ impl Model for Remset {
     ghost use Rattle.std.specs.Coded.{coded_ℕ};
     ghost use Rattle.pm_types.specs.contracts.source.RefSource as source;
     ghost use Rattle.pm_types.specs.Orders.{source_cmp};
-    ghost use Rattle.pm_remset.specs.Indexed.{IsIndexed};
+    ghost use Rattle.pm_remset.specs.Kept.{set_of};
 
     ghost Value = { map.FinMap source_cmp ℕ };
 
     ghost coded = { map.code source.the_row.coded coded_ℕ };
 
-    ghost view = { λ it. map.from_entries it.slots.entries };
-
-    ghost invariant = { λ it. IsIndexed it.slots it.index };
-}
-
-// The index of the sources that these are.
-fn index_by_slot(
-    alloc: Global,
-    slots: &BTreeMap<RefSource, u32>,
-) -> Result<BTreeSet<(u32, RefSource)>, NoMemory>
-    ensures { IfOk result (λ index. IsIndexed slots.now index) }
-{
-    let mut pairs = Vec::with_capacity(alloc, slots.len())?;
-    for (source, slot) in slots {
-        pairs.push((*slot, *source))?;
-    }
-    let index = pairs.into_iter().collect(alloc)?;
-    Ok(index)
+    ghost view = { λ it. set_of it.kept };
 }
 
 impl Remset {
@@ -55,27 +46,45 @@ impl Remset {
         ensures { result ≡ map.empty }
     {
         Remset {
-            slots: BTreeMap::new(alloc),
-            index: BTreeSet::new(alloc),
+            kept: Kept::Few(SourceList::new(alloc)),
         }
     }
 
     /// The set that was told of these sources, each with the slot that it names: of a source that is told
-    /// twice the last one counts. It is made at once, not by one `put` after another: in trees whose nodes
-    /// are full, and, where the list is in order or in the opposite one, with no search in it.
+    /// twice the last one counts. Where they are many it is made at once, not by one `put` after another: in
+    /// trees whose nodes are full, and, where the list is in order or in the opposite one, with no search in it.
     pub(crate) fn of_told(alloc: Global, told: Vec<(RefSource, u32)>) -> Result<Remset, NoMemory>
         ensures { IfOk result (λ set. set ≡ gathered told.items) }
     {
-        let slots = told.into_iter().collect(alloc)?;
-        let index = index_by_slot(alloc, &slots)?;
-        Ok(Remset { slots, index })
+        let kept = if told.len() <= FEW {
+            Kept::Few(SourceList::of_told(alloc, told)?)
+        } else {
+            Kept::Many(SourceTrees::of_told(alloc, told)?)
+        };
+        Ok(Remset { kept })
+    }
+
+    // Lets the sources stand in trees, where the list of few is full.
+    fn make_way(&mut self) -> Result<(), NoMemory>
+        ensures { self.new ≡ self.old }
+    {
+        if let Kept::Few(list) = &self.kept {
+            if list.len() >= FEW {
+                let trees = list.to_trees()?;
+                self.kept = Kept::Many(trees);
+            }
+        }
+        Ok(())
     }
 
     /// How many sources are remembered.
     pub fn len(&self) -> u64
         ensures { result ≡ map.len self.now }
     {
-        self.slots.len() as u64
+        match &self.kept {
+            Kept::Few(list) => list.len() as u64,
+            Kept::Many(trees) => trees.len(),
+        }
     }
 
     /// Remembers that the source names the slot, in place of the slot that it named before. After want of
@@ -84,18 +93,10 @@ impl Remset {
         ensures ok { OnOk result (self.new ≡ map.insert self.old source slot) }
         ensures err { OnErr result (self.new ≡ self.old) }
     {
-        self.index.insert((slot, source))?;
-        match self.slots.insert(source, slot) {
-            Ok(None) => Ok(()),
-            Ok(Some(old)) if old != slot => {
-                self.index.remove(&(old, source));
-                Ok(())
-            }
-            Ok(Some(_)) => Ok(()),
-            Err(_) => {
-                self.index.remove(&(slot, source));
-                Err(NoMemory)
-            }
+        self.make_way()?;
+        match &mut self.kept {
+            Kept::Few(list) => list.put(source, slot),
+            Kept::Many(trees) => trees.put(source, slot),
         }
     }
 
@@ -105,19 +106,19 @@ impl Remset {
         ensures value { result ≡ map.get self.old source }
         ensures after { self.new ≡ map.remove self.old source }
     {
-        let named = self.slots.remove(&source)?;
-        self.index.remove(&(named, source));
-        Some(named)
+        match &mut self.kept {
+            Kept::Few(list) => list.take(source),
+            Kept::Many(trees) => trees.take(source),
+        }
     }
 
     /// The least source that names the slot, or `None` where none does.
     pub fn least_of(&self, slot: u32) -> Option<RefSource>
         ensures { FindsLeastOf self.now slot result }
     {
-        match self.index.range((slot, RefSource::Root(0))..).next() {
-            Some((found, source)) if *found == slot => Some(*source),
-            Some(_) => None,
-            None => None,
+        match &self.kept {
+            Kept::Few(list) => list.least_of(slot),
+            Kept::Many(trees) => trees.least_of(slot),
         }
     }
 
@@ -126,9 +127,9 @@ impl Remset {
     pub fn at_or_after(&self, from: RefSource) -> Option<(RefSource, u32)>
         ensures { FindsAtOrAfter self.now from result }
     {
-        match self.slots.range(from..).next() {
-            Some((source, slot)) => Some((*source, *slot)),
-            None => None,
+        match &self.kept {
+            Kept::Few(list) => list.at_or_after(from),
+            Kept::Many(trees) => trees.at_or_after(from),
         }
     }
 
@@ -141,12 +142,10 @@ impl Remset {
         requires { P.IsAlwaysCallable pass }
         ensures { FindsPassing P.Fn pass self.now result }
     {
-        for (source, slot) in &self.slots {
-            if pass(*source, *slot) {
-                return Some((*source, *slot));
-            }
+        match &self.kept {
+            Kept::Few(list) => list.next_where(pass),
+            Kept::Many(trees) => trees.next_where(pass),
         }
-        None
     }
 
     /// Appends the sources that name the slot to the list, in order. After want of memory the list is as
@@ -155,16 +154,9 @@ impl Remset {
         ensures ok { OnOk result (AppendsSources self.now slot out.old.items out.new.items) }
         ensures err { OnErr result (out.new.items ≡ out.old.items) }
     {
-        let before = out.len();
-        for (found, source) in self.index.range((slot, RefSource::Root(0))..) {
-            if *found != slot {
-                return Ok(());
-            }
-            if out.push(*source).is_err() {
-                out.truncate(before);
-                return Err(NoMemory);
-            }
+        match &self.kept {
+            Kept::Few(list) => list.of_slot(slot, out),
+            Kept::Many(trees) => trees.of_slot(slot, out),
         }
-        Ok(())
     }
 }
