@@ -13,11 +13,9 @@ use Rattle.pm_image.specs.Stands.{Opened, StandsForCopy, opened}
 use Rattle.pm_image.proofs.StandsLaws.{one_copy}
 use Rattle.pm_serving.specs.Images.{IsTold}
 use Rattle.pm_reopen.specs.Refused.{IsRefusal}
-use Rattle.pm_script.specs.declared.fault.ScriptFault.{ScriptFault}
-use Rattle.pm_script.specs.declared.fault.ScriptFault.TheVariants.{Line as BadLine, TooManyLines, TooLong, Memory as ScriptMemory}
 use Rattle.pm_ends.specs.declared.ended.Detail.{Detail}
 use Rattle.pm_ends.specs.declared.ended.Detail.TheVariants.{Fine, Usage, Script, Dump as BadDump, Reading, Writing, Device, NotEmpty, Refused, Standby, Ahead, Foreign, OtherDevice, Memory}
-use Rattle.pm_ends.specs.Ends.{not_opened, not_read}
+use Rattle.pm_ends.specs.Ends.{not_opened}
 use Rattle.pm_ends.specs.Stages.{IsPast, unreached, the_store, the_events}
 use Rattle.pm_ends.specs.Disks.{IsLastOf, IsOfRun, IsRefusedFor, LeavesDisk}
 
@@ -70,13 +68,6 @@ refused_for bytes (Damaged page kept found) is = is
 refused_for bytes (Malformed page at) is = is
 refused_for bytes (Disk before after) is = tt
 refused_for bytes NoRoom is = tt
-
--- a script that is not read refuses no store
-pub read_for : (bytes : List ℕ) (fault : ScriptFault) → IsRefusedFor bytes (not_read fault)
-read_for bytes (BadLine number cause) = tt
-read_for bytes TooManyLines = tt
-read_for bytes TooLong = tt
-read_for bytes ScriptMemory = tt
 
 module _ {D : Type 0} (d : disk.Ghosts D) where
   -- a store that was opened, and run

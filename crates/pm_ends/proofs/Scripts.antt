@@ -1,20 +1,15 @@
 -- What a run answers of bytes, from what it answers of their lines; and runs that end before the store.
-use Rattle.std.proofs.Common.{false, ◌+◌, ◌∷◌, ◌++◌, ◌≡◌, ◌⊎◌, inl, inr, ℕ, ◌<◌, ◌≤◌, List, [], Option, Some, None, refl, sym, ap, subst, ◌∙◌, arith}
+use Rattle.std.proofs.Common.{◌+◌, ◌∷◌, ◌++◌, ◌≡◌, ℕ, ◌<◌, ◌≤◌, List, [], Option, Some, None, sym, ap, subst, ◌∙◌, arith}
 use Rattle.std.specs.Prelude.{IfSome}
 use Rattle.pm_base.specs.Counts.{greatest_count}
 use Rattle.pm_types.specs.declared.entry.Entry.{Entry}
-use Rattle.pm_disk.specs.declared.disk.Disk as disk
-use Rattle.pm_io.specs.declared.source.Source as source
-use Rattle.pm_io.specs.declared.sink.Sink as sink
 use Rattle.pm_model.specs.Journal.{IsFirstPart, commands_of}
 use Rattle.pm_script.specs.declared.fault.ScriptFault.{ScriptFault}
-use Rattle.pm_script.specs.declared.fault.ScriptFault.TheVariants.{Line as BadLine, TooManyLines, TooLong, Memory as ScriptMemory}
 use Rattle.pm_types.specs.declared.command.Cmd.TheVariants.{Settle}
 use Rattle.pm_script.specs.declared.line.Line.{Line}
 use Rattle.pm_script.specs.declared.line.Line.TheVariants.{Client}
-use Rattle.pm_script.specs.Bad.{IsBad}
 use Rattle.pm_script.specs.Script.{IsScript}
-use Rattle.pm_script.proofs.BadLaws.{no_fault, one_fault}
+use Rattle.pm_script.proofs.BadLaws.{no_fault}
 use Rattle.pm_script.proofs.ScriptLaws.{one_reading}
 use Rattle.pm_serial.specs.events.Tally.{Tally}
 use Rattle.pm_serial.specs.events.Shown.{tally_of}
@@ -24,15 +19,12 @@ use Rattle.pm_serial.specs.events.Causes.{OnStop}
 use Rattle.pm_serial.specs.Ordered.{StopsAmong, course_of}
 use Rattle.pm_ends.specs.declared.ended.Detail.{Detail}
 use Rattle.pm_ends.specs.declared.ended.Detail.TheVariants.{Fine, Usage, Script, Dump as BadDump, Reading, Writing, Device, NotEmpty, Refused, Standby, Ahead, Foreign, OtherDevice, Memory}
-use Rattle.pm_ends.specs.declared.ended.Alone.{Alone as Ended}
-use Rattle.pm_ends.specs.Ends.{not_read, stop_in}
-use Rattle.pm_ends.specs.Stages.{IsPast, unreached, the_words, the_script, the_store, the_output}
+use Rattle.pm_ends.specs.Ends.{stop_in}
+use Rattle.pm_ends.specs.Stages.{IsPast, unreached, the_script, the_store, the_output}
 use Rattle.pm_ends.specs.Journals.{EndsFor, IsScriptEnd, KeepsOrder, MakesAll, ReadsScript, ServesInOrder, ServesLines}
-use Rattle.pm_ends.specs.Causes.{ShowsCauses}
 use Rattle.pm_ends.proofs.Counted.{few_events, made_all}
 use Rattle.pm_serial.proofs.Answering.{events_cons}
 use Rattle.pm_serial.proofs.Ordering.{events_append}
-use Rattle.pm_ends.proofs.Parts.{with_parts}
 
 -- a run that came to the store does not refuse the script
 tried_read : (bytes : List ℕ) (detail : Detail) → the_store < unreached detail → IsScriptEnd bytes detail
@@ -113,24 +105,7 @@ order_unread bytes detail none = record {
 pub unordered : (bytes : List ℕ) (detail : Detail) (journal : List Entry) → journal ≡ [] → (IsPast the_script detail → ⊥) → KeepsOrder bytes detail journal None
 unordered bytes detail journal empty none = subst (λ (j : List Entry). KeepsOrder bytes detail j None) (sym empty) (order_unread bytes detail none)
 
--- a script that is not read has no line that was run
-pub order_not_read : (fault : ScriptFault) → IsPast the_script (not_read fault) → ⊥
-order_not_read (BadLine number cause) past = absurd (omega (arith, past))
-order_not_read TooManyLines past = absurd (omega (arith, past))
-order_not_read TooLong past = absurd (omega (arith, past))
-order_not_read ScriptMemory past = absurd (omega (arith, past))
-
--- they have this fault
-pub script_refused : (bytes : List ℕ) (fault : ScriptFault) → IsBad fault bytes → ReadsScript bytes (Script fault) [] None
-script_refused bytes fault is = record {
-  refused = is;
-  told = λ first too. one_fault bytes fault first is too;
-  ran = λ past. absurd (omega arith);
-  serves = λ past. absurd (omega arith);
-  made = λ past. absurd (omega arith);
-}
-
--- nothing was read of them
+-- nothing was read of the bytes
 pub script_unknown : (bytes : List ℕ) (detail : Detail) → IsScriptEnd bytes detail → ((fault : ScriptFault) → EndsFor fault detail) → (IsPast the_script detail → ⊥) → ReadsScript bytes detail [] None
 script_unknown bytes detail refused ends none = record {
   refused = refused;
@@ -143,40 +118,3 @@ script_unknown bytes detail refused ends none = record {
 -- nothing was served
 pub unserved : (bytes : List ℕ) (detail : Detail) (journal : List Entry) → journal ≡ [] → ReadsScript bytes detail [] None → ReadsScript bytes detail journal None
 unserved bytes detail journal empty reads = subst (λ (j : List Entry). ReadsScript bytes detail j None) (sym empty) reads
-
--- a script that is not read
-pub script_not_read : (bytes : List ℕ) (fault : ScriptFault) → (fault ≡ ScriptMemory) ⊎ IsBad fault bytes → ReadsScript bytes (not_read fault) [] None
-script_not_read bytes (BadLine number cause) (inl never) = absurd (cc never)
-script_not_read bytes (BadLine number cause) (inr is) = script_refused bytes (BadLine number cause) is
-script_not_read bytes TooManyLines (inl never) = absurd (cc never)
-script_not_read bytes TooManyLines (inr is) = script_refused bytes TooManyLines is
-script_not_read bytes TooLong (inl never) = absurd (cc never)
-script_not_read bytes TooLong (inr is) = script_refused bytes TooLong is
-script_not_read bytes ScriptMemory is = script_unknown bytes (Memory false) tt (λ fault. tt) (λ past. absurd (omega arith))
-
--- its end is one of a run, before the store
-pub ends_read : (fault : ScriptFault) → IsPast the_words (not_read fault)
-ends_read (BadLine number cause) = omega arith
-ends_read TooManyLines = omega arith
-ends_read TooLong = omega arith
-ends_read ScriptMemory = omega arith
-
-pub past_read : (fault : ScriptFault) → the_script < unreached (not_read fault)
-past_read (BadLine number cause) = omega arith
-past_read TooManyLines = omega arith
-past_read TooLong = omega arith
-past_read ScriptMemory = omega arith
-
-pub unopened_read : (fault : ScriptFault) → IsPast the_store (not_read fault) → ⊥
-unopened_read (BadLine number cause) past = absurd (omega arith)
-unopened_read TooManyLines past = absurd (omega arith)
-unopened_read TooLong past = absurd (omega arith)
-unopened_read ScriptMemory past = absurd (omega arith)
-
-module _ {D S K : Type 0} (d : disk.Ghosts D) (s : source.Ghosts S) (k : sink.Ghosts K) where
-  pub read_causes : (disk : D) (source : S) (sink : K) (it : Ended D S K) (fault : ScriptFault)
-      → ShowsCauses d s k disk source sink (with_parts it (not_read fault) None disk source sink)
-  read_causes disk source sink it (BadLine number cause) = record { reading = refl; writing = refl; device = refl; rule = tt; opened = tt; reads = refl }
-  read_causes disk source sink it TooManyLines = record { reading = refl; writing = refl; device = refl; rule = tt; opened = tt; reads = refl }
-  read_causes disk source sink it TooLong = record { reading = refl; writing = refl; device = refl; rule = tt; opened = tt; reads = refl }
-  read_causes disk source sink it ScriptMemory = record { reading = refl; writing = tt; device = refl; rule = tt; opened = refl; reads = refl }

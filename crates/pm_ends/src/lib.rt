@@ -10,6 +10,6 @@ mod texts;
 
 pub use ended::{Alone, Detail, Ended, end_unopened, end_with, ended_by, not_opened};
 pub use pm_serial::{Engine, Stop, run_lines};
-pub use reading::{not_read, read_lines, read_source};
+pub use reading::read_source;
 pub use texting::write_text;
 pub use texts::{detail_text, line_of, shipped_line};

@@ -15,8 +15,8 @@ use pm_script::{Script, ScriptFault, read_script};
 use pm_types::SOURCE_BYTES;
 use std::alloc::Global;
 
-/// How the program ends where a script is not read.
-pub fn not_read(fault: ScriptFault) -> Detail
+// How the program ends where a script is not read.
+fn not_read(fault: ScriptFault) -> Detail
     ensures { result ≡ not_read fault }
 {
     match fault {
@@ -25,8 +25,8 @@ pub fn not_read(fault: ScriptFault) -> Detail
     }
 }
 
-/// The lines that the bytes spell, by the clauses of `read_script`. The bytes are let go.
-pub fn read_lines(alloc: Global, bytes: Vec<u8>) -> Result<Script, ScriptFault>
+// The lines that the bytes spell, by the clauses of `read_script`. The bytes are let go.
+fn read_lines(alloc: Global, bytes: Vec<u8>) -> Result<Script, ScriptFault>
     requires { length bytes.items ≤ SOURCE_BYTES }
     ensures found { IfOk result (λ script. IsScript bytes.items script) }
     ensures only { (lines : List Says) → IsScript bytes.items lines → Answers result (Ok lines) }

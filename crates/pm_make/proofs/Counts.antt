@@ -30,12 +30,16 @@ first_count seed (suc turns) =
     let b = length-append (first_lines seed turns) (turn_lines (turn_of (state_after seed turns))) in
     omega (arith, before, turn, rest, a, b)
 
--- a script has few lines
-pub made_few : (seed turns : ℕ) → turns ≤ 16000 → length (made_lines seed turns) ≤ 64037
-made_few seed turns few =
+-- a script has few lines for its turns
+pub made_count : (seed turns : ℕ) → length (made_lines seed turns) ≤ 4 * turns + 2 * (turns / 1000) + 5
+made_count seed turns =
     let before = first_count seed turns in
     let a = length-append (first_lines seed turns) last_lines in
     omega (arith, before, a)
+
+-- and few for the most turns
+pub made_few : (seed turns : ℕ) → turns ≤ 16000 → length (made_lines seed turns) ≤ 64037
+made_few seed turns few = let count = made_count seed turns in omega (arith, count)
 
 each_line : (lines : List Line) → AllByRecursion IsShort lines → AllByRecursion IsLine lines
 each_line [] are = tt

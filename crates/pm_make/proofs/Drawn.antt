@@ -1,15 +1,7 @@
 -- What a turn draws is below its limits.
 use Rattle.std.proofs.Common.{ℕ, ◌<◌, Bool, true, false, Some, None, arith, lit<, if◌then◌else◌}
 use Rattle.std.specs.Prelude.{IfSome}
-use Rattle.pm_make.specs.declared.drawing.Turn.{Turn}
-use Rattle.pm_make.specs.Drawing.{drawn, after, binds, turn_of}
-
-pub record IsDrawn (turn : Turn) : Type 0 where
-  pub register : turn.register < 64
-  pub bytes : turn.bytes < 65536
-  pub value : turn.value < 64
-  pub index : turn.index < 4
-  pub name : IfSome turn.name (λ name. name < 16)
+use Rattle.pm_make.specs.Drawing.{drawn, after, binds, turn_of, IsDrawn}
 
 pub drawn_small : (x limit : ℕ) → 0 < limit → drawn x limit < limit
 unfolding drawn

@@ -3,3 +3,4 @@ pub mod Drawn
 pub mod Short
 pub mod Counts
 pub mod Turns
+pub mod Names

@@ -14,10 +14,10 @@ use Rattle.pm_script.specs.declared.line.Line.TheVariants as line
 use Rattle.pm_script.specs.Lines.{ended}
 use Rattle.pm_script.specs.Script.{IsLine, spelling}
 use Rattle.pm_make.specs.declared.drawing.Turn.{Turn}
-use Rattle.pm_make.specs.Drawing.{state_after, turn_of}
+use Rattle.pm_make.specs.Drawing.{state_after, turn_of, IsDrawn}
 use Rattle.pm_make.specs.Made.{asks, two_bytes, name_of, new_line, store_line, root_lines, turn_lines, checkpoint_lines, thousandth_lines, first_lines, last_lines, made_lines}
 use Rattle.pm_make.proofs.Texts.{new_text, store_text, root_text}
-use Rattle.pm_make.proofs.Drawn.{IsDrawn, turn_drawn}
+use Rattle.pm_make.proofs.Drawn.{turn_drawn}
 
 pub record IsShort (line : Line) : Type 0 where
   pub is : IsLine line
@@ -69,7 +69,8 @@ decimal_named_by n (inr high) small =
     let two : decimal n ≡ codes "1" ++ ((48 + n % 10) ∷ []) = decimal_step n high.0 (omega arith) ∙ ap (λ m. decimal m ++ ((48 + n % 10) ∷ [])) high.1 ∙ ap (λ (w : List ℕ). w ++ ((48 + n % 10) ∷ [])) (decimal_digit 1 (lit< tt)) in
     subst (λ (w : List ℕ). AllByRecursion (λ b. IsTrue (is_name_byte b)) w) (sym two) (refl, (digit_named (n % 10) high.2, tt))
 
-name_named : (n : ℕ) → n < 16 → IsName (name_of n)
+-- the name of a number is one
+pub name_named : (n : ℕ) → n < 16 → IsName (name_of n)
 name_named n small =
     let long = two_long n (omega arith) in
     record { some = omega arith; short = omega (arith, long); each = (refl, decimal_named_by n (either n small) small) }

@@ -1,5 +1,5 @@
 -- Numbers that are drawn one after the other, each from the state that the one before left.
-use Rattle.std.specs.Prelude.{ℕ, zero, suc, Bool, ◌+◌, ◌*◌, ◌/◌, ◌%◌, ◌^◌, ◌==◌, if◌then◌else◌, Option, Some, None}
+use Rattle.std.specs.Prelude.{ℕ, zero, suc, Bool, ◌+◌, ◌*◌, ◌/◌, ◌%◌, ◌^◌, ◌==◌, ◌<◌, if◌then◌else◌, Option, Some, None, IfSome}
 use Rattle.pm_make.specs.declared.drawing.Turn.{Turn}
 
 -- a draw makes this state of the state before it
@@ -37,6 +37,14 @@ turn_of x = record {
   index = drawn (after 4 x) 4;
   name = name_from (after 4 x);
 }
+
+-- each number of a turn is below the limit under which it is drawn
+pub record IsDrawn (turn : Turn) : Type 0 where
+  pub register : turn.register < 64
+  pub bytes : turn.bytes < 65536
+  pub value : turn.value < 64
+  pub index : turn.index < 4
+  pub name : IfSome turn.name (λ name. name < 16)
 
 -- the state after a turn
 abbrev pub turned : ℕ → ℕ

@@ -7,9 +7,10 @@ mod running;
 mod together;
 mod writes;
 
+pub use opening::run_lines;
 pub use pm_ends::{
     Alone, Detail, Ended, detail_text, end_unopened, line_of, not_opened, shipped_line, write_text,
 };
-pub use running::{run_bytes, run_source};
+pub use running::run_source;
 pub use together::{images_since_now, run_together};
 pub use writes::Writes;

@@ -53,8 +53,8 @@ fn run_engine<D: Disk, F: Fn(&[u64]) -> usize + Drop, S: Source, K: Sink>(
     end_with(detail, journal, Some(tally), disk, source, sink)
 }
 
-/// Opens the store on the disk, and runs the lines over its copy.
-pub(crate) fn open_and_run<D: Disk, F: Fn(&[u64]) -> usize + Drop, S: Source, K: Sink>(
+/// Opens the store on the disk, and runs the lines over its copy, in their order. The source is not called.
+pub fn run_lines<D: Disk, F: Fn(&[u64]) -> usize + Drop, S: Source, K: Sink>(
     alloc: Global,
     writes: Writes,
     lines: Vec<Line>,

@@ -1,5 +1,5 @@
 -- What each command does, where nothing was called, and where it writes one text.
-use Rattle.std.proofs.Common.{false, inl, ◌≡◌, ℕ, ◌<◌, List, [], None, refl, subst, arith}
+use Rattle.std.proofs.Common.{false, inl, ◌≡◌, ℕ, ◌<◌, List, [], None, refl, arith}
 use Rattle.pm_types.specs.declared.entry.Entry.{Entry}
 use Rattle.pm_disk.specs.declared.disk.Disk as disk
 use Rattle.pm_disk.specs.Disk.{SameImages}
@@ -8,7 +8,6 @@ use Rattle.pm_io.specs.declared.source.Source as source
 use Rattle.pm_io.specs.declared.sink.Sink as sink
 use Rattle.pm_script.specs.declared.line.Line.{Line}
 use Rattle.pm_script.specs.Script.{IsScript}
-use Rattle.pm_script.proofs.BadLaws.{no_fault}
 use Rattle.pm_make.specs.Made.{made_text}
 use Rattle.pm_tell.specs.Told.{Telling, Reports, Dumps, GivesPath}
 use Rattle.pm_words.specs.declared.command.Command.{Command}
@@ -18,8 +17,8 @@ use Rattle.pm_runs.specs.ends.declared.ended.Detail.TheVariants.{Fine, Usage, Sc
 use Rattle.pm_runs.specs.ends.declared.ended.Alone.{Alone as Ended}
 use Rattle.pm_runs.specs.declared.writes.Writes.{Writes}
 use Rattle.pm_runs.specs.declared.writes.Writes.TheVariants.{Replies, Digest}
-use Rattle.pm_runs.specs.ends.Stages.{IsPast, unreached, the_words, the_script}
-use Rattle.pm_runs.specs.ends.Journals.{IsScriptEnd, KeepsOrder, ReadsScript}
+use Rattle.pm_runs.specs.ends.Stages.{IsPast, unreached, the_words, the_store}
+use Rattle.pm_runs.specs.ends.Journals.{ReadsScript, ServesInOrder, ServesLines}
 use Rattle.pm_runs.specs.ends.Wrote.{WroteText}
 use Rattle.pm_runs.specs.ends.Causes.{ShowsCauses}
 use Rattle.pm_runs.specs.Runs.{RunsStore}
@@ -27,7 +26,7 @@ use Rattle.pm_top.specs.Commands.{EndsTrying, TriesScript, TellsStore, Does}
 use Rattle.pm_runs.proofs.ends.Parts.{with_parts}
 use Rattle.pm_runs.proofs.ends.Opened.{uncalled_run}
 use Rattle.pm_runs.proofs.Stores.{store_unrun}
-use Rattle.pm_runs.proofs.ends.Scripts.{script_unknown, unordered, unserved}
+use Rattle.pm_runs.proofs.ends.Scripts.{order_read, script_read, script_unknown, unordered, unserved}
 
 module _ {K : Type 0} (k : sink.Ghosts K) where
   -- no text was written
@@ -78,36 +77,35 @@ module _ {D S K : Type 0} (d : disk.Ghosts D) (k : sink.Ghosts K) where
     no_tally = refl;
   }
 
-  -- ---- a trial, from the run of its script
+  -- ---- a trial, from the run of its lines
 
-  pub tried : (seed turns : ℕ) (bytes : List ℕ) (lines : List Line) (disk : D) (source : S) (sink : K) (it : Ended D S K)
-      → bytes ≡ made_text seed turns → IsScript bytes lines → IsPast the_words it.detail
-      → the_script < unreached it.detail → ReadsScript bytes it.detail it.journal.items it.tally → KeepsOrder bytes it.detail it.journal.items it.tally
-      → RunsStore d k Digest disk sink it → it.source ≡ source
+  pub tried : (seed turns : ℕ) (lines : List Line) (disk : D) (source : S) (sink : K) (it : Ended D S K)
+      → IsScript (made_text seed turns) lines → ServesLines lines it.detail it.journal.items it.tally
+      → ServesInOrder lines it.detail it.journal.items it.tally → RunsStore d k Digest disk sink it → it.source ≡ source
       → TriesScript d k seed turns disk source sink it
-  tried seed turns bytes lines disk source sink it is script past reached reads order store stays = record {
-    ends = by it.detail it.journal.items past reached reads.refused;
-    script = subst (λ (b : List ℕ). ReadsScript b it.detail it.journal.items it.tally) is reads;
-    order = subst (λ (b : List ℕ). KeepsOrder b it.detail it.journal.items it.tally) is order;
+  tried seed turns lines disk source sink it script serves order store stays = record {
+    ends = by it.detail serves.ends serves.tried;
+    script = script_read (made_text seed turns) lines it.detail it.journal.items it.tally script serves;
+    order = order_read (made_text seed turns) lines it.detail it.journal.items it.tally script order;
     store = store;
     source_stays = stays;
   }
     where
-      by : (detail : Detail) (journal : List Entry) → IsPast the_words detail → the_script < unreached detail → IsScriptEnd bytes detail → EndsTrying detail
-      by Fine journal past reached refused = tt
-      by Usage journal past reached refused = absurd (omega (arith, past))
-      by (Script fault) journal past reached refused = absurd (no_fault bytes fault lines refused script)
-      by (BadDump fault) journal past reached refused = absurd (omega (arith, past))
-      by (Reading before after) journal past reached refused = absurd (omega (arith, reached))
-      by (Writing before after) journal past reached refused = tt
-      by (Device before after opened) journal past reached refused = tt
-      by (NotEmpty n) journal past reached refused = absurd (omega (arith, past))
-      by (Standby fault) journal past reached refused = absurd (omega (arith, past))
-      by (Ahead to from) journal past reached refused = absurd (omega (arith, past))
-      by (Foreign number) journal past reached refused = absurd (omega (arith, past))
-      by (OtherDevice before after) journal past reached refused = absurd (omega (arith, past))
-      by (Refused fault) journal past reached refused = tt
-      by (Memory opened) journal past reached refused = tt
+      by : (detail : Detail) → IsPast the_words detail → the_store < unreached detail → EndsTrying detail
+      by Fine past reached = tt
+      by Usage past reached = absurd (omega (arith, past))
+      by (Script fault) past reached = absurd (omega (arith, reached))
+      by (BadDump fault) past reached = absurd (omega (arith, past))
+      by (Reading before after) past reached = absurd (omega (arith, reached))
+      by (Writing before after) past reached = tt
+      by (Device before after opened) past reached = tt
+      by (NotEmpty n) past reached = absurd (omega (arith, past))
+      by (Standby fault) past reached = absurd (omega (arith, past))
+      by (Ahead to from) past reached = absurd (omega (arith, past))
+      by (Foreign number) past reached = absurd (omega (arith, past))
+      by (OtherDevice before after) past reached = absurd (omega (arith, past))
+      by (Refused fault) past reached = tt
+      by (Memory opened) past reached = tt
 
 module _ {D S K : Type 0} (d : disk.Ghosts D) (s : source.Ghosts S) (k : sink.Ghosts K) where
   pub untouched_does : (command : Command) (disk : D) (source : S) (sink : K) (it : Ended D S K) → it.journal.items ≡ []

@@ -2,27 +2,27 @@
 ghost use Rattle.std.specs.Prelude.{◌≡◌, ◌≤◌, IfOk};
 ghost use Rattle.pm_place.specs.Choosers.{IsChooser};
 ghost use Rattle.pm_script.specs.Script.{IsScript};
-ghost use Rattle.pm_make.specs.Made.{made_lines, made_text};
+ghost use Rattle.pm_make.specs.Made.{made_text};
 ghost use Rattle.pm_runs.specs.ends.Ends.{status_of};
 ghost use Rattle.pm_runs.specs.ends.Causes.{ShowsCauses};
 ghost use Rattle.pm_top.specs.Commands.{MakesScript, TriesScript};
 
 use pm_disk::Disk;
 use pm_io::{Sink, Source};
-use pm_make::{a_seed_gives_a_script, make};
+use pm_make::{a_seed_gives_a_script, make, make_lines};
 use pm_place::Placement;
-use pm_runs::{Alone, Detail, Writes, end_unopened, run_bytes, write_text};
+use pm_runs::{Alone, Detail, Writes, end_unopened, run_lines, write_text};
+use pm_script::Line;
 use pm_types::{MOST_TURNS, NoMemory};
 use std::alloc::Global;
 
-// The script of a seed and a number of turns.
-fn script(alloc: Global, seed: u32, turns: u32) -> Result<Vec<u8>, NoMemory>
+// The lines of the script of a seed and a number of turns, which are made and not read: its text has one reading.
+fn script(alloc: Global, seed: u32, turns: u32) -> Result<Vec<Line>, NoMemory>
     requires { turns ≤ MOST_TURNS }
-    ensures made { IfOk result (λ bytes. bytes.items ≡ made_text seed turns) }
-    ensures script { IfOk result (λ bytes. IsScript bytes.items (made_lines seed turns)) }
+    ensures { IfOk result (λ lines. IsScript (made_text seed turns) lines.items) }
 {
     a_seed_gives_a_script();
-    make(alloc, seed, turns)
+    make_lines(alloc, seed, turns)
 }
 
 /// Writes the script of a seed and a number of turns.
@@ -39,7 +39,7 @@ pub(crate) fn make_script<D: Disk, S: Source, K: Sink>(
     ensures causes { ShowsCauses D.Disk S.Source K.Sink disk source sink result }
     ensures makes { MakesScript K.Sink seed turns disk source sink result }
 {
-    let detail = match script(alloc, seed, turns) {
+    let detail = match make(alloc, seed, turns) {
         Ok(text) => write_text(&mut sink, text.as_slice()),
         Err(_) => Detail::Memory { opened: false },
     };
@@ -63,7 +63,7 @@ pub(crate) fn try_script<D: Disk, F: Fn(&[u64]) -> usize + Drop, S: Source, K: S
     ensures tries { TriesScript D.Disk K.Sink seed turns disk source sink result }
 {
     match script(alloc, seed, turns) {
-        Ok(bytes) => run_bytes(alloc, Writes::Digest, bytes, disk, place, source, sink),
+        Ok(lines) => run_lines(alloc, Writes::Digest, lines, disk, place, source, sink),
         Err(_) => end_unopened(alloc, Detail::Memory { opened: false }, disk, source, sink),
     }
 }

@@ -13,8 +13,8 @@ use Rattle.pm_runs.proofs.running.run_source.Goals as goal
 
 pub returns-in-Ok-clause-runs : goal.returns-in-Ok-clause-runs
 returns-in-Ok-clause-runs g c =
-    let it = c.open_and_run.result in
-    let ran = c.open_and_run.ensures in
+    let it = c.run_lines.result in
+    let ran = c.run_lines.ensures in
     let lines = c.into_lines.result.items in
     let read = c.in-Ok.ensures in
     record {
@@ -28,7 +28,7 @@ returns-in-Ok-clause-runs g c =
 
 pub returns-in-Ok-clause-causes : goal.returns-in-Ok-clause-causes
 returns-in-Ok-clause-causes g c =
-    causes_read g.D.Disk g.S.Source g.K.Sink c.args.disk c.args.source c.read_source.new.source c.args.sink c.open_and_run.result c.in-Ok.ensures.counted c.open_and_run.ensures.causes
+    causes_read g.D.Disk g.S.Source g.K.Sink c.args.disk c.args.source c.read_source.new.source c.args.sink c.run_lines.result c.in-Ok.ensures.counted c.run_lines.ensures.causes
 
 pub returns-in-Err-clause-runs : goal.returns-in-Err-clause-runs
 returns-in-Err-clause-runs g c =

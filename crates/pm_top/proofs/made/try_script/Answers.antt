@@ -1,15 +1,19 @@
-use Rattle.pm_make.specs.Made.{made_lines}
+use Rattle.pm_script.proofs.ScriptLaws.{lines_of_script}
+use Rattle.pm_make.specs.Made.{made_text}
 use Rattle.pm_runs.specs.ends.Causes.{ShowsCauses}
 use Rattle.pm_top.specs.Commands.{TriesScript}
 use Rattle.pm_runs.proofs.ends.Parts.{at_end}
 use Rattle.pm_top.proofs.Performing.{tried, untouched_trial, memory_causes}
 use Rattle.pm_top.proofs.made.try_script.Goals as goal
 
+pub run_lines-requires-clause-clients : goal.run_lines-requires-clause-clients
+run_lines-requires-clause-clients g c = lines_of_script (made_text c.args.seed c.args.turns) c.in-Ok.lines.items c.in-Ok.ensures
+
 pub returns-in-Ok-clause-tries : goal.returns-in-Ok-clause-tries
 returns-in-Ok-clause-tries g c =
-    let ran = c.run_bytes.ensures in
-    tried g.D.Disk g.K.Sink c.args.seed c.args.turns c.in-Ok.bytes.items (made_lines c.args.seed c.args.turns) c.args.disk c.args.source c.args.sink c.run_bytes.result
-    c.in-Ok.ensures.made c.in-Ok.ensures.script ran.ends ran.past ran.script ran.order ran.store ran.source
+    let ran = c.run_lines.ensures in
+    tried g.D.Disk g.K.Sink c.args.seed c.args.turns c.in-Ok.lines.items c.args.disk c.args.source c.args.sink c.run_lines.result
+    c.in-Ok.ensures ran.serves ran.order ran.store ran.source
 
 pub returns-in-Err-clause-causes : goal.returns-in-Err-clause-causes
 returns-in-Err-clause-causes g c =

@@ -17,7 +17,7 @@ use Rattle.pm_runs.proofs.Ran.{fresh_engine}
 use Rattle.pm_ends.proofs.Faults.{ends_open, undone_open, open_causes, causes_after}
 use Rattle.pm_ends.proofs.Opened.{opened_run, refused_run, refused_for, none_opened, tried_open}
 use Rattle.pm_runs.proofs.Stores.{if_there, orders_none, store_run, store_unrun, serves_none}
-use Rattle.pm_runs.proofs.opening.open_and_run.Goals as goal
+use Rattle.pm_runs.proofs.opening.run_lines.Goals as goal
 
 pub run_engine-requires-clause-fresh : goal.run_engine-requires-clause-fresh
 run_engine-requires-clause-fresh g c = let it = c.in-Ok.engine in fresh_engine it (serving it).number (serving it).opened (serving it).saving c.in-Ok.ensures.begins c.in-Ok.ensures.idle
