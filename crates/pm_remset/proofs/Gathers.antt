@@ -24,15 +24,6 @@ use Rattle.pm_remset.specs.Remembered.{Remembered}
 use Rattle.pm_remset.proofs.Nexts.{none_below}
 use Rattle.pm_remset.proofs.Sources.{derived_is, tied_source, at_pair}
 
--- ---- one source more
-
-told_last : (told : List (RefSource × ℕ)) (set : Remembered) (e : RefSource × ℕ) → fold with_told set (told ++ e ∷ []) ≡ insert (fold with_told set told) e.0 e.1
-told_last [] set e = refl
-told_last (first ∷ told) set e = told_last told (with_told set first) e
-
-pub gathered_more : (told after : List (RefSource × ℕ)) (source : RefSource) (slot : ℕ) → after ≡ told ++ (source, slot) ∷ [] → gathered after ≡ insert (gathered told) source slot
-gathered_more told after source slot is = ap gathered is ∙ told_last told empty (source, slot)
-
 -- ---- a tree of all that was told
 
 -- a comparison turned round, in the derived order

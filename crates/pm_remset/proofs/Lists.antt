@@ -1,5 +1,5 @@
 -- A list of sources in order, as the finite map that it is seen as.
-use Rattle.std.proofs.Common.{◌≡◌, ℕ, zero, suc, ◌+◌, ◌<◌, ◌≤◌, ◌==◌, inl, inr, true, false, cond, refl, sym, ap, subst, ◌∙◌, arith, List, [], ◌∷◌, ◌++◌, length, get_or, set, take, drop, Some, None, Result, Ok, Err, IfOk, IfErr, append-nil, append_assoc}
+use Rattle.std.proofs.Common.{◌≡◌, ℕ, zero, suc, ◌+◌, ◌<◌, ◌≤◌, ◌==◌, inl, inr, true, false, cond, refl, sym, ap, subst, ◌∙◌, arith, List, [], ◌∷◌, ◌++◌, length, get_or, set, drop, Some, None, Result, Ok, Err, IfOk, IfErr, append-nil}
 use Rattle.std.specs.declared.cmp.Ordering.TheVariants.{Less, Equal, Greater}
 use Rattle.std.specs.Cmp.{eq_by_cmp_equiv, tied_itself}
 use Rattle.std.specs.Ordering.{is_eq, is_lt, is_le, eq_by_cmp, ordering_index, ordering_reverse}
@@ -11,7 +11,6 @@ use Rattle.std.specs.FinMap.{from_entries, empty, get, len, get-empty, get-inser
 use Rattle.std.specs.FinMap as map
 use Rattle.std.specs.BTreeMap.{is_at}
 use Rattle.std.proofs.Math.ListN.{drop_of_length-le}
-use Rattle.std.proofs.Math.Seq.{take-append_seam}
 use Rattle.std.proofs.lemmas.Bool.{cases_Bool, cases_lt}
 use Rattle.std.proofs.lemmas.Bool.Decides.{nat_tests}
 use Rattle.std.proofs.lemmas.Option.{slice_get-get_or, get_or_from_slice_get, slice_get_within}
@@ -276,39 +275,14 @@ module _ (set : Remembered) (es : List Entry) (seen : from_entries {R = source_c
 here : (slot : ℕ) (e : Entry) (es : List Entry) → e.1 ≡ slot → named slot (e ∷ es) ≡ e.0 ∷ named slot es
 here slot e es is = ap (λ b. cond b (e.0 ∷ named slot es) (named slot es)) (let same : (e.1 == slot) ≡ true = grind (arith, nat_tests, is) in same)
 
-past : (slot : ℕ) (e : Entry) (es : List Entry) → (e.1 ≡ slot → ⊥) → named slot (e ∷ es) ≡ named slot es
-past slot e es apart = ap (λ b. cond b (e.0 ∷ named slot es) (named slot es)) (let other : (e.1 == slot) ≡ false = grind (arith, nat_tests, apart) in other)
-
 -- what was appended so far, and what is once the entries that are left were looked at
 pub record Gathers (slot : ℕ) (before out : List RefSource) (all left : List Entry) : Type 0 where
   pub so_far : List RefSource
   pub appended : out ≡ before ++ so_far
   pub at_end : out ++ named slot left ≡ before ++ named slot all
 
-pub gathers_none : (slot : ℕ) (before : List RefSource) (all : List Entry) → Gathers slot before before all all
-gathers_none slot before all = record { so_far = []; appended = sym (append-nil before); at_end = refl }
-
-module _ (slot : ℕ) (before out : List RefSource) (all left : List Entry) (e : Entry) (rest : List Entry) (begins : left ≡ e ∷ rest) (g : Gathers slot before out all left) where
-  pub gathers_one : (after : List RefSource) → e.1 ≡ slot → after ≡ out ++ e.0 ∷ [] → Gathers slot before after all rest
-  gathers_one after is pushed = record {
-    so_far = g.so_far ++ e.0 ∷ [];
-    appended = pushed ∙ ap (λ xs. xs ++ e.0 ∷ []) g.appended ∙ append_assoc before g.so_far (e.0 ∷ []);
-    at_end = ap (λ xs. xs ++ named slot rest) pushed ∙ append_assoc out (e.0 ∷ []) (named slot rest) ∙ ap (λ xs. out ++ xs) (sym (ap (named slot) begins ∙ here slot e rest is)) ∙ g.at_end;
-  }
-
-  pub gathers_no_more : (e.1 ≡ slot → ⊥) → Gathers slot before out all rest
-  gathers_no_more apart = record {
-    so_far = g.so_far;
-    appended = g.appended;
-    at_end = ap (λ xs. out ++ xs) (sym (ap (named slot) begins ∙ past slot e rest apart)) ∙ g.at_end;
-  }
-
 pub gathers_all : (slot : ℕ) (before out : List RefSource) (all left : List Entry) → left ≡ [] → Gathers slot before out all left → out ≡ before ++ named slot all
 gathers_all slot before out all rest none g = sym (append-nil out) ∙ ap (λ xs. out ++ xs) (sym (ap (named slot) none)) ∙ g.at_end
-
--- what was appended is taken away again
-pub gathers_undone : (slot n : ℕ) (before out : List RefSource) (all left : List Entry) → n ≡ length before → Gathers slot before out all left → take n out ≡ before
-gathers_undone slot n before out all rest is g = (λ i. take (is i) (g.appended i)) ∙ take-append_seam before g.so_far
 
 all_named : (P : RefSource → Type 0) (slot : ℕ) (es : List Entry) → AllByRecursion P (keys_of es) → AllByRecursion P (named slot es)
 all_named P slot [] h = tt

@@ -9,7 +9,7 @@ use std::alloc::Global;
 use std::collections::{BTreeMap, BTreeSet};
 use std::marker::Model;
 
-/// Sources in trees, seen as a finite map from sources to the slots that they name. Each of its calls but `len`, `new`,
+/// Sources in trees, seen as a finite map from sources to the slots that they name. Each of its calls but `len`,
 /// `of_told` and `next_where` takes time by the logarithm of their number, beside what it answers.
 #[derive(Drop)]
 pub(crate) struct SourceTrees {

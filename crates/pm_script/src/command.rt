@@ -1,4 +1,3 @@
-ghost use Rattle.std.specs.Prelude.{◌≡◌};
 ghost use Rattle.pm_script.specs.Lines.{parts_in};
 ghost use Rattle.pm_script.specs.Reading.{Gives, Takes};
 ghost use Rattle.pm_script.specs.Taking.{register_at, number_at, bytes_at, name_at, command_at, events_at, asked_at};
