@@ -5,10 +5,10 @@
 mod drawing;
 mod laws;
 mod lines;
-mod listing;
 mod making;
+mod script_lines;
 
 pub use drawing::Turn;
 pub use laws::{a_seed_gives_a_script, one_turn_from_seed_one, the_first_draws_from_seed_one};
-pub use listing::make_lines;
 pub use making::make;
+pub use script_lines::make_lines;

@@ -1,7 +1,7 @@
 use Rattle.std.proofs.Common.{◌≡◌}
 use Rattle.pm_make.specs.Drawing.{state_after}
 use Rattle.pm_make.specs.Made.{first_lines}
-use Rattle.pm_make.proofs.listing.make_lines.Given as goal
+use Rattle.pm_make.proofs.script_lines.make_lines.Given as goal
 
 -- the lines of the turns so far, and the state after them
 abbrev pub invariant-loop-turn : goal.invariant-loop-turn
