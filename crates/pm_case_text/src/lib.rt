@@ -16,8 +16,12 @@ pub use calls::{CallsOf, push_calls};
 pub use fault::{Fault, push_refused, refuse};
 pub use lines::{push_lines, script_text};
 pub use printed::{
-    push_bytes, push_case, push_number, push_said, push_text, push_value, push_value_line,
+    push_bytes, push_case, push_filled, push_number, push_said, push_text, push_value,
+    push_value_line, push_words,
 };
 pub use repeated::{Count, counted, written_out};
 pub use texts::Texts;
-pub use words::{first_word, is_silent, number, numbered, place, placed, raw_bytes, small};
+pub use words::{
+    first_word, is_silent, number, numbered, place, placed, raw_bytes, small, two_numbers,
+    word_and_number,
+};

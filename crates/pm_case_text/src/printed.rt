@@ -30,6 +30,28 @@ pub fn push_said(what: &str, number: u64, out: &mut String) -> Result<(), Fault>
     Ok(())
 }
 
+/// Adds words as they stand.
+pub fn push_words(words: &str, out: &mut String) -> Result<(), Fault> {
+    Ok(out.push_str(words)?)
+}
+
+// Adds the number that stands before the piece at a place, if there is one; none stands before the first piece.
+fn push_before(place: usize, numbers: &[u64], out: &mut String) -> Result<(), Fault> {
+    match numbers.get(place.wrapping_sub(1)) {
+        Some(number) => push_number(*number, out),
+        None => Ok(()),
+    }
+}
+
+/// Adds a text with these numbers in decimal, one after another, each in place of a `%`.
+pub fn push_filled(text: &str, numbers: &[u64], out: &mut String) -> Result<(), Fault> {
+    for (place, piece) in text.split('%').enumerate() {
+        push_before(place, numbers, out)?;
+        push_words(piece, out)?;
+    }
+    Ok(())
+}
+
 /// Adds a value as it is printed.
 pub fn push_value<T: Debug>(value: &T, out: &mut String) -> Result<(), Fault> {
     write!(out, "{value:?}")?;

@@ -39,6 +39,21 @@ pub fn numbered(text: &str) -> Result<(u64, &str), Fault> {
     Ok((number(first)?, rest))
 }
 
+/// A word, and the number behind one space.
+pub fn word_and_number(text: &str) -> Result<(&str, u64), Fault> {
+    let (word, rest) = first_word(text);
+    Ok((word, number(rest)?))
+}
+
+/// Two numbers with one space between them.
+pub fn two_numbers(text: &str) -> Result<(u64, u64), Fault> {
+    let (first, rest) = first_word(text);
+    match (number(first), number(rest)) {
+        (Ok(first), Ok(second)) => Ok((first, second)),
+        (Err(fault), _) | (_, Err(fault)) => Err(fault),
+    }
+}
+
 // Byte `at` of a page.
 fn place_in(page: u64, at: u64) -> Option<u64> {
     page.checked_mul(PAGE_BYTES as u64)?.checked_add(at)
