@@ -5,33 +5,29 @@ use pm_case_text::{CallsOf, Fault, first_word, number, push_calls, push_value, r
 use pm_guard::Guard;
 use std::alloc::Global;
 
-// `CAR:SLOT TRAIN`: notes an anchor.
+// `note CAR:SLOT TRAIN`: notes an anchor.
 fn note(guard: &mut Guard, text: &str) -> Result<(), Fault> {
-    let (at, train) = first_word(text);
-    guard.note(address(at)?, number(train)?);
-    Ok(())
-}
-
-// Makes a call, and adds what the anchor is then.
-fn push_call(guard: &mut Guard, text: &str, out: &mut String) -> Result<(), Fault> {
-    match first_word(text) {
-        ("note", rest) => note(guard, rest)?,
-        ("clear", _) => guard.clear(),
-        ("look", _) => {}
-        _ => return Err(refuse("no such call")),
+    let (call, rest) = first_word(text);
+    let (at, train) = first_word(rest);
+    match (call, address(at), number(train)) {
+        ("note", Ok(at), Ok(train)) => Ok(guard.note(at, train)),
+        _ => Err(refuse("no such call")),
     }
-    push_value(&guard.anchor(), out)
 }
 
 impl CallsOf<Guard> for Calls {
     fn call(_alloc: Global, called: &mut Guard, text: &str, out: &mut String) -> Result<(), Fault> {
-        push_call(called, text, out)
+        match text {
+            "look" => {}
+            "clear" => called.clear(),
+            _ => note(called, text)?,
+        }
+        push_value(&called.anchor(), out)
     }
 }
 
 /// `CALLS`: the calls, between ` / `, of a new anchor, which are `look`, `note CAR:SLOT TRAIN` and `clear`. After each
 /// of them the anchor.
 pub(crate) fn push_anchor(alloc: Global, text: &str, out: &mut String) -> Result<(), Fault> {
-    let mut guard = Guard::new();
-    push_calls::<Calls, _>(alloc, &mut guard, text, out)
+    push_calls::<Calls, _>(alloc, &mut Guard::new(), text, out)
 }

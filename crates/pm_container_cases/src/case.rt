@@ -2,27 +2,28 @@
 
 use crate::anchors::push_anchor;
 use crate::choosers::push_pick;
-use crate::numbers::{push_long_numbered, push_numbered};
-use crate::queues::{push_long_queue, push_queue};
+use crate::numbers::push_numbered;
+use crate::queues::push_queue;
 use crate::registers::push_registers;
-use crate::roots::{push_all_names, push_roots};
-use crate::sets::{push_gathered, push_long_gathered, push_long_set, push_set};
+use crate::roots::push_roots;
+use crate::sets::{push_gathered, push_set};
+use crate::spelling::push_same;
 use crate::tables::push_table;
-use crate::trains::{push_long_trains, push_trains};
-use pm_case_text::{Fault, first_word, is_silent, push_case, refuse};
+use crate::trains::push_trains;
+use crate::{numbers, queues, sets, trains};
+use pm_case_text::{Fault, first_word, is_silent, push_case, refuse, small};
+use pm_types::ROOTS;
 use std::alloc::Global;
 
 // A step: its first word, and what follows.
 fn push_step(alloc: Global, step: &str, text: &str, out: &mut String) -> Result<(), Fault> {
     match step {
         "case" => push_case(text, out),
-        "roots" => push_roots(alloc, text, out),
-        "names" => push_all_names(alloc, text, out),
+        "roots" => push_roots(alloc, 0, text, out),
+        "names" => push_roots(alloc, ROOTS, text, out),
         "table" => push_table(alloc, text, out),
         "set" => push_set(alloc, text, out),
-        "long-set" => push_long_set(alloc, text, out),
-        "queue" => push_queue(alloc, text, out),
-        "long-queue" => push_long_queue(alloc, text, out),
+        "gathered" => push_gathered(alloc, text, out),
         _ => push_small(alloc, step, text, out),
     }
 }
@@ -30,23 +31,36 @@ fn push_step(alloc: Global, step: &str, text: &str, out: &mut String) -> Result<
 // A step about a container that is small.
 fn push_small(alloc: Global, step: &str, text: &str, out: &mut String) -> Result<(), Fault> {
     match step {
+        "queue" => push_queue(alloc, text, out),
         "registers" => push_registers(alloc, text, out),
         "anchor" => push_anchor(alloc, text, out),
         "pick" => push_pick(alloc, text, out),
-        "gathered" => push_gathered(alloc, text, out),
-        "long-gathered" => push_long_gathered(alloc, text, out),
         "numbered" => push_numbered(alloc, text, out),
-        "long-numbered" => push_long_numbered(alloc, text, out),
-        _ => push_of_trains(alloc, step, text, out),
+        "trains" => push_trains(alloc, text, out),
+        _ => push_long(alloc, step, text, out),
     }
 }
 
-// A step about trains.
-fn push_of_trains(alloc: Global, step: &str, text: &str, out: &mut String) -> Result<(), Fault> {
+// Whether a container answers right in so many calls.
+fn is_right(alloc: Global, step: &str, count: u32, out: &mut String) -> Result<bool, Fault> {
     match step {
-        "trains" => push_trains(alloc, text, out),
-        "long-trains" => push_long_trains(alloc, text, out),
+        "long-numbered" => numbers::is_long_right(alloc, count),
+        "long-queue" => queues::is_long_right(alloc, count),
+        "long-set" => sets::is_long_right(alloc, count, false),
+        "long-gathered" => sets::is_long_right(alloc, count, true),
+        "long-trains" => trains::is_long_right(alloc, count, out),
         _ => Err(refuse("no such step")),
+    }
+}
+
+// A step that makes so many calls of a container.
+fn push_long(alloc: Global, step: &str, text: &str, out: &mut String) -> Result<(), Fault> {
+    match small(text) {
+        Ok(count) => {
+            let right = is_right(alloc, step, count, out);
+            push_same(right, out)
+        }
+        Err(_) => Err(refuse("no such step")),
     }
 }
 

@@ -2,68 +2,50 @@
 
 ghost use Rattle.std.specs.Prelude.{◌<◌, length};
 
-use pm_case_text::{Fault, first_word, number, push_number, refuse};
+use pm_case_text::{Fault, first_word, number, push_value_line, refuse};
 use pm_place::{Placement, first_of, last_of, middle_of};
 use std::alloc::Global;
 
-// The train that a chooser picks, which is `first`, `last`, `middle`, or the closure `second`.
-fn picked(chooser: &str, trains: &[u64]) -> Result<u64, Fault>
+// The place that a chooser answers, which is `first`, `last` or `middle`, and else the second one, where there is one.
+fn place_of(chooser: &str, trains: &[u64]) -> usize
     requires { 0 < length trains.now }
+    ensures { result < length trains.now }
 {
     match chooser {
-        "first" => Ok(first(trains)),
-        "last" => Ok(last(trains)),
-        "middle" => Ok(middle(trains)),
-        "second" => Ok(second(trains)),
-        _ => Err(refuse("no such chooser")),
+        "first" => first_of(trains),
+        "last" => last_of(trains),
+        "middle" => middle_of(trains),
+        _ => 1usize.min(trains.len() - 1),
     }
 }
 
-// The first train.
-fn first(trains: &[u64]) -> u64
+// The train that a chooser picks: a closure is a chooser.
+fn picked(chooser: &str, trains: &[u64]) -> u64
     requires { 0 < length trains.now }
 {
-    Placement::new(|trains: &[u64]| first_of(trains)).pick(trains)
-}
-
-// The last train.
-fn last(trains: &[u64]) -> u64
-    requires { 0 < length trains.now }
-{
-    Placement::new(|trains: &[u64]| last_of(trains)).pick(trains)
-}
-
-// The train in the middle.
-fn middle(trains: &[u64]) -> u64
-    requires { 0 < length trains.now }
-{
-    Placement::new(|trains: &[u64]| middle_of(trains)).pick(trains)
-}
-
-// The second train, where there is one: a closure is a chooser.
-fn second(trains: &[u64]) -> u64
-    requires { 0 < length trains.now }
-{
-    let most = 1usize;
-    Placement::new(move |trains: &[u64]| most.min(trains.len() - 1)).pick(trains)
+    Placement::new(move |trains: &[u64]| place_of(chooser, trains)).pick(trains)
 }
 
 // The numbers of trains.
 fn trains_of(alloc: Global, text: &str) -> Result<Vec<u64>, Fault> {
     let mut trains = Vec::new(alloc);
     for word in text.split(' ') {
-        trains.push(number(word)?)?;
+        match number(word) {
+            Ok(number) => trains.push(number)?,
+            Err(fault) => return Err(fault),
+        }
     }
     Ok(trains)
 }
 
 // Adds the train that a chooser picks.
 fn push_picked(chooser: &str, trains: &[u64], out: &mut String) -> Result<(), Fault> {
-    if trains.is_empty() {
-        return Err(refuse("no train"));
+    match chooser {
+        "first" | "last" | "middle" | "second" if !trains.is_empty() => {
+            push_value_line(&picked(chooser, trains), out)
+        }
+        _ => Err(refuse("no such chooser, or no train")),
     }
-    push_number(picked(chooser, trains)?, out)?;
-    Ok(out.push('\n')?)
 }
 
 /// `CHOOSER N ..`: the train that it picks of these.

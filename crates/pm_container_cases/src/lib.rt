@@ -3,6 +3,7 @@
 #![tactic(auto)]
 
 mod anchors;
+mod answers;
 mod case;
 mod choosers;
 mod numbers;

@@ -1,19 +1,10 @@
 //! Calls of values at numbers.
 
-use crate::spelling::{Calls, push_same};
-use pm_case_text::{
-    CallsOf, Fault, first_word, number, numbered, push_calls, push_value, refuse, small,
-};
+use crate::answers::{Answer, NumberCalls, Numbers};
+use pm_case_text::{Fault, numbered, push_calls, refuse};
 use pm_numbered::Numbered;
 use std::alloc::Global;
 use std::collections::BTreeMap;
-
-// `NUMBER VALUE`: this is the value of the number from now on.
-fn push_put(values: &mut Numbered<u64>, text: &str, out: &mut String) -> Result<(), Fault> {
-    let (at, value) = numbered(text)?;
-    let put = values.insert(at, number(value)?).is_ok();
-    push_value(&put, out)
-}
 
 // Changes the value of a number through what is lent; whether the number has one.
 fn is_changed(values: &mut Numbered<u64>, at: u64, value: u64) -> bool {
@@ -26,33 +17,26 @@ fn is_changed(values: &mut Numbered<u64>, at: u64, value: u64) -> bool {
     }
 }
 
-// `NUMBER VALUE`: the same.
-fn push_changed(values: &mut Numbered<u64>, text: &str, out: &mut String) -> Result<(), Fault> {
-    let (at, value) = numbered(text)?;
-    let changed = is_changed(values, at, number(value)?);
-    push_value(&changed, out)
-}
-
-// Makes a call, and adds what it answers.
-fn push_call(values: &mut Numbered<u64>, text: &str, out: &mut String) -> Result<(), Fault> {
-    match first_word(text) {
-        ("put", rest) => push_put(values, rest, out),
-        ("change", rest) => push_changed(values, rest, out),
-        ("take", rest) => push_value(&values.remove(number(rest)?), out),
-        ("get", rest) => push_value(&values.get(number(rest)?).copied(), out),
-        ("has", rest) => push_value(&values.has(number(rest)?), out),
-        _ => Err(refuse("no such call")),
+impl Numbers for Numbered<u64> {
+    fn with_none(&mut self, _alloc: Global, _call: &str) -> Result<Answer, Fault> {
+        Err(refuse("no such call"))
     }
-}
 
-impl CallsOf<Numbered<u64>> for Calls {
-    fn call(
-        _alloc: Global,
-        called: &mut Numbered<u64>,
-        text: &str,
-        out: &mut String,
-    ) -> Result<(), Fault> {
-        push_call(called, text, out)
+    fn with_one(&mut self, call: &str, at: u64) -> Result<Answer, Fault> {
+        match call {
+            "take" => Ok(Answer::Found(self.remove(at))),
+            "get" => Ok(Answer::Found(self.get(at).copied())),
+            "has" => Ok(Answer::Whether(self.has(at))),
+            _ => Err(refuse("no such call")),
+        }
+    }
+
+    fn with_two(&mut self, call: &str, at: u64, value: u64) -> Result<Answer, Fault> {
+        match call {
+            "put" => Ok(Answer::Whether(self.insert(at, value).is_ok())),
+            "change" => Ok(Answer::Whether(is_changed(self, at, value))),
+            _ => Err(refuse("no such call")),
+        }
     }
 }
 
@@ -61,7 +45,7 @@ impl CallsOf<Numbered<u64>> for Calls {
 pub(crate) fn push_numbered(alloc: Global, text: &str, out: &mut String) -> Result<(), Fault> {
     let (expected, calls) = numbered(text)?;
     let mut values = Numbered::expecting(alloc, expected as usize);
-    push_calls::<Calls, _>(alloc, &mut values, calls, out)
+    push_calls::<NumberCalls, _>(alloc, &mut values, calls, out)
 }
 
 // Values at numbers beside a plain map.
@@ -88,7 +72,7 @@ fn put(beside: &mut Beside, at: u64, turn: u32) -> Result<(), Fault> {
 
 // Whether both have the same at a number, and give it up alike where the turn is one of three.
 fn is_alike(beside: &mut Beside, at: u64, turn: u32) -> bool {
-    let same = beside.values.get(at).copied() == beside.map.get(&at).copied();
+    let same = beside.values.get(at) == beside.map.get(&at);
     if turn % 3 == 0 {
         return same && beside.values.remove(at) == beside.map.remove(&at);
     }
@@ -96,7 +80,7 @@ fn is_alike(beside: &mut Beside, at: u64, turn: u32) -> bool {
 }
 
 // Whether both answer alike in so many turns.
-fn agrees(beside: &mut Beside, count: u32) -> Result<bool, Fault> {
+fn answer_alike(beside: &mut Beside, count: u32) -> Result<bool, Fault> {
     let mut same = true;
     for turn in 0..count {
         put(beside, drawn(turn, count), turn)?;
@@ -108,13 +92,12 @@ fn agrees(beside: &mut Beside, count: u32) -> Result<bool, Fault> {
     Ok(same)
 }
 
-/// `N`: whether values at numbers answer as a plain map does, while N come at numbers near and far, some of them again,
-/// and some are taken out.
-pub(crate) fn push_long_numbered(alloc: Global, text: &str, out: &mut String) -> Result<(), Fault> {
+/// Whether values at numbers answer as a plain map does, while so many come at numbers near and far, some of them
+/// again, and some are taken out.
+pub(crate) fn is_long_right(alloc: Global, count: u32) -> Result<bool, Fault> {
     let mut beside = Beside {
         values: Numbered::new(alloc),
         map: BTreeMap::new(alloc),
     };
-    let same = agrees(&mut beside, small(text)?)?;
-    push_same(same, out)
+    answer_alike(&mut beside, count)
 }

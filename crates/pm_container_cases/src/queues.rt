@@ -1,22 +1,24 @@
 //! Calls of a queue of changes.
 
-use crate::spelling::{Calls, push_same, source};
-use pm_case_text::{CallsOf, Fault, first_word, push_calls, push_value, refuse, small};
+use crate::spelling::{Calls, source};
+use pm_case_text::{
+    CallsOf, Fault, first_word, push_calls, push_number, push_value, push_words, refuse, small,
+};
 use pm_delta::Queue;
 use pm_types::{Change, RefSource};
 use std::alloc::Global;
 
-// `SOURCE SLOT`, with `-` for no slot.
+// `push SOURCE SLOT`; where no number stands in place of the slot, there is none.
 fn change(text: &str) -> Result<Change, Fault> {
-    let (from, slot) = first_word(text);
-    Ok(Change {
-        source: source(from)?,
-        slot: if slot == "-" {
-            None
-        } else {
-            Some(small(slot)?)
-        },
-    })
+    let (call, rest) = first_word(text);
+    let (from, slot) = first_word(rest);
+    match (call, source(from)) {
+        ("push", Ok(source)) => Ok(Change {
+            source,
+            slot: small(slot).ok(),
+        }),
+        _ => Err(refuse("no such call")),
+    }
 }
 
 // Puts a change into the queue.
@@ -26,23 +28,20 @@ fn push(queue: &mut Queue, change: Change) -> Result<(), Fault> {
     Ok(())
 }
 
-// Makes a call, and adds what it answers.
-fn push_call(queue: &mut Queue, text: &str, out: &mut String) -> Result<(), Fault> {
-    match first_word(text) {
-        ("push", rest) => {
-            push(queue, change(rest)?)?;
-            Ok(out.push_str("ok")?)
-        }
-        ("pop", _) => push_value(&queue.pop(), out),
-        ("front", _) => push_value(&queue.front(), out),
-        ("len", _) => push_value(&queue.len(), out),
-        _ => Err(refuse("no such call")),
-    }
+// Puts the change that the text spells into the queue.
+fn push_put(queue: &mut Queue, text: &str, out: &mut String) -> Result<(), Fault> {
+    push(queue, change(text)?)?;
+    push_words("ok", out)
 }
 
 impl CallsOf<Queue> for Calls {
     fn call(_alloc: Global, called: &mut Queue, text: &str, out: &mut String) -> Result<(), Fault> {
-        push_call(called, text, out)
+        match text {
+            "pop" => push_value(&called.pop(), out),
+            "front" => push_value(&called.front(), out),
+            "len" => push_number(called.len(), out),
+            _ => push_put(called, text, out),
+        }
     }
 }
 
@@ -60,31 +59,34 @@ fn of_root(number: u32, slot: u32) -> Change {
     }
 }
 
+// Whether the change that leaves the queue is that of this turn.
+fn leaves(queue: &mut Queue, turn: u32) -> bool {
+    queue.pop() == Some(of_root(turn / 2, turn % 2 + 1))
+}
+
 // Puts two changes into the queue, and takes one out; whether it is the one that is due.
 fn is_turn_right(queue: &mut Queue, turn: u32) -> Result<bool, Fault> {
     push(queue, of_root(turn, 1))?;
     push(queue, of_root(turn, 2))?;
-    Ok(queue.pop() == Some(of_root(turn / 2, turn % 2 + 1)))
+    Ok(leaves(queue, turn))
 }
 
-// Whether changes leave the queue in the order in which they came, while two come for each that leaves, and then all
-// the others leave.
-fn is_right(queue: &mut Queue, turns: u32) -> Result<bool, Fault> {
+// Whether so many turns are right.
+fn are_turns_right(queue: &mut Queue, turns: u32) -> Result<bool, Fault> {
     let mut right = true;
     for turn in 0..turns {
         right &= is_turn_right(queue, turn)?;
     }
-    right &= queue.len() == turns as u64;
-    for left in turns..turns.saturating_mul(2) {
-        right &= queue.pop() == Some(of_root(left / 2, left % 2 + 1));
-    }
-    Ok(right && queue.pop().is_none())
+    Ok(right && queue.len() == turns as u64)
 }
 
-/// `N`: whether changes leave a queue in the order in which they came, while in each of N turns two come and one
+/// Whether changes leave a queue in the order in which they came, while in each of so many turns two come and one
 /// leaves, and then all the others leave.
-pub(crate) fn push_long_queue(alloc: Global, text: &str, out: &mut String) -> Result<(), Fault> {
+pub(crate) fn is_long_right(alloc: Global, turns: u32) -> Result<bool, Fault> {
     let mut queue = Queue::new(alloc);
-    let right = is_right(&mut queue, small(text)?)?;
-    push_same(right, out)
+    let mut right = are_turns_right(&mut queue, turns)?;
+    for left in turns..turns.saturating_mul(2) {
+        right &= leaves(&mut queue, left);
+    }
+    Ok(right && queue.pop().is_none())
 }

@@ -6,18 +6,10 @@ ghost use Rattle.pm_types.specs.declared.limits.TheConstants.{CLIENTS, REGISTERS
 use crate::spelling::{Calls, address};
 use pm_case_text::{CallsOf, Fault, first_word, push_calls, push_value, refuse, small};
 use pm_handles::Handles;
-use pm_types::{Addr, CLIENTS, REGISTERS};
+use pm_types::{CLIENTS, REGISTERS};
 use std::alloc::Global;
 
-// What a register holds from now on; `-` is nothing.
-fn held(text: &str) -> Result<Option<Addr>, Fault> {
-    if text == "-" {
-        return Ok(None);
-    }
-    Ok(Some(address(text)?))
-}
-
-// Makes a call of a register that there is.
+// Makes a call of a register that there is. It holds nothing from now on where what is set is no address.
 fn push_there(
     handles: &mut Handles,
     client: u32,
@@ -31,19 +23,7 @@ fn push_there(
     if value.is_empty() {
         return push_value(&handles.get(client, register), out);
     }
-    let at = held(value)?;
-    push_value(&handles.set(client, register, at), out)
-}
-
-// `CLIENT REGISTER` asks for what the register holds; an address behind it, or `-`, is set.
-fn push_call(handles: &mut Handles, text: &str, out: &mut String) -> Result<(), Fault> {
-    let (client, rest) = first_word(text);
-    let (register, value) = first_word(rest);
-    let (client, register) = (small(client)?, small(register)?);
-    if client >= CLIENTS || register >= REGISTERS {
-        return Err(refuse("no register"));
-    }
-    push_there(handles, client, register, value, out)
+    push_value(&handles.set(client, register, address(value).ok()), out)
 }
 
 impl CallsOf<Handles> for Calls {
@@ -53,7 +33,14 @@ impl CallsOf<Handles> for Calls {
         text: &str,
         out: &mut String,
     ) -> Result<(), Fault> {
-        push_call(called, text, out)
+        let (client, rest) = first_word(text);
+        let (register, value) = first_word(rest);
+        match (small(client), small(register)) {
+            (Ok(client), Ok(register)) if client < CLIENTS && register < REGISTERS => {
+                push_there(called, client, register, value, out)
+            }
+            _ => Err(refuse("no register")),
+        }
     }
 }
 

@@ -1,7 +1,9 @@
 //! Calls of a remembered set.
 
-use crate::spelling::{Calls, push_same, source};
-use pm_case_text::{CallsOf, Fault, first_word, push_calls, push_value, refuse, small};
+use crate::spelling::{Calls, source, source_and_slot};
+use pm_case_text::{
+    CallsOf, Fault, first_word, push_calls, push_number, push_value, push_words, refuse, small,
+};
 use pm_remset::{Gathering, Remset};
 use pm_types::{Addr, RefSource};
 use std::alloc::Global;
@@ -9,9 +11,25 @@ use std::collections::BTreeMap;
 
 // `SOURCE SLOT`: the source names the slot.
 fn push_put(set: &mut Remset, text: &str, out: &mut String) -> Result<(), Fault> {
-    let (from, slot) = first_word(text);
-    set.put(source(from)?, small(slot)?)?;
-    Ok(out.push_str("ok")?)
+    match source_and_slot(text) {
+        Ok((source, slot)) => set.put(source, slot)?,
+        Err(fault) => return Err(fault),
+    }
+    push_words("ok", out)
+}
+
+// Makes a call about a source.
+fn push_of_source(
+    set: &mut Remset,
+    call: &str,
+    from: RefSource,
+    out: &mut String,
+) -> Result<(), Fault> {
+    match call {
+        "take" => push_value(&set.take(from), out),
+        "at-or-after" => push_value(&set.at_or_after(from), out),
+        _ => Err(refuse("no such call")),
+    }
 }
 
 // Adds the sources of a slot.
@@ -27,40 +45,50 @@ fn push_of(alloc: Global, set: &Remset, slot: u32, out: &mut String) -> Result<(
     Ok(())
 }
 
-// Makes a call that changes nothing, and adds what it answers.
-fn push_look(alloc: Global, set: &Remset, text: &str, out: &mut String) -> Result<(), Fault> {
-    match first_word(text) {
-        ("least-of", rest) => push_value(&set.least_of(small(rest)?), out),
-        ("at-or-after", rest) => push_value(&set.at_or_after(source(rest)?), out),
-        ("of", rest) => push_of(alloc, set, small(rest)?, out),
-        ("len", _) => push_value(&set.len(), out),
-        _ => push_next(set, text, out),
-    }
+// Adds the first source whose slot is, or is not, this one.
+fn push_next(set: &Remset, wanted: u32, same: bool, out: &mut String) -> Result<(), Fault> {
+    push_value(&set.next_where(|_, slot| (slot == wanted) == same), out)
 }
 
-// Adds the first source whose slot is, or is not, this one.
-fn push_next(set: &Remset, text: &str, out: &mut String) -> Result<(), Fault> {
-    let (call, rest) = first_word(text);
-    let wanted = small(rest)?;
+// Makes a call about a slot.
+fn push_of_slot(
+    alloc: Global,
+    set: &Remset,
+    call: &str,
+    slot: u32,
+    out: &mut String,
+) -> Result<(), Fault> {
     match call {
-        "next-of" => push_value(&set.next_where(|_, slot| slot == wanted), out),
-        "next-not-of" => push_value(&set.next_where(|_, slot| slot != wanted), out),
+        "least-of" => push_value(&set.least_of(slot), out),
+        "of" => push_of(alloc, set, slot, out),
+        "next-of" => push_next(set, slot, true, out),
+        "next-not-of" => push_next(set, slot, false, out),
         _ => Err(refuse("no such call")),
     }
 }
 
-// Makes a call, and adds what it answers.
-fn push_call(alloc: Global, set: &mut Remset, text: &str, out: &mut String) -> Result<(), Fault> {
-    match first_word(text) {
-        ("put", rest) => push_put(set, rest, out),
-        ("take", rest) => push_value(&set.take(source(rest)?), out),
-        _ => push_look(alloc, set, text, out),
+// Makes a call of a source or of a slot.
+fn push_call(
+    alloc: Global,
+    set: &mut Remset,
+    call: &str,
+    text: &str,
+    out: &mut String,
+) -> Result<(), Fault> {
+    match (source(text), small(text)) {
+        (Ok(from), _) => push_of_source(set, call, from, out),
+        (_, Ok(slot)) => push_of_slot(alloc, set, call, slot, out),
+        _ => Err(refuse("no such call")),
     }
 }
 
 impl CallsOf<Remset> for Calls {
     fn call(alloc: Global, called: &mut Remset, text: &str, out: &mut String) -> Result<(), Fault> {
-        push_call(alloc, called, text, out)
+        match first_word(text) {
+            ("len", _) => push_number(called.len(), out),
+            ("put", rest) => push_put(called, rest, out),
+            (call, rest) => push_call(alloc, called, call, rest, out),
+        }
     }
 }
 
@@ -71,24 +99,37 @@ pub(crate) fn push_set(alloc: Global, text: &str, out: &mut String) -> Result<()
     push_calls::<Calls, _>(alloc, &mut set, text, out)
 }
 
+// `SOURCE SLOT`: tells that the source names the slot.
+fn tell(gathering: &mut Gathering, text: &str) -> Result<(), Fault> {
+    match source_and_slot(text) {
+        Ok((source, slot)) => Ok(gathering.put(source, slot)?),
+        Err(fault) => Err(fault),
+    }
+}
+
+// Tells all that stands between commas.
+fn tell_all(gathering: &mut Gathering, text: &str) -> Result<(), Fault> {
+    for told in text.split(',') {
+        tell(gathering, told.trim())?;
+    }
+    Ok(())
+}
+
 // A set that is made at once of what it is told: `SOURCE SLOT`, between `, `.
 fn gather(alloc: Global, text: &str) -> Result<Remset, Fault> {
     let mut gathering = Gathering::new(alloc);
-    for told in text.split(", ") {
-        let (from, slot) = first_word(told);
-        gathering.put(source(from)?, small(slot)?)?;
-    }
+    tell_all(&mut gathering, text)?;
     Ok(gathering.into_set(alloc)?)
 }
 
 /// `TOLD / CALLS`: the calls, as those of `push_set`, of a set that is made at once of what it is told: `SOURCE SLOT`,
 /// between `, `.
 pub(crate) fn push_gathered(alloc: Global, text: &str, out: &mut String) -> Result<(), Fault> {
-    let Some((told, calls)) = text.split_once(" / ") else {
-        return Err(refuse("no call"));
-    };
-    let mut set = gather(alloc, told)?;
-    push_calls::<Calls, _>(alloc, &mut set, calls, out)
+    let (told, calls) = text.split_once('/').unwrap_or((text, ""));
+    match gather(alloc, told) {
+        Ok(mut set) => push_calls::<Calls, _>(alloc, &mut set, calls.trim_start(), out),
+        Err(fault) => Err(fault),
+    }
 }
 
 // A remembered set, and a plain map beside it.
@@ -180,39 +221,31 @@ fn gathered_of(alloc: Global, count: u32) -> Result<Remset, Fault> {
     Ok(gathering.into_set(alloc)?)
 }
 
-// Whether a set answers as a plain map does.
-fn agrees(alloc: Global, beside: &mut Beside, count: u32) -> Result<bool, Fault> {
+// Puts so many sources over 100 slots into both. The set is then made at once, where each source was told another slot
+// before, or half of the sources are put again under other slots.
+fn fill(alloc: Global, beside: &mut Beside, count: u32, at_once: bool) -> Result<(), Fault> {
     put_all(beside, count, 100)?;
-    put_all(beside, count / 2, 7)?;
-    let mut same = is_alike(beside);
-    same &= is_taken_alike(beside, count);
-    same &= is_alike(beside);
+    if at_once {
+        beside.set = gathered_of(alloc, count)?;
+        return Ok(());
+    }
+    put_all(beside, count / 2, 7)
+}
+
+// Whether both answer alike, before and after a quarter is taken out in another order. The last sources stay.
+fn stay_alike(alloc: Global, beside: &mut Beside, count: u32) -> Result<bool, Fault> {
+    let same = is_alike(beside) && is_taken_alike(beside, count) && is_alike(beside);
     Ok(same && count_of(alloc, &beside.set)? == beside.map.len())
 }
 
-/// `N`: whether a set answers as a plain map does, while N sources are put over 100 slots, half of them again under
-/// other slots, and a quarter is taken out in another order. The last sources stay.
-pub(crate) fn push_long_set(alloc: Global, text: &str, out: &mut String) -> Result<(), Fault> {
+/// Whether a set of so many sources, which may be made at once, answers as a plain map does.
+pub(crate) fn is_long_right(alloc: Global, count: u32, at_once: bool) -> Result<bool, Fault> {
     let mut beside = Beside {
         set: Remset::new(alloc),
         map: BTreeMap::new(alloc),
     };
-    let same = agrees(alloc, &mut beside, small(text)?)?;
-    push_same(same, out)
-}
-
-/// `N`: whether a set that is made at once answers as a plain map does: of N sources over 100 slots, each of which was
-/// told another slot before; then a quarter is taken out.
-pub(crate) fn push_long_gathered(alloc: Global, text: &str, out: &mut String) -> Result<(), Fault> {
-    let count = small(text)?;
-    let mut beside = Beside {
-        set: Remset::new(alloc),
-        map: BTreeMap::new(alloc),
-    };
-    put_all(&mut beside, count, 100)?;
-    beside.set = gathered_of(alloc, count)?;
-    let mut same = is_alike(&beside);
-    same &= is_taken_alike(&mut beside, count);
-    same &= is_alike(&beside);
-    push_same(same, out)
+    match fill(alloc, &mut beside, count, at_once) {
+        Ok(()) => stay_alike(alloc, &mut beside, count),
+        Err(fault) => Err(fault),
+    }
 }

@@ -3,10 +3,9 @@
 ghost use Rattle.std.specs.Prelude.{◌≡◌, ◌<◌, ◌==◌, ℕ, true, false, None, IsSome, length, slice_index_or, OnOk};
 ghost use Rattle.pm_trains.specs.Trains.{cars_at, empty_train, is_among, train_of};
 
-use crate::spelling::{Calls, push_same};
-use pm_case_text::{
-    CallsOf, Fault, first_word, number, numbered, push_calls, push_said, push_value, refuse, small,
-};
+use crate::answers::{Answer, NumberCalls, Numbers};
+use crate::spelling::Calls;
+use pm_case_text::{CallsOf, Fault, push_calls, push_number, push_said, refuse};
 use pm_trains::{BIRTHS, MOST_TRAINS, Trains};
 use std::alloc::Global;
 use std::fmt::Write;
@@ -40,58 +39,34 @@ fn is_standing(trains: &Trains, train: u64) -> bool
     if train == trains.youngest() {
         return true;
     }
-    match trains.first_car(train) {
-        Some(_) => true,
-        None => false,
-    }
-}
-
-// Puts a car at the end of a train.
-fn append(trains: &mut Trains, train: u64, car: u64) -> Result<(), Fault> {
-    if !is_standing(trains, train) {
-        return Err(refuse("no train"));
-    }
-    if !is_free(trains, car) {
-        return Err(refuse("the car stands"));
-    }
-    Ok(trains.append_car(train, car)?)
-}
-
-// `TRAIN CAR`: puts the car at the end of the train.
-fn push_appended(trains: &mut Trains, text: &str, out: &mut String) -> Result<(), Fault> {
-    let (train, car) = numbered(text)?;
-    append(trains, train, number(car)?)?;
-    Ok(out.push_str("ok")?)
+    trains.first_car(train).is_some()
 }
 
 // Opens a new train, and answers its number.
-fn rotate(alloc: Global, trains: &mut Trains) -> Result<u64, Fault> {
+fn rotate(alloc: Global, trains: &mut Trains) -> Result<Answer, Fault> {
     let open = trains.youngest();
-    let Some(_) = trains.first_car(open) else {
-        return Err(refuse("no car"));
-    };
-    if open >= MOST_TRAINS {
-        return Err(refuse("too many trains"));
+    if trains.first_car(open).is_none() || open >= MOST_TRAINS {
+        return Err(refuse("no car, or too many trains"));
     }
-    Ok(trains.rotate(alloc)?)
+    Ok(Answer::Number(trains.rotate(alloc)?))
 }
 
 // Takes the first car of a train out of it.
-fn remove(trains: &mut Trains, train: u64) -> Result<(), Fault> {
-    let Some(_) = trains.first_car(train) else {
+fn remove(trains: &mut Trains, train: u64) -> Result<Answer, Fault> {
+    if trains.first_car(train).is_none() {
         return Err(refuse("no car"));
-    };
+    }
     trains.remove_first(train);
-    Ok(())
+    Ok(Answer::Done)
 }
 
 // One more object is born in the open train.
-fn bear(trains: &mut Trains) -> Result<(), Fault> {
+fn bear(trains: &mut Trains) -> Result<Answer, Fault> {
     if trains.births() >= BIRTHS {
         return Err(refuse("too many births"));
     }
     trains.born();
-    Ok(())
+    Ok(Answer::Done)
 }
 
 // The train in which the first car of this train is found.
@@ -125,57 +100,48 @@ fn push_trains_there(trains: &Trains, out: &mut String) -> Result<(), Fault> {
     for place in 0..trains.len() {
         push_train(trains, place, out)?;
     }
-    push_value(&trains.births(), out)
+    push_number(trains.births() as u64, out)
 }
 
-// Makes a call about one train that changes nothing, and adds what it answers.
-fn push_of_train(trains: &Trains, text: &str, out: &mut String) -> Result<(), Fault> {
-    match first_word(text) {
-        ("first", rest) => push_value(&trains.first_car(number(rest)?), out),
-        ("last", rest) => push_value(&trains.tail(number(rest)?), out),
-        ("of-first", rest) => push_value(&of_first(trains, number(rest)?), out),
-        ("of-last", rest) => push_value(&of_last(trains, number(rest)?), out),
-        _ => Err(refuse("no such call")),
+impl Numbers for Trains {
+    fn with_none(&mut self, alloc: Global, call: &str) -> Result<Answer, Fault> {
+        match call {
+            "rotate" => rotate(alloc, self),
+            "born" => bear(self),
+            "len" => Ok(Answer::Number(self.len())),
+            "births" => Ok(Answer::Number(self.births() as u64)),
+            "oldest" => Ok(Answer::Found(self.oldest())),
+            "youngest" => Ok(Answer::Number(self.youngest())),
+            _ => Err(refuse("no such call")),
+        }
     }
-}
 
-// Makes a call that changes nothing, and adds what it answers.
-fn push_look(trains: &Trains, text: &str, out: &mut String) -> Result<(), Fault> {
-    match text {
-        "look" => push_trains_there(trains, out),
-        "len" => push_value(&trains.len(), out),
-        "births" => push_value(&trains.births(), out),
-        "oldest" => push_value(&trains.oldest(), out),
-        "youngest" => push_value(&trains.youngest(), out),
-        _ => push_of_train(trains, text, out),
+    fn with_one(&mut self, call: &str, train: u64) -> Result<Answer, Fault> {
+        match call {
+            "remove" => remove(self, train),
+            "first" => Ok(Answer::Found(self.first_car(train))),
+            "last" => Ok(Answer::Found(self.tail(train))),
+            "of-first" => Ok(Answer::Found(of_first(self, train))),
+            "of-last" => Ok(Answer::Found(of_last(self, train))),
+            _ => Err(refuse("no such call")),
+        }
     }
-}
 
-// Adds that a call was made.
-fn push_done(done: Result<(), Fault>, out: &mut String) -> Result<(), Fault> {
-    done?;
-    Ok(out.push_str("ok")?)
-}
-
-// Makes a call, and adds what it answers.
-fn push_call(
-    alloc: Global,
-    trains: &mut Trains,
-    text: &str,
-    out: &mut String,
-) -> Result<(), Fault> {
-    match first_word(text) {
-        ("append", rest) => push_appended(trains, rest, out),
-        ("rotate", _) => push_value(&rotate(alloc, trains)?, out),
-        ("remove", rest) => push_done(remove(trains, number(rest)?), out),
-        ("born", _) => push_done(bear(trains), out),
-        _ => push_look(trains, text, out),
+    fn with_two(&mut self, call: &str, train: u64, car: u64) -> Result<Answer, Fault> {
+        if call != "append" || !is_standing(self, train) || !is_free(self, car) {
+            return Err(refuse("no such call, or no place"));
+        }
+        self.append_car(train, car)?;
+        Ok(Answer::Done)
     }
 }
 
 impl CallsOf<Trains> for Calls {
     fn call(alloc: Global, called: &mut Trains, text: &str, out: &mut String) -> Result<(), Fault> {
-        push_call(alloc, called, text, out)
+        match text {
+            "look" => push_trains_there(called, out),
+            _ => NumberCalls::call(alloc, called, text, out),
+        }
     }
 }
 
@@ -236,11 +202,10 @@ fn is_emptied_in_order(trains: &mut Trains, count: u32) -> bool {
     right && trains.len() == 1 && trains.oldest().is_none()
 }
 
-/// `N`: N cars are put into trains of seven each, and are taken out again, the first car of the oldest train each time.
-/// How many trains there were, and whether each car came in its turn.
-pub(crate) fn push_long_trains(alloc: Global, text: &str, out: &mut String) -> Result<(), Fault> {
-    let count = small(text)?;
+/// So many cars are put into trains of seven each, and are taken out again, the first car of the oldest train each time.
+/// Adds how many trains there were, and answers whether each car came in its turn.
+pub(crate) fn is_long_right(alloc: Global, count: u32, out: &mut String) -> Result<bool, Fault> {
     let mut trains = filled(alloc, count)?;
     push_said("trains", trains.len(), out)?;
-    push_same(is_emptied_in_order(&mut trains, count), out)
+    Ok(is_emptied_in_order(&mut trains, count))
 }

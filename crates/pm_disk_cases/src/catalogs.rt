@@ -1,40 +1,56 @@
 //! Pages of catalogs that are read and written.
 
-ghost use Rattle.std.specs.Prelude.{None};
+ghost use Rattle.std.specs.Prelude.{◌≡◌, length, None};
+ghost use Rattle.pm_types.specs.declared.limits.TheConstants.{PAGE_BYTES};
 ghost use Rattle.pm_image.specs.CatalogPages.{HasCatalogPage, nothing_met};
 
-use pm_case_text::{Fault, number, numbered, push_bytes, push_value_line, refuse};
+use crate::spelling::{push_again, push_around};
+use pm_case_text::{Fault, push_filled, push_said, push_value_line, refuse, two_numbers};
 use pm_image::{CatEntry, CatalogPage, Met, read_catalog, read_catalog_in, write_catalog};
-use pm_types::PAGE_BYTES;
+use pm_types::{Addr, Name, PAGE_BYTES};
 use std::alloc::Global;
-use std::fmt::Write;
+
+// Whether the page is written so again.
+fn is_again(alloc: Global, page: &[u8], read: &CatalogPage) -> Result<bool, Fault>
+    requires { HasCatalogPage None nothing_met read.now }
+{
+    match write_catalog(alloc, read) {
+        Ok(written) => Ok(written.as_slice() == page),
+        Err(_) => Err(refuse("no memory")),
+    }
+}
 
 // Adds what a page says of the next one, how many entries it has, and whether it is written so again.
 fn push_found(alloc: Global, page: &[u8], read: &CatalogPage, out: &mut String) -> Result<(), Fault>
     requires { HasCatalogPage None nothing_met read.now }
 {
-    let written = write_catalog(alloc, read)?;
-    let again = if written.as_slice() == page {
-        "the same"
-    } else {
-        "another"
-    };
-    let (next, entries) = (read.next, read.entries.as_slice().len());
-    write!(out, "next {next}, digest ")?;
-    push_bytes(alloc, &read.digest, out)?;
-    writeln!(out, ", entries {entries}, written {again}")?;
-    Ok(())
+    let entries = read.entries.as_slice().len() as u64;
+    push_around(
+        alloc,
+        "next %, digest ",
+        &[read.next],
+        &read.digest,
+        ", ",
+        out,
+    )?;
+    push_filled("entries %, written ", &[entries], out)?;
+    push_again(is_again(alloc, page, read), out)
 }
 
 /// The page of a catalog.
-pub(crate) fn push_catalog(alloc: Global, page: &[u8], out: &mut String) -> Result<(), Fault> {
-    if page.len() != PAGE_BYTES {
-        return Err(refuse("no page"));
-    }
+pub(crate) fn push_catalog(alloc: Global, page: &[u8], out: &mut String) -> Result<(), Fault>
+    requires { length page.now ≡ PAGE_BYTES }
+{
     match read_catalog(alloc, page) {
         Ok(read) => push_found(alloc, page, &read, out),
         Err(fault) => push_value_line(&fault, out),
     }
+}
+
+// Adds a root.
+fn push_root(alloc: Global, name: &Name, at: Addr, out: &mut String) -> Result<(), Fault> {
+    push_around(alloc, "root ", &[], name.as_slice(), ", ", out)?;
+    push_value_line(&at, out)
 }
 
 // Adds an entry.
@@ -46,16 +62,11 @@ fn push_entry(alloc: Global, entry: &CatEntry, out: &mut String) -> Result<(), F
             page,
             digest,
         } => {
-            write!(out, "car {car}, train {train}, page {page}, digest ")?;
-            push_bytes(alloc, digest, out)?;
+            let text = "car %, train %, page %, digest ";
+            push_around(alloc, text, &[*car, *train, *page], digest, "\n", out)
         }
-        CatEntry::Root { name, at } => {
-            out.push_str("root ")?;
-            push_bytes(alloc, name.as_slice(), out)?;
-            write!(out, ", {at:?}")?;
-        }
+        CatEntry::Root { name, at } => push_root(alloc, name, *at, out),
     }
-    Ok(out.push('\n')?)
 }
 
 // Adds the entries of a page.
@@ -67,10 +78,9 @@ fn push_all(alloc: Global, read: &CatalogPage, out: &mut String) -> Result<(), F
 }
 
 /// Its entries.
-pub(crate) fn push_entries(alloc: Global, page: &[u8], out: &mut String) -> Result<(), Fault> {
-    if page.len() != PAGE_BYTES {
-        return Err(refuse("no page"));
-    }
+pub(crate) fn push_entries(alloc: Global, page: &[u8], out: &mut String) -> Result<(), Fault>
+    requires { length page.now ≡ PAGE_BYTES }
+{
     match read_catalog(alloc, page) {
         Ok(read) => push_all(alloc, &read, out),
         Err(fault) => push_value_line(&fault, out),
@@ -84,13 +94,28 @@ fn push_read_in(
     count: u64,
     met: &mut Met,
     out: &mut String,
-) -> Result<(), Fault> {
-    if page.len() != PAGE_BYTES {
-        return Err(refuse("no page"));
-    }
+) -> Result<(), Fault>
+    requires { length page.now ≡ PAGE_BYTES }
+{
     match read_catalog_in(alloc, page, count, met) {
-        Ok(read) => Ok(writeln!(out, "entries {}", read.entries.as_slice().len())?),
+        Ok(read) => push_said("entries", read.entries.as_slice().len() as u64, out),
         Err(fault) => push_value_line(&fault, out),
+    }
+}
+
+// The page of a catalog that begins with this page, in a store of so many pages.
+fn push_beginning_at(
+    alloc: Global,
+    page: &[u8],
+    count: u64,
+    first: u64,
+    out: &mut String,
+) -> Result<(), Fault>
+    requires { length page.now ≡ PAGE_BYTES }
+{
+    match Met::beginning_at(alloc, first) {
+        Ok(mut met) => push_read_in(alloc, page, count, &mut met, out),
+        Err(_) => Err(refuse("no memory")),
     }
 }
 
@@ -101,7 +126,10 @@ pub(crate) fn push_catalog_in(
     text: &str,
     out: &mut String,
 ) -> Result<(), Fault> {
-    let (count, first) = numbered(text)?;
-    let mut met = Met::beginning_at(alloc, number(first)?)?;
-    push_read_in(alloc, page, count, &mut met, out)
+    match two_numbers(text) {
+        Ok((count, first)) if page.len() == PAGE_BYTES => {
+            push_beginning_at(alloc, page, count, first, out)
+        }
+        _ => Err(refuse("no page")),
+    }
 }

@@ -2,16 +2,23 @@
 
 ghost use Rattle.pm_layout.specs.Headers.{HasHeaderSpelling};
 
-use pm_case_text::{Fault, push_bytes, push_value_line, raw_bytes, refuse};
+use crate::spelling::{push_again, push_around};
+use pm_case_text::{Fault, push_bytes, push_value_line, push_words, raw_bytes, refuse};
 use pm_layout::{Header, HeaderFault, digest, read_header, write_header};
 use std::alloc::Global;
-use std::fmt::Write;
+
+// Adds a digest, and ends the line.
+fn push_sum(alloc: Global, sum: &[u8; 32], out: &mut String) -> Result<(), Fault> {
+    push_bytes(alloc, sum, out)?;
+    push_words("\n", out)
+}
 
 /// `HEX`: the digest of these bytes.
 pub(crate) fn push_digest(alloc: Global, text: &str, out: &mut String) -> Result<(), Fault> {
-    let made = digest(raw_bytes(alloc, text)?.as_slice());
-    push_bytes(alloc, &made, out)?;
-    Ok(out.push('\n')?)
+    match raw_bytes(alloc, text) {
+        Ok(bytes) => push_sum(alloc, &digest(bytes.as_slice()), out),
+        Err(fault) => Err(fault),
+    }
 }
 
 /// The digest of the first 64 of 96 bytes stands behind them.
@@ -26,35 +33,24 @@ pub(crate) fn seal(all: &mut [u8]) -> Result<(), Fault> {
     Ok(())
 }
 
+// Adds what a header says.
+fn push_says(alloc: Global, header: &Header, out: &mut String) -> Result<(), Fault> {
+    let numbers = [
+        header.version as u64,
+        header.epoch as u64,
+        header.next,
+        header.first,
+    ];
+    let text = "version %, copy %, next %, first %, digest ";
+    push_around(alloc, text, &numbers, &header.digest, ", written ", out)
+}
+
 // Adds what a header says, and whether it is written so again.
 fn push_found(alloc: Global, all: &[u8; 96], header: &Header, out: &mut String) -> Result<(), Fault>
     requires { HasHeaderSpelling header.now }
 {
-    let again = if write_header(header) == *all {
-        "the same"
-    } else {
-        "another"
-    };
-    push_numbers(header, out)?;
-    push_bytes(alloc, &header.digest, out)?;
-    writeln!(out, ", written {again}")?;
-    Ok(())
-}
-
-// Adds the numbers of a header.
-fn push_numbers(header: &Header, out: &mut String) -> Result<(), Fault> {
-    let Header {
-        version,
-        epoch,
-        next,
-        first,
-        ..
-    } = header;
-    write!(
-        out,
-        "version {version}, copy {epoch}, next {next}, first {first}, digest "
-    )?;
-    Ok(())
+    push_says(alloc, header, out)?;
+    push_again(Ok(write_header(header) == *all), out)
 }
 
 // Adds two digests that differ.
@@ -64,26 +60,16 @@ fn push_digests(
     found: &[u8; 32],
     out: &mut String,
 ) -> Result<(), Fault> {
-    out.push_str("digest kept ")?;
-    push_bytes(alloc, kept, out)?;
-    out.push_str(", found ")?;
-    push_bytes(alloc, found, out)?;
-    Ok(out.push('\n')?)
+    push_around(alloc, "digest kept ", &[], kept, ", found ", out)?;
+    push_sum(alloc, found, out)
 }
 
-// Adds why no header was read.
-fn push_fault(alloc: Global, fault: &HeaderFault, out: &mut String) -> Result<(), Fault> {
-    match fault {
-        HeaderFault::Digest { kept, found } => push_digests(alloc, kept, found, out),
-        _ => push_value_line(fault, out),
-    }
-}
-
-// The header that these 96 bytes are.
+// The header that these 96 bytes are, or why they are none.
 fn push_read(alloc: Global, all: &[u8; 96], out: &mut String) -> Result<(), Fault> {
     match read_header(all) {
         Ok(header) => push_found(alloc, all, &header, out),
-        Err(fault) => push_fault(alloc, &fault, out),
+        Err(HeaderFault::Digest { kept, found }) => push_digests(alloc, &kept, &found, out),
+        Err(fault) => push_value_line(&fault, out),
     }
 }
 

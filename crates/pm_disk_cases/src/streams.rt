@@ -1,39 +1,19 @@
 //! Calls of streams: in memory, and over readers and writers.
 
-use crate::spelling::{Calls, numbers};
+use crate::spelling::{Calls, numbers, push_around, push_done};
 use pm_case_text::{
-    CallsOf, Fault, first_word, number, numbered, push_bytes, push_calls, push_number, push_value,
-    raw_bytes, refuse,
+    CallsOf, Fault, first_word, number, numbered, push_bytes, push_calls, push_filled, push_number,
+    push_said, push_value, push_words, raw_bytes, refuse,
 };
-use pm_io::{Failed, MemSink, MemSource, Sink, Source, StdSink, StdSource, read_all};
+use pm_io::{MemSink, MemSource, Sink, Source, StdSink, StdSource, read_all};
 use std::alloc::Global;
 use std::io::{self, Error, ErrorKind, Read, Write};
 
-// Adds what a call answered that answers nothing.
-fn push_done(done: Result<(), Failed>, out: &mut String) -> Result<(), Fault> {
-    out.push_str(if done.is_ok() { "ok" } else { "failed" })?;
-    Ok(())
-}
-
 // Adds all that a source still gives.
-fn push_all<S: Source>(alloc: Global, source: &mut S, out: &mut String) -> Result<(), Fault> {
+fn push_all(alloc: Global, source: &mut MemSource, out: &mut String) -> Result<(), Fault> {
     match read_all(alloc, source) {
         Ok(all) => push_bytes(alloc, all.as_slice(), out),
         Err(why) => push_value(&why, out),
-    }
-}
-
-// Makes a call of a source.
-fn push_source_call(
-    alloc: Global,
-    source: &mut MemSource,
-    call: &str,
-    out: &mut String,
-) -> Result<(), Fault> {
-    match call {
-        "all" => push_all(alloc, source, out),
-        "faults" => push_number(source.faults(), out),
-        _ => Err(refuse("no such call")),
     }
 }
 
@@ -44,7 +24,11 @@ impl CallsOf<MemSource> for Calls {
         text: &str,
         out: &mut String,
     ) -> Result<(), Fault> {
-        push_source_call(alloc, called, text, out)
+        match text {
+            "all" => push_all(alloc, called, out),
+            "faults" => push_number(called.faults(), out),
+            _ => Err(refuse("no such call")),
+        }
     }
 }
 
@@ -67,44 +51,29 @@ fn push_put<S: Sink>(
     out: &mut String,
 ) -> Result<(), Fault> {
     let from = raw_bytes(alloc, text)?;
-    push_done(sink.put(from.as_slice()), out)
+    push_done(sink.put(from.as_slice()).is_ok(), out)
 }
 
-// Makes a call of any sink.
-fn push_sink_call<S: Sink>(
-    alloc: Global,
-    sink: &mut S,
-    text: &str,
-    out: &mut String,
-) -> Result<(), Fault> {
-    let (call, rest) = first_word(text);
-    match call {
-        "put" => push_put(alloc, sink, rest, out),
-        "finish" => push_done(sink.finish(), out),
-        "faults" => push_number(sink.faults(), out),
-        _ => Err(refuse("no such call")),
-    }
-}
+// How the calls of any sink are spelled.
+struct SinkCalls;
 
-impl CallsOf<MemSink> for Calls {
-    fn call(
-        alloc: Global,
-        called: &mut MemSink,
-        text: &str,
-        out: &mut String,
-    ) -> Result<(), Fault> {
-        push_sink_call(alloc, called, text, out)
+impl<S: Sink> CallsOf<S> for SinkCalls {
+    fn call(alloc: Global, called: &mut S, text: &str, out: &mut String) -> Result<(), Fault> {
+        let (call, rest) = first_word(text);
+        match call {
+            "put" => push_put(alloc, called, rest, out),
+            "finish" => push_done(called.finish().is_ok(), out),
+            "faults" => push_number(called.faults(), out),
+            _ => Err(refuse("no such call")),
+        }
     }
 }
 
 // Adds what a sink in memory holds, how much of it is finished, and how many calls were refused memory.
 fn push_sink_state(alloc: Global, sink: &MemSink, out: &mut String) -> Result<(), Fault> {
-    out.push_str("written ")?;
-    push_bytes(alloc, sink.written(), out)?;
-    out.push_str(", finished ")?;
-    push_number(sink.finished(), out)?;
-    out.push_str(", refused ")?;
-    push_number(sink.refused(), out)
+    push_around(alloc, "written ", &[], sink.written(), ", ", out)?;
+    let numbers = [sink.finished(), sink.refused()];
+    push_filled("finished %, refused %\n", &numbers, out)
 }
 
 /// `FAILS CALLS`: the calls, between ` / `, of a sink in memory that fails those of these numbers, and what it holds
@@ -112,9 +81,8 @@ fn push_sink_state(alloc: Global, sink: &MemSink, out: &mut String) -> Result<()
 pub(crate) fn push_sink(alloc: Global, text: &str, out: &mut String) -> Result<(), Fault> {
     let (fails, calls) = first_word(text);
     let mut sink = MemSink::new(alloc, numbers(alloc, fails)?);
-    push_calls::<Calls, _>(alloc, &mut sink, calls, out)?;
-    push_sink_state(alloc, &sink, out)?;
-    Ok(out.push('\n')?)
+    push_calls::<SinkCalls, _>(alloc, &mut sink, calls, out)?;
+    push_sink_state(alloc, &sink, out)
 }
 
 // How much a stream may move: it is interrupted at its first call, moves three bytes at its second, fails at its third,
@@ -138,8 +106,13 @@ struct Reader<'a> {
 
 impl Read for Reader<'_> {
     fn read(&mut self, into: &mut [u8]) -> io::Result<usize> {
-        let n = most_at(&mut self.calls)?.min(into.len());
-        self.text.read(&mut into[..n])
+        match most_at(&mut self.calls) {
+            Ok(most) => {
+                let n = most.min(into.len());
+                self.text.read(&mut into[..n])
+            }
+            Err(error) => Err(error),
+        }
     }
 }
 
@@ -152,32 +125,45 @@ struct Writer {
 
 impl Write for Writer {
     fn write(&mut self, from: &[u8]) -> io::Result<usize> {
-        let n = most_at(&mut self.calls)?.min(from.len());
-        self.held.write(&from[..n])
+        match most_at(&mut self.calls) {
+            Ok(most) => self.held.write(&from[..most.min(from.len())]),
+            Err(error) => Err(error),
+        }
     }
 
     fn flush(&mut self) -> io::Result<()> {
-        most_at(&mut self.calls)?;
-        Ok(())
+        match most_at(&mut self.calls) {
+            Ok(_) => Ok(()),
+            Err(error) => Err(error),
+        }
     }
 }
 
-// Takes into four bytes, and adds how many came and what the four are.
+// Takes into four bytes, and adds how many came.
 fn push_taken<S: Source>(
-    alloc: Global,
     source: &mut S,
     into: &mut [u8; 4],
     out: &mut String,
 ) -> Result<(), Fault> {
     match source.take(into) {
-        Ok(n) => push_number(n as u64, out)?,
-        Err(_) => out.push_str("failed")?,
+        Ok(n) => push_number(n as u64, out),
+        Err(_) => push_words("failed", out),
     }
-    out.push(' ')?;
-    push_bytes(alloc, into, out)
 }
 
-// Takes so many times, and adds how many calls failed.
+// Takes once, and adds how many came, what the four bytes are, and how many calls failed.
+fn push_take<S: Source>(
+    alloc: Global,
+    source: &mut S,
+    into: &mut [u8; 4],
+    out: &mut String,
+) -> Result<(), Fault> {
+    push_taken(source, into, out)?;
+    push_around(alloc, " ", &[], into, " ", out)?;
+    push_said("/", source.faults(), out)
+}
+
+// Takes so many times.
 fn push_takes<S: Source>(
     alloc: Global,
     source: &mut S,
@@ -186,10 +172,7 @@ fn push_takes<S: Source>(
 ) -> Result<(), Fault> {
     let mut into = [b'-'; 4];
     for _ in 0..times {
-        push_taken(alloc, source, &mut into, out)?;
-        out.push_str(" / ")?;
-        push_number(source.faults(), out)?;
-        out.push('\n')?;
+        push_take(alloc, source, &mut into, out)?;
     }
     Ok(())
 }
@@ -207,17 +190,6 @@ pub(crate) fn push_reader(alloc: Global, text: &str, out: &mut String) -> Result
     push_takes(alloc, &mut source, number(times)?, out)
 }
 
-impl<'a> CallsOf<StdSink<&'a mut Writer>> for Calls {
-    fn call(
-        alloc: Global,
-        called: &mut StdSink<&'a mut Writer>,
-        text: &str,
-        out: &mut String,
-    ) -> Result<(), Fault> {
-        push_sink_call(alloc, called, text, out)
-    }
-}
-
 // Makes the calls between ` / ` of a sink over a writer.
 fn push_over(
     alloc: Global,
@@ -226,21 +198,23 @@ fn push_over(
     out: &mut String,
 ) -> Result<(), Fault> {
     let mut sink = StdSink::new(writer);
-    push_calls::<Calls, _>(alloc, &mut sink, calls, out)
+    push_calls::<SinkCalls, _>(alloc, &mut sink, calls, out)
+}
+
+// Adds how many calls were made to a writer, and what it holds.
+fn push_held(alloc: Global, writer: &Writer, out: &mut String) -> Result<(), Fault> {
+    let held = writer.held.as_slice();
+    push_around(alloc, "calls %, held ", &[writer.calls], held, "\n", out)
 }
 
 /// `N CALLS`: the calls, between ` / `, of a sink over a writer to which N calls were made before, that is as the
 /// reader of `reader`. How many calls were made to it then, and what it holds.
 pub(crate) fn push_writer(alloc: Global, text: &str, out: &mut String) -> Result<(), Fault> {
-    let (before, calls) = numbered(text)?;
+    let (calls, rest) = numbered(text)?;
     let mut writer = Writer {
-        calls: before,
+        calls,
         held: Vec::new(alloc),
     };
-    push_over(alloc, &mut writer, calls, out)?;
-    out.push_str("calls ")?;
-    push_number(writer.calls, out)?;
-    out.push_str(", held ")?;
-    push_bytes(alloc, writer.held.as_slice(), out)?;
-    Ok(out.push('\n')?)
+    push_over(alloc, &mut writer, rest, out)?;
+    push_held(alloc, &writer, out)
 }

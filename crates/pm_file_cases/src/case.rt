@@ -3,7 +3,7 @@
 use crate::files::push_files;
 use crate::system::System;
 use crate::systems::{opened, push_descriptors, push_disk};
-use pm_case_text::{Fault, first_word, is_silent, push_case, refuse};
+use pm_case_text::{Fault, first_word, is_silent, push_case, push_words, refuse};
 
 // The descriptors of the three standard streams.
 const STREAMS: u32 = 0b111;
@@ -25,28 +25,33 @@ impl Case {
     }
 
     // From here on there is a new system, in which these descriptors are open.
-    fn begin(&mut self, open: u32) -> Result<(), Fault> {
+    fn begin(&mut self, open: u32) {
         self.system = System::new(self.rt.alloc(), open);
-        Ok(())
     }
 
     // Begins the case of this name.
     fn begin_case(&mut self, name: &str, out: &mut String) -> Result<(), Fault> {
-        self.begin(STREAMS)?;
+        self.begin(STREAMS);
         push_case(name, out)
+    }
+
+    // From here on there is a new system, in which the descriptors that are spelled are open.
+    fn begin_system(&mut self, digits: &str) -> Result<(), Fault> {
+        self.begin(opened(digits)?);
+        Ok(())
     }
 
     // Adds a line: the descriptors that are open.
     fn push_open(&self, out: &mut String) -> Result<(), Fault> {
         push_descriptors(&self.system, out)?;
-        Ok(out.push('\n')?)
+        push_words("\n", out)
     }
 
     // A step: its first word, and what follows.
     fn step(&mut self, step: &str, text: &str, out: &mut String) -> Result<(), Fault> {
         match step {
             "case" => self.begin_case(text, out),
-            "system" => self.begin(opened(text)?),
+            "system" => self.begin_system(text),
             "disk" => push_disk(self.rt.alloc(), &self.system, text, out),
             "open" => self.push_open(out),
             "files" => push_files(self.rt, text, out),

@@ -56,37 +56,29 @@ impl<'a> StoreFile for FakeFile<'a> {
     ghost leaves_bytes = { λ file calls bytes is. is };
 
     fn claim(&mut self) -> io::Result<()> {
-        let system = self.system;
-        system.note(format!(in system.alloc(); "lock {}", self.number))
+        self.system.ask("lock", self.number)
     }
 
     fn measure(&mut self) -> io::Result<u64> {
-        let system = self.system;
-        system.note(format!(in system.alloc(); "len {}", self.number))?;
-        system.len()
+        self.system.ask("len", self.number)?;
+        self.system.len()
     }
 
     fn read_from(&mut self, at: u64, into: &mut [u8]) -> io::Result<()> {
-        let system = self.system;
-        let (number, len) = (self.number, into.len());
-        system.note(format!(in system.alloc(); "read {number} at {at} for {len}"))?;
-        system.read(at, into)
+        self.system.ask_at("read", self.number, at, into.len())?;
+        self.system.read(at, into)
     }
 
     fn write_over(&mut self, at: u64, from: &[u8]) -> io::Result<()> {
-        let system = self.system;
-        let (number, len) = (self.number, from.len());
-        system.note(format!(in system.alloc(); "write {number} at {at} for {len}"))?;
-        system.write(at, from)
+        self.system.ask_at("write", self.number, at, from.len())?;
+        self.system.write(at, from)
     }
 
     fn sync_whole(&mut self) -> io::Result<()> {
-        let system = self.system;
-        system.note(format!(in system.alloc(); "sync {}", self.number))
+        self.system.ask("sync", self.number)
     }
 
     fn sync_bytes(&mut self) -> io::Result<()> {
-        let system = self.system;
-        system.note(format!(in system.alloc(); "data {}", self.number))
+        self.system.ask("data", self.number)
     }
 }

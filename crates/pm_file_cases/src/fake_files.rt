@@ -14,24 +14,29 @@ pub(crate) struct FakeFiles<'a> {
     pub(crate) system: &'a System,
 }
 
-fn letter(asked: bool, letter: &'static str) -> &'static str {
-    if asked { letter } else { "" }
+// How a file is opened: it may be read, written, made, and cut or only added to.
+const HOWS: [&str; 16] = [
+    "", "r", "w", "rw", "c", "rc", "wc", "rwc", "!", "r!", "w!", "rw!", "c!", "rc!", "wc!", "rwc!",
+];
+
+// A number, or 0 where nothing is asked.
+fn only(asked: bool, number: usize) -> usize {
+    if asked { number } else { 0 }
+}
+
+// How a file is opened, in letters.
+fn letters(how: &OpenOptions) -> &'static str {
+    let place = only(how.asks_read(), 1)
+        | only(how.asks_write(), 2)
+        | only(how.asks_create(), 4)
+        | only(how.asks_truncate() || how.asks_append(), 8);
+    HOWS.get(place).copied().unwrap_or("")
 }
 
 impl<'a> FakeFiles<'a> {
-    // Writes down that a file is opened, and how.
-    fn note_open(&self, how: &OpenOptions, path: &str) -> io::Result<()> {
-        let read = letter(how.asks_read(), "r");
-        let write = letter(how.asks_write(), "w");
-        let create = letter(how.asks_create(), "c");
-        let cut = letter(how.asks_truncate() || how.asks_append(), "!");
-        let system = self.system;
-        system.note(format!(in system.alloc(); "open {path} {read}{write}{create}{cut}"))
-    }
-
     // Opens a file, and gives it the lowest free descriptor.
     fn open(&self, how: &OpenOptions, path: &str) -> io::Result<FakeFile<'a>> {
-        self.note_open(how, path)?;
+        self.system.ask_open(path, letters(how))?;
         Ok(FakeFile {
             system: self.system,
             number: self.system.take_number().cast_signed(),

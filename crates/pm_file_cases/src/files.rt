@@ -1,7 +1,7 @@
 //! Calls of disks over a real file.
 
 use crate::disks::{Calls, push_call};
-use pm_case_text::{CallsOf, Fault, first_word, push_calls, refuse};
+use pm_case_text::{CallsOf, Fault, first_word, push_calls, push_words, refuse};
 use pm_file::FileDisk;
 use std::alloc::Global;
 use std::fs;
@@ -27,12 +27,6 @@ fn disk_of(rt: HostRuntime) -> Result<FileDisk<HostRuntime>, Fault> {
     Ok(disk)
 }
 
-// Closes a disk.
-fn close(disk: &mut Option<FileDisk<HostRuntime>>, out: &mut String) -> Result<(), Fault> {
-    *disk = None;
-    Ok(out.push_str("ok")?)
-}
-
 // A call of a disk, or `close`.
 fn push_of(
     alloc: Global,
@@ -40,11 +34,13 @@ fn push_of(
     text: &str,
     out: &mut String,
 ) -> Result<(), Fault> {
-    if text == "close" {
-        return close(disk, out);
+    let (call, rest) = first_word(text);
+    if call == "close" {
+        *disk = None;
+        return push_words("ok", out);
     }
     match disk {
-        Some(disk) => push_call(alloc, disk, text, out),
+        Some(disk) => push_call(alloc, disk, call, rest, out),
         None => Err(refuse("closed")),
     }
 }
@@ -52,17 +48,18 @@ fn push_of(
 // Adds whether there is the file.
 fn push_there(rt: HostRuntime, out: &mut String) -> Result<(), Fault> {
     match fs::exists(&rt, PATH) {
-        Ok(there) => Ok(out.push_str(if there { "yes" } else { "no" })?),
+        Ok(there) => push_words(if there { "yes" } else { "no" }, out),
         Err(_) => Err(refuse("not known")),
     }
 }
 
 impl CallsOf<Two> for Calls {
     fn call(alloc: Global, called: &mut Two, text: &str, out: &mut String) -> Result<(), Fault> {
-        match first_word(text) {
-            ("first", rest) => push_of(alloc, &mut called.first, rest, out),
-            ("second", rest) => push_of(alloc, &mut called.second, rest, out),
-            ("there", _) => push_there(called.rt, out),
+        let (whose, rest) = first_word(text);
+        match whose {
+            "first" => push_of(alloc, &mut called.first, rest, out),
+            "second" => push_of(alloc, &mut called.second, rest, out),
+            "there" => push_there(called.rt, out),
             _ => Err(refuse("no such call")),
         }
     }

@@ -3,6 +3,7 @@
 use std::alloc::{AllocError, Global};
 use std::cell::{Cell, RefCell};
 use std::io::{self, ErrorKind};
+use std::os::fd::RawFd;
 
 /// A system of one file: it writes down each call, keeps the bytes, gives the lowest free descriptor, and fails the
 /// call that it is told.
@@ -44,6 +45,17 @@ fn put(bytes: &mut Vec<u8>, at: u64, from: &[u8]) -> io::Result<()> {
     Ok(())
 }
 
+// Adds a call to those that were written down.
+fn add_call(calls: &mut String, call: &str) -> io::Result<()> {
+    calls.push_str(call)?;
+    Ok(calls.push_str(";")?)
+}
+
+// Fails where this is not so.
+fn only_if(is: bool) -> io::Result<()> {
+    if is { Ok(()) } else { Err(busy()) }
+}
+
 impl System {
     /// A system with an empty file, in which these descriptors are open.
     pub(crate) fn new(alloc: Global, open: u32) -> System {
@@ -54,11 +66,6 @@ impl System {
             open: Cell::new(open),
             fails: RefCell::new(String::new(alloc)),
         }
-    }
-
-    /// What it gives memory from.
-    pub(crate) fn alloc(&self) -> Global {
-        self.alloc
     }
 
     /// Fails this call from now on, spelled as the system writes it down.
@@ -97,27 +104,40 @@ impl System {
 
     // Writes a call down.
     fn write_down(&self, call: &str) -> io::Result<()> {
-        let Ok(mut calls) = self.calls.try_borrow_mut() else {
-            return Err(busy());
-        };
-        calls.push_str(call)?;
-        calls.push(';')?;
-        Ok(())
+        match self.calls.try_borrow_mut() {
+            Ok(mut calls) => add_call(&mut calls, call),
+            Err(_) => Err(busy()),
+        }
     }
 
     // Fails where this is the call that is to fail.
     fn pass(&self, call: &str) -> io::Result<()> {
         match self.fails.try_borrow() {
-            Ok(fails) if fails.as_str() != call => Ok(()),
-            _ => Err(busy()),
+            Ok(fails) => only_if(fails.as_str() != call),
+            Err(_) => Err(busy()),
         }
     }
 
-    /// Writes a call down, and fails it where it is to fail.
-    pub(crate) fn note(&self, call: Result<String, AllocError>) -> io::Result<()> {
+    // Writes a call down, and fails it where it is to fail.
+    fn note(&self, call: Result<String, AllocError>) -> io::Result<()> {
         let call = call?;
         self.write_down(call.as_str())?;
         self.pass(call.as_str())
+    }
+
+    /// A call on a descriptor: it is written down, and fails where it is to fail.
+    pub(crate) fn ask(&self, verb: &str, number: RawFd) -> io::Result<()> {
+        self.note(format!(in self.alloc; "{verb} {number}"))
+    }
+
+    /// A call on so many bytes from a place on.
+    pub(crate) fn ask_at(&self, verb: &str, number: RawFd, at: u64, len: usize) -> io::Result<()> {
+        self.note(format!(in self.alloc; "{verb} {number} at {at} for {len}"))
+    }
+
+    /// A call that opens a file.
+    pub(crate) fn ask_open(&self, path: &str, how: &str) -> io::Result<()> {
+        self.note(format!(in self.alloc; "open {path} {how}"))
     }
 
     /// Makes the file empty.

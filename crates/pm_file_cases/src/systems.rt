@@ -3,7 +3,7 @@
 use crate::disks::{Calls, push_call};
 use crate::fake_files::FakeFiles;
 use crate::system::System;
-use pm_case_text::{CallsOf, Fault, first_word, push_calls, refuse};
+use pm_case_text::{CallsOf, Fault, first_word, push_calls, push_words, refuse};
 use pm_file::FileDisk;
 use std::alloc::Global;
 use std::fmt::Write;
@@ -18,25 +18,15 @@ struct Over<'a> {
 /// Descriptors that are open: the last digit is 1 where descriptor 0 is, the one before it where descriptor 1 is, and
 /// so on.
 pub(crate) fn opened(digits: &str) -> Result<u32, Fault> {
-    match u32::from_str_radix(digits, 2) {
-        Ok(open) => Ok(open),
-        Err(_) => Err(refuse("no descriptors")),
-    }
+    u32::from_str_radix(digits, 2)
+        .ok()
+        .ok_or(refuse("no descriptors"))
 }
 
 /// Adds the descriptors that are open, as `opened` reads them.
 pub(crate) fn push_descriptors(system: &System, out: &mut String) -> Result<(), Fault> {
     let open = system.open();
-    write!(out, "{open:b}")?;
-    Ok(())
-}
-
-// Tells the system which call is to fail.
-fn fail(system: &System, call: String) -> Result<(), Fault> {
-    match system.fail(call) {
-        Ok(()) => Ok(()),
-        Err(_) => Err(refuse("busy")),
-    }
+    Ok(write!(out, "{open:b}")?)
 }
 
 // Adds what was asked of the system since this was added last.
@@ -48,34 +38,39 @@ fn push_heard(system: &System, out: &mut String) -> Result<(), Fault> {
 }
 
 // A call of the disk, and what the system was asked by it.
-fn push_asked(alloc: Global, over: &mut Over, text: &str, out: &mut String) -> Result<(), Fault> {
-    push_call(alloc, &mut over.disk, text, out)?;
+fn push_asked(
+    alloc: Global,
+    over: &mut Over,
+    call: &str,
+    text: &str,
+    out: &mut String,
+) -> Result<(), Fault> {
+    push_call(alloc, &mut over.disk, call, text, out)?;
     push_heard(over.system, out)
 }
 
 // The call of the system that fails from here on.
-fn push_fail(alloc: Global, over: &Over, text: &str, out: &mut String) -> Result<(), Fault> {
-    fail(over.system, String::from_str(alloc, text)?)?;
-    Ok(out.push_str("ok")?)
-}
-
-// A call: one of any disk, `fail`, or `open`.
-fn push_part(alloc: Global, over: &mut Over, text: &str, out: &mut String) -> Result<(), Fault> {
-    match first_word(text) {
-        ("fail", rest) => push_fail(alloc, over, rest, out),
-        ("open", _) => push_descriptors(over.system, out),
-        _ => push_asked(alloc, over, text, out),
+fn push_fail(alloc: Global, system: &System, call: &str, out: &mut String) -> Result<(), Fault> {
+    match system.fail(String::from_str(alloc, call)?) {
+        Ok(()) => push_words("ok", out),
+        Err(_) => Err(refuse("busy")),
     }
 }
 
 impl<'a> CallsOf<Over<'a>> for Calls {
+    // A call: one of any disk, `fail`, or `open`.
     fn call(
         alloc: Global,
         called: &mut Over<'a>,
         text: &str,
         out: &mut String,
     ) -> Result<(), Fault> {
-        push_part(alloc, called, text, out)
+        let (call, rest) = first_word(text);
+        match call {
+            "fail" => push_fail(alloc, called.system, rest, out),
+            "open" => push_descriptors(called.system, out),
+            _ => push_asked(alloc, called, call, rest, out),
+        }
     }
 }
 

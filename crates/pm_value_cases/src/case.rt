@@ -1,6 +1,6 @@
 //! A line of the input: a case's name, or a step.
 
-use crate::dumps::{push_cut_dump, push_dump, push_whole_dump};
+use crate::dumps::{push_cut_dump, push_dump};
 use crate::parts::{push_asked_of_long, push_long, push_parts, push_takes};
 use crate::values::{push_copies, push_digest, push_name, push_register, push_room};
 use pm_case_text::{Count, Fault, first_word, is_silent, push_case, refuse, written_out};
@@ -32,8 +32,8 @@ fn push_step(alloc: Global, step: &str, text: &str, out: &mut String) -> Result<
         "takes" => push_takes(alloc, text, out),
         "long" => push_long(alloc, text, out),
         "asked" => push_asked_of_long(alloc, text, out),
-        "read" => push_dump(alloc, text, out),
-        "all" => push_whole_dump(alloc, text, out),
+        "read" => push_dump(alloc, text, false, out),
+        "all" => push_dump(alloc, text, true, out),
         "cut" => push_cut_dump(alloc, text, out),
         _ => push_written(alloc, step, text, out),
     }

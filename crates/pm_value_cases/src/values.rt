@@ -1,16 +1,20 @@
 //! Calls on values by themselves.
 
 use pm_case_text::{
-    Fault, number, numbered, push_bytes, push_said, push_value_line, raw_bytes, refuse,
+    Fault, push_bytes, push_said, push_value_line, push_words, raw_bytes, refuse, small,
+    two_numbers,
 };
 use pm_layout::digest;
-use pm_types::{Addr, Bytes, Cmd, Fields, Name, NameFault, Object, Reg, Reply, Slot, room};
+use pm_types::{
+    Addr, Bytes, Cmd, Fields, Name, NameFault, NoMemory, Object, Reg, Reply, Slot, room,
+};
 use std::alloc::Global;
+use std::fmt::Debug;
 
 // Adds why bytes are no name.
 fn push_name_fault(fault: NameFault, out: &mut String) -> Result<(), Fault> {
     match fault {
-        NameFault::Empty => Ok(out.push_str("no name: empty\n")?),
+        NameFault::Empty => push_words("no name: empty\n", out),
         NameFault::TooLong(length) => push_said("no name: too long,", length, out),
         NameFault::BadByte(place) => push_said("no name: bad byte at", place, out),
         NameFault::Memory => Err(refuse("no memory")),
@@ -28,87 +32,79 @@ pub(crate) fn push_name(alloc: Global, text: &str, out: &mut String) -> Result<(
 
 /// `N`: the register of this number, or that there is none.
 pub(crate) fn push_register(text: &str, out: &mut String) -> Result<(), Fault> {
-    let Ok(wanted) = u32::try_from(number(text)?) else {
-        return Err(refuse("no such number"));
-    };
-    match Reg::new(wanted) {
+    match Reg::new(small(text)?) {
         Some(register) => push_said("register", register.number() as u64, out),
-        None => Ok(out.push_str("no register\n")?),
+        None => push_words("no register\n", out),
     }
 }
 
 /// `FIELDS BYTES`: the room that such an object takes in its car.
 pub(crate) fn push_room(text: &str, out: &mut String) -> Result<(), Fault> {
-    let (fields, rest) = numbered(text)?;
-    let bytes = number(rest)?;
-    if fields > 255 || bytes > 8192 {
-        return Err(refuse("too large"));
+    match two_numbers(text) {
+        Ok((fields, bytes)) if fields <= 255 && bytes <= 8192 => {
+            push_said("room", room(fields as u32, bytes as u32) as u64, out)
+        }
+        _ => Err(refuse("too large")),
     }
-    push_said("room", room(fields as u32, bytes as u32) as u64, out)
+}
+
+// Adds a digest.
+fn push_sum(alloc: Global, sum: &[u8], out: &mut String) -> Result<(), Fault> {
+    push_words("sha256 ", out)?;
+    push_bytes(alloc, sum, out)?;
+    push_words("\n", out)
 }
 
 /// `HEX`: the digest of these bytes.
 pub(crate) fn push_digest(alloc: Global, text: &str, out: &mut String) -> Result<(), Fault> {
     let spelled = raw_bytes(alloc, text)?;
-    let made = digest(spelled.as_slice());
-    out.push_str("sha256 ")?;
-    push_bytes(alloc, made.as_slice(), out)?;
-    Ok(out.push('\n')?)
+    push_sum(alloc, &digest(spelled.as_slice()), out)
 }
 
-// An object of a null field and one that is not null.
-fn object(alloc: Global) -> Result<Object, Fault> {
+// Adds the copy of a value.
+fn push_copy<T: Debug + Drop>(copy: Result<T, NoMemory>, out: &mut String) -> Result<(), Fault> {
+    match copy {
+        Ok(copy) => push_value_line(&copy, out),
+        Err(_) => Err(refuse("no memory")),
+    }
+}
+
+// Adds the copy of a slot with an object of a null field and one that is not null.
+fn push_live(alloc: Global, out: &mut String) -> Result<(), Fault> {
     let at = Addr { car: 3, slot: 7 };
-    Ok(Object {
+    let fields = vec![in alloc; None, Some(at)]?;
+    let bytes = b"\xca\xfe".to_vec(alloc)?;
+    let object = Object {
         id: 9,
-        fields: Fields::from_vec(vec![in alloc; None, Some(at)]?),
-        bytes: Bytes::from_vec(b"\xca\xfe".to_vec(alloc)?),
-    })
-}
-
-// A command with a name in it.
-fn command(alloc: Global) -> Result<Cmd, Fault> {
-    let Ok(name) = Name::read(alloc, b"root") else {
-        return Err(refuse("no name"));
+        fields: Fields::from_vec(fields),
+        bytes: Bytes::from_vec(bytes),
     };
-    let Some(to) = Reg::new(5) else {
-        return Err(refuse("no register"));
-    };
-    Ok(Cmd::Find {
-        to,
-        name: name.copy(alloc)?,
-    })
+    push_copy(Slot::Live(object).copy(alloc), out)
 }
 
-// Adds the copy of a slot.
-fn push_slot(alloc: Global, slot: Slot, out: &mut String) -> Result<(), Fault> {
-    let copy = slot.copy(alloc)?;
-    push_value_line(&copy, out)
+// Adds the copy of a slot whose object moved.
+fn push_moved(alloc: Global, out: &mut String) -> Result<(), Fault> {
+    push_copy(Slot::Moved(Addr { car: 3, slot: 7 }).copy(alloc), out)
 }
 
-// Adds the copies of a slot of each kind.
-fn push_slots(alloc: Global, out: &mut String) -> Result<(), Fault> {
-    let object = object(alloc)?;
-    push_slot(alloc, Slot::Live(object), out)?;
-    push_slot(alloc, Slot::Moved(Addr { car: 3, slot: 7 }), out)
-}
-
-// Adds the copy of a command.
+// Adds the copy of a command with a name in it.
 fn push_command(alloc: Global, out: &mut String) -> Result<(), Fault> {
-    let copy = command(alloc)?.copy(alloc)?;
-    push_value_line(&copy, out)
+    match (Name::read(alloc, b"root"), Reg::new(5)) {
+        (Ok(name), Some(to)) => push_copy(Cmd::Find { to, name }.copy(alloc), out),
+        _ => Err(refuse("no command")),
+    }
 }
 
 // Adds the copy of a reply.
 fn push_reply(alloc: Global, out: &mut String) -> Result<(), Fault> {
     let bytes = b"\xca\xfe".to_vec(alloc)?;
-    let copy = Reply::Shown(Bytes::from_vec(bytes)).copy(alloc)?;
-    push_value_line(&copy, out)
+    push_copy(Reply::Shown(Bytes::from_vec(bytes)).copy(alloc), out)
 }
 
 /// A copy of each kind of value that is copied, as they are printed.
 pub(crate) fn push_copies(alloc: Global, out: &mut String) -> Result<(), Fault> {
-    push_slots(alloc, out)?;
+    push_live(alloc, out)?;
+    push_moved(alloc, out)?;
     push_command(alloc, out)?;
     push_reply(alloc, out)
 }
