@@ -2,20 +2,66 @@
 
 use crate::running::{RunEnd, run_script};
 use pm_case_scripts::{RUN_THREADS, alike_in, generated};
-use pm_case_text::{Fault, refuse};
-use std::fmt::Write;
+use pm_case_text::{Fault, push_filled};
+use std::alloc::Global;
 use std::sync::Wait;
 use std::thread::Threads;
+
+// What is counted of runs.
+#[derive(Clone, Copy)]
+struct Counts {
+    // How many ended with 0.
+    done: u64,
+    // How many replies the plain slow program gives alike.
+    alike: u64,
+    // How many replies there were.
+    replies: u64,
+}
+
+// Counts what there is of a run.
+fn count_run(alloc: Global, run: &RunEnd, counts: &mut Counts) -> Result<(), Fault> {
+    let alike = alike_in(alloc, run.journal())?;
+    counts.done = counts.done.saturating_add((run.status == 0) as u64);
+    counts.alike = counts.alike.saturating_add(alike);
+    counts.replies = counts.replies.saturating_add(run.journal().len() as u64);
+    Ok(())
+}
 
 // Runs a script of this many lines that is drawn from a seed, in threads.
 fn run_drawn<R: AllocGlobal + Threads + Wait + Sync>(
     rt: &R,
     disk: &[u8],
     lines: u64,
-    seed: u32,
+    seed: u64,
 ) -> Result<RunEnd, Fault> {
     let drawn = generated(rt.alloc(), lines, seed)?;
-    run_script(rt, disk, RUN_THREADS, drawn.into_bytes())
+    run_script(rt, disk, RUN_THREADS, drawn.as_bytes())
+}
+
+// Runs it, and counts what there is of that.
+fn count_drawn<R: AllocGlobal + Threads + Wait + Sync>(
+    rt: &R,
+    disk: &[u8],
+    lines: u64,
+    seed: u64,
+    counts: &mut Counts,
+) -> Result<(), Fault> {
+    let run = run_drawn(rt, disk, lines, seed)?;
+    count_run(rt.alloc(), &run, counts)
+}
+
+// Does so for each seed below this number.
+fn count_each<R: AllocGlobal + Threads + Wait + Sync>(
+    rt: &R,
+    disk: &[u8],
+    runs: u64,
+    lines: u64,
+    counts: &mut Counts,
+) -> Result<(), Fault> {
+    for seed in 0..runs {
+        count_drawn(rt, disk, lines, seed, counts)?;
+    }
+    Ok(())
 }
 
 /// Adds how many of these runs, each of a script from a seed of its own, were done, and how many of their replies the
@@ -27,21 +73,12 @@ pub fn push_drawn<R: AllocGlobal + Threads + Wait + Sync>(
     lines: u64,
     out: &mut String,
 ) -> Result<(), Fault> {
-    let Ok(runs) = u32::try_from(runs) else {
-        return Err(refuse("too many runs"));
+    let mut counts = Counts {
+        done: 0,
+        alike: 0,
+        replies: 0,
     };
-    let mut done = 0u64;
-    let mut alike = 0u64;
-    let mut replies = 0u64;
-    for seed in 0..runs {
-        let ended = run_drawn(rt, disk, lines, seed)?;
-        if ended.status == 0 {
-            done = done.saturating_add(1);
-        }
-        let journal = ended.journal.as_slice();
-        alike = alike.saturating_add(alike_in(rt.alloc(), journal)?);
-        replies = replies.saturating_add(journal.len() as u64);
-    }
-    writeln!(out, "{done} runs done, {alike} of {replies} replies alike")?;
-    Ok(())
+    count_each(rt, disk, runs, lines, &mut counts)?;
+    let numbers = [counts.done, counts.alike, counts.replies];
+    push_filled("% runs done, % of % replies alike\n", &numbers, out)
 }

@@ -1,12 +1,12 @@
 //! Runs of one script whose disk, source or sink fails at each of its calls in turn.
 
-use crate::running::{RunEnd, run};
+use crate::ends::push_counts;
+use crate::running::{RunEnd, run, run_script};
 use crate::shown::push_run_in_line;
-use pm_case_scripts::Setting;
-use pm_case_text::{Fault, Texts, refuse};
+use pm_case_scripts::{RUN, Setting};
+use pm_case_text::{Fault, Texts, push_filled, refuse};
 use pm_disk::{DiskCall, MemDisk};
 use std::alloc::Global;
-use std::fmt::Write;
 use std::sync::Wait;
 use std::thread::Threads;
 
@@ -15,30 +15,27 @@ const MOST_RUNS: u64 = 1000;
 
 /// What is run again and again.
 #[derive(Drop)]
-pub struct Repeated {
+pub struct Repeated<'a> {
     // With what each run begins, but for what fails.
     setting: Setting,
     // The bytes that each run finds on the disk.
-    disk: Vec<u8>,
+    disk: &'a [u8],
     // The script with which the disk is looked at afterwards.
-    look: Vec<u8>,
+    look: &'a [u8],
 }
 
-impl Repeated {
+impl Repeated<'_> {
     /// What was said of the next run so far and these lines, over disks that hold these bytes, and the look. Nothing is
     /// said of the next run then.
-    pub fn new(
+    pub fn new<'a>(
         alloc: Global,
         said: &mut Setting,
         lines: &str,
-        disk: &[u8],
+        disk: &'a [u8],
         other: &[u8],
-        look: &[u8],
-    ) -> Result<Repeated, Fault> {
-        said.push_lines(lines)?;
-        let disk = disk.to_vec(alloc)?;
-        let look = look.to_vec(alloc)?;
-        let setting = said.take(alloc, other)?;
+        look: &'a [u8],
+    ) -> Result<Repeated<'a>, Fault> {
+        let setting = said.take(alloc, lines, other)?;
         Ok(Repeated {
             setting,
             disk,
@@ -47,31 +44,20 @@ impl Repeated {
     }
 }
 
-// Runs with this setting.
-fn go<R: AllocGlobal + Threads + Wait + Sync>(
-    rt: &R,
-    repeated: &Repeated,
-    setting: Setting,
-) -> Result<RunEnd, Fault> {
-    let copy = repeated.disk.to_vec(rt.alloc())?;
-    run(rt, copy, setting)
-}
-
-// Adds what the look gives on a disk of these bytes, as one line.
-fn push_look<R: AllocGlobal + Threads + Wait + Sync>(
+/// Adds what the look gives on a disk of these bytes, as one line.
+pub(crate) fn push_look<R: AllocGlobal + Threads + Wait + Sync>(
     rt: &R,
     look: &[u8],
-    disk: Vec<u8>,
+    disk: &[u8],
     out: &mut String,
 ) -> Result<(), Fault> {
-    let script = look.to_vec(rt.alloc())?;
-    let ended = run(rt, disk, Setting::of_script(rt.alloc(), script))?;
+    let ended = run_script(rt, disk, RUN, look)?;
     push_run_in_line(rt.alloc(), &ended, out)
 }
 
 // Adds what a run gives, as one line behind its number.
 fn push_numbered(alloc: Global, number: u64, run: &RunEnd, out: &mut String) -> Result<(), Fault> {
-    write!(out, "{number}: ")?;
+    push_filled("%: ", &[number], out)?;
     push_run_in_line(alloc, run, out)
 }
 
@@ -79,7 +65,7 @@ fn push_numbered(alloc: Global, number: u64, run: &RunEnd, out: &mut String) -> 
 fn count_image<R: AllocGlobal + Threads + Wait + Sync>(
     rt: &R,
     look: &[u8],
-    image: Vec<u8>,
+    image: &[u8],
     texts: &mut Texts,
 ) -> Result<(), Fault> {
     let mut text = String::new(rt.alloc());
@@ -88,7 +74,22 @@ fn count_image<R: AllocGlobal + Threads + Wait + Sync>(
     texts.note(text)
 }
 
-// Adds what the look gives on the images of a disk that the picks below this number choose.
+// Counts what the look gives on the images of a disk that the picks below this number choose.
+fn count_images<R: AllocGlobal + Threads + Wait + Sync>(
+    rt: &R,
+    look: &[u8],
+    disk: &MemDisk,
+    picks: u64,
+    texts: &mut Texts,
+) -> Result<(), Fault> {
+    for pick in 0..picks {
+        let image = disk.image(rt.alloc(), pick)?;
+        count_image(rt, look, image.as_slice(), texts)?;
+    }
+    Ok(())
+}
+
+// Adds what the look gives on these images.
 fn push_looks<R: AllocGlobal + Threads + Wait + Sync>(
     rt: &R,
     look: &[u8],
@@ -97,10 +98,7 @@ fn push_looks<R: AllocGlobal + Threads + Wait + Sync>(
     out: &mut String,
 ) -> Result<(), Fault> {
     let mut texts = Texts::new(rt.alloc());
-    for pick in 0..picks {
-        let image = disk.image(rt.alloc(), pick)?;
-        count_image(rt, look, image, &mut texts)?;
-    }
+    count_images(rt, look, disk, picks, &mut texts)?;
     texts.push(out)
 }
 
@@ -118,7 +116,18 @@ fn push_fused<R: AllocGlobal + Threads + Wait + Sync>(
     Ok(run.status == 0)
 }
 
-// Runs over a fuse that passes so many calls on, and adds the same of that.
+// Runs over a fuse that passes so many calls on.
+fn run_fused<R: AllocGlobal + Threads + Wait + Sync>(
+    rt: &R,
+    repeated: &Repeated,
+    passes: u64,
+) -> Result<RunEnd, Fault> {
+    let mut setting = repeated.setting.again(rt.alloc())?;
+    setting.passes = passes;
+    run(rt, repeated.disk, setting)
+}
+
+// Does so, and adds what that gave, and what the look gives on the images that it left; whether it ended with 0.
 fn push_fuse<R: AllocGlobal + Threads + Wait + Sync>(
     rt: &R,
     repeated: &Repeated,
@@ -126,14 +135,13 @@ fn push_fuse<R: AllocGlobal + Threads + Wait + Sync>(
     picks: u64,
     out: &mut String,
 ) -> Result<bool, Fault> {
-    let mut setting = repeated.setting.again(rt.alloc())?;
-    setting.passes = passes;
-    let run = go(rt, repeated, setting)?;
-    push_fused(rt, repeated.look.as_slice(), passes, picks, &run, out)
+    let run = run_fused(rt, repeated, passes)?;
+    push_fused(rt, repeated.look, passes, picks, &run, out)
 }
 
-// Runs over a fuse that passes no call on, one call, and so on, until a run ends with 0, and adds the same of each.
-fn push_each_fuse<R: AllocGlobal + Threads + Wait + Sync>(
+/// Runs over a fuse that passes no call on, one call, and so on, until a run ends with 0, and adds what each of them
+/// gives and what the look gives on the images that it leaves.
+pub fn push_fuses<R: AllocGlobal + Threads + Wait + Sync>(
     rt: &R,
     repeated: &Repeated,
     picks: u64,
@@ -145,39 +153,6 @@ fn push_each_fuse<R: AllocGlobal + Threads + Wait + Sync>(
         }
     }
     Err(refuse("no run ends with 0"))
-}
-
-/// Runs over a fuse that passes no call on, one call, and so on, until a run ends with 0, and adds what each of them
-/// gives and what the look gives on the images that it leaves.
-pub fn push_fuses<R: AllocGlobal + Threads + Wait + Sync>(
-    rt: &R,
-    repeated: Repeated,
-    picks: u64,
-    out: &mut String,
-) -> Result<(), Fault> {
-    push_each_fuse(rt, &repeated, picks, out)
-}
-
-// What fails at one of its calls.
-#[derive(Clone, Copy)]
-enum Part {
-    // A disk, at any call.
-    Disk,
-    // A disk, at a write.
-    Writes,
-    Source,
-    Sink,
-}
-
-// The part of this name.
-fn part_of(word: &str) -> Result<Part, Fault> {
-    match word {
-        "disk" => Ok(Part::Disk),
-        "writes" => Ok(Part::Writes),
-        "source" => Ok(Part::Source),
-        "sink" => Ok(Part::Sink),
-        _ => Err(refuse("nothing of that name fails")),
-    }
 }
 
 // Whether a call is a write.
@@ -201,53 +176,52 @@ fn write_at(calls: &[DiskCall], wanted: u64) -> u64 {
     0
 }
 
-// The number of the call that fails in this turn.
+// The number of the call that is the write of this number, or 0, which no call has.
+fn number_of_write<R: AllocGlobal + Threads + Wait + Sync>(
+    rt: &R,
+    repeated: &Repeated,
+    write: u64,
+) -> Result<u64, Fault> {
+    let setting = repeated.setting.again(rt.alloc())?;
+    let whole = run(rt, repeated.disk, setting)?;
+    Ok(write_at(whole.disk.calls(), write))
+}
+
+// The number of the call that fails in this turn: that of the turn, or where writes fail of the write of that number.
 fn call_at<R: AllocGlobal + Threads + Wait + Sync>(
     rt: &R,
     repeated: &Repeated,
-    part: Part,
+    part: &str,
     turn: u64,
 ) -> Result<u64, Fault> {
-    match part {
-        Part::Writes => {
-            let whole = go(rt, repeated, repeated.setting.again(rt.alloc())?)?;
-            Ok(write_at(whole.disk.calls(), turn))
-        }
-        Part::Disk | Part::Source | Part::Sink => Ok(turn),
+    if part == "writes" {
+        number_of_write(rt, repeated, turn)
+    } else {
+        Ok(turn)
     }
 }
 
 // With what a run begins whose part fails its call of this number.
-fn failing(alloc: Global, repeated: &Repeated, part: Part, call: u64) -> Result<Setting, Fault> {
+fn failing(alloc: Global, repeated: &Repeated, part: &str, call: u64) -> Result<Setting, Fault> {
     let mut setting = repeated.setting.again(alloc)?;
-    match part {
-        Part::Disk | Part::Writes => setting.disk_fails.push(call)?,
-        Part::Source => setting.source_fails.push(call)?,
-        Part::Sink => setting.sink_fails.push(call)?,
-    }
+    setting.set_fails(part, vec![in alloc; call]?);
     Ok(setting)
 }
 
 // Adds how many bytes were written, and whether the disk was called.
 fn push_written(written: usize, called: bool, out: &mut String) -> Result<(), Fault> {
-    let how = if called { "called" } else { "not called" };
-    write!(out, "- {written} written, disk {how}")?;
-    Ok(())
+    let text = if called {
+        "- % written, disk called"
+    } else {
+        "- % written, disk not called"
+    };
+    push_filled(text, &[written as u64], out)
 }
 
-// Adds the counts of failed calls, where an end tells them.
-fn push_counts(counts: Option<(u64, u64)>, out: &mut String) -> Result<(), Fault> {
-    if let Some((before, after)) = counts {
-        write!(out, ", faults {before} to {after}")?;
-    }
-    Ok(out.push_str(", then ")?)
-}
-
-// Adds both of a run.
+// Adds the same of a run, and the counts of failed calls, where its end tells them.
 fn push_marks(run: &RunEnd, out: &mut String) -> Result<(), Fault> {
-    let called = !run.disk.calls().is_empty();
-    push_written(run.told.written.len(), called, out)?;
-    push_counts(run.told.counts, out)
+    push_written(run.written().len(), !run.disk.calls().is_empty(), out)?;
+    push_counts(&run.detail, out)
 }
 
 // Adds what a run gave whose call of a part failed, and what the look gives afterwards; whether it ended with 0.
@@ -260,31 +234,39 @@ fn push_failed<R: AllocGlobal + Threads + Wait + Sync>(
 ) -> Result<bool, Fault> {
     push_numbered(rt.alloc(), turn, run, out)?;
     push_marks(run, out)?;
-    let left = run.disk.contents().to_vec(rt.alloc())?;
-    push_look(rt, look, left, out)?;
+    push_look(rt, look, run.disk(), out)?;
     Ok(run.status == 0)
 }
 
-// Runs over parts of which one fails at its call of this turn, and adds the same of that.
+// Runs over parts of which one fails at its call of this turn.
+fn run_failing<R: AllocGlobal + Threads + Wait + Sync>(
+    rt: &R,
+    repeated: &Repeated,
+    part: &str,
+    turn: u64,
+) -> Result<RunEnd, Fault> {
+    let call = call_at(rt, repeated, part, turn)?;
+    let setting = failing(rt.alloc(), repeated, part, call)?;
+    run(rt, repeated.disk, setting)
+}
+
+// Does so, and adds what that gave, and what the look gives afterwards; whether it ended with 0.
 fn push_failing<R: AllocGlobal + Threads + Wait + Sync>(
     rt: &R,
     repeated: &Repeated,
-    part: Part,
+    part: &str,
     turn: u64,
     out: &mut String,
 ) -> Result<bool, Fault> {
-    let call = call_at(rt, repeated, part, turn)?;
-    let setting = failing(rt.alloc(), repeated, part, call)?;
-    let run = go(rt, repeated, setting)?;
-    push_failed(rt, repeated.look.as_slice(), turn, &run, out)
+    let run = run_failing(rt, repeated, part, turn)?;
+    push_failed(rt, repeated.look, turn, &run, out)
 }
 
-// Runs over parts of which one fails at its first call, then at its second one, and so on, until a run ends with 0, and
-// adds the same of each.
+// Does so for its first call, then for its second one, and so on, until a run ends with 0.
 fn push_each_failing<R: AllocGlobal + Threads + Wait + Sync>(
     rt: &R,
     repeated: &Repeated,
-    part: Part,
+    part: &str,
     out: &mut String,
 ) -> Result<(), Fault> {
     for turn in 1..=MOST_RUNS {
@@ -299,9 +281,12 @@ fn push_each_failing<R: AllocGlobal + Threads + Wait + Sync>(
 /// run ends with 0, and adds what each of them gives, how much it wrote, and what the look gives afterwards.
 pub fn push_failings<R: AllocGlobal + Threads + Wait + Sync>(
     rt: &R,
-    repeated: Repeated,
-    word: &str,
+    repeated: &Repeated,
+    part: &str,
     out: &mut String,
 ) -> Result<(), Fault> {
-    push_each_failing(rt, &repeated, part_of(word)?, out)
+    match part {
+        "disk" | "writes" | "source" | "sink" => push_each_failing(rt, repeated, part, out),
+        _ => Err(refuse("nothing of that name fails")),
+    }
 }

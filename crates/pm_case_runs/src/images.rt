@@ -1,11 +1,10 @@
 //! A script that is run on the images of a disk.
 
-use crate::running::{RunEnd, run};
-use crate::shown::push_run_in_line;
-use pm_case_scripts::Setting;
-use pm_case_text::{Fault, numbered, push_lines};
+use crate::failing::push_look;
+use crate::running::{RunEnd, run_script};
+use pm_case_scripts::RUN;
+use pm_case_text::{Fault, numbered, push_filled, push_lines};
 use std::alloc::Global;
-use std::fmt::Write;
 use std::sync::Wait;
 use std::thread::Threads;
 
@@ -16,32 +15,10 @@ fn script_of(alloc: Global, lines: &str) -> Result<Vec<u8>, Fault> {
     Ok(script)
 }
 
-// Runs over a disk with one script, and nothing fails.
-fn run_lines<R: AllocGlobal + Threads + Wait + Sync>(
-    rt: &R,
-    disk: Vec<u8>,
-    lines: &str,
-) -> Result<RunEnd, Fault> {
-    let script = script_of(rt.alloc(), lines)?;
-    run(rt, disk, Setting::of_script(rt.alloc(), script))
-}
-
 /// How many calls opening makes of a disk that holds these bytes.
 pub fn opening<R: AllocGlobal + Threads + Wait + Sync>(rt: &R, disk: &[u8]) -> Result<u64, Fault> {
-    let copy = disk.to_vec(rt.alloc())?;
-    let ended = run_lines(rt, copy, "")?;
+    let ended = run_script(rt, disk, RUN, &[])?;
     Ok(ended.disk.calls().len() as u64)
-}
-
-// Adds what a script gives on this image.
-fn push_on<R: AllocGlobal + Threads + Wait + Sync>(
-    rt: &R,
-    image: Vec<u8>,
-    lines: &str,
-    out: &mut String,
-) -> Result<(), Fault> {
-    let next = run_lines(rt, image, lines)?;
-    push_run_in_line(rt.alloc(), &next, out)
 }
 
 // Adds what a script gives on the image of the last run's disk that this pick chooses.
@@ -49,12 +26,26 @@ fn push_image<R: AllocGlobal + Threads + Wait + Sync>(
     rt: &R,
     last: &RunEnd,
     pick: u64,
-    lines: &str,
+    script: &[u8],
     out: &mut String,
 ) -> Result<(), Fault> {
-    write!(out, "image {pick}: ")?;
+    push_filled("image %: ", &[pick], out)?;
     let image = last.disk.image(rt.alloc(), pick)?;
-    push_on(rt, image, lines, out)
+    push_look(rt, script, image.as_slice(), out)
+}
+
+// Adds what a script gives on each image of the last run's disk whose pick is below this number.
+fn push_each<R: AllocGlobal + Threads + Wait + Sync>(
+    rt: &R,
+    last: &RunEnd,
+    picks: u64,
+    script: &[u8],
+    out: &mut String,
+) -> Result<(), Fault> {
+    for pick in 0..picks {
+        push_image(rt, last, pick, script, out)?;
+    }
+    Ok(())
 }
 
 /// `N LINES`: adds what the lines give on each image of the last run's disk whose pick is below N.
@@ -64,9 +55,7 @@ pub fn push_images<R: AllocGlobal + Threads + Wait + Sync>(
     text: &str,
     out: &mut String,
 ) -> Result<(), Fault> {
-    let (count, lines) = numbered(text)?;
-    for pick in 0..count {
-        push_image(rt, last, pick, lines, out)?;
-    }
-    Ok(())
+    let (picks, lines) = numbered(text)?;
+    let script = script_of(rt.alloc(), lines)?;
+    push_each(rt, last, picks, script.as_slice(), out)
 }

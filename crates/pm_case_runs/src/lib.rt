@@ -16,7 +16,7 @@ pub use drawn::push_drawn;
 pub use ends::push_memory_text;
 pub use failing::{Repeated, push_failings, push_fuses};
 pub use images::{opening, push_images};
-pub use pm_case_scripts::{INIT, Setting, push_alike, push_read, push_read_lines, push_texts};
+pub use pm_case_scripts::{INIT, Setting, push_alike, push_read, push_texts};
 pub use restored::push_round;
 pub use running::{RunEnd, run_next};
 pub use shown::{push_first, push_last, push_named, push_run};

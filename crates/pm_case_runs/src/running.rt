@@ -2,14 +2,13 @@
 
 ghost use Rattle.std.specs.Prelude.{◌<◌, length};
 
-use crate::ends::{Told, tell_of};
-use pm_case_scripts::{RUN, Setting};
+use pm_case_scripts::Setting;
 use pm_case_text::Fault;
 use pm_disk::MemDisk;
 use pm_fuse::FuseDisk;
 use pm_io::{MemSink, MemSource};
 use pm_place::{Placement, first_of, last_of, middle_of};
-use pm_top::{Ended, pmos};
+use pm_top::{Detail, Ended, pmos};
 use pm_turns::OpenGate;
 use pm_types::Entry;
 use pm_words::{Chosen, read_place};
@@ -23,8 +22,10 @@ use std::thread::Threads;
 pub struct RunEnd {
     /// The status with which it ended.
     pub(crate) status: u8,
-    /// What there is to tell of its end and of the sink.
-    pub(crate) told: Told,
+    /// How it ended.
+    pub(crate) detail: Detail,
+    /// The sink.
+    pub(crate) sink: MemSink,
     /// One entry for each command that was answered.
     pub(crate) journal: Vec<Entry>,
     /// The disk, and the other one.
@@ -48,6 +49,11 @@ impl RunEnd {
         self.journal.as_slice()
     }
 
+    /// What was written to the sink.
+    pub(crate) fn written(&self) -> &[u8] {
+        self.sink.written()
+    }
+
     /// The two disks change places.
     pub fn swap_disks(&mut self) {
         mem::swap(&mut self.disk, &mut self.other);
@@ -59,53 +65,36 @@ fn meant(word: &str) -> &str {
     if word == "''" { "" } else { word }
 }
 
-// The words of a text.
-fn words_of(alloc: Global, text: &str) -> Result<Vec<&str>, Fault> {
-    let mut words = Vec::new(alloc);
-    if text.is_empty() {
-        return Ok(words);
-    }
+// Adds the words of a text.
+fn push_words<'a>(words: &mut Vec<&'a str>, text: &'a str) -> Result<(), Fault> {
     for word in text.split(' ') {
         words.push(meant(word))?;
     }
-    Ok(words)
+    Ok(())
 }
 
-// The words of a setting, as a text.
-fn words_text(alloc: Global, setting: &Setting) -> Result<String, Fault> {
-    let words = match &setting.words {
-        Some(words) => words.as_str(),
-        None => RUN,
-    };
-    Ok(String::from_str(alloc, words)?)
+// The words of a text.
+fn words_of(alloc: Global, text: &str) -> Result<Vec<&str>, Fault> {
+    let mut words = Vec::new(alloc);
+    if !text.is_empty() {
+        push_words(&mut words, text)?;
+    }
+    Ok(words)
 }
 
 // How the program ended over disks with a fuse each.
 type Fused = Ended<FuseDisk<MemDisk>, FuseDisk<MemDisk>, MemSource, MemSink>;
 
-// What an end leaves, with what there is to tell of it, and each disk in memory in place of the one with a fuse.
-fn left(ended: Fused, told: Told) -> RunEnd {
+// What an end leaves, with each disk in memory in place of the one with a fuse.
+fn left(ended: Fused) -> RunEnd {
     RunEnd {
         status: ended.status,
-        told,
+        detail: ended.detail,
+        sink: ended.sink,
         journal: ended.journal,
         disk: ended.disk.into_inner(),
         other: ended.other.into_inner(),
     }
-}
-
-// The same, where it can be told.
-fn left_or(ended: Fused, told: Result<Told, Fault>) -> Result<RunEnd, Fault> {
-    match told {
-        Ok(told) => Ok(left(ended, told)),
-        Err(fault) => Err(fault),
-    }
-}
-
-// What an end leaves.
-fn kept(alloc: Global, ended: Fused) -> Result<RunEnd, Fault> {
-    let told = tell_of(alloc, &ended.detail, &ended.sink);
-    left_or(ended, told)
 }
 
 // The place in a list of trains of the one that is chosen.
@@ -129,16 +118,17 @@ struct Parts {
     sink: MemSink,
 }
 
-// The parts of a run over a disk with these bytes.
-fn parts_of(alloc: Global, disk: Vec<u8>, setting: Setting) -> Parts {
+// The words of a run over a disk with these bytes, and its parts.
+fn parts_of(alloc: Global, disk: Vec<u8>, setting: Setting) -> (String, Parts) {
     let disk = MemDisk::new(disk, setting.disk_fails);
     let other = MemDisk::new(setting.other, Vec::new(alloc));
-    Parts {
+    let parts = Parts {
         disk: FuseDisk::new(disk, setting.passes),
         other: FuseDisk::new(other, setting.other_passes),
         source: MemSource::new(setting.script, setting.piece.max(1), setting.source_fails),
         sink: MemSink::new(alloc, setting.sink_fails),
-    }
+    };
+    (setting.words, parts)
 }
 
 // Runs the program with these words. As `main` does, it takes from them which train an object moves to.
@@ -154,19 +144,34 @@ fn ended<R: AllocGlobal + Threads + Wait + Sync>(rt: &R, words: &[&str], parts: 
     pmos(rt, words, disk, other, source, sink, place, &OpenGate)
 }
 
-/// Runs the program over a disk with these bytes.
+// Runs the program with these words, and tells what that leaves.
+fn run_parts<R: AllocGlobal + Threads + Wait + Sync>(
+    rt: &R,
+    words: &[&str],
+    parts: Parts,
+) -> RunEnd {
+    left(ended(rt, words, parts))
+}
+
+// Runs the program with the words of a text.
+fn run_words<R: AllocGlobal + Threads + Wait + Sync>(
+    rt: &R,
+    text: &str,
+    parts: Parts,
+) -> Result<RunEnd, Fault> {
+    let words = words_of(rt.alloc(), text)?;
+    Ok(run_parts(rt, words.as_slice(), parts))
+}
+
+/// Runs the program over a disk that holds these bytes.
 pub(crate) fn run<R: AllocGlobal + Threads + Wait + Sync>(
     rt: &R,
-    disk: Vec<u8>,
+    disk: &[u8],
     setting: Setting,
 ) -> Result<RunEnd, Fault> {
     let alloc = rt.alloc();
-    let text = words_text(alloc, &setting)?;
-    let words = words_of(alloc, text.as_str())?;
-    kept(
-        alloc,
-        ended(rt, words.as_slice(), parts_of(alloc, disk, setting)),
-    )
+    let (text, parts) = parts_of(alloc, disk.to_vec(alloc)?, setting);
+    run_words(rt, text.as_str(), parts)
 }
 
 /// Runs the program with these words and this script over a disk that holds these bytes. Nothing fails.
@@ -174,10 +179,10 @@ pub(crate) fn run_script<R: AllocGlobal + Threads + Wait + Sync>(
     rt: &R,
     disk: &[u8],
     words: &str,
-    script: Vec<u8>,
+    script: &[u8],
 ) -> Result<RunEnd, Fault> {
     let setting = Setting::with_script(rt.alloc(), words, script)?;
-    run_on(rt, disk, setting)
+    run(rt, disk, setting)
 }
 
 /// Runs the program over disks that hold these bytes, with what was said of the next run so far and these lines.
@@ -188,17 +193,6 @@ pub fn run_next<R: AllocGlobal + Threads + Wait + Sync>(
     said: &mut Setting,
     lines: &str,
 ) -> Result<RunEnd, Fault> {
-    said.push_lines(lines)?;
-    let setting = said.take(rt.alloc(), other)?;
-    run_on(rt, disk, setting)
-}
-
-// Runs the program over a disk that holds these bytes.
-fn run_on<R: AllocGlobal + Threads + Wait + Sync>(
-    rt: &R,
-    disk: &[u8],
-    setting: Setting,
-) -> Result<RunEnd, Fault> {
-    let copy = disk.to_vec(rt.alloc())?;
-    run(rt, copy, setting)
+    let setting = said.take(rt.alloc(), lines, other)?;
+    run(rt, disk, setting)
 }

@@ -1,41 +1,50 @@
 //! What is printed of a run.
 
+use crate::ends::push_end;
 use crate::running::RunEnd;
 use pm_case_scripts::push_digest_of;
-use pm_case_text::{Fault, push_said, push_text, refuse};
+use pm_case_text::{Fault, push_filled, push_said, push_text, push_words, refuse};
 use pm_disk::DiskCall;
 use pm_script::journal_text;
 use pm_types::PAGE_BYTES;
 use std::alloc::Global;
-use std::fmt::Write;
 
 /// Adds what a run wrote, the text of its end, and its status.
-pub fn push_run(run: &RunEnd, out: &mut String) -> Result<(), Fault> {
-    push_text(run.told.written.as_slice(), out)?;
-    push_text(run.told.text.as_slice(), out)?;
+pub fn push_run(alloc: Global, run: &RunEnd, out: &mut String) -> Result<(), Fault> {
+    push_text(run.written(), out)?;
+    push_end(alloc, &run.detail, out)?;
     push_said("status", run.status as u64, out)
+}
+
+// Adds two texts, one behind the other.
+fn push_both(first: &str, second: &str, out: &mut String) -> Result<(), Fault> {
+    push_words(first, out)?;
+    push_words(second, out)
 }
 
 // Adds the line at this place of a text, the first of which is 0: each other one behind ` / `.
 fn push_part(place: usize, line: &str, out: &mut String) -> Result<(), Fault> {
-    if place > 0 {
-        out.push_str(" / ")?;
-    }
-    Ok(out.push_str(line)?)
+    push_both(if place > 0 { " / " } else { "" }, line, out)
 }
 
 // Adds the lines of a text, with ` / ` between them.
-fn push_in_line(text: &str, out: &mut String) -> Result<(), Fault> {
+fn push_parts(text: &str, out: &mut String) -> Result<(), Fault> {
     for (place, line) in text.split_terminator('\n').enumerate() {
         push_part(place, line, out)?;
     }
-    Ok(out.push('\n')?)
+    Ok(())
+}
+
+// Adds the same as a line.
+fn push_in_line(text: &str, out: &mut String) -> Result<(), Fault> {
+    push_parts(text, out)?;
+    push_words("\n", out)
 }
 
 /// Adds the same as one line, with ` / ` between its parts.
 pub(crate) fn push_run_in_line(alloc: Global, run: &RunEnd, out: &mut String) -> Result<(), Fault> {
     let mut text = String::new(alloc);
-    push_run(run, &mut text)?;
+    push_run(alloc, run, &mut text)?;
     push_in_line(text.as_str(), out)
 }
 
@@ -43,24 +52,15 @@ pub(crate) fn push_run_in_line(alloc: Global, run: &RunEnd, out: &mut String) ->
 fn push_lines_at(text: &str, from: usize, until: usize, out: &mut String) -> Result<(), Fault> {
     for (place, line) in text.split_terminator('\n').enumerate() {
         if place >= from && place < until {
-            push_line(line, out)?;
+            push_both(line, "\n", out)?;
         }
     }
     Ok(())
 }
 
-// Adds a line.
-fn push_line(line: &str, out: &mut String) -> Result<(), Fault> {
-    out.push_str(line)?;
-    Ok(out.push('\n')?)
-}
-
 // What a run wrote, which is text.
 fn written(run: &RunEnd) -> Result<&str, Fault> {
-    match str::from_utf8(run.told.written.as_slice()) {
-        Ok(text) => Ok(text),
-        Err(_) => Err(refuse("no text")),
-    }
+    str::from_utf8(run.written()).ok().ok_or(refuse("no text"))
 }
 
 /// Adds the last lines of what a run wrote, this number at most.
@@ -78,34 +78,38 @@ pub fn push_first(run: &RunEnd, count: u64, out: &mut String) -> Result<(), Faul
 // Adds one call of the disk: its kind, and for a write the page and the byte where it begins.
 fn push_call(call: &DiskCall, out: &mut String) -> Result<(), Fault> {
     match call {
-        DiskCall::Len => out.push_str(" len")?,
-        DiskCall::Read { .. } => out.push_str(" read")?,
+        DiskCall::Len => push_words(" len", out),
+        DiskCall::Read { .. } => push_words(" read", out),
         DiskCall::Write { at, .. } => {
-            let page = *at / PAGE_BYTES as u64;
-            let byte = *at % PAGE_BYTES as u64;
-            write!(out, " write {page}:{byte}")?;
+            let page_bytes = PAGE_BYTES as u64;
+            push_filled(" write %:%", &[*at / page_bytes, *at % page_bytes], out)
         }
-        DiskCall::Sync => out.push_str(" sync")?,
+        DiskCall::Sync => push_words(" sync", out),
+    }
+}
+
+// Adds these calls.
+fn push_each_call(calls: &[DiskCall], out: &mut String) -> Result<(), Fault> {
+    for call in calls {
+        push_call(call, out)?;
     }
     Ok(())
 }
 
-// Adds the calls of the disk in their order.
+// Adds the calls of the disk in their order, a line.
 fn push_calls(calls: &[DiskCall], out: &mut String) -> Result<(), Fault> {
-    out.push_str("calls")?;
-    for call in calls {
-        push_call(call, out)?;
-    }
-    out.push('\n')?;
-    Ok(())
+    push_words("calls", out)?;
+    push_each_call(calls, out)?;
+    push_words("\n", out)
 }
 
 // Adds how many calls of the disk and of the sink failed since memory was refused them.
 fn push_refused(run: &RunEnd, out: &mut String) -> Result<(), Fault> {
-    let disk = run.disk.refused();
-    let sink = run.told.refused;
-    writeln!(out, "refused {disk} {sink}")?;
-    Ok(())
+    push_filled(
+        "refused % %\n",
+        &[run.disk.refused(), run.sink.refused()],
+        out,
+    )
 }
 
 // Adds the reply line of each entry of the journal.
@@ -118,8 +122,8 @@ fn push_entries(alloc: Global, run: &RunEnd, out: &mut String) -> Result<(), Fau
 fn counted(run: &RunEnd, word: &str) -> Result<u64, Fault> {
     match word {
         "status" => Ok(run.status as u64),
-        "written" => Ok(run.told.written.len() as u64),
-        "finished" => Ok(run.told.finished),
+        "written" => Ok(run.written().len() as u64),
+        "finished" => Ok(run.sink.finished()),
         "journal" => Ok(run.journal.len() as u64),
         "bytes" => Ok(run.disk.contents().len() as u64),
         _ => Err(refuse("nothing of that name")),
@@ -129,13 +133,13 @@ fn counted(run: &RunEnd, word: &str) -> Result<u64, Fault> {
 /// Adds what is known by this word of the last run.
 pub fn push_named(alloc: Global, run: &RunEnd, word: &str, out: &mut String) -> Result<(), Fault> {
     match word {
-        "text" => push_text(run.told.text.as_slice(), out),
-        "output" => push_text(run.told.written.as_slice(), out),
+        "text" => push_end(alloc, &run.detail, out),
+        "output" => push_text(run.written(), out),
         "entries" => push_entries(alloc, run, out),
         "refused" => push_refused(run, out),
         "calls" => push_calls(run.disk.calls(), out),
         "sha256" => push_digest_of(alloc, run.disk.contents(), out),
-        "output-sha256" => push_digest_of(alloc, run.told.written.as_slice(), out),
+        "output-sha256" => push_digest_of(alloc, run.written(), out),
         _ => push_said(word, counted(run, word)?, out),
     }
 }

@@ -3,19 +3,25 @@
 use pm_case_text::{Fault, number};
 use std::alloc::Global;
 
+// Behind how many calls the number of this word is counted: one with a plus is counted from behind `opening` calls.
+fn calls_before(word: &str, opening: u64) -> u64 {
+    if word.starts_with('+') { opening } else { 0 }
+}
+
 /// The number of a call. One with a plus is counted from behind `opening` calls.
 pub(crate) fn call_number(word: &str, opening: u64) -> Result<u64, Fault> {
-    match word.strip_prefix('+') {
-        Some(later) => Ok(opening.saturating_add(number(later)?)),
-        None => number(word),
-    }
+    Ok(calls_before(word, opening).saturating_add(number(word)?))
+}
+
+// Adds the number of a call.
+fn push_call_number(numbers: &mut Vec<u64>, word: &str, opening: u64) -> Result<(), Fault> {
+    Ok(numbers.push(call_number(word, opening)?)?)
 }
 
 // Adds the numbers of calls.
 fn push_call_numbers(numbers: &mut Vec<u64>, text: &str, opening: u64) -> Result<(), Fault> {
     for word in text.split(' ') {
-        let call = call_number(word, opening)?;
-        numbers.push(call)?;
+        push_call_number(numbers, word, opening)?;
     }
     Ok(())
 }

@@ -12,5 +12,5 @@ mod setting;
 pub use drawn_lines::generated;
 pub use printed::push_digest_of;
 pub use replayed::{alike_in, push_alike};
-pub use scripts::{push_read, push_read_lines, push_texts};
+pub use scripts::{push_read, push_texts};
 pub use setting::{DUMP, INIT, RESTORE, RUN, RUN_THREADS, Setting};

@@ -1,45 +1,35 @@
 //! Scripts that the reader of the whole grammar reads, and the texts of a journal.
 
-use pm_case_text::{Fault, push_text, push_value_line, refuse};
-use pm_script::{Script, ScriptFault, journal_text, read_script, reply_text};
+use pm_case_text::{Fault, push_filled, push_text, push_value_line, refuse};
+use pm_script::{Line, journal_text, read_script, reply_text};
 use pm_types::{Entry, SOURCE_BYTES};
 use std::alloc::Global;
-use std::fmt::Write;
-
-// What the reader answers.
-fn read(alloc: Global, script: &[u8]) -> Result<Result<Script, ScriptFault>, Fault> {
-    if script.len() > SOURCE_BYTES {
-        return Err(refuse("too long"));
-    }
-    Ok(read_script(alloc, script))
-}
-
-// Adds a number of lines.
-fn push_count(count: usize, out: &mut String) -> Result<(), Fault> {
-    writeln!(out, "{count} lines")?;
-    Ok(())
-}
-
-/// Adds how many lines of the script say something, or why it is none.
-pub fn push_read(alloc: Global, script: &[u8], out: &mut String) -> Result<(), Fault> {
-    match read(alloc, script)? {
-        Ok(script) => push_count(script.as_slice().len(), out),
-        Err(fault) => push_value_line(&fault, out),
-    }
-}
 
 // Adds the lines of a script.
-fn push_lines(script: &Script, out: &mut String) -> Result<(), Fault> {
-    for line in script.as_slice() {
+fn push_lines(lines: &[Line], out: &mut String) -> Result<(), Fault> {
+    for line in lines {
         push_value_line(line, out)?;
     }
     Ok(())
 }
 
-/// Adds each line of the script that says something, or why it is none.
-pub fn push_read_lines(alloc: Global, script: &[u8], out: &mut String) -> Result<(), Fault> {
-    match read(alloc, script)? {
-        Ok(script) => push_lines(&script, out),
+// Adds the lines of a script, or how many they are.
+fn push_script(lines: &[Line], whole: bool, out: &mut String) -> Result<(), Fault> {
+    if whole {
+        push_lines(lines, out)
+    } else {
+        push_filled("% lines\n", &[lines.len() as u64], out)
+    }
+}
+
+/// Adds how many lines of the script say something, or each of these lines where the `whole` is asked for; or why it is no
+/// script.
+pub fn push_read(alloc: Global, script: &[u8], whole: bool, out: &mut String) -> Result<(), Fault> {
+    if script.len() > SOURCE_BYTES {
+        return Err(refuse("too long"));
+    }
+    match read_script(alloc, script) {
+        Ok(script) => push_script(script.as_slice(), whole, out),
         Err(fault) => push_value_line(&fault, out),
     }
 }
@@ -63,12 +53,16 @@ fn same_lines(alloc: Global, text: &[u8], journal: &[Entry]) -> Result<u64, Faul
     Ok(same)
 }
 
+// Adds how many of a journal's lines the text has, where each is made by itself.
+fn push_same(alloc: Global, text: &[u8], journal: &[Entry], out: &mut String) -> Result<(), Fault> {
+    let same = same_lines(alloc, text, journal)?;
+    let numbers = [same, journal.len() as u64];
+    push_filled("% of % lines are the same\n", &numbers, out)
+}
+
 /// Adds the text of a journal, and how many of its lines are the same where each is made by itself.
 pub fn push_texts(alloc: Global, journal: &[Entry], out: &mut String) -> Result<(), Fault> {
     let text = journal_text(alloc, journal)?;
     push_text(text.as_slice(), out)?;
-    let same = same_lines(alloc, text.as_slice(), journal)?;
-    let lines = journal.len();
-    writeln!(out, "{same} of {lines} lines are the same")?;
-    Ok(())
+    push_same(alloc, text.as_slice(), journal, out)
 }

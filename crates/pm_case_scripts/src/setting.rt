@@ -27,8 +27,8 @@ const PIECE: usize = 4;
 /// With what a run begins, beside the disk's bytes.
 #[derive(Drop)]
 pub struct Setting {
-    /// The words of the command line, with a space between each two; none where no step says any.
-    pub words: Option<String>,
+    /// The words of the command line, with a space between each two.
+    pub words: String,
     /// What the source holds.
     pub script: Vec<u8>,
     /// How many bytes the source gives at most in one call.
@@ -45,45 +45,20 @@ pub struct Setting {
     pub sink_fails: Vec<u64>,
 }
 
-// Adds the lines N times, each time with its number, from 0, in place of `%`.
-fn push_times(alloc: Global, script: &mut Vec<u8>, text: &str) -> Result<(), Fault> {
-    let (times, lines) = numbered(text)?;
-    for time in 0..times {
-        let counted = counted(alloc, lines, time)?;
-        push_lines(script, counted.as_str())?;
-    }
-    Ok(())
-}
-
-// Adds bytes that are spelled in hexadecimal.
-fn push_raw(alloc: Global, script: &mut Vec<u8>, text: &str) -> Result<(), Fault> {
-    let raw = raw_bytes(alloc, text)?;
-    Ok(script.extend_from_slice(raw.as_slice())?)
-}
-
-// Adds N lines that are drawn.
-fn push_drawn(alloc: Global, script: &mut Vec<u8>, text: &str) -> Result<(), Fault> {
-    let drawn = generated(alloc, number(text)?, 1)?;
-    Ok(script.extend_from_slice(drawn.as_bytes())?)
-}
-
-// The same words.
-fn copied(alloc: Global, words: &Option<String>) -> Result<Option<String>, Fault> {
-    match words {
-        Some(words) => Ok(Some(String::from_str(alloc, words.as_str())?)),
-        None => Ok(None),
-    }
+// Adds bytes.
+fn push_raw(script: &mut Vec<u8>, bytes: &[u8]) -> Result<(), Fault> {
+    Ok(script.extend_from_slice(bytes)?)
 }
 
 impl Setting {
-    // These words and this script, nothing that fails, pieces of 4 bytes, and no byte on the other disk.
-    fn of(alloc: Global, words: Option<String>, script: Vec<u8>) -> Setting {
+    // These words and this script, with pieces of this many bytes and these bytes on the other disk; nothing fails.
+    fn of(alloc: Global, words: String, script: Vec<u8>, piece: usize, other: Vec<u8>) -> Setting {
         Setting {
             words,
             script,
-            piece: PIECE,
+            piece,
             passes: u64::MAX,
-            other: Vec::new(alloc),
+            other,
             other_passes: u64::MAX,
             disk_fails: Vec::new(alloc),
             source_fails: Vec::new(alloc),
@@ -91,108 +66,99 @@ impl Setting {
         }
     }
 
-    /// The words of a run and no script, nothing that fails, pieces of 4 bytes, and no byte on the other disk.
-    pub fn new(alloc: Global) -> Setting {
-        Setting::of(alloc, None, Vec::new(alloc))
-    }
-
-    /// The same with a script.
-    pub fn of_script(alloc: Global, script: Vec<u8>) -> Setting {
-        Setting::of(alloc, None, script)
-    }
-
-    /// The same of words that are lent.
-    pub fn with_script(alloc: Global, words: &str, script: Vec<u8>) -> Result<Setting, Fault> {
+    /// These words and this script, nothing that fails, pieces of 4 bytes, and no byte on the other disk.
+    pub fn with_script(alloc: Global, words: &str, script: &[u8]) -> Result<Setting, Fault> {
         let words = String::from_str(alloc, words)?;
-        Ok(Setting::of(alloc, Some(words), script))
+        let script = script.to_vec(alloc)?;
+        Ok(Setting::of(alloc, words, script, PIECE, Vec::new(alloc)))
+    }
+
+    /// The same with the words of a run, and no script.
+    pub fn new(alloc: Global) -> Result<Setting, Fault> {
+        Setting::with_script(alloc, RUN, &[])
     }
 
     /// The same words, script, pieces and other disk, and nothing that fails.
     pub fn again(&self, alloc: Global) -> Result<Setting, Fault> {
-        let words = copied(alloc, &self.words)?;
-        let script = self.script.to_vec(alloc)?;
-        let other = self.other.to_vec(alloc)?;
-        let mut setting = Setting::of(alloc, words, script);
+        let mut setting = Setting::with_script(alloc, self.words.as_str(), self.script.as_slice())?;
+        setting.other = self.other.to_vec(alloc)?;
         setting.piece = self.piece;
-        setting.other = other;
         Ok(setting)
     }
 
-    /// What was said so far, with these bytes on the other disk; nothing is said of the next run.
-    pub fn take(&mut self, alloc: Global, other: &[u8]) -> Result<Setting, Fault> {
-        let other = other.to_vec(alloc)?;
-        let mut taken = mem::replace(self, Setting::new(alloc));
-        taken.other = other;
-        Ok(taken)
-    }
-
-    /// The script so far and these lines; nothing is said of the next run.
-    pub fn take_script(&mut self, alloc: Global, lines: &str) -> Result<Vec<u8>, Fault> {
-        self.push_lines(lines)?;
-        let taken = mem::replace(self, Setting::new(alloc));
-        Ok(taken.script)
+    /// What was said so far, with these lines behind the script and these bytes on the other disk; nothing is said of the
+    /// next run.
+    pub fn take(&mut self, alloc: Global, lines: &str, other: &[u8]) -> Result<Setting, Fault> {
+        push_lines(&mut self.script, lines)?;
+        self.other = other.to_vec(alloc)?;
+        let next = Setting::new(alloc)?;
+        Ok(mem::replace(self, next))
     }
 
     /// The words of the next run.
     pub fn set_words(&mut self, alloc: Global, text: &str) -> Result<(), Fault> {
-        let words = String::from_str(alloc, text)?;
-        self.words = Some(words);
+        self.words = String::from_str(alloc, text)?;
         Ok(())
     }
 
-    /// `N`: how many bytes the source of the next run gives at most.
-    pub fn set_piece(&mut self, text: &str) -> Result<(), Fault> {
-        self.piece = number(text)? as usize;
+    /// `N`, or `+N` behind so many calls. For `pieces` it is how many bytes the source of the next run gives at most, for
+    /// `fuse` how many calls the disk passes on, and else how many the other disk does.
+    pub fn set_number(&mut self, what: &str, text: &str, opening: u64) -> Result<(), Fault> {
+        let number = call_number(text, opening)?;
+        match what {
+            "pieces" => self.piece = number as usize,
+            "fuse" => self.passes = number,
+            _ => self.other_passes = number,
+        }
         Ok(())
     }
 
-    /// Adds lines to the script so far, with ` / ` between them.
-    pub fn push_lines(&mut self, lines: &str) -> Result<(), Fault> {
-        push_lines(&mut self.script, lines)
+    /// The calls of the source, the sink, or else the disk that fail in the next run.
+    pub fn set_fails(&mut self, part: &str, calls: Vec<u64>) {
+        match part {
+            "source" | "source-fails" => self.source_fails = calls,
+            "sink" | "sink-fails" => self.sink_fails = calls,
+            _ => self.disk_fails = calls,
+        }
+    }
+
+    /// `N ..`, or `+N` behind so many calls: the same, where the numbers are spelled.
+    pub fn read_fails(
+        &mut self,
+        alloc: Global,
+        part: &str,
+        text: &str,
+        opening: u64,
+    ) -> Result<(), Fault> {
+        let calls = call_numbers(alloc, text, opening)?;
+        self.set_fails(part, calls);
+        Ok(())
+    }
+
+    // Adds lines, with the number of this time in place of `%`.
+    fn push_time(&mut self, alloc: Global, lines: &str, time: u64) -> Result<(), Fault> {
+        let counted = counted(alloc, lines, time)?;
+        push_lines(&mut self.script, counted.as_str())
     }
 
     /// `N LINES`: adds the lines N times, each time with its number, from 0, in place of `%`.
     pub fn push_times(&mut self, alloc: Global, text: &str) -> Result<(), Fault> {
-        push_times(alloc, &mut self.script, text)
+        let (times, lines) = numbered(text)?;
+        for time in 0..times {
+            self.push_time(alloc, lines, time)?;
+        }
+        Ok(())
     }
 
     /// Adds bytes that are spelled in hexadecimal.
     pub fn push_bytes(&mut self, alloc: Global, text: &str) -> Result<(), Fault> {
-        push_raw(alloc, &mut self.script, text)
+        let raw = raw_bytes(alloc, text)?;
+        push_raw(&mut self.script, raw.as_slice())
     }
 
     /// `N`: adds so many lines that are drawn.
     pub fn push_drawn(&mut self, alloc: Global, text: &str) -> Result<(), Fault> {
-        push_drawn(alloc, &mut self.script, text)
-    }
-
-    /// `N`, or `+N` behind so many calls: how many calls the disk of the next run passes on.
-    pub fn set_fuse(&mut self, text: &str, opening: u64) -> Result<(), Fault> {
-        self.passes = call_number(text, opening)?;
-        Ok(())
-    }
-
-    /// `N`: how many calls the other disk of the next run passes on.
-    pub fn set_other_fuse(&mut self, text: &str) -> Result<(), Fault> {
-        self.other_passes = number(text)?;
-        Ok(())
-    }
-
-    /// `N ..`, or `+N` behind so many calls: the calls of the disk that fail in the next run.
-    pub fn set_disk_fails(&mut self, alloc: Global, text: &str, opening: u64) -> Result<(), Fault> {
-        self.disk_fails = call_numbers(alloc, text, opening)?;
-        Ok(())
-    }
-
-    /// `N ..`: the calls of the source that fail in the next run.
-    pub fn set_source_fails(&mut self, alloc: Global, text: &str) -> Result<(), Fault> {
-        self.source_fails = call_numbers(alloc, text, 0)?;
-        Ok(())
-    }
-
-    /// `N ..`: the calls of the sink that fail in the next run.
-    pub fn set_sink_fails(&mut self, alloc: Global, text: &str) -> Result<(), Fault> {
-        self.sink_fails = call_numbers(alloc, text, 0)?;
-        Ok(())
+        let drawn = generated(alloc, number(text)?, 1)?;
+        push_raw(&mut self.script, drawn.as_bytes())
     }
 }

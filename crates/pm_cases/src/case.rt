@@ -3,11 +3,11 @@
 use pm_case_runs::{
     INIT, Repeated, RunEnd, Setting, named, opening, push_alike, push_digits_at, push_drawn,
     push_failings, push_first, push_fuses, push_images, push_last, push_memory_text, push_named,
-    push_read, push_read_lines, push_round, push_run, push_texts, put_digest_of, run_next, seal,
+    push_read, push_round, push_run, push_texts, put_digest_of, run_next, seal,
 };
 use pm_case_text::{
-    Count, Fault, first_word, is_silent, number, numbered, patch, push_case, push_lines, refuse,
-    written_out,
+    Count, Fault, first_word, is_silent, number, numbered, patch, push_case, push_lines,
+    push_words, refuse, two_numbers, written_out,
 };
 use std::alloc::Global;
 use std::mem;
@@ -32,32 +32,30 @@ pub(crate) struct Case {
 
 // The last run.
 fn ended(last: &Option<RunEnd>) -> Result<&RunEnd, Fault> {
-    match last {
-        Some(run) => Ok(run),
-        None => Err(refuse("no run before")),
-    }
+    last.as_ref().ok_or(refuse("no run before"))
 }
 
 // Adds whether a run changed the disk's bytes.
 fn push_changed(changed: bool, out: &mut String) -> Result<(), Fault> {
-    Ok(out.push_str(if changed {
+    let text = if changed {
         "disk changed\n"
     } else {
         "disk unchanged\n"
-    })?)
+    };
+    push_words(text, out)
 }
 
 impl Case {
     /// A case that has just begun: two empty disks, and no run.
-    pub(crate) fn new(alloc: Global) -> Case {
-        Case {
+    pub(crate) fn new(alloc: Global) -> Result<Case, Fault> {
+        Ok(Case {
             disk: Vec::new(alloc),
             other: Vec::new(alloc),
-            setting: Setting::new(alloc),
+            setting: Setting::new(alloc)?,
             look: Vec::new(alloc),
             last: None,
             changed: false,
-        }
+        })
     }
 
     // The disks are what the last run left.
@@ -80,24 +78,20 @@ impl Case {
         self.keep_disks(rt.alloc())
     }
 
-    // The calls of the disk that fail in the next run.
-    fn set_disk_fails<R: AllocGlobal + Threads + Wait + Sync>(
+    // How many calls the disk of the next run passes on, or which of them fail. They may be counted from behind those of
+    // the opening.
+    fn set_calls<R: AllocGlobal + Threads + Wait + Sync>(
         &mut self,
         rt: &R,
+        step: &str,
         text: &str,
     ) -> Result<(), Fault> {
         let opening = opening(rt, &self.disk)?;
-        self.setting.set_disk_fails(rt.alloc(), text, opening)
-    }
-
-    // How many calls the disk of the next run passes on.
-    fn set_fuse<R: AllocGlobal + Threads + Wait + Sync>(
-        &mut self,
-        rt: &R,
-        text: &str,
-    ) -> Result<(), Fault> {
-        let opening = opening(rt, &self.disk)?;
-        self.setting.set_fuse(text, opening)
+        if step == "fuse" {
+            self.setting.set_number(step, text, opening)
+        } else {
+            self.setting.read_fails(rt.alloc(), step, text, opening)
+        }
     }
 
     // With what a disk is looked at from here on.
@@ -106,35 +100,19 @@ impl Case {
         push_lines(&mut self.look, text)
     }
 
-    // What is run again and again: what was said so far and these lines.
-    fn repeated(&mut self, alloc: Global, lines: &str) -> Result<Repeated, Fault> {
-        Repeated::new(
-            alloc,
-            &mut self.setting,
-            lines,
-            &self.disk,
-            &self.other,
-            &self.look,
-        )
-    }
-
-    // The disk is the one of that name.
-    fn lay_disk<R: AllocGlobal + Threads + Wait + Sync>(
+    // The disk, or the other one, is the one of that name.
+    fn lay<R: AllocGlobal + Threads + Wait + Sync>(
         &mut self,
         rt: &R,
+        step: &str,
         text: &str,
     ) -> Result<(), Fault> {
-        self.disk = named(rt, &self.last, text)?;
-        Ok(())
-    }
-
-    // The other disk is the one of that name.
-    fn lay_other<R: AllocGlobal + Threads + Wait + Sync>(
-        &mut self,
-        rt: &R,
-        text: &str,
-    ) -> Result<(), Fault> {
-        self.other = named(rt, &self.last, text)?;
+        let bytes = named(rt, &self.last, text)?;
+        if step == "disk" {
+            self.disk = bytes;
+        } else {
+            self.other = bytes;
+        }
         Ok(())
     }
 
@@ -146,12 +124,7 @@ impl Case {
         }
     }
 
-    // Adds what the last run wrote, the text of its end, and its status.
-    fn push_ended(&self, out: &mut String) -> Result<(), Fault> {
-        push_run(ended(&self.last)?, out)
-    }
-
-    // Runs with these lines, and adds what that gave.
+    // Runs with these lines, and adds what the run wrote, the text of its end, and its status.
     fn go_and_push<R: AllocGlobal + Threads + Wait + Sync>(
         &mut self,
         rt: &R,
@@ -159,7 +132,7 @@ impl Case {
         out: &mut String,
     ) -> Result<(), Fault> {
         self.go(rt, lines)?;
-        self.push_ended(out)
+        push_run(rt.alloc(), ended(&self.last)?, out)
     }
 
     // Makes a store, and adds what that gave.
@@ -188,31 +161,27 @@ impl Case {
         Ok(())
     }
 
-    // Adds the last lines that the last run wrote.
-    fn push_last(&self, text: &str, out: &mut String) -> Result<(), Fault> {
-        push_last(ended(&self.last)?, number(text)?, out)
+    // Adds the first lines that the last run wrote, or the last ones.
+    fn push_some(&self, step: &str, text: &str, out: &mut String) -> Result<(), Fault> {
+        let run = ended(&self.last)?;
+        let count = number(text)?;
+        if step == "first" {
+            push_first(run, count, out)
+        } else {
+            push_last(run, count, out)
+        }
     }
 
-    // Adds the first lines that the last run wrote.
-    fn push_first(&self, text: &str, out: &mut String) -> Result<(), Fault> {
-        push_first(ended(&self.last)?, number(text)?, out)
-    }
-
-    // Adds what the reader of the whole grammar says of the script so far and these lines.
-    fn push_read(&mut self, alloc: Global, text: &str, out: &mut String) -> Result<(), Fault> {
-        let script = self.setting.take_script(alloc, text)?;
-        push_read(alloc, script.as_slice(), out)
-    }
-
-    // Adds the lines that this reader finds in them.
-    fn push_read_lines(
+    // Adds what the reader of the whole grammar says of the script so far and these lines, or the lines that it finds.
+    fn push_read(
         &mut self,
         alloc: Global,
         text: &str,
+        whole: bool,
         out: &mut String,
     ) -> Result<(), Fault> {
-        let script = self.setting.take_script(alloc, text)?;
-        push_read_lines(alloc, script.as_slice(), out)
+        let said = self.setting.take(alloc, text, &[])?;
+        push_read(alloc, said.script.as_slice(), whole, out)
     }
 
     // Adds what a script gives on images of the last run's disk.
@@ -225,7 +194,7 @@ impl Case {
         push_images(rt, ended(&self.last)?, text, out)
     }
 
-    // Adds what a script gives over each fuse, and what it leaves.
+    // Adds what a script gives over each fuse, and what it leaves: what was said so far and these lines.
     fn push_fuses<R: AllocGlobal + Threads + Wait + Sync>(
         &mut self,
         rt: &R,
@@ -233,7 +202,15 @@ impl Case {
         out: &mut String,
     ) -> Result<(), Fault> {
         let (picks, lines) = numbered(text)?;
-        push_fuses(rt, self.repeated(rt.alloc(), lines)?, picks, out)
+        let repeated = Repeated::new(
+            rt.alloc(),
+            &mut self.setting,
+            lines,
+            &self.disk,
+            &self.other,
+            &self.look,
+        )?;
+        push_fuses(rt, &repeated, picks, out)
     }
 
     // Adds what a script gives where each call of a part fails in turn.
@@ -244,7 +221,15 @@ impl Case {
         out: &mut String,
     ) -> Result<(), Fault> {
         let (part, lines) = first_word(text);
-        push_failings(rt, self.repeated(rt.alloc(), lines)?, part, out)
+        let repeated = Repeated::new(
+            rt.alloc(),
+            &mut self.setting,
+            lines,
+            &self.disk,
+            &self.other,
+            &self.look,
+        )?;
+        push_failings(rt, &repeated, part, out)
     }
 
     // Adds what runs in threads of drawn scripts give, each on this disk.
@@ -254,21 +239,21 @@ impl Case {
         text: &str,
         out: &mut String,
     ) -> Result<(), Fault> {
-        let (runs, lines) = numbered(text)?;
-        push_drawn(rt, self.disk.as_slice(), runs, number(lines)?, out)
+        let (runs, lines) = two_numbers(text)?;
+        push_drawn(rt, self.disk.as_slice(), runs, lines, out)
     }
 
-    // Adds the text of the last run's journal.
-    fn push_texts(&self, alloc: Global, out: &mut String) -> Result<(), Fault> {
-        push_texts(alloc, ended(&self.last)?.journal(), out)
+    // Adds the text of the last run's journal, or how many of its replies the plain slow program gives alike.
+    fn push_journal(&self, alloc: Global, step: &str, out: &mut String) -> Result<(), Fault> {
+        let run = ended(&self.last)?;
+        if step == "texts" {
+            push_texts(alloc, run.journal(), out)
+        } else {
+            push_alike(alloc, run.journal(), out)
+        }
     }
 
-    // Adds how many replies of the last run the plain slow program gives alike.
-    fn push_alike(&self, alloc: Global, out: &mut String) -> Result<(), Fault> {
-        push_alike(alloc, ended(&self.last)?.journal(), out)
-    }
-
-    // A step that says with what the next run begins, or another one.
+    // A step that says with what the next run begins and what fails in it, or another one.
     fn set_step<R: AllocGlobal + Threads + Wait + Sync>(
         &mut self,
         rt: &R,
@@ -279,30 +264,13 @@ impl Case {
         let alloc = rt.alloc();
         match step {
             "words" => self.setting.set_words(alloc, text),
-            "pieces" => self.setting.set_piece(text),
             "times" => self.setting.push_times(alloc, text),
             "bytes" => self.setting.push_bytes(alloc, text),
             "generate" => self.setting.push_drawn(alloc, text),
+            "pieces" | "other-fuse" => self.setting.set_number(step, text, 0),
+            "source-fails" | "sink-fails" => self.setting.read_fails(alloc, step, text, 0),
+            "fuse" | "disk-fails" => self.set_calls(rt, step, text),
             "look" => self.set_look(alloc, text),
-            _ => self.fail_step(rt, step, text, out),
-        }
-    }
-
-    // A step that says what fails in the next run, or another one.
-    fn fail_step<R: AllocGlobal + Threads + Wait + Sync>(
-        &mut self,
-        rt: &R,
-        step: &str,
-        text: &str,
-        out: &mut String,
-    ) -> Result<(), Fault> {
-        let alloc = rt.alloc();
-        match step {
-            "fuse" => self.set_fuse(rt, text),
-            "disk-fails" => self.set_disk_fails(rt, text),
-            "other-fuse" => self.setting.set_other_fuse(text),
-            "source-fails" => self.setting.set_source_fails(alloc, text),
-            "sink-fails" => self.setting.set_sink_fails(alloc, text),
             _ => self.lay_step(rt, step, text, out),
         }
     }
@@ -316,8 +284,7 @@ impl Case {
         out: &mut String,
     ) -> Result<(), Fault> {
         match step {
-            "disk" => self.lay_disk(rt, text),
-            "other" => self.lay_other(rt, text),
+            "disk" | "other" => self.lay(rt, step, text),
             "swap" => Ok(self.swap_disks()),
             "patch" => patch(rt.alloc(), self.disk.as_mut_slice(), text),
             "digest" => put_digest_of(self.disk.as_mut_slice(), text),
@@ -347,7 +314,7 @@ impl Case {
         }
     }
 
-    // A step that shows something of a run, or another one.
+    // A step that shows something of a run, or reads the script so far or the disk.
     fn show_step(
         &mut self,
         alloc: Global,
@@ -357,25 +324,9 @@ impl Case {
     ) -> Result<(), Fault> {
         match step {
             "show" => self.show(alloc, text, out),
-            "first" => self.push_first(text, out),
-            "last" => self.push_last(text, out),
-            "texts" => self.push_texts(alloc, out),
-            "oracle" => self.push_alike(alloc, out),
-            _ => self.read_step(alloc, step, text, out),
-        }
-    }
-
-    // A step that reads the script so far or the disk, or another one.
-    fn read_step(
-        &mut self,
-        alloc: Global,
-        step: &str,
-        text: &str,
-        out: &mut String,
-    ) -> Result<(), Fault> {
-        match step {
-            "read" => self.push_read(alloc, text, out),
-            "lines" => self.push_read_lines(alloc, text, out),
+            "first" | "last" => self.push_some(step, text, out),
+            "texts" | "oracle" => self.push_journal(alloc, step, out),
+            "read" | "lines" => self.push_read(alloc, text, step == "lines", out),
             "at" => push_digits_at(alloc, &self.disk, text, out),
             "memory-text" => push_memory_text(alloc, out),
             _ => Err(refuse("no such step")),
@@ -384,7 +335,7 @@ impl Case {
 
     // Begins the case of this name.
     fn begin(&mut self, alloc: Global, name: &str, out: &mut String) -> Result<(), Fault> {
-        *self = Case::new(alloc);
+        *self = Case::new(alloc)?;
         push_case(name, out)
     }
 

@@ -1,8 +1,7 @@
 //! The parts of the program that have cases, and the whole of it.
 
 use crate::case::Case;
-use pm_case_text::{Fault, first_word, is_silent, refuse};
-use std::fmt::Write;
+use pm_case_text::{Fault, first_word, is_silent, push_words, refuse};
 use std::sync::Wait;
 use std::thread::Threads;
 
@@ -45,6 +44,13 @@ fn part_of(name: &str) -> Result<Part, Fault> {
     }
 }
 
+// Adds the line with which a part begins.
+fn push_part(name: &str, out: &mut String) -> Result<(), Fault> {
+    push_words("part ", out)?;
+    push_words(name, out)?;
+    push_words("\n", out)
+}
+
 /// What the case of each part has come to that keeps something from line to line, and whose steps the lines are.
 #[derive(Drop)]
 pub(crate) struct Cases {
@@ -64,15 +70,14 @@ impl Cases {
             disks: pm_disk_cases::Case::new(alloc),
             files: pm_file_cases::Case::new(rt),
             engine: pm_engine_cases::Case::new(alloc)?,
-            program: Case::new(alloc),
+            program: Case::new(alloc)?,
         })
     }
 
     // Begins the part of this name.
     fn begin(&mut self, name: &str, out: &mut String) -> Result<(), Fault> {
         self.now = Some(part_of(name)?);
-        writeln!(out, "part {name}")?;
-        Ok(())
+        push_part(name, out)
     }
 
     // Hands a line to this part.
@@ -121,9 +126,10 @@ impl Cases {
         if is_silent(line) {
             return Ok(());
         }
-        match first_word(line) {
-            ("part", name) => self.begin(name, out),
-            _ => self.hand(rt, line, out),
+        let (word, name) = first_word(line);
+        if word == "part" {
+            return self.begin(name, out);
         }
+        self.hand(rt, line, out)
     }
 }

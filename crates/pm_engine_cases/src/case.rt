@@ -3,9 +3,9 @@
 use crate::chosen::{Chosen, read_chosen};
 use crate::spelling::{push_bytes_at, push_last, script};
 use crate::standby::{push_ship, push_ships};
-use crate::stopping::{opening, push_calls, push_failing, push_fused, push_stops, push_whole};
+use crate::stopping::{Run, opening, push_calls, push_over, push_stops};
 use pm_case_text::{
-    Count, Fault, first_word, is_silent, number, patch, push_case, refuse, written_out,
+    Count, Fault, first_word, is_silent, numbered, patch, push_case, refuse, written_out,
 };
 use pm_disk::MemDisk;
 use pm_script::{Line, Script};
@@ -46,10 +46,20 @@ impl Case {
         })
     }
 
+    // What these lines are run on.
+    fn run_of<'a>(&'a self, lines: &'a [Line]) -> Run<'a> {
+        Run {
+            disk: self.disk.as_slice(),
+            lines,
+            look: self.look.as_slice(),
+            chosen: self.chosen,
+        }
+    }
+
     // Runs the lines; the disk is what the run leaves.
     fn go(&mut self, alloc: Global, text: &str, out: &mut String) -> Result<MemDisk, Fault> {
         let lines = script(alloc, text)?;
-        let disk = push_whole(alloc, &self.disk, lines.as_slice(), self.chosen, out)?;
+        let disk = push_over(alloc, &self.run_of(lines.as_slice()), 0, false, out)?;
         self.disk = disk.contents().to_vec(alloc)?;
         Ok(disk)
     }
@@ -61,10 +71,10 @@ impl Case {
         text: &str,
         out: &mut String,
     ) -> Result<(), Fault> {
-        let (count, lines) = first_word(text);
+        let (count, lines) = numbered(text)?;
         let mut whole = String::new(alloc);
         self.go(alloc, lines, &mut whole)?;
-        push_last(whole.as_str(), number(count)?, out)
+        push_last(whole.as_str(), count, out)
     }
 
     // The train that is chosen is the one of this name.
@@ -89,7 +99,7 @@ impl Case {
         out: &mut String,
     ) -> Result<(), Fault> {
         match step {
-            "at" => push_bytes_at(&self.disk, text, out),
+            "at" => push_bytes_at(alloc, &self.disk, text, out),
             "place" => self.choose(text),
             "patch" => patch(alloc, self.disk.as_mut_slice(), text),
             "other" => {
@@ -138,28 +148,10 @@ impl Case {
         Ok(())
     }
 
-    // A step that leaves the disk as it is, where the lines are known, or another one.
-    fn stop_step(
-        &self,
-        alloc: Global,
-        step: &str,
-        lines: &[Line],
-        out: &mut String,
-    ) -> Result<(), Fault> {
-        match step {
-            "fails" => push_failing(alloc, &self.disk, lines, self.chosen, out),
-            "fuses" => push_fused(alloc, &self.disk, lines, self.chosen, out),
-            _ => {
-                let look = self.look.as_slice();
-                push_stops(alloc, &self.disk, lines, look, self.chosen, out)
-            }
-        }
-    }
-
-    // The same of the lines as they are spelled.
+    // Runs the lines so that they stop at each call, or each one fails.
     fn stop(&self, alloc: Global, step: &str, text: &str, out: &mut String) -> Result<(), Fault> {
         let lines = script(alloc, text)?;
-        self.stop_step(alloc, step, lines.as_slice(), out)
+        push_stops(alloc, step, &self.run_of(lines.as_slice()), out)
     }
 
     // A step: its first word, and what follows.

@@ -6,7 +6,7 @@ use pm_case_text::{Fault, refuse};
 use pm_place::{first_of, last_of, middle_of};
 
 /// Which train an object moves to.
-#[derive(Clone, Copy, Debug, PartialEq, Eq)]
+#[derive(Clone, Copy)]
 pub(crate) enum Chosen {
     /// The first of those that it may move to.
     First,

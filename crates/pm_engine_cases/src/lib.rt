@@ -4,7 +4,6 @@
 
 mod case;
 mod chosen;
-mod fault;
 mod running;
 mod spelling;
 mod standby;

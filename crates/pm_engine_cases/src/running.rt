@@ -5,147 +5,143 @@ ghost use Rattle.pm_place.specs.Choosers.{IsChooser};
 ghost use Rattle.pm_engine.specs.Shown.{chooser};
 
 use crate::chosen::{Chosen, place_of};
-use crate::fault::LineFault;
-use pm_case_text::{Fault, refuse};
+use pm_case_text::{Fault, push_filled, push_text, push_value, push_words, refuse};
 use pm_disk::Disk;
 use pm_engine::{Engine, Tally};
 use pm_place::Placement;
 use pm_script::{Line, reply_text};
 use pm_shadow::Pages;
-use pm_types::{CLIENTS, Cmd, EngineFault, Entry, OpenFault};
+use pm_types::{CLIENTS, Cmd, EngineFault, Entry, OpenFault, WatchLine};
 use std::alloc::Global;
 use std::fmt::{Debug, Write};
 
-/// What a run does once a call has answered that the disk failed.
-#[derive(Clone, Copy, Debug, PartialEq, Eq)]
-pub(crate) enum AfterFault {
-    /// It ends.
-    End,
-    /// It goes on with the next line.
-    GoOn,
-}
-
 // Adds the reply's line of an entry.
-fn push_entry(alloc: Global, entry: &Entry, out: &mut String) -> Result<(), Fault> {
-    let line = reply_text(alloc, entry)?;
-    match str::from_utf8(&line) {
-        Ok(line) => write!(out, " / {}", line.trim_end())?,
-        Err(_) => return Err(refuse("no script")),
-    }
-    Ok(())
+fn push_entry(alloc: Global, entry: &Entry, out: &mut String) -> Result<bool, Fault> {
+    let mut line = reply_text(alloc, entry)?;
+    line.pop();
+    push_words(" / ", out)?;
+    push_text(line.as_slice(), out)?;
+    Ok(true)
 }
 
 // Adds the reply's line of the journal's last entry.
-fn push_last_entry(alloc: Global, journal: &[Entry], out: &mut String) -> Result<(), Fault> {
+fn push_last_entry(alloc: Global, journal: &[Entry], out: &mut String) -> Result<bool, Fault> {
     match journal.last() {
         Some(entry) => push_entry(alloc, entry, out),
         None => Err(refuse("no entry")),
     }
 }
 
-// Gives a client's command, and adds the reply's line of the journal's last entry.
+// Adds why a call was not done, where the disk is why.
+fn push_fault(fault: EngineFault, out: &mut String) -> Result<bool, Fault> {
+    let (text, numbers) = match fault {
+        EngineFault::Disk { before, after } => (" / disk fault % %", [before, after]),
+        EngineFault::Reopen { count } => (" / reopen %", [count, 0]),
+        EngineFault::Memory => return Err(refuse("no memory")),
+    };
+    push_filled(text, &numbers, out)?;
+    Ok(false)
+}
+
+// Gives a client's command, and adds the reply's line of the journal's last entry; whether it was done.
 fn push_answer<D: Disk, F: Drop>(
     alloc: Global,
     engine: &mut Engine<D, F>,
     client: u32,
     cmd: &Cmd,
     out: &mut String,
-) -> Result<(), LineFault>
+) -> Result<bool, Fault>
     ensures { chooser engine.new ≡ chooser engine.old }
 {
     if client >= CLIENTS {
-        return Err(LineFault::Line(refuse("no client")));
+        return Err(refuse("no client"));
     }
-    engine.client(alloc, client, cmd)?;
-    push_last_entry(alloc, engine.journal(), out)?;
-    Ok(())
+    match engine.client(alloc, client, cmd) {
+        Ok(_) => push_last_entry(alloc, engine.journal(), out),
+        Err(fault) => push_fault(fault, out),
+    }
 }
 
 // Adds what an event answered.
-fn push_answered<T: Debug>(answer: &T, out: &mut String) -> Result<(), Fault> {
-    write!(out, " / {answer:?}")?;
-    Ok(())
+fn push_answered<T: Debug>(answer: &T, out: &mut String) -> Result<bool, Fault> {
+    push_words(" / ", out)?;
+    push_value(answer, out)?;
+    Ok(true)
 }
 
-// Makes so many flush events, and adds what each of them answered.
-fn push_flushes<D: Disk, F: Drop>(
+// Makes an event of the collector, or a flush event, and adds what it answered; whether it was done.
+fn push_event<D: Disk, F: Fn(&[u64]) -> usize + Drop>(
     alloc: Global,
     engine: &mut Engine<D, F>,
-    count: u32,
+    collects: bool,
     out: &mut String,
-) -> Result<(), LineFault>
+) -> Result<bool, Fault>
+    requires { IsChooser F.Fn (chooser engine.old) }
     ensures { chooser engine.new ≡ chooser engine.old }
 {
-    for _ in 0..count {
-        let flushed = engine.flush(alloc)?;
-        push_answered(&flushed, out)?;
+    if collects {
+        match engine.collect(alloc) {
+            Ok(step) => push_answered(&step, out),
+            Err(fault) => push_fault(fault, out),
+        }
+    } else {
+        match engine.flush(alloc) {
+            Ok(flushed) => push_answered(&flushed, out),
+            Err(fault) => push_fault(fault, out),
+        }
     }
-    Ok(())
 }
 
-// Makes so many events of the collector, and adds what each of them answered.
-fn push_steps<D: Disk, F: Fn(&[u64]) -> usize + Drop>(
+// Makes so many events, and adds what each of them answered; whether all were done.
+fn push_events<D: Disk, F: Fn(&[u64]) -> usize + Drop>(
     alloc: Global,
     engine: &mut Engine<D, F>,
+    collects: bool,
     count: u32,
     out: &mut String,
-) -> Result<(), LineFault>
+) -> Result<bool, Fault>
     requires { IsChooser F.Fn (chooser engine.old) }
     ensures { chooser engine.new ≡ chooser engine.old }
 {
     for _ in 0..count {
-        let step = engine.collect(alloc)?;
-        push_answered(&step, out)?;
+        if !push_event(alloc, engine, collects, out)? {
+            return Ok(false);
+        }
     }
-    Ok(())
+    Ok(true)
 }
 
-// Runs a line, and adds what that gave.
+// Runs a line, and adds what that gave; whether it was done.
 fn push_line<D: Disk, F: Fn(&[u64]) -> usize + Drop>(
     alloc: Global,
     engine: &mut Engine<D, F>,
     line: &Line,
     out: &mut String,
-) -> Result<(), LineFault>
+) -> Result<bool, Fault>
     requires { IsChooser F.Fn (chooser engine.old) }
     ensures { chooser engine.new ≡ chooser engine.old }
 {
     match line {
         Line::Client { client, cmd } => push_answer(alloc, engine, *client, cmd, out),
-        Line::Flush(count) => push_flushes(alloc, engine, *count, out),
-        Line::Gc(count) => push_steps(alloc, engine, *count, out),
+        Line::Flush(count) => push_events(alloc, engine, false, *count, out),
+        Line::Gc(count) => push_events(alloc, engine, true, *count, out),
     }
 }
 
-// Adds why a line was not done, where the disk is why.
-fn push_fault(fault: LineFault, out: &mut String) -> Result<(), Fault> {
-    match fault {
-        LineFault::Engine(EngineFault::Disk { before, after }) => {
-            write!(out, " / disk fault {before} {after}")?
-        }
-        LineFault::Engine(EngineFault::Reopen { count }) => write!(out, " / reopen {count}")?,
-        LineFault::Engine(EngineFault::Memory) => return Err(refuse("no memory")),
-        LineFault::Line(fault) => return Err(fault),
-    }
-    Ok(())
-}
-
-// Runs the lines, and adds what each of them gave.
+// Runs the lines, and adds what each of them gave. It ends where one was not done, or goes on.
 fn push_lines<D: Disk, F: Fn(&[u64]) -> usize + Drop>(
     alloc: Global,
     engine: &mut Engine<D, F>,
     lines: &[Line],
-    after: AfterFault,
+    goes_on: bool,
     out: &mut String,
 ) -> Result<(), Fault>
     requires { IsChooser F.Fn (chooser engine.old) }
 {
     for line in lines {
-        if let Err(fault) = push_line(alloc, engine, line, out) {
-            push_fault(fault, out)?;
-            if after == AfterFault::End {
-                return Ok(());
-            }
+        let done = push_line(alloc, engine, line, out)?;
+        if !(done || goes_on) {
+            return Ok(());
         }
     }
     Ok(())
@@ -157,13 +153,63 @@ fn push_copy<D: Disk, F: Fn(&[u64]) -> usize + Drop>(
     engine: &mut Engine<D, F>,
     number: u32,
     lines: &[Line],
-    after: AfterFault,
+    goes_on: bool,
     out: &mut String,
 ) -> Result<(), Fault>
     requires { IsChooser F.Fn (chooser engine.old) }
 {
-    write!(out, "copy {number}")?;
-    push_lines(alloc, engine, lines, after, out)
+    push_filled("copy %", &[number as u64], out)?;
+    push_lines(alloc, engine, lines, goes_on, out)
+}
+
+// Lets an engine go: its disk, and what it came to.
+fn parted<D: Disk + Drop, F: Drop>(engine: Engine<D, F>) -> (D, Tally) {
+    let (disk, _journal, tally, _heap) = engine.into_parts();
+    (disk, tally)
+}
+
+// Adds the lines of the watches.
+fn push_watches(lines: &[WatchLine], out: &mut String) -> Result<(), Fault> {
+    for line in lines {
+        push_answered(line, out)?;
+    }
+    Ok(())
+}
+
+// Adds what an engine came to.
+fn push_tally(tally: &Tally, out: &mut String) -> Result<(), Fault> {
+    let numbers = [
+        tally.entries(),
+        tally.events(),
+        tally.steps(),
+        tally.completed(),
+        tally.standing(),
+    ];
+    let text = " / % entries, % events, % steps, % completed, % standing";
+    push_filled(text, &numbers, out)?;
+    push_watches(tally.lines(), out)
+}
+
+// Adds, where all was said of the lines and it goes on after a fault, what the engine came to.
+fn push_ended(
+    said: Result<(), Fault>,
+    tally: &Tally,
+    goes_on: bool,
+    out: &mut String,
+) -> Result<(), Fault> {
+    said?;
+    if goes_on {
+        return push_tally(tally, out);
+    }
+    Ok(())
+}
+
+// A disk that is handed back, where all was said.
+fn kept<D: Disk + Drop>(disk: D, said: Result<(), Fault>) -> Result<D, Fault> {
+    match said {
+        Ok(()) => Ok(disk),
+        Err(fault) => Err(fault),
+    }
 }
 
 // Runs the lines over an engine that was opened, and adds what they gave and, where it goes on after a fault, what the
@@ -173,35 +219,20 @@ fn push_served<D: Disk + Drop, F: Fn(&[u64]) -> usize + Drop>(
     mut engine: Engine<D, F>,
     number: u32,
     lines: &[Line],
-    after: AfterFault,
+    goes_on: bool,
     out: &mut String,
 ) -> Result<D, Fault>
     requires { IsChooser F.Fn (chooser engine) }
 {
-    let said = push_copy(alloc, &mut engine, number, lines, after, out);
-    let (disk, _journal, tally, _heap) = engine.into_parts();
-    said?;
-    if after == AfterFault::GoOn {
-        push_tally(&tally, out)?;
-    }
-    Ok(disk)
+    let said = push_copy(alloc, &mut engine, number, lines, goes_on, out);
+    let (disk, tally) = parted(engine);
+    kept(disk, push_ended(said, &tally, goes_on, out))
 }
 
-// Adds what an engine came to.
-fn push_tally(tally: &Tally, out: &mut String) -> Result<(), Fault> {
-    let entries = tally.entries();
-    let events = tally.events();
-    let steps = tally.steps();
-    let completed = tally.completed();
-    let standing = tally.standing();
-    write!(
-        out,
-        " / {entries} entries, {events} events, {steps} steps, {completed} completed, {standing} standing"
-    )?;
-    for line in tally.lines() {
-        write!(out, " / {line:?}")?;
-    }
-    Ok(())
+// Adds why there is no store on a disk, and hands it back.
+fn push_unopened<D: Disk + Drop>(disk: D, fault: OpenFault, out: &mut String) -> Result<D, Fault> {
+    write!(out, "{fault}")?;
+    Ok(disk)
 }
 
 // Opens the store of a disk, and runs the lines over it. An object moves to the train that is chosen.
@@ -210,43 +241,41 @@ fn push_opened<D: Disk + Drop>(
     disk: D,
     number: u32,
     lines: &[Line],
-    after: AfterFault,
+    goes_on: bool,
     chosen: Chosen,
     out: &mut String,
 ) -> Result<D, Fault> {
     let place = Placement::new(move |trains: &[u64]| place_of(chosen, trains));
     match Engine::open_store(alloc, disk, place) {
-        Ok(engine) => push_served(alloc, engine, number, lines, after, out),
-        Err((disk, fault)) => {
-            write!(out, "{fault}")?;
-            Ok(disk)
-        }
+        Ok(engine) => push_served(alloc, engine, number, lines, goes_on, out),
+        Err((disk, fault)) => push_unopened(disk, fault, out),
     }
-}
-
-// The number of the copy that a disk has, if it has one.
-fn number_of<D: Disk>(alloc: Global, disk: D) -> Result<(D, u32), (D, OpenFault)> {
-    let pages = Pages::attach(alloc, disk)?;
-    let number = pages.header().epoch;
-    Ok((pages.into_disk(), number))
 }
 
 /// Opens the store of a disk, and runs the lines over it; an object moves to the train that is chosen. It adds the number
 /// of the copy that was found, the replies and what each event answered, or why there is no store, with ` / ` between them.
-/// The disk is handed back.
+/// Once a call has answered that the disk failed it ends, or goes on with the next line. The disk is handed back.
 pub(crate) fn push_run<D: Disk + Drop>(
     alloc: Global,
     disk: D,
     lines: &[Line],
-    after: AfterFault,
+    goes_on: bool,
     chosen: Chosen,
     out: &mut String,
 ) -> Result<D, Fault> {
-    match number_of(alloc, disk) {
-        Ok((disk, number)) => push_opened(alloc, disk, number, lines, after, chosen, out),
-        Err((disk, fault)) => {
-            write!(out, "{fault}")?;
-            Ok(disk)
+    match Pages::attach(alloc, disk) {
+        Ok(pages) => {
+            let number = pages.header().epoch;
+            push_opened(
+                alloc,
+                pages.into_disk(),
+                number,
+                lines,
+                goes_on,
+                chosen,
+                out,
+            )
         }
+        Err((disk, fault)) => push_unopened(disk, fault, out),
     }
 }

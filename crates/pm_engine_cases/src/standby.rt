@@ -1,21 +1,42 @@
 //! A store that is shipped to a standby.
 
 use crate::stopping::{disk_of, push_images};
-use pm_case_text::Fault;
-use pm_disk::MemDisk;
+use pm_case_text::{Fault, push_filled};
+use pm_disk::{Disk, MemDisk};
 use pm_fuse::FuseDisk;
 use pm_script::Line;
 use pm_ship::{ShipEnd, ShipFault, Shipped, ship_disks};
 use std::alloc::Global;
 use std::fmt::Write;
 
+// Adds why nothing was shipped.
+fn push_fault(fault: ShipFault, out: &mut String) -> Result<(), Fault> {
+    Ok(writeln!(out, "{fault}")?)
+}
+
 // Adds what a ship answered.
 fn push_shipped(shipped: Result<Shipped, ShipFault>, out: &mut String) -> Result<(), Fault> {
     match shipped {
-        Ok(Shipped { epoch, written }) => writeln!(out, "shipped {epoch} {written}")?,
-        Err(fault) => writeln!(out, "{fault}")?,
+        Ok(made) => push_filled("shipped % %\n", &[made.epoch as u64, made.written], out),
+        Err(fault) => push_fault(fault, out),
     }
-    Ok(())
+}
+
+// Ships the store of these bytes to that of a disk, and adds what that answered. The standby's disk is handed back.
+fn push_ship_to<E: Disk + Drop>(
+    alloc: Global,
+    from: &[u8],
+    to: E,
+    out: &mut String,
+) -> Result<E, Fault> {
+    let from = disk_of(alloc, from, 0)?;
+    let ShipEnd {
+        disk: _from,
+        other,
+        shipped,
+    } = ship_disks(alloc, from, to);
+    push_shipped(shipped, out)?;
+    Ok(other)
 }
 
 /// Ships the store of the first bytes to that of the others, and adds what that answered. The standby's disk is handed
@@ -26,38 +47,40 @@ pub(crate) fn push_ship(
     to: &[u8],
     out: &mut String,
 ) -> Result<MemDisk, Fault> {
-    let from = disk_of(alloc, from, Vec::new(alloc))?;
-    let to = disk_of(alloc, to, Vec::new(alloc))?;
-    let ShipEnd {
-        disk: _from,
-        other,
-        shipped,
-    } = ship_disks(alloc, from, to);
-    push_shipped(shipped, out)?;
-    Ok(other)
+    push_ship_to(alloc, from, disk_of(alloc, to, 0)?, out)
 }
 
-// Ships to a standby whose disk passes so many calls on and then fails each one; and adds what that answered, and what the
-// look gives on each image that the disk may leave.
+// Ships to a standby whose disk passes so many calls on and then fails each one, and adds what that answered.
 fn push_ship_fused(
     alloc: Global,
     from: &[u8],
     to: &[u8],
-    passes: usize,
+    passes: u64,
+    out: &mut String,
+) -> Result<MemDisk, Fault> {
+    let to = FuseDisk::new(disk_of(alloc, to, 0)?, passes);
+    Ok(push_ship_to(alloc, from, to, out)?.into_inner())
+}
+
+// Adds the same, and what the look gives on each image that the disk may leave.
+fn push_ship_at(
+    alloc: Global,
+    from: &[u8],
+    to: &[u8],
+    passes: u64,
     look: &[Line],
     out: &mut String,
 ) -> Result<(), Fault> {
-    let from = disk_of(alloc, from, Vec::new(alloc))?;
-    let to = FuseDisk::new(disk_of(alloc, to, Vec::new(alloc))?, passes as u64);
-    let ShipEnd {
-        disk: _from,
-        other,
-        shipped,
-    } = ship_disks(alloc, from, to);
-    push_shipped(shipped, out)?;
-    let disk = other.into_inner();
-    let made = disk.calls().len();
-    push_images(alloc, &disk, made, look, out)
+    push_filled("after %: ", &[passes], out)?;
+    let disk = push_ship_fused(alloc, from, to, passes, out)?;
+    push_images(alloc, &disk, disk.calls().len(), look, out)
+}
+
+// How many calls a ship makes of the standby's disk.
+fn ship_calls(alloc: Global, from: &[u8], to: &[u8]) -> Result<u64, Fault> {
+    let mut unseen = String::new(alloc);
+    let disk = push_ship(alloc, from, to, &mut unseen)?;
+    Ok(disk.calls().len() as u64)
 }
 
 /// Ships the store of the first bytes to that of the others, whose disk passes no call on, then one, and so on up to all;
@@ -69,11 +92,9 @@ pub(crate) fn push_ships(
     look: &[Line],
     out: &mut String,
 ) -> Result<(), Fault> {
-    let mut whole = String::new(alloc);
-    let calls = push_ship(alloc, from, to, &mut whole)?.calls().len();
-    for passes in 0..=calls {
-        write!(out, "after {passes}: ")?;
-        push_ship_fused(alloc, from, to, passes, look, out)?;
+    let calls = ship_calls(alloc, from, to)?;
+    for passes in 0..calls.saturating_add(1) {
+        push_ship_at(alloc, from, to, passes, look, out)?;
     }
     Ok(())
 }

@@ -1,54 +1,95 @@
 //! A line of the input: a case's name, or a step.
 
 use crate::opened::push_opened;
-use crate::spelling::{script, workers};
-use crate::threaded::{push_alone, push_between, push_threads};
-use pm_case_text::{Count, Fault, first_word, is_silent, number, push_case, refuse, written_out};
+use crate::spelling::workers;
+use crate::threaded::push_threads;
+use pm_case_text::{
+    Count, Fault, first_word, is_silent, number, push_case, push_filled, refuse, written_out,
+};
 use std::alloc::Global;
-use std::fmt::Write;
 use std::sync::Wait;
 use std::thread::Threads;
 
-// How many calls of the disk the opening of a new store makes.
-fn opening(alloc: Global) -> Result<usize, Fault> {
+// How many calls of the disk the opening of a new store and these turns make.
+fn calls_of(alloc: Global, turns: &[u32], lines: &str) -> Result<u64, Fault> {
     let mut unseen = String::new(alloc);
-    push_opened(alloc, Vec::new(alloc), script(alloc, "")?, &[], &mut unseen)
+    push_opened(alloc, 0, lines, turns, &mut unseen)
 }
 
-// `WORKERS : SCRIPT`, parted.
+// How many calls of the disk the opening of a new store makes.
+fn opening(alloc: Global) -> Result<u64, Fault> {
+    calls_of(alloc, &[], "")
+}
+
+// `WORKERS : SCRIPT`, or `N : SCRIPT`, parted.
 fn parted(text: &str) -> Result<(&str, &str), Fault> {
-    match text.split_once(" : ") {
-        Some(both) => Ok(both),
-        None => Err(refuse("no such step")),
-    }
+    text.split_once(" : ").ok_or(refuse("no such step"))
 }
 
-// Makes the turns, and adds what came of them, a line.
-fn push_turns_of(alloc: Global, text: &str, out: &mut String) -> Result<(), Fault> {
-    let (turns, lines) = parted(text)?;
-    let turns = workers(alloc, turns)?;
-    push_opened(alloc, Vec::new(alloc), script(alloc, lines)?, &turns, out)?;
-    out.push('\n')?;
+// Makes the turns over a disk that fails the call behind so many, those of the opening among them, and adds what came of
+// them, a line.
+fn push_failing_at(
+    alloc: Global,
+    turns: &[u32],
+    lines: &str,
+    made: u64,
+    out: &mut String,
+) -> Result<(), Fault> {
+    push_opened(alloc, made.saturating_add(1), lines, turns, out)?;
+    Ok(())
+}
+
+// Does the same for each of these calls.
+fn push_each_failing(
+    alloc: Global,
+    turns: &[u32],
+    lines: &str,
+    opening: u64,
+    calls: u64,
+    out: &mut String,
+) -> Result<(), Fault> {
+    for made in opening..calls {
+        let number = made.saturating_add(1).saturating_sub(opening);
+        push_filled("call %: ", &[number], out)?;
+        push_failing_at(alloc, turns, lines, made, out)?;
+    }
     Ok(())
 }
 
 // Makes the turns once for each call of the disk that they make, over a disk that fails that call alone; and adds what
 // came of them, a line each.
-fn push_failing(alloc: Global, text: &str, out: &mut String) -> Result<(), Fault> {
+fn push_failing(alloc: Global, turns: &[u32], lines: &str, out: &mut String) -> Result<(), Fault> {
+    let opening = opening(alloc)?;
+    let calls = calls_of(alloc, turns, lines)?;
+    push_each_failing(alloc, turns, lines, opening, calls, out)
+}
+
+// Makes the turns, and adds what came of them, a line.
+fn push_turns(alloc: Global, turns: &[u32], lines: &str, out: &mut String) -> Result<(), Fault> {
+    push_opened(alloc, 0, lines, turns, out)?;
+    Ok(())
+}
+
+// Makes the turns once, or once for each call that fails.
+fn push_turned(
+    alloc: Global,
+    fails: bool,
+    turns: &[u32],
+    lines: &str,
+    out: &mut String,
+) -> Result<(), Fault> {
+    if fails {
+        push_failing(alloc, turns, lines, out)
+    } else {
+        push_turns(alloc, turns, lines, out)
+    }
+}
+
+// The same, as it is spelled.
+fn push_turned_text(alloc: Global, fails: bool, text: &str, out: &mut String) -> Result<(), Fault> {
     let (turns, lines) = parted(text)?;
     let turns = workers(alloc, turns)?;
-    let opening = opening(alloc)?;
-    let mut unseen = String::new(alloc);
-    let none = Vec::new(alloc);
-    let calls = push_opened(alloc, none, script(alloc, lines)?, &turns, &mut unseen)?;
-    for made in opening..calls {
-        let number = made.saturating_add(1);
-        write!(out, "call {}: ", number.saturating_sub(opening))?;
-        let fails = vec![in alloc; number as u64]?;
-        push_opened(alloc, fails, script(alloc, lines)?, &turns, out)?;
-        out.push('\n')?;
-    }
-    Ok(())
+    push_turned(alloc, fails, turns.as_slice(), lines, out)
 }
 
 // `N SCRIPT`: runs it in threads over a disk that fails call N behind those of the opening.
@@ -59,8 +100,8 @@ fn push_failing_threads<R: Threads + Wait + Sync>(
     out: &mut String,
 ) -> Result<(), Fault> {
     let (call, lines) = parted(text)?;
-    let call = number(call)?.saturating_add(opening(alloc)? as u64);
-    push_threads(rt, alloc, vec![in alloc; call]?, lines, out)
+    let call = number(call)?.saturating_add(opening(alloc)?);
+    push_threads(rt, alloc, call, lines, "threads", out)
 }
 
 // A step: its first word, and what follows.
@@ -73,12 +114,9 @@ fn push_step<R: Threads + Wait + Sync>(
 ) -> Result<(), Fault> {
     match step {
         "case" => push_case(text, out),
-        "turns" => push_turns_of(alloc, text, out),
-        "fails" => push_failing(alloc, text, out),
-        "threads" => push_threads(rt, alloc, Vec::new(alloc), text, out),
+        "turns" | "fails" => push_turned_text(alloc, step == "fails", text, out),
+        "threads" | "alone" | "between" => push_threads(rt, alloc, 0, text, step, out),
         "threads-fail" => push_failing_threads(rt, alloc, text, out),
-        "alone" => push_alone(rt, alloc, text, out),
-        "between" => push_between(rt, alloc, text, out),
         _ => Err(refuse("no such step")),
     }
 }

@@ -6,6 +6,7 @@ ghost use Rattle.pm_engine.specs.Shown.{chooser, serving};
 ghost use Rattle.pm_events.specs.Running.{IsFresh};
 ghost use Rattle.pm_workers.specs.Shown.{engine_in};
 
+use crate::spelling::script;
 use crate::turned::{push_counts, push_turns};
 use pm_case_text::{Fault, refuse};
 use pm_disk::{Disk, MemDisk};
@@ -16,13 +17,19 @@ use pm_shadow::init;
 use pm_workers::Book;
 use std::alloc::Global;
 
-/// A disk in memory with a new store, which fails the calls of these numbers.
-pub(crate) fn new_disk(alloc: Global, fails: Vec<u64>) -> Result<MemDisk, Fault> {
+// The bytes of a new store.
+fn new_store(alloc: Global) -> Result<Vec<u8>, Fault> {
     let mut disk = MemDisk::new(Vec::new(alloc), Vec::new(alloc));
     match init(alloc, &mut disk) {
-        Ok(()) => Ok(MemDisk::new(disk.contents().to_vec(alloc)?, fails)),
+        Ok(()) => Ok(disk.contents().to_vec(alloc)?),
         Err(_) => Err(refuse("no memory")),
     }
+}
+
+/// A disk in memory with a new store, which fails the call of this number; no call has the number 0.
+pub(crate) fn new_disk(alloc: Global, call: u64) -> Result<MemDisk, Fault> {
+    let fails = vec![in alloc; call]?;
+    Ok(MemDisk::new(new_store(alloc)?, fails))
 }
 
 /// Opens the store of a disk.
@@ -59,53 +66,67 @@ fn push_told<D: Disk, F: Fn(&[u64]) -> usize + Drop>(
     push_counts(book, out)
 }
 
-// Makes the turns at a book, lets it go, and hands the disk back, with what there was to say.
-fn push_booked<D: Disk + Drop, F: Fn(&[u64]) -> usize + Drop>(
+// How many calls were made of a disk, where all was said.
+fn calls_of(disk: &MemDisk, said: Result<(), Fault>) -> Result<u64, Fault> {
+    said?;
+    Ok(disk.calls().len() as u64)
+}
+
+// Makes the turns of these workers at a book, lets it go, and answers how many calls of the disk were made.
+fn push_booked<F: Fn(&[u64]) -> usize + Drop>(
     alloc: Global,
-    mut book: Book<D, F>,
+    mut book: Book<MemDisk, F>,
     workers: &[u32],
     out: &mut String,
-) -> (D, Result<(), Fault>)
+) -> Result<u64, Fault>
     requires { IsChooser F.Fn (chooser (engine_in book)) }
 {
     let said = push_told(alloc, &mut book, workers, out);
-    (disk_of(book.into_engine()), said)
+    calls_of(&disk_of(book.into_engine()), said)
 }
 
-// Makes the turns of these workers at a book of this engine, and adds what came of them. The disk is handed back.
-fn push_served<D: Disk + Drop, F: Fn(&[u64]) -> usize + Drop>(
+// Makes the turns of these workers at a book of this engine, adds what came of them, and answers how many calls of the disk
+// were made.
+fn push_served<F: Fn(&[u64]) -> usize + Drop>(
     alloc: Global,
-    engine: Engine<D, F>,
+    engine: Engine<MemDisk, F>,
     script: Script,
     workers: &[u32],
     out: &mut String,
-) -> (D, Result<(), Fault>)
+) -> Result<u64, Fault>
     requires fresh { IsFresh (serving engine) }
     requires chooser { IsChooser F.Fn (chooser engine) }
 {
     match Book::new(alloc, engine, script) {
         Ok(book) => push_booked(alloc, book, workers, out),
-        Err((engine, _)) => (disk_of(engine), Err(refuse("no memory"))),
+        Err((engine, _)) => {
+            drop(disk_of(engine));
+            Err(refuse("no memory"))
+        }
     }
 }
 
-// How many calls were made of a disk, where all was said.
-fn calls_of(disk: &MemDisk, said: Result<(), Fault>) -> Result<usize, Fault> {
-    said?;
-    Ok(disk.calls().len())
-}
-
-/// Opens a new store whose disk fails the calls of these numbers, makes the turns of these workers at the book of this
-/// script, and adds what came of them. It answers how many calls of the disk were made.
-pub(crate) fn push_opened(
+// The same over a disk.
+fn push_on(
     alloc: Global,
-    fails: Vec<u64>,
+    disk: MemDisk,
     script: Script,
     workers: &[u32],
     out: &mut String,
-) -> Result<usize, Fault> {
-    let disk = new_disk(alloc, fails)?;
+) -> Result<u64, Fault> {
     let engine = open(alloc, disk, Placement::new(|_: &[u64]| 0))?;
-    let (disk, said) = push_served(alloc, engine, script, workers, out);
-    calls_of(&disk, said)
+    push_served(alloc, engine, script, workers, out)
+}
+
+/// Opens a new store whose disk fails the call of this number, makes the turns of these workers at the book of this script,
+/// and adds what came of them, a line. It answers how many calls of the disk were made.
+pub(crate) fn push_opened(
+    alloc: Global,
+    call: u64,
+    lines: &str,
+    workers: &[u32],
+    out: &mut String,
+) -> Result<u64, Fault> {
+    let script = script(alloc, lines)?;
+    push_on(alloc, new_disk(alloc, call)?, script, workers, out)
 }

@@ -1,35 +1,51 @@
 //! What a journal serves of a script.
 
-use pm_case_text::{Fault, refuse};
-use pm_model::Oracle;
+use pm_case_scripts::alike_in;
+use pm_case_text::{Fault, push_filled, push_value_line, push_words};
 use pm_script::Line;
-use pm_types::{CLIENTS, Entry};
+use pm_types::{CLIENTS, Cmd, Entry};
 use std::alloc::Global;
-use std::fmt::Write;
 
-// The commands of a client in lines, one behind another.
-fn asked(alloc: Global, lines: &[Line], who: u32) -> Result<String, Fault> {
-    let mut text = String::new(alloc);
-    for line in lines {
-        if let Line::Client { client, cmd } = line {
-            if *client == who {
-                writeln!(text, "{cmd:?}")?;
-            }
-        }
+// Adds a command, where it is of this client.
+fn push_of(client: u32, cmd: &Cmd, who: u32, text: &mut String) -> Result<(), Fault> {
+    if client == who {
+        return push_value_line(cmd, text);
     }
-    Ok(text)
+    Ok(())
 }
 
-// The commands of a client in a journal.
-fn answered(alloc: Global, journal: &[Entry], who: u32) -> Result<String, Fault> {
-    let mut text = String::new(alloc);
-    for entry in journal {
-        if entry.client == who {
-            let cmd = &entry.cmd;
-            writeln!(text, "{cmd:?}")?;
+// Adds the commands of a client in lines, one behind another.
+fn push_asked(lines: &[Line], who: u32, text: &mut String) -> Result<(), Fault> {
+    for line in lines {
+        if let Line::Client { client, cmd } = line {
+            push_of(*client, cmd, who, text)?;
         }
     }
-    Ok(text)
+    Ok(())
+}
+
+// Adds the commands of a client in a journal.
+fn push_answered(journal: &[Entry], who: u32, text: &mut String) -> Result<(), Fault> {
+    for entry in journal {
+        push_of(entry.client, &entry.cmd, who, text)?;
+    }
+    Ok(())
+}
+
+// Whether the journal has a first part of a client's commands: 1 or 0; and whether it has all of them.
+fn part_of(
+    alloc: Global,
+    lines: &[Line],
+    journal: &[Entry],
+    who: u32,
+) -> Result<(u64, u64), Fault> {
+    let mut all = String::new(alloc);
+    let mut part = String::new(alloc);
+    push_asked(lines, who, &mut all)?;
+    push_answered(journal, who, &mut part)?;
+    let is_first = all.as_str().starts_with(part.as_str());
+    let is_whole = all.as_str() == part.as_str();
+    Ok((is_first as u64, is_whole as u64))
 }
 
 /// Of how many clients the journal has a first part of their commands, and of how many all of them.
@@ -37,40 +53,23 @@ pub(crate) fn count_parts(
     alloc: Global,
     lines: &[Line],
     journal: &[Entry],
-) -> Result<(u32, u32), Fault> {
-    let mut first = 0u32;
-    let mut whole = 0u32;
+) -> Result<(u64, u64), Fault> {
+    let mut first = 0u64;
+    let mut whole = 0u64;
     for who in 0..CLIENTS {
-        let all = asked(alloc, lines, who)?;
-        let part = answered(alloc, journal, who)?;
-        if all.as_str().starts_with(part.as_str()) {
-            first = first.saturating_add(1);
-        }
-        if all == part {
-            whole = whole.saturating_add(1);
-        }
+        let (is_first, is_whole) = part_of(alloc, lines, journal, who)?;
+        first = first.saturating_add(is_first);
+        whole = whole.saturating_add(is_whole);
     }
     Ok((first, whole))
 }
 
-// Whether the plain program replies to the command as the entry says.
-fn is_alike(alloc: Global, oracle: &mut Oracle, entry: &Entry) -> Result<bool, Fault> {
-    let client = entry.client;
-    if client >= CLIENTS {
-        return Err(refuse("no worker"));
-    }
-    Ok(oracle.answer(alloc, client, &entry.cmd)? == entry.reply)
-}
-
 /// Adds whether the plain slow program replies to each command of the journal alike, from an empty world on.
 pub(crate) fn push_legal(alloc: Global, journal: &[Entry], out: &mut String) -> Result<(), Fault> {
-    let mut oracle = Oracle::new(alloc);
-    for (place, entry) in journal.iter().enumerate() {
-        if !is_alike(alloc, &mut oracle, entry)? {
-            write!(out, " / not legal at {place}")?;
-            return Ok(());
-        }
+    let alike = alike_in(alloc, journal)?;
+    let commands = journal.len() as u64;
+    if alike == commands {
+        return push_words(" / legal\n", out);
     }
-    out.push_str(" / legal")?;
-    Ok(())
+    push_filled(" / % of % legal\n", &[alike, commands], out)
 }

@@ -9,42 +9,34 @@ use crate::opened::{disk_of, new_disk, open};
 use crate::served::{count_parts, push_legal};
 use crate::spelling::script;
 use crate::turned::made_alone;
-use pm_case_text::{Fault, refuse};
+use pm_case_text::{Fault, push_filled, push_text, push_value, refuse};
 use pm_disk::Disk;
 use pm_engine::Engine;
 use pm_place::Placement;
 use pm_script::{Script, journal_text};
-use pm_turns::{Gate, OpenGate};
+use pm_turns::Gate;
 use pm_types::Entry;
 use pm_workers::{Book, run_all};
 use std::alloc::Global;
-use std::fmt::Write;
+use std::fmt::Debug;
 use std::sync::Wait;
 use std::sync::atomic::{AtomicBool, Ordering};
 use std::thread::{self, Threads};
 
-// How all of a book is made, and what is told of it.
-#[derive(Clone, Copy)]
-struct Way {
-    /// In one thread, one worker after another.
-    alone: bool,
-    /// The replies are told too.
-    replies: bool,
-}
-
 /// Holds the first event of client 1 until the first of client 0 was made, and the second of client 0 until the first of
 /// client 1 was.
 #[derive(Drop)]
-pub(crate) struct Between {
+struct Between {
     zero: AtomicBool,
     one: AtomicBool,
 }
 
 impl Between {
-    pub(crate) fn new() -> Between {
+    // Where it is open it holds no one.
+    fn new(open: bool) -> Between {
         Between {
-            zero: AtomicBool::new(false),
-            one: AtomicBool::new(false),
+            zero: AtomicBool::new(open),
+            one: AtomicBool::new(open),
         }
     }
 }
@@ -78,37 +70,35 @@ impl Gate for Between {
 }
 
 // Of how many clients the journal has a first part of their commands in this script, and of how many all of them.
-fn parts_of(alloc: Global, text: &str, journal: &[Entry]) -> Result<(u32, u32), Fault> {
+fn parts_of(alloc: Global, text: &str, journal: &[Entry]) -> Result<(u64, u64), Fault> {
     let lines = script(alloc, text)?;
     count_parts(alloc, lines.as_slice(), journal)
+}
+
+// Adds the fault that stopped a book, and of how many clients a first part was answered.
+fn push_stopped<T: Debug>(fault: &T, first: u64, out: &mut String) -> Result<(), Fault> {
+    push_value(fault, out)?;
+    push_filled(" / first parts %", &[first], out)
 }
 
 // Adds what a book came to: where a fault is kept, what does not rest on how far the workers came.
 fn push_reached<D: Disk, F: Drop>(
     book: &Book<D, F>,
-    first: u32,
-    whole: u32,
+    first: u64,
+    whole: u64,
     out: &mut String,
 ) -> Result<(), Fault> {
-    match book.fault() {
-        Some(fault) => write!(out, "{fault:?} / first parts {first}")?,
-        None => {
-            let events = book.engine().events();
-            let steps = book.engine().steps();
-            write!(out, "{events} events, {steps} steps / whole parts {whole}")?;
-        }
+    if let Some(fault) = book.fault() {
+        return push_stopped(&fault, first, out);
     }
-    Ok(())
+    let numbers = [book.engine().events(), book.engine().steps(), whole];
+    push_filled("% events, % steps / whole parts %", &numbers, out)
 }
 
 // Adds the replies of a journal.
 fn push_replies(alloc: Global, journal: &[Entry], out: &mut String) -> Result<(), Fault> {
     let text = journal_text(alloc, journal)?;
-    match str::from_utf8(&text) {
-        Ok(text) => out.push_str(text)?,
-        Err(_) => return Err(refuse("no script")),
-    }
-    Ok(())
+    push_text(text.as_slice(), out)
 }
 
 // Adds what a journal is, and all its replies, where they are asked for.
@@ -119,7 +109,6 @@ fn push_journal(
     out: &mut String,
 ) -> Result<(), Fault> {
     push_legal(alloc, journal, out)?;
-    out.push('\n')?;
     if replies {
         return push_replies(alloc, journal, out);
     }
@@ -153,34 +142,30 @@ fn push_made<D: Disk + Drop, F: Drop>(
 }
 
 // Makes all of a book: in threads, or in one.
-fn made<
-    D: Disk + Drop + Send,
-    F: Fn(&[u64]) -> usize + Drop + Send,
-    G: Gate + Sync,
-    R: Threads + Wait + Sync,
->(rt: &R, alloc: Global, book: Book<D, F>, gate: &G, alone: bool) -> Book<D, F>
+fn made<D: Disk + Drop + Send, F: Fn(&[u64]) -> usize + Drop + Send, R: Threads + Wait + Sync>(
+    rt: &R,
+    alloc: Global,
+    book: Book<D, F>,
+    gate: &Between,
+    way: &str,
+) -> Book<D, F>
     requires { IsChooser F.Fn (chooser (engine_in book)) }
 {
-    if alone {
+    if way == "alone" {
         return made_alone(alloc, book);
     }
     run_all(rt, alloc, book, gate)
 }
 
 // Makes all of a script over an engine, and adds what that came to.
-fn push_run<
-    D: Disk + Drop + Send,
-    F: Fn(&[u64]) -> usize + Drop + Send,
-    G: Gate + Sync,
-    R: Threads + Wait + Sync,
->(
+fn push_run<D: Disk + Drop + Send, F: Fn(&[u64]) -> usize + Drop + Send, R: Threads + Wait + Sync>(
     rt: &R,
     alloc: Global,
     engine: Engine<D, F>,
     asked: Script,
-    gate: &G,
     text: &str,
-    way: Way,
+    gate: &Between,
+    way: &str,
     out: &mut String,
 ) -> Result<(), Fault>
     requires fresh { IsFresh (serving engine) }
@@ -188,8 +173,8 @@ fn push_run<
 {
     match Book::new(alloc, engine, asked) {
         Ok(book) => {
-            let book = made(rt, alloc, book, gate, way.alone);
-            push_made(alloc, book, text, way.replies, out)
+            let book = made(rt, alloc, book, gate, way);
+            push_made(alloc, book, text, way == "between", out)
         }
         Err((engine, _)) => {
             drop(disk_of(engine));
@@ -198,65 +183,34 @@ fn push_run<
     }
 }
 
-// Opens a new store whose disk fails the calls of these numbers, makes all of the script, in threads by this gate, and
-// adds what that came to.
-fn push_gated<G: Gate + Sync, R: Threads + Wait + Sync>(
+// Opens a new store whose disk fails the call of this number, makes all of the script, in threads by this gate, and adds
+// what that came to.
+fn push_gated<R: Threads + Wait + Sync>(
     rt: &R,
     alloc: Global,
-    fails: Vec<u64>,
-    gate: &G,
+    call: u64,
+    gate: &Between,
     text: &str,
-    way: Way,
+    way: &str,
     out: &mut String,
 ) -> Result<(), Fault> {
     let asked = script(alloc, text)?;
-    let disk = new_disk(alloc, fails)?;
+    let disk = new_disk(alloc, call)?;
     let engine = open(alloc, disk, Placement::new(|_: &[u64]| 0))?;
-    push_run(rt, alloc, engine, asked, gate, text, way, out)
+    push_run(rt, alloc, engine, asked, text, gate, way, out)
 }
 
-/// Opens a new store whose disk fails the calls of these numbers, makes all of the script in threads, and adds what that
-/// came to.
+/// Opens a new store whose disk fails the call of this number, makes all of the script, and adds what that came to: in
+/// `threads`; or `alone`, in one thread, one worker after another; or in threads with client 1 held `between` two events of
+/// client 0, and then the replies too.
 pub(crate) fn push_threads<R: Threads + Wait + Sync>(
     rt: &R,
     alloc: Global,
-    fails: Vec<u64>,
+    call: u64,
     text: &str,
+    way: &str,
     out: &mut String,
 ) -> Result<(), Fault> {
-    let way = Way {
-        alone: false,
-        replies: false,
-    };
-    push_gated(rt, alloc, fails, &OpenGate, text, way, out)
-}
-
-/// Makes all of the script over a new store in one thread, one worker after another, and adds what that came to.
-pub(crate) fn push_alone<R: Threads + Wait + Sync>(
-    rt: &R,
-    alloc: Global,
-    text: &str,
-    out: &mut String,
-) -> Result<(), Fault> {
-    let way = Way {
-        alone: true,
-        replies: false,
-    };
-    push_gated(rt, alloc, Vec::new(alloc), &OpenGate, text, way, out)
-}
-
-/// Makes all of the script in threads over a new store, with client 1 held between two events of client 0, and adds what
-/// that came to, and the replies.
-pub(crate) fn push_between<R: Threads + Wait + Sync>(
-    rt: &R,
-    alloc: Global,
-    text: &str,
-    out: &mut String,
-) -> Result<(), Fault> {
-    let gate = Between::new();
-    let way = Way {
-        alone: false,
-        replies: true,
-    };
-    push_gated(rt, alloc, Vec::new(alloc), &gate, text, way, out)
+    let gate = Between::new(way != "between");
+    push_gated(rt, alloc, call, &gate, text, way, out)
 }

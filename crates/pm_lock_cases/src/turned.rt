@@ -6,23 +6,42 @@ ghost use Rattle.pm_place.specs.Choosers.{IsChooser};
 ghost use Rattle.pm_engine.specs.Shown.{chooser};
 ghost use Rattle.pm_workers.specs.Shown.{engine_in};
 
-use pm_case_text::{Fault, refuse};
+use pm_case_text::{
+    Fault, push_filled, push_text, push_value, push_value_line, push_words, refuse,
+};
 use pm_disk::Disk;
 use pm_script::reply_text;
 use pm_turns::{Turn, WORKERS};
 use pm_types::Entry;
 use pm_workers::Book;
 use std::alloc::Global;
-use std::fmt::Write;
+
+// Adds the line of a reply, without its end.
+fn push_reply_line(line: &[u8], out: &mut String) -> Result<(), Fault> {
+    push_words(": ", out)?;
+    push_text(line, out)?;
+    push_words(" / ", out)
+}
 
 // Adds the reply's line of an entry.
-fn push_entry(alloc: Global, entry: &Entry, out: &mut String) -> Result<(), Fault> {
-    let line = reply_text(alloc, entry)?;
-    match str::from_utf8(&line) {
-        Ok(line) => write!(out, ": {}", line.trim_end())?,
-        Err(_) => return Err(refuse("no script")),
+fn push_reply(alloc: Global, entry: &Entry, out: &mut String) -> Result<(), Fault> {
+    let mut line = reply_text(alloc, entry)?;
+    line.pop();
+    push_reply_line(line.as_slice(), out)
+}
+
+// Adds the reply's line of an entry, if there is one.
+fn push_entry(alloc: Global, entry: Option<&Entry>, out: &mut String) -> Result<(), Fault> {
+    match entry {
+        Some(entry) => push_reply(alloc, entry, out),
+        None => push_words(" / ", out),
     }
-    Ok(())
+}
+
+// Adds what came of a turn of a worker.
+fn push_made(who: u32, turn: Turn, out: &mut String) -> Result<(), Fault> {
+    push_filled("% ", &[who as u64], out)?;
+    push_value(&turn, out)
 }
 
 // Makes the turn of a worker, and adds what came of it: its reply too, where it put an entry into the journal.
@@ -31,7 +50,7 @@ fn push_turn<D: Disk, F: Fn(&[u64]) -> usize + Drop>(
     book: &mut Book<D, F>,
     who: u32,
     out: &mut String,
-) -> Result<Turn, Fault>
+) -> Result<(), Fault>
     requires { IsChooser F.Fn (chooser (engine_in book.old)) }
     ensures { chooser (engine_in book.new) ≡ chooser (engine_in book.old) }
 {
@@ -39,13 +58,8 @@ fn push_turn<D: Disk, F: Fn(&[u64]) -> usize + Drop>(
         return Err(refuse("no worker"));
     }
     let before = book.engine().journal().len();
-    let turn = book.step(alloc, who);
-    write!(out, "{who} {turn:?}")?;
-    if let Some(entry) = book.engine().journal().get(before) {
-        push_entry(alloc, entry, out)?;
-    }
-    out.push_str(" / ")?;
-    Ok(turn)
+    push_made(who, book.step(alloc, who), out)?;
+    push_entry(alloc, book.engine().journal().get(before), out)
 }
 
 /// Makes the turns of these workers, one after another, and adds what came of each.
@@ -95,18 +109,17 @@ pub(crate) fn made_alone<D: Disk, F: Fn(&[u64]) -> usize + Drop>(
     book
 }
 
-/// Adds how many events were made, how many of them by the collector, and the fault that is kept.
+/// Adds how many events were made, how many of them by the collector, and the fault that is kept, and ends the line.
 pub(crate) fn push_counts<D: Disk, F: Drop>(
     book: &Book<D, F>,
     out: &mut String,
 ) -> Result<(), Fault> {
-    let entries = book.engine().journal().len();
-    let events = book.engine().events();
-    let steps = book.engine().steps();
-    let fault = book.fault();
-    write!(
-        out,
-        "{entries} entries, {events} events, {steps} steps, {fault:?}"
-    )?;
-    Ok(())
+    let engine = book.engine();
+    let numbers = [
+        engine.journal().len() as u64,
+        engine.events(),
+        engine.steps(),
+    ];
+    push_filled("% entries, % events, % steps, ", &numbers, out)?;
+    push_value_line(&book.fault(), out)
 }

@@ -40,23 +40,18 @@ fn run_words<R: AllocGlobal + Threads + Wait + Sync, G: Gate + Sync>(
     )
 }
 
+// A disk with a new store.
+fn new_store<R: AllocGlobal + Threads + Wait + Sync>(rt: &R) -> MemDisk {
+    let alloc = rt.alloc();
+    let empty = MemDisk::new(Vec::new(alloc), Vec::new(alloc));
+    let words = &["init", "store.pmos"];
+    run_words(rt, words, empty, Vec::new(alloc), &OpenGate).disk
+}
+
 /// Makes a store, and runs the script on it in threads.
 pub(crate) fn run<R: AllocGlobal + Threads + Wait + Sync>(rt: &R, gate: &Meeting) -> Run {
     let alloc = rt.alloc();
-    let empty = MemDisk::new(Vec::new(alloc), Vec::new(alloc));
-    let made = run_words(
-        rt,
-        &["init", "store.pmos"],
-        empty,
-        Vec::new(alloc),
-        &OpenGate,
-    );
+    let disk = new_store(rt);
     let script = SCRIPT.to_vec(alloc).unwrap_or(Vec::new(alloc));
-    run_words(
-        rt,
-        &["run", "store.pmos", "threads"],
-        made.disk,
-        script,
-        gate,
-    )
+    run_words(rt, &["run", "store.pmos", "threads"], disk, script, gate)
 }

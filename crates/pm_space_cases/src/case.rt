@@ -1,14 +1,38 @@
 //! A line of the input: a case's name, or a step.
 
-use crate::collected::push_collected;
+ghost use Rattle.std.specs.Prelude.{◌<◌, length};
+ghost use Rattle.pm_place.specs.Choosers.{IsChooser};
+
+use crate::collected::push_beside;
+use crate::opened::push_opened;
 use crate::scripted::{Shows, push_script};
-use pm_case_text::{first_word, is_silent, number, numbered, push_case, refuse};
-use pm_space_steps::{
-    Fault, push_births, push_chain, push_drawn, push_frozen, push_names, push_opened, push_queued,
-};
+use crate::spaced::push_counted;
+use pm_case_text::{Fault, first_word, is_silent, number, push_case, refuse};
+use pm_place::{Placement, first_of, last_of, middle_of};
+use pm_space::Space;
 use std::alloc::Global;
 
-// What a step shows of a script, if it is one that runs a script.
+// Which train an object moves to.
+#[derive(Clone, Copy)]
+enum Chosen {
+    First,
+    Last,
+    Middle,
+}
+
+// The index of the chosen train.
+fn place_of(chosen: Chosen, trains: &[u64]) -> usize
+    requires { 0 < length trains.now }
+    ensures { result < length trains.now }
+{
+    match chosen {
+        Chosen::First => first_of(trains),
+        Chosen::Last => last_of(trains),
+        Chosen::Middle => middle_of(trains),
+    }
+}
+
+// What a step shows, if it is told more than a number.
 fn shows(step: &str) -> Option<Shows> {
     match step {
         "script" => Some(Shows::All),
@@ -17,66 +41,113 @@ fn shows(step: &str) -> Option<Shows> {
         "end" => Some(Shows::End),
         "last" => Some(Shows::Last),
         "dump" => Some(Shows::Dump),
+        "why" => Some(Shows::Why),
+        "drawn" | "collected" => Some(Shows::Draws),
         _ => None,
     }
 }
 
-// A step that is told a number.
-fn push_counted(alloc: Global, step: &str, number: u64, out: &mut String) -> Result<(), Fault> {
-    match step {
-        "drawn" => push_drawn(alloc, number, out),
-        "births" => push_births(alloc, number, out),
-        "names" => push_names(alloc, number, out),
-        "frozen" => push_frozen(alloc, number, out),
-        "queued" => push_queued(alloc, number, out),
-        "chain" => push_chain(alloc, number, out),
-        _ => Err(Fault::Step),
+// A step over a new space that is told a number.
+fn push_told<F: Fn(&[u64]) -> usize + Drop>(
+    space: &mut Space<F>,
+    alloc: Global,
+    step: &str,
+    text: &str,
+    out: &mut String,
+) -> Result<(), Fault>
+    requires { IsChooser F.Fn space.old.parts.place }
+{
+    match number(text) {
+        Ok(number) => push_counted(space, alloc, step, number, out),
+        Err(fault) => Err(fault),
     }
 }
 
-// A step that is told an identity and the lines of a script.
-fn push_why(alloc: Global, text: &str, out: &mut String) -> Result<(), Fault> {
-    let (id, lines) = numbered(text)?;
-    match u32::try_from(id) {
-        Ok(id) => push_script(alloc, lines, Shows::Why(id), out),
-        Err(_) => Err(Fault::Word),
+// A step over a new space.
+fn push_over<F: Fn(&[u64]) -> usize + Drop>(
+    space: &mut Space<F>,
+    alloc: Global,
+    step: &str,
+    text: &str,
+    out: &mut String,
+) -> Result<(), Fault>
+    requires { IsChooser F.Fn space.old.parts.place }
+{
+    match shows(step) {
+        Some(Shows::Draws) => push_beside(space, alloc, step, text, out),
+        Some(shows) => push_script(space, alloc, shows, text, out),
+        None => push_told(space, alloc, step, text, out),
     }
+}
+
+// A step over a space, which is let go then.
+fn push_owned<F: Fn(&[u64]) -> usize + Drop>(
+    mut space: Space<F>,
+    alloc: Global,
+    step: &str,
+    text: &str,
+    out: &mut String,
+) -> Result<(), Fault>
+    requires { IsChooser F.Fn space.parts.place }
+{
+    push_over(&mut space, alloc, step, text, out)
+}
+
+// A step over a new space in which objects move to the chosen trains.
+fn push_chosen(
+    alloc: Global,
+    chosen: Chosen,
+    step: &str,
+    text: &str,
+    out: &mut String,
+) -> Result<(), Fault> {
+    let place = Placement::new(move |trains: &[u64]| place_of(chosen, trains));
+    push_owned(Space::new(alloc, place)?, alloc, step, text, out)
+}
+
+// Which train the word stands for.
+fn chosen_of(word: &str) -> Result<Chosen, Fault> {
+    match word {
+        "first" => Ok(Chosen::First),
+        "last" => Ok(Chosen::Last),
+        "middle" => Ok(Chosen::Middle),
+        _ => Err(refuse("Step")),
+    }
+}
+
+// The word for a chooser, and what is drawn.
+fn push_drawn_by(alloc: Global, text: &str, out: &mut String) -> Result<(), Fault> {
+    let (word, rest) = first_word(text);
+    push_chosen(alloc, chosen_of(word)?, "collected", rest, out)
 }
 
 // A step: its first word, and what follows.
 fn push_step(alloc: Global, step: &str, text: &str, out: &mut String) -> Result<(), Fault> {
-    if let Some(shows) = shows(step) {
-        return push_script(alloc, text, shows, out);
-    }
     match step {
-        "case" => Ok(push_case(text, out)?),
-        "collected" => push_collected(alloc, text, out),
+        "case" => push_case(text, out),
         "opened" => push_opened(alloc, text, out),
-        "why" => push_why(alloc, text, out),
-        _ => push_counted(alloc, step, number(text)?, out),
+        "collected" => push_drawn_by(alloc, text, out),
+        _ => push_chosen(alloc, Chosen::First, step, text, out),
     }
 }
 
 // The word for why a step was not done.
-fn fault_word(fault: Fault) -> &'static str {
-    match fault {
-        Fault::Memory => "Memory",
-        Fault::Step => "Step",
-        Fault::Word => "Word",
-        Fault::Register => "Register",
-        Fault::Script => "Script",
-        Fault::Name => "Name",
+fn fault_word(reason: &'static str) -> &'static str {
+    match reason {
+        "no memory" => "Memory",
+        "no number" | "no bytes" => "Word",
+        _ => reason,
     }
 }
 
 /// Takes a line of the input, and adds what it gives. A line that begins with `#`, and one that is empty, say nothing.
-pub fn take(alloc: Global, line: &str, out: &mut String) -> Result<(), pm_case_text::Fault> {
+pub fn take(alloc: Global, line: &str, out: &mut String) -> Result<(), Fault> {
     if is_silent(line) {
         return Ok(());
     }
     let (step, text) = first_word(line);
     match push_step(alloc, step, text, out) {
         Ok(()) => Ok(()),
-        Err(fault) => Err(refuse(fault_word(fault))),
+        Err(fault) => Err(refuse(fault_word(fault.reason))),
     }
 }

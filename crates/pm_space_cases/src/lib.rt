@@ -2,8 +2,16 @@
 //! case is written.
 #![tactic(auto)]
 
+mod beside;
 mod case;
 mod collected;
+mod drawn;
+mod frozen;
+mod laid;
+mod lines;
+mod opened;
+mod paths;
 mod scripted;
+mod spaced;
 
 pub use case::take;

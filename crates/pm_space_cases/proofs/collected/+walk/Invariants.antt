@@ -6,4 +6,4 @@ decreases-walk g l = l.left
 
 -- the chooser may be called
 abbrev pub invariant-loop-index : goal.invariant-loop-index
-invariant-loop-index g l = IsChooser g.F.Fn l.both.space.parts.place
+invariant-loop-index g l = IsChooser g.F.Fn l.space.parts.place

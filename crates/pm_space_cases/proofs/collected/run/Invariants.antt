@@ -3,4 +3,4 @@ use Rattle.pm_space_cases.proofs.collected.run.Given as goal
 
 -- the chooser may be called
 abbrev pub invariant-loop : goal.invariant-loop
-invariant-loop g l = IsChooser g.F.Fn l.both.space.parts.place
+invariant-loop g l = IsChooser g.F.Fn l.space.parts.place

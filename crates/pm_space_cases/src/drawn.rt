@@ -3,21 +3,13 @@
 ghost use Rattle.std.specs.Prelude.{◌≡◌, true, IfOk};
 ghost use Rattle.pm_view.specs.Commands.{is_act};
 
-use crate::fault::Fault;
+use pm_case_text::{Fault, refuse};
 use pm_types::{Bytes, Cmd, Name, Reg};
 use std::alloc::Global;
 
 /// The next draw. A linear congruence: x times 69,069 and 1, modulo 2^32, from 1 on.
-pub fn next_draw(draw: u32) -> u32 {
+pub(crate) fn next_draw(draw: u32) -> u32 {
     draw.wrapping_mul(69069).wrapping_add(1)
-}
-
-/// The register of this number.
-pub fn register(number: u32) -> Result<Reg, Fault> {
-    match Reg::new(number) {
-        Some(register) => Ok(register),
-        None => Err(Fault::Register),
-    }
 }
 
 // So many bytes, each of them this one.
@@ -25,18 +17,10 @@ fn bytes(alloc: Global, count: u32, byte: u8) -> Result<Bytes, Fault> {
     Ok(Bytes::from_vec(vec![in alloc; byte; count as usize]?))
 }
 
-// One of four names.
-pub fn name(alloc: Global, number: u32) -> Result<Name, Fault> {
-    let letter = match number {
-        0 => b'a',
-        1 => b'b',
-        2 => b'c',
-        _ => b'd',
-    };
-    match Name::read(alloc, &[letter]) {
-        Ok(name) => Ok(name),
-        Err(_) => Err(Fault::Name),
-    }
+/// One of four names.
+pub(crate) fn name(alloc: Global, number: u32) -> Result<Name, Fault> {
+    let letter = b'a'.saturating_add((number % 4) as u8);
+    Name::read(alloc, &[letter]).ok().ok_or(refuse("Name"))
 }
 
 // What a draw chooses beside the command, each number one of 0 to 3.
@@ -51,15 +35,22 @@ struct Choice {
 }
 
 // What a draw chooses, from bit 26 down.
-fn chosen(draw: u32) -> Result<Choice, Fault> {
-    Ok(Choice {
-        reg: register((draw >> 25) % 4)?,
-        other: register((draw >> 23) % 4)?,
-        third: register((draw >> 21) % 4)?,
-        index: (draw >> 19) % 4,
-        count: (draw >> 17) % 4,
-        byte: ((draw >> 9) % 256) as u8,
-    })
+fn chosen(draw: u32) -> Option<Choice> {
+    match (
+        Reg::new((draw >> 25) % 4),
+        Reg::new((draw >> 23) % 4),
+        Reg::new((draw >> 21) % 4),
+    ) {
+        (Some(reg), Some(other), Some(third)) => Some(Choice {
+            reg,
+            other,
+            third,
+            index: (draw >> 19) % 4,
+            count: (draw >> 17) % 4,
+            byte: ((draw >> 9) % 256) as u8,
+        }),
+        _ => None,
+    }
 }
 
 // A command on registers and fields.
@@ -127,17 +118,26 @@ fn on_names(alloc: Global, kind: u32, it: Choice) -> Result<Cmd, Fault>
     })
 }
 
-/// The command of a draw, chosen by its four highest bits, and a client beside it, 0 or 1. What is born has up to three
-/// times so many bytes.
-pub fn command(alloc: Global, draw: u32, size: u32) -> Result<Cmd, Fault>
+// The command of a draw that chooses this beside it.
+fn command_of(alloc: Global, kind: u32, it: Choice, size: u32) -> Result<Cmd, Fault>
     ensures { IfOk result (λ cmd. is_act cmd ≡ true) }
 {
-    let it = chosen(draw)?;
-    match draw >> 28 {
-        0..=6 => Ok(on_fields(draw >> 28, it)),
+    match kind {
+        0..=6 => Ok(on_fields(kind, it)),
         7 if it.count == 0 => Ok(Cmd::Forget { reg: it.reg }),
-        10..=14 => on_names(alloc, (draw >> 28) - 10, it),
+        10..=14 => on_names(alloc, kind - 10, it),
         15 if it.count == 0 && it.index == 0 => Ok(Cmd::Close),
         _ => birth(alloc, it, size),
+    }
+}
+
+/// The command of a draw, chosen by its four highest bits, and a client beside it, 0 or 1. What is born has up to three
+/// times so many bytes.
+pub(crate) fn command(alloc: Global, draw: u32, size: u32) -> Result<Cmd, Fault>
+    ensures { IfOk result (λ cmd. is_act cmd ≡ true) }
+{
+    match chosen(draw) {
+        Some(it) => command_of(alloc, draw >> 28, it, size),
+        None => Err(refuse("Register")),
     }
 }

@@ -1,6 +1,0 @@
-use Rattle.pm_place.specs.Choosers.{IsChooser}
-use Rattle.pm_space_cases.proofs.collected.give_up.Given as goal
-
--- the chooser may be called
-abbrev pub invariant-loop : goal.invariant-loop
-invariant-loop g l = IsChooser g.F.Fn l.both.space.parts.place
