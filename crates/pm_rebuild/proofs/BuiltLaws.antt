@@ -1,12 +1,11 @@
 -- The parts that were made are a space that is built of the cars and roots.
-use Rattle.std.proofs.Common.{◌≡◌, ℕ, ◌==◌, true, false, cond, List, [], ◌∷◌, ◌++◌, Option, Some, None, is_some, refl, sym, ap, subst, ◌∙◌}
+use Rattle.std.proofs.Common.{◌≡◌, ℕ, ◌==◌, true, false, cond, List, [], ◌∷◌, Option, Some, None, is_some, refl, sym, ap, subst, ◌∙◌}
 use Rattle.std.specs.Option.{option_map, unwrap_or}
 use Rattle.std.specs.List.{AllByRecursion}
 use Rattle.std.specs.Cmp.{nat_cmp_total, eq_by_cmp_equiv}
 use Rattle.std.specs.Ordering.{nat_cmp, eq_by_cmp}
 use Rattle.std.specs.FinMap.{get, empty, get-empty, from_entries, get-from_entries}
 use Rattle.std.specs.FinMap.Entries.{find}
-use Rattle.std.proofs.lemmas.List.{append-nil}
 use Rattle.std.proofs.lemmas.Option.{same_Some}
 use Rattle.pm_types.specs.Orders.{place_cmp}
 use Rattle.pm_types.specs.declared.address.Addr.{Addr}
@@ -89,7 +88,7 @@ stored_is cars roots view same_cars same_roots none (Field a i) = ap (λ (m : Ca
 
 module _ (placed : List Placed) (named : List (List ℕ × Addr)) (next : ℕ) (cars : Cars) (links : Linked) (trains : Trains) (roots : Bindings) (registers : Registers) (anchor : Option (Addr × ℕ))
     (placed_differ : CarsDiffer placed) (cars_are : cars ≡ built_cars placed) (trains_are : trains ≡ built_trains placed) (roots_are : addresses roots ≡ from_entries named) (differ : AllNumbersDiffer roots)
-    (remember : Remember (built_cars placed) (sets_of links) (stored_of (rows placed) roots ++ [])) (no_changes : (car : ℕ) → get (queues_of links) car ≡ option_map (λ _. []) (get (built_cars placed) car)) (no_registers : registers ≡ empty) (no_anchor : anchor ≡ None) where
+    (remember : Remember (built_cars placed) (sets_of links) (stored_of (rows placed) roots)) (no_changes : (car : ℕ) → get (queues_of links) car ≡ option_map (λ _. []) (get (built_cars placed) car)) (no_registers : registers ≡ empty) (no_anchor : anchor ≡ None) where
   made : SpaceView
   made = record { cars = cars; sets = sets_of links; queues = queues_of links; trains = trains; roots = roots; registers = registers; anchor = anchor; phase = Idle; next = next; completed = 0 }
 
@@ -98,7 +97,7 @@ module _ (placed : List Placed) (named : List (List ℕ × Addr)) (next : ℕ) (
 
   told : Remember cars (sets_of links) all
   unfolding all
-  told = subst (λ (m : Cars). Remember m (sets_of links) (stored_of (rows placed) roots)) (sym cars_are) (subst (Remember (built_cars placed) (sets_of links)) (append-nil (stored_of (rows placed) roots)) remember)
+  told = subst (λ (m : Cars). Remember m (sets_of links) (stored_of (rows placed) roots)) (sym cars_are) remember
 
   are : AreCars cars roots (rows placed)
   are = subst (λ (m : Cars). AreCars m roots (rows placed)) (sym cars_are) (rows_are placed roots placed_differ)

@@ -1,51 +1,98 @@
 //! Building a space of cars and roots.
 
-ghost use Rattle.std.specs.Prelude.{◌≡◌, None, IfOk};
-ghost use Rattle.pm_copies.specs.Built.{MayBuild, IsBuiltOf};
-ghost use Rattle.pm_space.specs.Shown.{view};
-ghost use Rattle.pm_rebuild.specs.Lists.{NamesDiffer};
+ghost use Rattle.std.specs.Prelude.{◌≡◌, ◌≤◌, None, IfOk, map, length};
+ghost use Rattle.std.specs.List.{AllByRecursion};
+ghost use Rattle.std.specs.FinMap.{from_entries};
+ghost use Rattle.pm_types.specs.declared.limits.TheConstants.{ROOTS};
+ghost use Rattle.pm_roots.specs.Bindings.{AllNumbersDiffer};
+ghost use Rattle.pm_copies.specs.Built.{MayBuild, IsBuiltOf, IsFull, CarsDiffer, Placed, built_cars, built_trains};
+ghost use Rattle.pm_space.specs.Shown.{cars_of, view};
+ghost use Rattle.pm_rebuild.specs.Linking.{AreTold};
+ghost use Rattle.pm_rebuild.specs.Lists.{NamesDiffer, placed_of};
+ghost use Rattle.pm_rebuild.specs.Naming.{addresses};
 
 use crate::linking::{gather_cars, link_cars, put_cars};
 use crate::naming::bind_roots;
 use crate::remembering::remember;
 use crate::trains::make_trains;
 use crate::{CarList, RootList};
+use pm_cars::Car;
 use pm_guard::Guard;
 use pm_handles::Handles;
 use pm_law_copies::a_built_space_keeps_the_law;
 use pm_place::Placement;
-use pm_space::{Parts, Space};
+use pm_roots::Roots;
+use pm_snap::Table;
+use pm_space::{Held, LinkTable, Parts, Space};
+use pm_trains::Trains;
 use pm_types::NoMemory;
 use pm_view::Phase;
 use std::alloc::Global;
+
+// What stands beside these cars: sets that remember the roots and the fields of others, and empty queues.
+fn link_told(alloc: Global, cars: &[(u64, Car)], roots: &Roots) -> Result<LinkTable, NoMemory>
+    requires { CarsDiffer (map placed_of cars.now) }
+    ensures { IfOk result (AreTold (map placed_of cars.now) roots.now) }
+{
+    let mut sets = gather_cars(alloc, cars)?;
+    remember(&mut sets, cars, roots)?;
+    link_cars(alloc, cars, sets)
+}
+
+// These roots, each bound to its address, and what stands beside the cars then.
+fn bind_and_link(
+    alloc: Global,
+    cars: &[(u64, Car)],
+    list: RootList,
+) -> Result<(Roots, LinkTable), NoMemory>
+    requires differ { CarsDiffer (map placed_of cars.now) }
+    requires names { NamesDiffer list }
+    requires few { length list ≤ ROOTS }
+    ensures bound { IfOk result (λ made. addresses made.0 ≡ from_entries list) }
+    ensures numbers { IfOk result (λ made. AllNumbersDiffer made.0) }
+    ensures told { IfOk result (λ made. AreTold (map placed_of cars.now) made.0 made.1) }
+{
+    let roots = bind_roots(alloc, list)?;
+    roots.sound();
+    let links = link_told(alloc, cars, &roots)?;
+    Ok((roots, links))
+}
+
+// The table of these cars, and the trains in which they stand.
+fn line_up(alloc: Global, cars: CarList) -> Result<(Table<Held>, Trains), NoMemory>
+    requires full { AllByRecursion (λ (one : Placed). IsFull one.1) cars }
+    requires differ { CarsDiffer cars }
+    ensures cars { IfOk result (λ made. cars_of made.0 ≡ built_cars cars) }
+    ensures frozen { IfOk result (λ made. made.0.frozen ≡ None) }
+    ensures trains { IfOk result (λ made. made.1 ≡ built_trains cars) }
+{
+    let trains = make_trains(alloc, cars.as_slice())?;
+    let table = put_cars(alloc, cars)?;
+    Ok((table, trains))
+}
 
 // The parts of a space of these cars and roots.
 fn build_parts<F: Drop>(
     alloc: Global,
     place: Placement<F>,
     cars: CarList,
-    roots: RootList,
+    list: RootList,
     next: u64,
 ) -> Result<Parts<F>, NoMemory>
-    requires may { MayBuild cars roots next }
-    requires names { NamesDiffer roots }
-    ensures view { IfOk result (λ parts. IsBuiltOf cars roots next (view parts)) }
+    requires may { MayBuild cars list next }
+    requires names { NamesDiffer list }
+    ensures view { IfOk result (λ parts. IsBuiltOf cars list next (view parts)) }
     ensures frozen { IfOk result (λ parts. parts.cars.frozen ≡ None) }
     ensures place { IfOk result (λ parts. parts.place ≡ place) }
 {
-    let trains = make_trains(alloc, cars.as_slice())?;
-    let mut sets = gather_cars(alloc, cars.as_slice())?;
-    let bound = bind_roots(alloc, roots)?;
-    bound.sound();
-    remember(&mut sets, cars.as_slice(), &bound)?;
-    let links = link_cars(alloc, cars.as_slice(), sets)?;
-    let table = put_cars(alloc, cars)?;
+    let (roots, links) = bind_and_link(alloc, cars.as_slice(), list)?;
+    let (cars, trains) = line_up(alloc, cars)?;
     let handles = Handles::new(alloc)?;
     Ok(Parts {
-        cars: table,
+        cars,
         links,
         trains,
-        roots: bound,
+        roots,
         handles,
         place,
         guard: Guard::new(),

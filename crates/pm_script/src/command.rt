@@ -1,5 +1,6 @@
 ghost use Rattle.pm_script.specs.Lines.{parts_in};
 ghost use Rattle.pm_script.specs.Reading.{Gives, Takes};
+ghost use Rattle.pm_script.specs.declared.verb.Verb.TheVariants as verb;
 ghost use Rattle.pm_script.specs.Taking.{register_at, number_at, bytes_at, name_at, command_at, events_at, asked_at};
 
 use crate::fault::{Cause, LineFault};
@@ -60,73 +61,177 @@ fn name(alloc: Global, words: &mut Option<&[u8]>) -> Result<Name, LineFault>
     name_word(alloc, word)
 }
 
+// A `new`, by the words behind its verb.
+#[tactic(auto, unfolding(crate::specs::Taking::command_at))]
+fn birth(alloc: Global, words: &mut Option<&[u8]>) -> Result<Cmd, LineFault>
+    ensures { Gives result (command_at verb.New (parts_in 32 words.old)) }
+{
+    Ok(Cmd::New {
+        reg: register(words)?,
+        count: number(words)?,
+        bytes: bytes(alloc, words)?,
+    })
+}
+
+// A `load`, by the words behind its verb.
+#[tactic(auto, unfolding(crate::specs::Taking::command_at))]
+fn load(words: &mut Option<&[u8]>) -> Result<Cmd, LineFault>
+    ensures { Gives result (command_at verb.Load (parts_in 32 words.old)) }
+{
+    Ok(Cmd::Load {
+        to: register(words)?,
+        reg: register(words)?,
+        index: number(words)?,
+    })
+}
+
+// A `store`, by the words behind its verb.
+#[tactic(auto, unfolding(crate::specs::Taking::command_at))]
+fn store(words: &mut Option<&[u8]>) -> Result<Cmd, LineFault>
+    ensures { Gives result (command_at verb.Store (parts_in 32 words.old)) }
+{
+    Ok(Cmd::Store {
+        reg: register(words)?,
+        index: number(words)?,
+        value: register(words)?,
+    })
+}
+
+// A `clear`, by the words behind its verb.
+#[tactic(auto, unfolding(crate::specs::Taking::command_at))]
+fn clear(words: &mut Option<&[u8]>) -> Result<Cmd, LineFault>
+    ensures { Gives result (command_at verb.Clear (parts_in 32 words.old)) }
+{
+    Ok(Cmd::Clear {
+        reg: register(words)?,
+        index: number(words)?,
+    })
+}
+
+// A `data`, by the words behind its verb.
+#[tactic(auto, unfolding(crate::specs::Taking::command_at))]
+fn show(words: &mut Option<&[u8]>) -> Result<Cmd, LineFault>
+    ensures { Gives result (command_at verb.Data (parts_in 32 words.old)) }
+{
+    Ok(Cmd::Show {
+        reg: register(words)?,
+    })
+}
+
+// A `put`, by the words behind its verb.
+#[tactic(auto, unfolding(crate::specs::Taking::command_at))]
+fn put(alloc: Global, words: &mut Option<&[u8]>) -> Result<Cmd, LineFault>
+    ensures { Gives result (command_at verb.Put (parts_in 32 words.old)) }
+{
+    Ok(Cmd::Put {
+        reg: register(words)?,
+        at: number(words)?,
+        bytes: bytes(alloc, words)?,
+    })
+}
+
+// A `copy`, by the words behind its verb.
+#[tactic(auto, unfolding(crate::specs::Taking::command_at))]
+fn copy(words: &mut Option<&[u8]>) -> Result<Cmd, LineFault>
+    ensures { Gives result (command_at verb.Copy (parts_in 32 words.old)) }
+{
+    Ok(Cmd::Copy {
+        to: register(words)?,
+        reg: register(words)?,
+    })
+}
+
+// An `id`, by the words behind its verb.
+#[tactic(auto, unfolding(crate::specs::Taking::command_at))]
+fn id_of(words: &mut Option<&[u8]>) -> Result<Cmd, LineFault>
+    ensures { Gives result (command_at verb.Id (parts_in 32 words.old)) }
+{
+    Ok(Cmd::IdOf {
+        reg: register(words)?,
+    })
+}
+
+// A `drop`, by the words behind its verb.
+#[tactic(auto, unfolding(crate::specs::Taking::command_at))]
+fn forget(words: &mut Option<&[u8]>) -> Result<Cmd, LineFault>
+    ensures { Gives result (command_at verb.Drop (parts_in 32 words.old)) }
+{
+    Ok(Cmd::Forget {
+        reg: register(words)?,
+    })
+}
+
+// A `root`, by the words behind its verb.
+#[tactic(auto, unfolding(crate::specs::Taking::command_at))]
+fn bind(alloc: Global, words: &mut Option<&[u8]>) -> Result<Cmd, LineFault>
+    ensures { Gives result (command_at verb.Root (parts_in 32 words.old)) }
+{
+    Ok(Cmd::Bind {
+        name: name(alloc, words)?,
+        reg: register(words)?,
+    })
+}
+
+// An `unroot`, by the words behind its verb.
+#[tactic(auto, unfolding(crate::specs::Taking::command_at))]
+fn unbind(alloc: Global, words: &mut Option<&[u8]>) -> Result<Cmd, LineFault>
+    ensures { Gives result (command_at verb.Unroot (parts_in 32 words.old)) }
+{
+    Ok(Cmd::Unbind {
+        name: name(alloc, words)?,
+    })
+}
+
+// A `find`, by the words behind its verb.
+#[tactic(auto, unfolding(crate::specs::Taking::command_at))]
+fn find(alloc: Global, words: &mut Option<&[u8]>) -> Result<Cmd, LineFault>
+    ensures { Gives result (command_at verb.Find (parts_in 32 words.old)) }
+{
+    Ok(Cmd::Find {
+        to: register(words)?,
+        name: name(alloc, words)?,
+    })
+}
+
+// A `swap`, by the words behind its verb.
+#[tactic(auto, unfolding(crate::specs::Taking::command_at))]
+fn swap(words: &mut Option<&[u8]>) -> Result<Cmd, LineFault>
+    ensures { Gives result (command_at verb.Swap (parts_in 32 words.old)) }
+{
+    Ok(Cmd::Swap {
+        reg: register(words)?,
+        index: number(words)?,
+        old: register(words)?,
+        value: register(words)?,
+    })
+}
+
 // The command that a client asks so.
 #[tactic(auto, unfolding(crate::specs::Taking::command_at))]
 fn command(alloc: Global, verb: Verb, words: &mut Option<&[u8]>) -> Result<Cmd, LineFault>
     ensures { Gives result (command_at verb (parts_in 32 words.old)) }
 {
-    Ok(match verb {
-        Verb::New => Cmd::New {
-            reg: register(words)?,
-            count: number(words)?,
-            bytes: bytes(alloc, words)?,
-        },
-        Verb::Load => Cmd::Load {
-            to: register(words)?,
-            reg: register(words)?,
-            index: number(words)?,
-        },
-        Verb::Store => Cmd::Store {
-            reg: register(words)?,
-            index: number(words)?,
-            value: register(words)?,
-        },
-        Verb::Clear => Cmd::Clear {
-            reg: register(words)?,
-            index: number(words)?,
-        },
-        Verb::Data => Cmd::Show {
-            reg: register(words)?,
-        },
-        Verb::Put => Cmd::Put {
-            reg: register(words)?,
-            at: number(words)?,
-            bytes: bytes(alloc, words)?,
-        },
-        Verb::Copy => Cmd::Copy {
-            to: register(words)?,
-            reg: register(words)?,
-        },
-        Verb::Id => Cmd::IdOf {
-            reg: register(words)?,
-        },
-        Verb::Drop => Cmd::Forget {
-            reg: register(words)?,
-        },
-        Verb::Root => Cmd::Bind {
-            name: name(alloc, words)?,
-            reg: register(words)?,
-        },
-        Verb::Unroot => Cmd::Unbind {
-            name: name(alloc, words)?,
-        },
-        Verb::Find => Cmd::Find {
-            to: register(words)?,
-            name: name(alloc, words)?,
-        },
-        Verb::Save => Cmd::Save,
-        Verb::Settle => Cmd::Settle,
-        Verb::Watch => Cmd::Watch,
-        Verb::Close => Cmd::Close,
-        Verb::Swap => Cmd::Swap {
-            reg: register(words)?,
-            index: number(words)?,
-            old: register(words)?,
-            value: register(words)?,
-        },
-        Verb::Unsave => Cmd::Unsave,
-        Verb::Gc | Verb::Flush => return Err(LineFault::Bad(Cause::Count)),
-    })
+    match verb {
+        Verb::New => birth(alloc, words),
+        Verb::Load => load(words),
+        Verb::Store => store(words),
+        Verb::Clear => clear(words),
+        Verb::Data => show(words),
+        Verb::Put => put(alloc, words),
+        Verb::Copy => copy(words),
+        Verb::Id => id_of(words),
+        Verb::Drop => forget(words),
+        Verb::Root => bind(alloc, words),
+        Verb::Unroot => unbind(alloc, words),
+        Verb::Find => find(alloc, words),
+        Verb::Swap => swap(words),
+        Verb::Save => Ok(Cmd::Save),
+        Verb::Settle => Ok(Cmd::Settle),
+        Verb::Watch => Ok(Cmd::Watch),
+        Verb::Close => Ok(Cmd::Close),
+        Verb::Unsave => Ok(Cmd::Unsave),
+        Verb::Gc | Verb::Flush => Err(LineFault::Bad(Cause::Count)),
+    }
 }
 
 // The line that asks for events so.
