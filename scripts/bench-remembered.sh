@@ -8,12 +8,12 @@ work=$(mktemp -d)
 trap 'rm -rf "$work"' EXIT
 
 mkdir -p "$work/crates/remembered_bench/src" "$work/crates/remembered_bench/specs"
-for crate in pm_base pm_types pm_remset; do
+for crate in pm_types pm_remset; do
     mkdir "$work/crates/$crate"
     cp -r crates/$crate/src crates/$crate/specs crates/$crate/proofs "$work/crates/$crate/"
 done
 cp HANDLES "$work/"
-grep -E '^pm_(base|types|remset):' crates.txt > "$work/crates.txt"
+grep -E '^pm_(types|remset):' crates.txt > "$work/crates.txt"
 echo 'remembered_bench: pm_types pm_remset' >> "$work/crates.txt"
 : > "$work/crates/remembered_bench/specs/Lib.antt"
 cat > "$work/crates/remembered_bench/src/main.rt" <<'EOF'

@@ -7,12 +7,12 @@ work=$(mktemp -d)
 trap 'rm -rf "$work"' EXIT
 
 mkdir -p "$work/crates/table_bench/src" "$work/crates/table_bench/specs"
-for crate in pm_types pm_numbered pm_snap; do
+for crate in pm_types pm_snap; do
     mkdir "$work/crates/$crate"
     cp -r crates/$crate/src crates/$crate/specs crates/$crate/proofs "$work/crates/$crate/"
 done
 cp HANDLES "$work/"
-grep -E '^pm_(types|numbered|snap):' crates.txt > "$work/crates.txt"
+grep -E '^pm_(types|snap):' crates.txt > "$work/crates.txt"
 echo 'table_bench: pm_snap pm_types anyhow' >> "$work/crates.txt"
 : > "$work/crates/table_bench/specs/Lib.antt"
 cat > "$work/crates/table_bench/src/main.rt" <<'EOF'

@@ -1,8 +1,9 @@
 #!/usr/bin/env bash
 # Runs the program on real files and streams: closed streams, a full device, files that cannot be had, two runs at
 # once, a pipe that closes early, a run that is killed behind a settle, a standby, a script that is too long, little memory,
-# and the report, a script that is made and a trial beside what other programs find. It prints a table of what was wanted and
-# what came, and ends with 0 where they are the same on every line. What the machine lacks is skipped, and its line says so.
+# what README shows, an installation, and the report, a script that is made and a trial beside what other programs
+# find. It prints a table of what was wanted and what came, and ends with 0 where they are the same on every line. What the
+# machine lacks is skipped, and its line says so.
 #
 # It takes the program that 'rt ci' or 'rt run' built, or the one that PMOS names; where there is neither, it builds one
 # without proof.
@@ -68,6 +69,40 @@ printf '0 find 1 a\n0 data 1\n' >"$work/find.script"
 came=$?
 row "an ordinary run" "0 ok 1,ok,begun 1,saved 1,0 0 1,ok 1,cafe,0 0 1" \
     "$came $(cat "$work/settle.replies" "$work/find.replies" | cut -d' ' -f2- | paste -sd,)"
+
+# What README shows: each line behind a dollar is run in an empty folder, and prints what stands below it.
+mkdir "$work/shown"
+awk '/^```/ { if (++fences == 2) exit; next } fences == 1' README.md >"$work/shown.wanted"
+(
+    cd "$work/shown" || exit 1
+    PATH=$work:$PATH
+    while IFS= read -r line; do
+        printf '$ %s\n' "$line"
+        eval "$line" </dev/null
+    done < <(sed -n 's/^\$ //p' "$work/shown.wanted")
+) >"$work/shown.came" 2>&1
+lines=$(grep -c '^\$ ' "$work/shown.wanted")
+if cmp -s "$work/shown.wanted" "$work/shown.came"; then
+    came="$lines lines as written"
+else
+    came=$(diff "$work/shown.wanted" "$work/shown.came" | sed -n '2,3p' | paste -sd,)
+fi
+[ "$lines" -gt 0 ] || came="nothing shown"
+row "what README shows" "$lines lines as written" "$came"
+
+# An installation in an empty folder: three files, of which the program runs, the page is the one of the documents, and bash
+# completes a word. Nothing of it is left then.
+mkdir "$work/prefix"
+PMOS=$pmos scripts/install.sh "$work/prefix" >"$work/out" 2>&1
+came="$? $(find "$work/prefix" -type f | wc -l) files $(grep -c '^Installed ' "$work/out") told"
+"$work/prefix/bin/pmos" inspect "$work/settled" >"$work/out" </dev/null 2>&1
+came+=", $? $(head -n 1 "$work/out")"
+cmp -s docs/pmos.1 "$work/prefix/share/man/man1/pmos.1" || came+=", another page"
+came+=", $(bash -c 'source "$1" && COMP_WORDS=(pmos run f t) && COMP_CWORD=3 && _pmos && echo "${COMPREPLY[@]}"' \
+    bash "$work/prefix/share/bash-completion/completions/pmos" 2>&1)"
+scripts/install.sh --remove "$work/prefix" >"$work/out" 2>&1
+came+=", $? $(find "$work/prefix" -type f | wc -l) files $(grep -c '^Removed ' "$work/out") told"
+row "an installation" "0 3 files 3 told, 0 store 1 2 1, threads, 0 0 files 3 told" "$came"
 
 # Tells which of the stores above a file is, byte for byte.
 is_which() {
@@ -576,7 +611,7 @@ fi
 
 # Sizes that no case reaches. What is wanted is worked out from the rules of scripts and reports. A build without proof is
 # too slow for them.
-sizes=(copies steps comments names births cars trains)
+sizes=(copies steps bound comments names births cars trains)
 if [ -n "$unproved" ] || lacks python3; then
     for size in "${sizes[@]}"; do row "size: $size" "" "skipped: python3 and a proved program are needed"; done
 else
@@ -618,6 +653,12 @@ PYTHON
     fresh
     run_size steps
     row "10,000,001 events" "0 end 10000001 1" "$? $(tail -n 1 "$work/out" | cut -d' ' -f1,2,4)"
+
+    # The first collection takes 15 events, each further one nine: 1 + (14,800,000 - 15) / 9 of them are completed.
+    fresh
+    "$pmos" run "$work/store" serial <examples/bound.script >"$work/out"
+    row "a watch's bound is reached" "0 end 14800000 1644443 1,watch 1 bound 1052676 done 1644443 old 0" \
+        "$? $(tail -n 2 "$work/out" | paste -sd,)"
 
     fresh
     run_size comments

@@ -3,15 +3,16 @@
 # with a copy that is written and not settled, and the second one finds the copy of before; and a copy of the file that was
 # taken before the first settle holds the empty copy. A standby gets the copy that settled, is given nothing more by a second
 # ship, and replies as the store does.
-# The collector takes away what nothing reaches any more. Then come a list from which an element is taken out, with the
-# reports of its store, two clients, and a trial of a script that is made from a seed. It takes the program that was proved
-# and built, where there is one, and else builds one without proof.
+# The collector frees what is not reachable. Then come a list from which an element is taken out, with the reports of its
+# store, two clients, a watch whose bound is reached, and a trial of a script that is made from a seed. It takes the program
+# that was proved and built, where there is one, and else builds one without proof.
 set -euo pipefail
 cd "$(dirname "$0")/.."
 
 work=$(mktemp -d)
 trap 'rm -rf "$work"' EXIT
 
+unproved=''
 if [ -x pmos ]; then
     pmos=$PWD/pmos
     echo "The program is ./pmos, which scripts/build.sh proved and built."
@@ -20,6 +21,7 @@ elif [ -x crates/pmos/out/pmos ]; then
     echo "The program is crates/pmos/out/pmos, which rt proved and built."
 else
     pmos=$work/pmos
+    unproved=yes
     echo "Building the program without proof, in about a minute; scripts/build.sh proves and builds it."
     scripts/build-unproved.sh "$pmos"
 fi
@@ -80,6 +82,15 @@ echo
 echo "Two clients:"
 "$pmos" init "$work/clients.pmos"
 show examples/clients.script clients.pmos
+echo
+if [ -n "$unproved" ]; then
+    echo "A watch whose bound is reached, examples/bound.script, takes the proved program a few seconds and this one half an hour."
+else
+    echo "A watch whose bound is reached: the collector completes more collections than the bound says, so none of the two"
+    echo "objects that were garbage when the watch was set is left, and 'old' is 0."
+    "$pmos" init "$work/bound.pmos"
+    show examples/bound.script bound.pmos
+fi
 echo
 echo "A script that is made from seed 1, of one turn, 'pmos make 1 1':"
 "$pmos" make 1 1 | sed 's/^/    /'

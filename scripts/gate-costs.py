@@ -19,7 +19,7 @@ What `rt ci` does itself grows with the ways that lead through crates.txt from a
 check it looks at each name that a clause of a crate imports, and goes each time through all ways that lead from the crate
 to a lower one: 88 million took two minutes of one processor, 180 million 4.3. And before and behind the proof of a library
 it reads, on each such way, every file of the crate at its end: 37 million files would take most of an hour. A crate that is
-cut in two gives each crate above it more ways, unless these list the upper one alone, so `ways` tells what a cut costs.
+cut in two gives each crate above it more ways, and each library less in a line takes ways off: `ways` tells how many.
 """
 import glob
 import json

@@ -1,5 +1,5 @@
 #!/usr/bin/env python3
-"""Compares dumps and paths with a reader that was written from docs/DUMPS.md alone.
+"""Compares dumps and paths with a reader that was written from docs/MANUAL.md alone.
 
     scripts/try-dumps.py [SEED [COUNT]]
 

@@ -18,7 +18,7 @@ use Rattle.pm_types.specs.declared.object.Slot.{Slot}
 use Rattle.pm_types.specs.declared.object.Object.{Object}
 use Rattle.pm_types.specs.declared.object.Slot.TheVariants.{Live, Moved}
 use Rattle.pm_cars.specs.Cars.{Slots, total, object_of}
-use Rattle.pm_base.proofs.Shown.{find-lookup}
+use Rattle.pm_types.proofs.Shown.{find-lookup}
 
 both_of : (a b : Bool) → T (a && b) → T a × T b
 both_of true b h = (tt, h)

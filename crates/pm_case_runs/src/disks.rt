@@ -1,7 +1,7 @@
 //! The bytes of a disk before a run.
 
 use crate::running::{RunEnd, run_script};
-use pm_case_scripts::INIT;
+use pm_case_text::told::INIT;
 use pm_case_text::{
     Fault, first_word, number, numbered, part, place, placed, push_bytes, push_words, put, refuse,
     two_numbers,

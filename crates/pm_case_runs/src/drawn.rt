@@ -1,7 +1,7 @@
 //! Runs in threads of scripts that are drawn.
 
 use crate::running::{RunEnd, run_script};
-use pm_case_scripts::{RUN_THREADS, alike_in, generated};
+use pm_case_text::told::{RUN_THREADS, alike_in, generated};
 use pm_case_text::{Fault, push_filled};
 use std::alloc::Global;
 use std::sync::Wait;

@@ -1,7 +1,8 @@
 //! What there is to tell of the end of a run.
 
-use pm_case_text::{Fault, push_filled, push_text, push_words};
+use pm_case_text::{Fault, push_filled, push_text, push_words, refuse};
 use pm_top::{Detail, detail_text};
+use pm_types::NoMemory;
 use std::alloc::Global;
 
 /// Adds the text of an end.
@@ -23,7 +24,21 @@ pub(crate) fn push_counts(end: &Detail, out: &mut String) -> Result<(), Fault> {
     }
 }
 
+// The evidence of a refused growth: no list has as many places as a number of 64 bits can count.
+fn refused_growth(alloc: Global) -> Result<NoMemory, Fault> {
+    let mut list: Vec<u64> = Vec::new(alloc);
+    match list.reserve(usize::MAX) {
+        Ok(()) => Err(refuse("no growth was refused")),
+        Err(refused) => Ok(NoMemory::from(refused)),
+    }
+}
+
 /// The line that the program writes where memory ran out.
 pub fn push_memory_text(alloc: Global, out: &mut String) -> Result<(), Fault> {
-    push_end(alloc, &Detail::Memory { opened: false }, out)
+    let refused = refused_growth(alloc)?;
+    let end = Detail::Memory {
+        opened: false,
+        refused,
+    };
+    push_end(alloc, &end, out)
 }

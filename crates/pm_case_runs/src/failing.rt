@@ -3,7 +3,7 @@
 use crate::ends::push_counts;
 use crate::running::{RunEnd, run, run_script};
 use crate::shown::push_run_in_line;
-use pm_case_scripts::{RUN, Setting};
+use pm_case_text::told::{RUN, Setting};
 use pm_case_text::{Fault, Texts, push_filled, refuse};
 use pm_disk::{DiskCall, MemDisk};
 use std::alloc::Global;

@@ -2,7 +2,7 @@
 
 use crate::failing::push_look;
 use crate::running::{RunEnd, run_script};
-use pm_case_scripts::RUN;
+use pm_case_text::told::RUN;
 use pm_case_text::{Fault, numbered, push_filled, push_lines};
 use std::alloc::Global;
 use std::sync::Wait;

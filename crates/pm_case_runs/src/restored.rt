@@ -1,7 +1,7 @@
 //! A store that is dumped, restored from that dump, and dumped again.
 
 use crate::running::{RunEnd, run, run_script};
-use pm_case_scripts::{DUMP, RESTORE, Setting};
+use pm_case_text::told::{DUMP, RESTORE, Setting};
 use pm_case_text::{Fault, push_filled};
 use std::sync::Wait;
 use std::thread::Threads;

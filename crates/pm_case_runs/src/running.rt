@@ -2,10 +2,10 @@
 
 ghost use Rattle.std.specs.Prelude.{◌<◌, length};
 
-use pm_case_scripts::Setting;
 use pm_case_text::Fault;
+use pm_case_text::told::Setting;
 use pm_disk::MemDisk;
-use pm_fuse::FuseDisk;
+use pm_disk::fuse::FuseDisk;
 use pm_io::{MemSink, MemSource};
 use pm_place::{Placement, first_of, last_of, middle_of};
 use pm_top::{Detail, Ended, pmos};

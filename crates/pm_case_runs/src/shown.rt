@@ -2,7 +2,7 @@
 
 use crate::ends::push_end;
 use crate::running::RunEnd;
-use pm_case_scripts::push_digest_of;
+use pm_case_text::told::push_digest_of;
 use pm_case_text::{Fault, push_filled, push_said, push_text, push_words, refuse};
 use pm_disk::DiskCall;
 use pm_script::journal_text;

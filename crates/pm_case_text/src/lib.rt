@@ -9,6 +9,7 @@ mod lines;
 mod printed;
 mod repeated;
 mod texts;
+pub mod told;
 mod words;
 
 pub use bytes::{part, patch, put};

@@ -56,7 +56,7 @@ fn push_part(name: &str, out: &mut String) -> Result<(), Fault> {
 pub(crate) struct Cases {
     now: Option<Part>,
     disks: pm_disk_cases::Case,
-    files: pm_file_cases::Case,
+    files: pm_disk_cases::file_cases::Case,
     engine: pm_engine_cases::Case,
     program: Case,
 }
@@ -68,7 +68,7 @@ impl Cases {
         Ok(Cases {
             now: None,
             disks: pm_disk_cases::Case::new(alloc),
-            files: pm_file_cases::Case::new(rt),
+            files: pm_disk_cases::file_cases::Case::new(rt),
             engine: pm_engine_cases::Case::new(alloc)?,
             program: Case::new(alloc)?,
         })
@@ -91,13 +91,13 @@ impl Cases {
         let alloc = rt.alloc();
         match part {
             Part::Values => pm_value_cases::take(alloc, line, out),
-            Part::Containers => pm_container_cases::take(alloc, line, out),
+            Part::Containers => pm_value_cases::containers::take(alloc, line, out),
             Part::Disks => self.disks.take(alloc, line, out),
             Part::Files => self.files.take(line, out),
             Part::Space => pm_space_cases::take(alloc, line, out),
             Part::Engine => self.engine.take(alloc, line, out),
             Part::Lock => pm_lock_cases::take(rt, alloc, line, out),
-            Part::Meeting => pm_meeting_cases::take(rt, line, out),
+            Part::Meeting => pm_case_runs::meeting_cases::take(rt, line, out),
             Part::Program => self.program.take(rt, line, out),
         }
     }

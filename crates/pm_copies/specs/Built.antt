@@ -2,7 +2,7 @@
 use Rattle.std.specs.Prelude.{◌≡◌, ◌⊎◌, ℕ, ◌+◌, ◌<◌, ◌≤◌, ◌==◌, false, if◌then◌else◌, List, [], ◌∷◌, length, map, slice_get, Some, IsSome}
 use Rattle.std.specs.List.{flat_map, AllByRecursion}
 use Rattle.std.specs.FinMap.{from_entries}
-use Rattle.pm_base.specs.Mapped.{mapped}
+use Rattle.pm_types.specs.Mapped.{mapped}
 use Rattle.pm_types.specs.declared.limits.TheConstants.{FIELDS, OBJECT_BYTES, ROOTS, END_ID}
 use Rattle.pm_types.specs.declared.address.Addr.{Addr}
 use Rattle.pm_types.specs.declared.object.Object.{Object}

@@ -2,3 +2,12 @@ pub mod Listed
 pub mod Accepted
 pub mod Opened
 pub mod Built
+pub mod Apart
+pub mod Entries
+pub mod Places
+pub mod Spelled
+pub mod Cutting
+pub mod Filling
+pub mod Laid
+pub mod Plans
+pub mod Writing

@@ -8,3 +8,4 @@ pub mod CrashLemmas
 pub mod RunLemmas
 pub mod MadeLemmas
 pub mod Crossing
+pub mod FuseLemmas

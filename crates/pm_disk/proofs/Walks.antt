@@ -1,4 +1,4 @@
--- A step that the walks of `src/moments.rt` share: a struct with no fields is made of nothing.
+-- A step that the walks of `src/moments.rt` and `src/fuse/misses.rt` share: a struct with no fields is made of nothing.
 use Rattle.std.proofs.Common.{List, [], ◌∷◌, refl}
 use seplogic.Ra.Ura.{Ura}
 use mir.Val.{Val, vstruct, vnil}

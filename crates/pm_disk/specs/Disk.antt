@@ -1,6 +1,6 @@
 -- What the calls of a disk say of its images, its clock and its count.
 use Rattle.std.specs.Prelude.{◌≡◌, ◌⊎◌, ℕ, ◌+◌, ◌<◌, ◌≤◌, Bool, true, List, Option, Some, Result, MatchResult}
-use Rattle.pm_base.specs.Counts.{Rose}
+use Rattle.pm_types.specs.Counts.{Rose}
 use Rattle.pm_disk.specs.Images.{IsBytes}
 use Rattle.pm_disk.specs.Writes.{Torn}
 

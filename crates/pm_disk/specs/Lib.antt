@@ -11,3 +11,4 @@ pub mod MemDisk
 pub mod Outcomes
 pub mod MemDiskLaws
 pub mod Ordered
+pub mod Fuse

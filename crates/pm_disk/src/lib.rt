@@ -4,6 +4,7 @@
 mod call;
 mod crash;
 mod disk;
+pub mod fuse;
 mod law;
 mod mark;
 mod mem_disk;

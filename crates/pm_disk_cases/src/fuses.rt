@@ -4,7 +4,7 @@ use crate::disks::{is_sent, push_call, push_told};
 use crate::spelling::Calls;
 use pm_case_text::{CallsOf, Fault, first_word, numbered, push_calls, push_number};
 use pm_disk::MemDisk;
-use pm_fuse::FuseDisk;
+use pm_disk::fuse::FuseDisk;
 use std::alloc::Global;
 
 // Adds what the disk below tells.

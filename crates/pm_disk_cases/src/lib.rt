@@ -6,6 +6,7 @@ mod cars;
 mod case;
 mod catalogs;
 mod disks;
+pub mod file_cases;
 mod fuses;
 mod headers;
 mod slots;

@@ -8,7 +8,7 @@ use Rattle.std.specs.Ordering.{nat_cmp, is_eq, is_lt, eq_by_cmp}
 use Rattle.std.specs.FinMap.{FinMap, find, is_sorted, entries, entries_sorted, from_sorted, entries-from_sorted, same_entries_map, get, get-entries, len-entries}
 use Rattle.std.specs.FinMap.Entries.{below_all, find_tied}
 use Rattle.hex.specs.Hex.{IsBytes}
-use Rattle.pm_base.proofs.Shown.{tied}
+use Rattle.pm_types.proofs.Shown.{tied}
 use Rattle.pm_types.specs.Names.{IsName}
 use Rattle.pm_types.specs.Orders.{name_cmp}
 use Rattle.pm_model.specs.Heap.{Object, Heap, field_of}

@@ -6,7 +6,7 @@ use Rattle.std.specs.Option.{option_map}
 use Rattle.std.specs.List.{AllByRecursion, list_all}
 use Rattle.std.specs.Cmp.Lexicographic.{pointwise, bytes_decides}
 use Rattle.std.specs.Str.Parse.{digits_value}
-use Rattle.pm_base.specs.Options.{◌>>=◌}
+use Rattle.pm_types.specs.Options.{◌>>=◌}
 use Rattle.pm_model.specs.Heap.{Object}
 use Rattle.pm_types.specs.Names.{is_name_byte, IsName}
 use Rattle.pm_script.specs.Values.{is_numeral, hex_of, name_of, is_name}

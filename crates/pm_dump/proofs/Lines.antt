@@ -1,5 +1,5 @@
 -- Lines that are read one after the other.
-use Rattle.std.proofs.Common.{◌≡◌, inl, inr, ℕ, zero, suc, ◌+◌, ◌<◌, ◌==◌, Bool, true, false, List, [], ◌∷◌, ◌++◌, length, nat_eq, refl, sym, subst, arith}
+use Rattle.std.proofs.Common.{◌≡◌, inl, ℕ, zero, suc, ◌<◌, ◌==◌, Bool, true, false, List, [], ◌∷◌, ◌++◌, length, nat_eq, refl, sym, subst, arith}
 use Rattle.std.proofs.lemmas.Bool.{eqb-true}
 use Rattle.std.proofs.lemmas.List.Splits.{length-slice_split}
 use Rattle.pm_model.specs.Heap.{Object}
@@ -9,34 +9,14 @@ use Rattle.pm_dump.specs.declared.fault.DumpFault.{DumpFault}
 use Rattle.pm_dump.specs.declared.fault.DumpFault.TheVariants as dump_fault
 use Rattle.pm_dump.specs.Dump.{DumpLine, HeadLine, object_lines, root_lines, EndLine}
 use Rattle.pm_dump.specs.Spelled.{pieces_of, AreLinePieces, SpellsLines}
-use Rattle.pm_dump.specs.Faults.{IsEnded, AreInPlace, IsLineFault, IsGoodLine, IsFaultAmong}
-use Rattle.pm_dump.specs.Read.{ReadsLine, FailsAt, FailsLines}
+use Rattle.pm_dump.specs.Faults.{IsEnded, AreInPlace, IsLineFault, IsFaultAmong}
+use Rattle.pm_dump.specs.Read.{FailsAt, FailsLines}
 use Rattle.pm_dump.proofs.Behind.{seen, onto, onto_seen}
 
 -- what was read so far of bytes, of which these are left, behind the lines before, the next of which has this number
 pub record ReadSoFar (bytes left : List ℕ) (before : List DumpLine) (start : ℕ) : Type 0 where
   pub fault : (number : ℕ) (cause : DumpCause) → IsFaultAmong before start (pieces_of left) number cause → IsFaultAmong [] 1 (pieces_of bytes) number cause
   pub lines : (lines : List DumpLine) → AreLinePieces lines (pieces_of left) → AreInPlace before lines → SpellsLines bytes (onto before lines) × AreInPlace [] (onto before lines)
-
-pub none_so_far : (bytes : List ℕ) (before : List DumpLine) → before ≡ [] → ReadSoFar bytes bytes before 1
-none_so_far bytes before is = subst (λ (before : List DumpLine). ReadSoFar bytes bytes before 1) (sym is) (record { fault = λ number cause bad. bad; lines = λ lines spelled placed. (spelled, placed) })
-
-later_fault : (before : List DumpLine) (start : ℕ) (body : List ℕ) (pieces : List (List ℕ)) (line : DumpLine) (number : ℕ) (cause : DumpCause) → IsGoodLine before body line → IsFaultAmong (line ∷ before) (start + 1) pieces number cause
-    → IsFaultAmong before start (body ∷ pieces) number cause
-later_fault before start body [] line number cause good bad = absurd bad
-later_fault before start body (next ∷ pieces) line number cause good bad = inr (line, good, bad)
-
--- one line more
-pub one_so_far : (bytes left body rest : List ℕ) (before after : List DumpLine) (start : ℕ) → ReadSoFar bytes left before start → pieces_of left ≡ body ∷ pieces_of rest → ReadsLine before body after → ReadSoFar bytes rest after (start + 1)
-one_so_far bytes left body rest before after start so cut it =
-    subst (λ (after : List DumpLine). ReadSoFar bytes rest after (start + 1)) (sym it.is) (
-    record {
-      fault = λ number cause bad.
-          so.fault number cause (subst (λ (pieces : List (List ℕ)). IsFaultAmong before start pieces number cause) (sym cut) (later_fault before start body (pieces_of rest) it.line number cause it.good bad));
-      lines = λ lines spelled placed.
-          so.lines (it.line ∷ lines) (subst (AreLinePieces (it.line ∷ lines)) (sym cut) (it.good.spelled, spelled)) (it.good.placed, placed);
-    }
-    )
 
 here_fault : (before : List DumpLine) (start : ℕ) (body : List ℕ) (pieces : List (List ℕ)) (number : ℕ) (cause : DumpCause) → 0 < length pieces → number ≡ start → IsLineFault before body cause → IsFaultAmong before start (body ∷ pieces) number cause
 here_fault before start body [] number cause some is bad = absurd (omega (arith, some))
@@ -50,7 +30,7 @@ pub fails_here : (f : DumpFault) (bytes left body rest : List ℕ) (before : Lis
 fails_here (dump_fault.Line number cause) bytes left body rest before start so cut fails =
     so.fault number cause
     (subst (λ (pieces : List (List ℕ)). IsFaultAmong before start pieces number cause) (sym cut) (here_fault before start body (pieces_of rest) number cause (some_pieces rest) fails.0 fails.1))
-fails_here dump_fault.Memory bytes left body rest before start so cut fails = tt
+fails_here (dump_fault.Memory _) bytes left body rest before start so cut fails = tt
 
 -- what is left behind the last newline must be nothing, behind the end
 pub fails_last : (bytes left : List ℕ) (before : List DumpLine) (start : ℕ) → ReadSoFar bytes left before start → pieces_of left ≡ left ∷ [] → (left ≡ [] → IsEnded before → ⊥) → IsFaultAmong [] 1 (pieces_of bytes) start why.Form

@@ -1,22 +1,23 @@
 -- What one more line makes of the parts of a dump, and why one is refused.
-use Rattle.std.proofs.Common.{◌≡◌, ℕ, zero, suc, ◌-◌, ◌<◌, ◌≤◌, ◌^◌, ◌==◌, Bool, true, false, List, [], ◌∷◌, ◌++◌, length, map, take, drop, Option, Some, None, IfSome, slice_get, slice_range, refl, sym, ap, subst, ◌∙◌, arith, length-append, length-drop}
+use Rattle.std.proofs.Common.{◌≡◌, ℕ, suc, ◌-◌, ◌<◌, ◌≤◌, ◌^◌, ◌==◌, Bool, true, false, List, [], ◌∷◌, ◌++◌, length, map, take, drop, Option, Some, None, IfSome, slice_get, slice_range, refl, sym, ap, subst, ◌∙◌, arith, length-append, length-drop}
 use Rattle.std.proofs.lemmas.List.{take_all, take-append-le, drop-append-le, map-append, length-map}
 use Rattle.std.proofs.Math.Seq.{drop-append_seam}
 use Rattle.std.proofs.lemmas.Bool.{eqb-true}
 use Rattle.std.specs.List.{AllByRecursion}
 use Rattle.std.specs.Option.{MatchOption}
-use Rattle.pm_base.specs.Counts.{capped}
+use Rattle.pm_types.specs.Counts.{capped}
 use Rattle.pm_model.specs.Heap.{Object}
 use Rattle.pm_dump.specs.declared.fault.DumpCause.TheVariants as why
-use Rattle.pm_dump.specs.declared.fault.LineFault.{LineFault}
-use Rattle.pm_dump.specs.declared.fault.LineFault.TheVariants as line_fault
+use Rattle.pm_dump.specs.declared.fault.DumpCause.{DumpCause}
+use Rattle.pm_types.specs.declared.caused.Fault.{Fault}
+use Rattle.pm_types.specs.declared.caused.Fault.TheVariants as line_fault
 use Rattle.pm_dump.specs.declared.parts.Place.{Place}
 use Rattle.pm_dump.specs.declared.parts.DumpRoot.{DumpRoot}
 use Rattle.pm_dump.specs.Dump.{DumpLine, HeadLine, ObjectLine, RootLine, EndLine}
-use Rattle.pm_dump.specs.Faults.{MayStand, IsInOrder, IsWithinObject, IsInPlace}
+use Rattle.pm_dump.specs.Faults.{MayStand, IsWithinObject}
 use Rattle.pm_dump.specs.Reading.{head_at, root_at, end_at, object_at}
 use Rattle.pm_dump.specs.Read.{objects_shown, AreEnds, head_before, IsHead, IsRoot, IsObject, PutsFields, FailsFields, ReadsWords, FailsWords, HasNoForm, IsAbovePlaces, IsAboveObjects, IsAboveRoots, root_shown}
-use Rattle.pm_dump.proofs.Behind.{seen, objects_snoc, roots_snoc, next_seen, names_seen, takes_object, takes_root, takes_end, object_may, root_may, end_may, head_may, object_ordered, object_above, root_ordered, root_above, end_ordered, last_later}
+use Rattle.pm_dump.proofs.Behind.{seen, objects_snoc, roots_snoc, next_seen, names_seen, takes_object, takes_root, takes_end, object_may, end_may, head_may, object_ordered, object_above, root_ordered, root_above, end_ordered, last_later}
 
 -- ---- refusals of form
 
@@ -27,46 +28,6 @@ pub unread : (before : List DumpLine) (read : Option DumpLine) → read ≡ None
 unread before read is = subst (HasNoForm before) (sym is) tt
 
 -- ---- the head
-
-same_cap : (n number : ℕ) → number ≡ capped n → number ≤ 4294967296 → number ≡ n
-same_cap n number is small = omega (arith, is, small)
-
-over_cap : (n number : ℕ) → number ≡ capped n → 4294967296 < number → n ≤ 4294967296 → ⊥
-over_cap n number is over small = omega (arith, is, over, small)
-
-first_seen : (ended : Bool) (roots : List (List ℕ × ℕ)) (objects : List (ℕ × Object)) (next : ℕ) → next ≡ 0 → ended ≡ false → roots ≡ [] → objects ≡ [] → seen ended roots objects next ≡ []
-first_seen ended roots objects next a b d e = λ i. seen (b i) (d i) (e i) (a i)
-
-head_only : (next : ℕ) → 0 < next → head_before next ≡ HeadLine next ∷ []
-head_only zero some = absurd (omega (arith, some))
-head_only (suc next) some = refl
-
-pub head_put : (ended : Bool) (roots : List (List ℕ × ℕ)) (objects : List (ℕ × Object)) (next number : ℕ) (words : List (List ℕ)) → next ≡ 0 → ended ≡ false → roots ≡ [] → objects ≡ [] → IsHead words number → number ≤ 4294967296
-    → ReadsWords (seen ended roots objects next) (head_at words) (seen ended roots objects number)
-head_put ended roots objects next number words a b d e is small =
-    let none = first_seen ended roots objects next a b d e in
-    let same = same_cap is.next number is.is small in
-    let some : 0 < number = (let above = is.some in omega (arith, same, above)) in
-    let now : seen ended roots objects number ≡ HeadLine is.next ∷ [] = (λ i. seen (b i) (d i) (e i) number) ∙ head_only number some ∙ ap (λ n. HeadLine n ∷ []) same in
-    record {
-      line = HeadLine is.next;
-      found = is.read;
-      placed = subst (λ (before : List DumpLine). IsInPlace before (HeadLine is.next)) (sym none) (record { may = tt; ordered = tt; within = (let n = is.next in omega (arith, same, small)) });
-      is = now ∙ ap (λ (before : List DumpLine). HeadLine is.next ∷ before) (sym none);
-    }
-
-head_ordered : (before : List DumpLine) (next : ℕ) → IsInOrder before (HeadLine next)
-head_ordered [] next = tt
-head_ordered (HeadLine first ∷ before) next = tt
-head_ordered (ObjectLine id object ∷ before) next = tt
-head_ordered (RootLine name id ∷ before) next = tt
-head_ordered (EndLine ∷ before) next = tt
-
-pub head_over : (ended : Bool) (roots : List (List ℕ × ℕ)) (objects : List (ℕ × Object)) (next number : ℕ) (words : List (List ℕ)) → next ≡ 0 → ended ≡ false → roots ≡ [] → objects ≡ [] → IsHead words number → 4294967296 < number
-    → FailsWords (seen ended roots objects next) (head_at words) (line_fault.Bad why.Limit)
-head_over ended roots objects next number words a b d e is over =
-    let none = first_seen ended roots objects next a b d e in
-    (HeadLine is.next, is.read, subst (λ (before : List DumpLine). MayStand before (HeadLine is.next)) (sym none) tt, head_ordered (seen ended roots objects next) is.next, over_cap is.next number is.is over)
 
 pub head_again : (ended : Bool) (roots : List (List ℕ × ℕ)) (objects : List (ℕ × Object)) (next number : ℕ) (words : List (List ℕ)) → 0 < next → IsHead words number → HasNoForm (seen ended roots objects next) (head_at words)
 head_again ended roots objects next number words some is =
@@ -100,11 +61,6 @@ end_put ended roots objects next words none some opened =
     (record { line = EndLine; found = end_alone words none; placed = record { may = takes_end roots objects next some; ordered = end_ordered before; within = tt }; is = refl })
 
 -- ---- names
-
-pub root_closed : (ended : Bool) (roots : List (List ℕ × ℕ)) (objects : List (ℕ × Object)) (next number : ℕ) (words : List (List ℕ)) (name : List ℕ) → IsRoot words name number → (next ≡ 0 → objects ≡ []) → (next ≡ 0 → roots ≡ [])
-    → ((0 < next) × (ended ≡ false) → ⊥) → HasNoForm (seen ended roots objects next) (root_at words)
-root_closed ended roots objects next number words name is started rooted closed =
-    unplaced (seen ended roots objects next) (root_at words) (RootLine name is.id) is.read (λ may. let it = root_may ended roots objects next name is.id started rooted may in closed (it.1, it.0))
 
 pub root_behind : (ended : Bool) (roots : List (List ℕ × ℕ)) (objects : List (ℕ × Object)) (next number : ℕ) (words : List (List ℕ)) (name : List ℕ) → IsRoot words name number → 0 < next → ended ≡ false → (IsAboveRoots roots name → ⊥)
     → FailsWords (seen ended roots objects next) (root_at words) (line_fault.Bad why.Order)
@@ -303,14 +259,14 @@ some_list [] is none = let bad : true ≡ false = is in cc bad
 some_list (root ∷ roots) is none = cc none
 
 -- an object whose fields are over their limit
-pub object_fields : (f : LineFault) (ended : Bool) (roots : List (List ℕ × ℕ)) (objects : List (ℕ × Object)) (next number : ℕ) (words : List (List ℕ)) (bytes : List ℕ) (count : ℕ) (left : List (List ℕ)) (is : IsObject words number bytes count left)
+pub object_fields : (f : Fault DumpCause) (ended : Bool) (roots : List (List ℕ × ℕ)) (objects : List (ℕ × Object)) (next number : ℕ) (words : List (List ℕ)) (bytes : List ℕ) (count : ℕ) (left : List (List ℕ)) (is : IsObject words number bytes count left)
     → ended ≡ false → roots ≡ [] → 0 < next → IsAboveObjects objects is.id → FailsFields left next f → FailsWords (seen ended roots objects next) (object_at words) f
 object_fields (line_fault.Bad why.Form) ended roots objects next number words bytes count left is opened none some above fails = absurd fails
 object_fields (line_fault.Bad why.Order) ended roots objects next number words bytes count left is opened none some above fails = absurd fails
 object_fields (line_fault.Bad why.Limit) ended roots objects next number words bytes count left is opened none some above fails =
     object_over ended roots objects next number words bytes count left is opened none some above (λ within. fails is.fields is.each within.held)
 object_fields (line_fault.Bad why.Dangling) ended roots objects next number words bytes count left is opened none some above fails = absurd fails
-object_fields line_fault.Memory ended roots objects next number words bytes count left is opened none some above fails = tt
+object_fields (line_fault.Memory _) ended roots objects next number words bytes count left is opened none some above fails = tt
 
 same_fields : (x y : List (Option ℕ)) → ◌≡◌ {A = Option (List (Option ℕ))} (Some x) (Some y) → x ≡ y
 same_fields x y is = cc is

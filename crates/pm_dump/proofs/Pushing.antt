@@ -3,11 +3,10 @@ use Rattle.std.proofs.Common.{◌≡◌, ℕ, ◌<◌, ◌≤◌, Bool, true, fa
 use Rattle.std.proofs.lemmas.Bool.Decides.{nat_tests}
 use Rattle.std.specs.List.{AllByRecursion}
 use Rattle.std.specs.Option.{option_map}
-use Rattle.pm_base.specs.Counts.{capped}
-use Rattle.pm_base.specs.Options.{◌>>=◌}
+use Rattle.pm_types.specs.Counts.{capped}
+use Rattle.pm_types.specs.Options.{◌>>=◌}
 use Rattle.pm_script.proofs.Steps.{both, mapped}
 use Rattle.pm_dump.specs.Reading.{numeral_at, some_number, field_at, fields_at}
-use Rattle.pm_dump.specs.Read.{PutsFields}
 
 -- each of these is null or below the limit
 abbrev pub AreBelow : ℕ → List (Option ℕ) → Type 0
@@ -101,17 +100,3 @@ pushed_over first now next number all left rest word so whole is le some last fi
     let over = cap_over number it.number next (cap_of (numeral_at word) number it.number is it.is_number) le last in
     let same : fields ≡ so.front ++ some_number it.number ∷ it.others = same_some fields (so.front ++ some_number it.number ∷ it.others) (sym read ∙ so.whole ∙ ap (λ (back : List (Option ℕ)). Some (so.front ++ back)) (sym it.is)) in
     not_below next it.number so.front it.others some over (subst (AreBelow next) same held)
-
--- each word is a numeral
-pub pushed_spelled : (first now : List (Option ℕ)) (next : ℕ) (all left rest : List (List ℕ)) (word : List ℕ) → Pushed first now next all left → left ≡ word ∷ rest → None ≡ option_map capped (numeral_at word) → ⊥
-pushed_spelled first now next all left rest word so whole is =
-    let it = first_of word rest so.back (sym (ap fields_at whole) ∙ so.more) in
-    let bad : ◌≡◌ {A = Option ℕ} None (Some (capped it.number)) = is ∙ ap (option_map capped) it.is_number in
-    cc bad
-
--- all of them
-pub pushed_all : (first now : List (Option ℕ)) (next : ℕ) (all left : List (List ℕ)) → Pushed first now next all left → left ≡ [] → PutsFields all next first now
-pushed_all first now next all left so none =
-    let done : [] ≡ so.back = same_some [] so.back (sym (ap fields_at none) ∙ so.more) in
-    let whole : so.front ++ so.back ≡ so.front = ap (λ (back : List (Option ℕ)). so.front ++ back) (sym done) ∙ append-nil so.front in
-    record { fields = so.front; read = so.whole ∙ ap (λ (fs : List (Option ℕ)). Some fs) whole; held = so.held; is = so.is }

@@ -14,10 +14,11 @@ use Rattle.pm_dump.specs.Spelled.{pieces_of, SpellsLines, Spells}
 use Rattle.pm_dump.specs.Sound.{IsSoundDump}
 use Rattle.pm_dump.specs.Faults.{AreInPlace, objects_in, NamesListed, IsFirstDangling, FaultOf}
 use Rattle.pm_dump.specs.Answers.{IsDumpFault, Answers}
-use Rattle.pm_dump.specs.Read.{objects_shown, keyed, FailsLines}
+use Rattle.pm_dump.specs.Read.{objects_shown, keyed}
 use Rattle.pm_dump.proofs.Placed.{all_proper, parts}
 use Rattle.pm_dump.proofs.Listed.{objects_there}
 use Rattle.pm_dump.proofs.DumpLaws.{one_reading, read, not_both, one_fault}
+use Rattle.pm_types.specs.Memory.{no_memory}
 
 below_keyed : (x from start : ℕ) (places : List Place) (fields : List (Option ℕ)) (bytes : List ℕ) → below_all nat_cmp x (objects_shown from start places fields bytes) ≡ below_all nat_cmp x (keyed places)
 below_keyed x from start [] fields bytes = refl
@@ -61,27 +62,22 @@ dangling_fault bytes dump number spelled placed dangles =
       },
     )
 
--- a fault of the lines is one of the bytes
-pub lines_fault : (f : DumpFault) (bytes : List ℕ) → FailsLines bytes f → (f ≡ dump_fault.Memory) ⊎ IsDumpFault f bytes
-lines_fault (dump_fault.Line number cause) bytes fails = inr (inl fails)
-lines_fault dump_fault.Memory bytes fails = inl refl
-
 pub found_only : (bytes : List ℕ) (dump other : Dump) → Spells bytes dump → Spells bytes other → ◌≡◌ {A = Result Dump DumpFault} (Ok other) (Ok dump)
 found_only bytes dump other is so = ap (λ (dump : Dump). Ok dump) (one_reading bytes other dump so is)
 
-pub fault_only : (f : DumpFault) (bytes : List ℕ) (dump : Dump) → (f ≡ dump_fault.Memory) ⊎ IsDumpFault f bytes → Spells bytes dump → IsSoundDump dump → Answers {X = Dump} (Err f) (Ok dump)
-fault_only dump_fault.Memory bytes dump bad spelled sound = tt
+pub fault_only : (f : DumpFault) (bytes : List ℕ) (dump : Dump) → (f ≡ dump_fault.Memory no_memory) ⊎ IsDumpFault f bytes → Spells bytes dump → IsSoundDump dump → Answers {X = Dump} (Err f) (Ok dump)
+fault_only (dump_fault.Memory _) bytes dump bad spelled sound = tt
 fault_only (dump_fault.Line number cause) bytes dump (inl is) spelled sound = absurd (cc is)
 fault_only (dump_fault.Line number cause) bytes dump (inr bad) spelled sound = absurd (not_both bytes dump number cause spelled sound bad)
 
 pub told_not : (f : DumpFault) (bytes : List ℕ) (dump : Dump) → IsDumpFault f bytes → Spells bytes dump → IsSoundDump dump → ⊥
 told_not (dump_fault.Line number cause) bytes dump bad spelled sound = not_both bytes dump number cause spelled sound bad
-told_not dump_fault.Memory bytes dump bad spelled sound = bad
+told_not (dump_fault.Memory _) bytes dump bad spelled sound = bad
 
-pub told_only : (f other : DumpFault) (bytes : List ℕ) → (f ≡ dump_fault.Memory) ⊎ IsDumpFault f bytes → IsDumpFault other bytes → Answers {X = Dump} (Err f) (Err other)
-told_only dump_fault.Memory other bytes bad told = tt
+pub told_only : (f other : DumpFault) (bytes : List ℕ) → (f ≡ dump_fault.Memory no_memory) ⊎ IsDumpFault f bytes → IsDumpFault other bytes → Answers {X = Dump} (Err f) (Err other)
+told_only (dump_fault.Memory _) other bytes bad told = tt
 told_only (dump_fault.Line number cause) other bytes (inl is) told = absurd (cc is)
-told_only (dump_fault.Line number cause) dump_fault.Memory bytes (inr bad) told = absurd told
+told_only (dump_fault.Line number cause) (dump_fault.Memory _) bytes (inr bad) told = absurd told
 told_only (dump_fault.Line number cause) (dump_fault.Line line another) bytes (inr bad) told =
     let same = one_fault bytes line number another cause told bad in
     λ i. Err (dump_fault.Line (same.0 i) (same.1 i))

@@ -3,7 +3,7 @@ use Rattle.std.proofs.Common.{◌≡◌, inl, inr, ℕ, zero, suc, ◌+◌, ◌<
 use Rattle.std.proofs.lemmas.Bool.{cases_lt}
 use Rattle.std.proofs.lemmas.Bool.Decides.{nat_tests}
 use Rattle.std.proofs.lemmas.Cmp.{ranked}
-use Rattle.std.proofs.lemmas.List.{at_drop_more, at_drop_all}
+use Rattle.std.proofs.lemmas.List.{at_drop_more}
 use Rattle.std.proofs.lemmas.List.Sorted.{searchable_from_sorted}
 use Rattle.std.specs.List.Sorted.{IsSearchInRange, IsBinarySearchResult, IsNonDecreasingBy}
 use Rattle.std.specs.declared.cmp.Ordering.TheVariants.{Less}
@@ -73,14 +73,7 @@ searched places sorted k (Err at) within parted = (
 
 -- ---- fields one by one
 
-pub more_among : (places : List Place) (fields : List (Option ℕ)) (k : ℕ) (field : Option ℕ) → k < length fields → field ≡ get_or fields k field → IfSome field (IsAmong places) → AreAmong places (drop (k + 1) fields) → AreAmong places (drop k fields)
-more_among places fields k field lt is one rest =
-    subst (AreAmong places) (sym (at_drop_more (λ (fs : List (Option ℕ)). fs) fields k field lt)) (subst (λ (f : Option ℕ). IfSome f (IsAmong places)) is one, rest)
-
 pub among_more : (places : List Place) (fields : List (Option ℕ)) (k : ℕ) (field : Option ℕ) → k < length fields → field ≡ get_or fields k field → AreAmong places (drop k fields) → IfSome field (IsAmong places) × AreAmong places (drop (k + 1) fields)
 among_more places fields k field lt is all =
     let both = subst (AreAmong places) (at_drop_more (λ (fs : List (Option ℕ)). fs) fields k field lt) all in
     (subst (λ (f : Option ℕ). IfSome f (IsAmong places)) (sym is) both.0, both.1)
-
-pub among_none : (places : List Place) (fields : List (Option ℕ)) (k : ℕ) → length fields ≤ k → AreAmong places (drop k fields)
-among_none places fields k le = subst (AreAmong places) (sym (at_drop_all (λ (fs : List (Option ℕ)). fs) fields k le)) tt

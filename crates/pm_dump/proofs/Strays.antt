@@ -1,6 +1,6 @@
 -- The first object or name that leads to no object, found by going over all of them.
 use Rattle.std.proofs.Common.{◌≡◌, inl, inr, ℕ, zero, suc, ◌+◌, ◌<◌, ◌≤◌, Bool, true, false, cond, List, [], ◌∷◌, ◌++◌, length, map, drop, get_or, Option, Some, None, slice_range, is_some, refl, sym, ap, subst, ◌∙◌, arith}
-use Rattle.std.proofs.lemmas.List.{at_drop_more, at_drop_all, length-map}
+use Rattle.std.proofs.lemmas.List.{at_drop_more, length-map}
 use Rattle.std.specs.List.{AllByRecursion, flat_map}
 use Rattle.std.specs.Ordering.{nat_cmp, eq_by_cmp}
 use Rattle.std.specs.FinMap.{find}
@@ -20,10 +20,6 @@ pub record OverObjects (all : List (ℕ × Object)) (places : List Place) (field
   pub ends : AreEnds from start (drop at places) (length fields) (length bytes)
   pub back : AllByRecursion (IsFollowed places) (objects_shown from start (drop at places) fields bytes) → AllByRecursion (IsFollowed places) all
   pub first : (n : ℕ) → IsFirstWithout (IsFollowed places) (objects_shown from start (drop at places) fields bytes) n → IsFirstWithout (IsFollowed places) all (at + n)
-
-pub none_over : (places : List Place) (fields : List (Option ℕ)) (bytes : List ℕ) → AreEnds 0 0 places (length fields) (length bytes) → OverObjects (objects_shown 0 0 places fields bytes) places fields bytes 0 0
-none_over places fields bytes ends =
-    record { start = 0; ends = ends; back = λ all. all; first = λ n is. subst (IsFirstWithout (IsFollowed places) (objects_shown 0 0 places fields bytes)) (let same : n ≡ 0 + n = omega arith in same) is }
 
 left_place : (places : List Place) (at : ℕ) (d : Place) → at < length places → drop at places ≡ get_or places at d ∷ drop (at + 1) places
 left_place places at d lt = at_drop_more (λ (ps : List Place). ps) places at d lt
@@ -54,11 +50,6 @@ over_stray all places fields bytes from at d so lt never =
     subst (IsFirstWithout (IsFollowed places) all) (let same : at + 0 ≡ at = omega arith in same)
     (so.first 0 (subst (λ (ps : List Place). IsFirstWithout (IsFollowed places) (objects_shown from so.start ps fields bytes) 0) (sym (left_place places at d lt)) never))
 
--- all are
-pub over_all : (all : List (ℕ × Object)) (places : List Place) (fields : List (Option ℕ)) (bytes : List ℕ) (from at : ℕ) → OverObjects all places fields bytes from at → length places ≤ at → AllByRecursion (IsFollowed places) all
-over_all all places fields bytes from at so le =
-    so.back (subst (λ (ps : List Place). AllByRecursion (IsFollowed places) (objects_shown from so.start ps fields bytes)) (sym (at_drop_all (λ (ps : List Place). ps) places at le)) tt)
-
 -- ---- names
 
 pub record OverRoots (places : List Place) (roots : List DumpRoot) (at : ℕ) : Type 0 where
@@ -85,9 +76,6 @@ pub named_stray : (places : List Place) (roots : List DumpRoot) (at : ℕ) (d : 
 named_stray places roots at d so lt never =
     subst (IsFirstWithout (IsNamed places) (map root_shown roots)) (let same : at + 0 ≡ at = omega arith in same)
     (so.first 0 (subst (λ (rs : List DumpRoot). IsFirstWithout (IsNamed places) (map root_shown rs) 0) (sym (left_root roots at d lt)) never))
-
-pub named_all : (places : List Place) (roots : List DumpRoot) (at : ℕ) → OverRoots places roots at → length roots ≤ at → AllByRecursion (IsNamed places) (map root_shown roots)
-named_all places roots at so le = so.back (subst (λ (rs : List DumpRoot). AllByRecursion (IsNamed places) (map root_shown rs)) (sym (at_drop_all (λ (rs : List DumpRoot). rs) roots at le)) tt)
 
 -- ---- lines
 

@@ -1,5 +1,5 @@
 -- What is read of words, by how many there are and what each one is.
-use Rattle.std.proofs.Common.{◌≡◌, ℕ, suc, ◌+◌, ◌<◌, ◌≤◌, ◌^◌, ◌==◌, ◌&&◌, Bool, true, false, List, [], ◌∷◌, length, count_by, Option, Some, None, Bor, nat_eq, nat_lt, codes, refl, sym, ap, subst, ◌∙◌, arith, if◌then◌else◌}
+use Rattle.std.proofs.Common.{◌≡◌, ℕ, suc, ◌+◌, ◌<◌, ◌≤◌, ◌^◌, ◌==◌, ◌&&◌, Bool, true, false, List, [], ◌∷◌, length, count_by, Option, Some, None, Bor, nat_eq, codes, refl, sym, ap, subst, ◌∙◌, arith, if◌then◌else◌}
 use Rattle.std.proofs.lemmas.Bool.{eqb-true}
 use Rattle.std.proofs.lemmas.Bool.Decides.{nat_tests}
 use Rattle.std.proofs.lemmas.List.Splits.{length-slice_split}
@@ -7,8 +7,8 @@ use Rattle.std.specs.List.{list_all, slice_split}
 use Rattle.std.specs.Option.{MatchOption, option_map}
 use Rattle.std.specs.Cmp.Lexicographic.{pointwise}
 use Rattle.std.specs.Str.Parse.{digits_value}
-use Rattle.pm_base.specs.Counts.{capped}
-use Rattle.pm_base.specs.Options.{◌>>=◌}
+use Rattle.pm_types.specs.Counts.{capped}
+use Rattle.pm_types.specs.Options.{◌>>=◌}
 use Rattle.pm_script.specs.Values.{is_numeral, hex_of, name_of}
 use Rattle.pm_script.proofs.Both.{first_true, second_true}
 use Rattle.pm_script.proofs.Steps.{both, guarded}
@@ -17,8 +17,9 @@ use Rattle.pm_dump.specs.Reading.{numeral_at, some_number, id_at, fields_at, cou
 use Rattle.pm_dump.proofs.LineLaws.{id_found}
 use Rattle.pm_dump.specs.Read.{words_in, IsHead, IsRoot, IsObject, HasFields, LacksFields, LacksName, LacksForm}
 use Rattle.pm_dump.specs.declared.fault.DumpCause.TheVariants as why
-use Rattle.pm_dump.specs.declared.fault.LineFault.{LineFault}
-use Rattle.pm_dump.specs.declared.fault.LineFault.TheVariants as line_fault
+use Rattle.pm_dump.specs.declared.fault.DumpCause.{DumpCause}
+use Rattle.pm_types.specs.declared.caused.Fault.{Fault}
+use Rattle.pm_types.specs.declared.caused.Fault.TheVariants as line_fault
 
 -- a text has some words
 pub some_words : (text : Bor (List ℕ)) → (length (slice_split (λ b. nat_eq b 32) text.now) == 0) ≡ false
@@ -75,23 +76,6 @@ head_read words a b d rest result whole none one two is =
 
 -- ---- identities
 
-capped_some : (n : ℕ) → nat_lt 0 (capped n) ≡ nat_lt 0 n
-capped_some n = grind (arith, nat_tests)
-
-pub id_some : (read : Option ℕ) (number : ℕ) → Some number ≡ option_map capped read → 0 < number → Some number ≡ option_map capped (read >>= some_number)
-id_some None number is some = absurd (let bad : Some number ≡ None = is in cc bad)
-id_some (Some n) number is some =
-    let same : number ≡ capped n = cc is in
-    let above : nat_lt 0 n ≡ true = grind (arith, nat_tests, same) in
-    is ∙ ap (λ (b : Bool). option_map capped (if b then Some n else None)) (sym above)
-
-pub id_none : (read : Option ℕ) (number : ℕ) → Some number ≡ option_map capped read → number ≤ 0 → None ≡ option_map capped (read >>= some_number)
-id_none None number is none = refl
-id_none (Some n) number is none =
-    let same : number ≡ capped n = cc is in
-    let under : nat_lt 0 n ≡ false = grind (arith, nat_tests, same) in
-    ap (λ (b : Bool). option_map capped (if b then Some n else None)) (sym under)
-
 -- ---- names with their identities
 
 pub few_root : (words : List (List ℕ)) → length words < 2 → root_at words ≡ None
@@ -107,9 +91,6 @@ many_root a b (word ∷ rest) is = refl
 
 pub more_root : (words : List (List ℕ)) (a b : List ℕ) (rest : List (List ℕ)) → words ≡ a ∷ b ∷ rest → (length rest == 0) ≡ false → root_at words ≡ None
 more_root words a b rest whole is = ap root_at whole ∙ many_root a b rest is
-
-pub two_only : (words : List (List ℕ)) (a b : List ℕ) (rest : List (List ℕ)) → words ≡ a ∷ b ∷ rest → (length rest == 0) ≡ true → a ∷ b ∷ [] ≡ words
-two_only words a b rest whole none = ap (λ rest. a ∷ b ∷ rest) (sym (no_words rest none)) ∙ sym whole
 
 root_lacks_id : (name : Option (List ℕ)) → (name >>= λ name. None >>= λ (id : ℕ). Some (RootLine name id)) ≡ None
 root_lacks_id None = refl
@@ -199,12 +180,12 @@ count_is words text n is count = ap (λ n. n + 1) count ∙ sym (word_count text
 pub spent_not : (words : Option (Bor (List ℕ))) (text : Bor (List ℕ)) → words ≡ Some text → false ≡ (length (words_in words) == 0)
 spent_not words text is = sym (ap (λ (o : Option (Bor (List ℕ))). length (words_in o) == 0) is ∙ some_words text)
 
-pub root_name_lacks : (f : LineFault) (a b : List ℕ) → LacksName (name_of a) f → LacksForm (root_at (a ∷ b ∷ [])) f
+pub root_name_lacks : (f : Fault DumpCause) (a b : List ℕ) → LacksName (name_of a) f → LacksForm (root_at (a ∷ b ∷ [])) f
 root_name_lacks (line_fault.Bad why.Form) a b it = root_no_name a b it
 root_name_lacks (line_fault.Bad why.Order) a b it = it
 root_name_lacks (line_fault.Bad why.Limit) a b it = it
 root_name_lacks (line_fault.Bad why.Dangling) a b it = it
-root_name_lacks line_fault.Memory a b it = tt
+root_name_lacks (line_fault.Memory _) a b it = tt
 
 -- ---- objects
 
@@ -257,12 +238,12 @@ object_no_fields a b d rest lacks =
 object_no_bytes : (a b d : List ℕ) (rest : List (List ℕ)) → hex_of d ≡ None → object_at (a ∷ b ∷ d ∷ rest) ≡ None
 object_no_bytes a b d rest none = none_by (object_at (a ∷ b ∷ d ∷ rest)) (λ line is. let it = object_took a b d rest line is in some_not it.bytes (hex_of d) none it.is_bytes)
 
-pub object_bytes_lack : (f : LineFault) (a b d : List ℕ) (rest : List (List ℕ)) → LacksName (hex_of d) f → LacksForm (object_at (a ∷ b ∷ d ∷ rest)) f
+pub object_bytes_lack : (f : Fault DumpCause) (a b d : List ℕ) (rest : List (List ℕ)) → LacksName (hex_of d) f → LacksForm (object_at (a ∷ b ∷ d ∷ rest)) f
 object_bytes_lack (line_fault.Bad why.Form) a b d rest it = object_no_bytes a b d rest it
 object_bytes_lack (line_fault.Bad why.Order) a b d rest it = it
 object_bytes_lack (line_fault.Bad why.Limit) a b d rest it = it
 object_bytes_lack (line_fault.Bad why.Dangling) a b d rest it = it
-object_bytes_lack line_fault.Memory a b d rest it = tt
+object_bytes_lack (line_fault.Memory _) a b d rest it = tt
 
 same_test : (n : ℕ) → (n == n) ≡ true
 same_test n = grind (arith, nat_tests)

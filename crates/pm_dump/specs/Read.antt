@@ -7,12 +7,13 @@ use Rattle.std.specs.Option.{MatchOption}
 use Rattle.std.specs.Borrow.{Bor}
 use Rattle.pm_types.specs.Orders.{name_cmp}
 use Rattle.std.specs.List.{AllByRecursion}
-use Rattle.pm_base.specs.Counts.{capped}
+use Rattle.pm_types.specs.Counts.{capped}
 use Rattle.pm_types.specs.declared.limits.TheConstants.{END_ID}
 use Rattle.pm_model.specs.Heap.{Object}
 use Rattle.pm_script.specs.Lines.{parts_in}
-use Rattle.pm_dump.specs.declared.fault.LineFault.{LineFault}
-use Rattle.pm_dump.specs.declared.fault.LineFault.TheVariants as line_fault
+use Rattle.pm_dump.specs.declared.fault.DumpCause.{DumpCause}
+use Rattle.pm_types.specs.declared.caused.Fault.{Fault}
+use Rattle.pm_types.specs.declared.caused.Fault.TheVariants as line_fault
 use Rattle.pm_dump.specs.declared.fault.DumpFault.{DumpFault}
 use Rattle.pm_dump.specs.declared.fault.DumpFault.TheVariants as dump_fault
 use Rattle.pm_dump.specs.declared.parts.Place.{Place}
@@ -95,19 +96,19 @@ pub record ReadsLine (before : List DumpLine) (body : List ℕ) (after : List Du
   pub is : after ≡ line ∷ before
 
 -- a fault of a line is its first cause, but that memory may run out at any time
-abbrev pub FailsLine : List DumpLine → List ℕ → LineFault → Type 0
+abbrev pub FailsLine : List DumpLine → List ℕ → Fault DumpCause → Type 0
 FailsLine before body (line_fault.Bad cause) = IsLineFault before body cause
-FailsLine before body line_fault.Memory = Unit {0}
+FailsLine before body (line_fault.Memory _) = Unit {0}
 
 -- the fault of the line of this number is its first cause, but that memory may run out at any time
 abbrev pub FailsAt : List DumpLine → List ℕ → ℕ → DumpFault → Type 0
 FailsAt before body start (dump_fault.Line number cause) = (number ≡ start) × IsLineFault before body cause
-FailsAt before body start dump_fault.Memory = Unit {0}
+FailsAt before body start (dump_fault.Memory _) = Unit {0}
 
 -- the fault of lines is that of the first that is bad in its form, its order or its limits, but that memory may run out
 abbrev pub FailsLines : List ℕ → DumpFault → Type 0
 FailsLines bytes (dump_fault.Line number cause) = IsFaultAmong [] 1 (pieces_of bytes) number cause
-FailsLines bytes dump_fault.Memory = Unit {0}
+FailsLines bytes (dump_fault.Memory _) = Unit {0}
 
 -- a line was read of words, and it stands in its place behind these
 pub record ReadsWords (before : List DumpLine) (read : Option DumpLine) (after : List DumpLine) : Type 0 where
@@ -122,18 +123,18 @@ HasNoForm before None = Unit {0}
 HasNoForm before (Some line) = MayStand before line → ⊥
 
 -- a fault of what was read of words is its first cause, but that memory may run out at any time
-abbrev pub FailsWords : List DumpLine → Option DumpLine → LineFault → Type 0
+abbrev pub FailsWords : List DumpLine → Option DumpLine → Fault DumpCause → Type 0
 FailsWords before read (line_fault.Bad why.Form) = HasNoForm before read
 FailsWords before read (line_fault.Bad why.Order) = (line : DumpLine) × (read ≡ Some line) × MayStand before line × (IsInOrder before line → ⊥)
 FailsWords before read (line_fault.Bad why.Limit) = (line : DumpLine) × (read ≡ Some line) × MayStand before line × IsInOrder before line × (IsWithin before line → ⊥)
 FailsWords before read (line_fault.Bad why.Dangling) = ⊥
-FailsWords before read line_fault.Memory = Unit {0}
+FailsWords before read (line_fault.Memory _) = Unit {0}
 
 -- no line was read of words, which is a fault of form, but that memory may run out at any time
-abbrev pub LacksForm : Option DumpLine → LineFault → Type 0
+abbrev pub LacksForm : Option DumpLine → Fault DumpCause → Type 0
 LacksForm read (line_fault.Bad why.Form) = read ≡ None
 LacksForm read (line_fault.Bad cause) = ⊥
-LacksForm read line_fault.Memory = Unit {0}
+LacksForm read (line_fault.Memory _) = Unit {0}
 
 -- the words behind `pmos` spell a head with this number, or with a greater one where it is the greatest of 64 bits
 pub record IsHead (words : List (List ℕ)) (number : ℕ) : Type 0 where
@@ -167,17 +168,17 @@ pub record PutsFields (words : List (List ℕ)) (next : ℕ) (old new : List (Op
   pub is : new ≡ old ++ fields
 
 -- a fault of fields that words spell is that one is over its limit, but that memory may run out at any time
-abbrev pub FailsFields : List (List ℕ) → ℕ → LineFault → Type 0
+abbrev pub FailsFields : List (List ℕ) → ℕ → Fault DumpCause → Type 0
 FailsFields words next (line_fault.Bad why.Limit) =
     (fields : List (Option ℕ)) → fields_at words ≡ Some fields → AllByRecursion (λ (field : Option ℕ). IfSome field (λ to. to < next)) fields → ⊥
 FailsFields words next (line_fault.Bad cause) = ⊥
-FailsFields words next line_fault.Memory = Unit {0}
+FailsFields words next (line_fault.Memory _) = Unit {0}
 
 -- a word that is no name has no form
-abbrev pub LacksName : Option (List ℕ) → LineFault → Type 0
+abbrev pub LacksName : Option (List ℕ) → Fault DumpCause → Type 0
 LacksName read (line_fault.Bad why.Form) = read ≡ None
 LacksName read (line_fault.Bad cause) = ⊥
-LacksName read line_fault.Memory = Unit {0}
+LacksName read (line_fault.Memory _) = Unit {0}
 
 -- the identity is above that of the last of these
 abbrev pub IsAbovePlaces : List Place → ℕ → Type 0

@@ -8,6 +8,7 @@ ghost use Rattle.pm_dump.specs.Sound.{IsSoundDump};
 ghost use Rattle.pm_dump.specs.Answers.{IsDumpFault, Answers};
 ghost use Rattle.pm_dump.specs.Read.{dump_in, root_shown, AreKept};
 ghost use Rattle.pm_dump.specs.Lent.{object_shown};
+ghost use Rattle.pm_types.specs.Memory.{no_memory};
 
 use crate::dangling::first_dangling;
 use crate::fault::{DumpCause, DumpFault};
@@ -76,7 +77,7 @@ fn read_parts(alloc: Global, bytes: &[u8]) -> Result<Parts, DumpFault>
     ensures kept { IfOk result AreKept }
     ensures spelled { IfOk result (λ parts. Spells bytes.now (dump_in parts)) }
     ensures sound { IfOk result (λ parts. IsSoundDump (dump_in parts)) }
-    ensures bad { IfErr result (λ fault. (fault ≡ dump_fault.Memory) ⊎ IsDumpFault fault bytes.now) }
+    ensures bad { IfErr result (λ fault. (fault ≡ dump_fault.Memory no_memory) ⊎ IsDumpFault fault bytes.now) }
 {
     let mut parts = Parts::new(alloc);
     match read_lines(alloc, &mut parts, bytes) {
@@ -102,7 +103,7 @@ pub fn read_dump(alloc: Global, bytes: &[u8]) -> Result<Dump, DumpFault>
     // What they spell is read, unless memory runs out.
     ensures only { (dump : Says) → Spells bytes.now dump → IsSoundDump dump → Answers result (Ok dump) }
     // A fault is the one that the bytes have, but that memory may run out at any time.
-    ensures bad { IfErr result (λ fault. (fault ≡ dump_fault.Memory) ⊎ IsDumpFault fault bytes.now) }
+    ensures bad { IfErr result (λ fault. (fault ≡ dump_fault.Memory no_memory) ⊎ IsDumpFault fault bytes.now) }
     // The one that they have is told, unless memory runs out.
     ensures told { (fault : Fault) → IsDumpFault fault bytes.now → Answers result (Err fault) }
 {

@@ -1,7 +1,8 @@
 ghost use Rattle.std.specs.Prelude.{◌≡◌};
 ghost use Rattle.pm_dump.specs.declared.fault.DumpFault.TheVariants as dump_fault;
-ghost use Rattle.pm_dump.specs.declared.fault.LineFault.TheVariants as line_fault;
+ghost use Rattle.pm_types.specs.Memory.{no_memory};
 
+use pm_types::{Fault, NoMemory};
 use std::alloc::{AllocError, AllocFailed};
 
 /// Why a line of a dump is bad. A line has the first of the first three that applies; `Dangling` is told only where no
@@ -30,46 +31,24 @@ pub enum DumpFault {
         cause: DumpCause,
     },
     /// Memory ran out.
-    Memory,
+    Memory(NoMemory),
 }
 
 impl From<AllocError> for DumpFault {
-    ghost from_gives = { λ _ fault. fault ≡ dump_fault.Memory };
+    ghost from_gives = { λ _ fault. fault ≡ dump_fault.Memory no_memory };
 
-    fn from(_error: AllocError) -> DumpFault {
-        DumpFault::Memory
+    fn from(refused: AllocError) -> DumpFault {
+        DumpFault::Memory(NoMemory::from(refused))
     }
 }
 
 impl<T: Drop> From<AllocFailed<T>> for DumpFault {
-    ghost from_gives = { λ _ fault. fault ≡ dump_fault.Memory };
+    ghost from_gives = { λ _ fault. fault ≡ dump_fault.Memory no_memory };
 
-    fn from(_error: AllocFailed<T>) -> DumpFault {
-        DumpFault::Memory
+    fn from(refused: AllocFailed<T>) -> DumpFault {
+        DumpFault::Memory(NoMemory::from(refused))
     }
 }
 
-// Why a line was not read.
-#[derive(Clone, Copy, Debug, PartialEq, Eq)]
-pub(crate) enum LineFault {
-    // The line is bad.
-    Bad(DumpCause),
-    // Memory ran out.
-    Memory,
-}
-
-impl From<AllocError> for LineFault {
-    ghost from_gives = { λ _ fault. fault ≡ line_fault.Memory };
-
-    fn from(_error: AllocError) -> LineFault {
-        LineFault::Memory
-    }
-}
-
-impl<T: Drop> From<AllocFailed<T>> for LineFault {
-    ghost from_gives = { λ _ fault. fault ≡ line_fault.Memory };
-
-    fn from(_error: AllocFailed<T>) -> LineFault {
-        LineFault::Memory
-    }
-}
+// Why a line was not read: it is bad, or memory ran out.
+pub(crate) type LineFault = Fault<DumpCause>;

@@ -1,6 +1,6 @@
 ghost use Rattle.std.specs.Prelude.{◌≡◌, ◌<◌, ◌≤◌, ◌-◌, slice_get, ◌∷◌, [], IsTrue, ◌↔◌, ◌^◌, IsSome, true, false, length, map, Option, Some, None, IfOk, IfErr, OnOk};
 ghost use Rattle.std.specs.Option.{MatchOption, option_map};
-ghost use Rattle.pm_base.specs.Counts.{capped};
+ghost use Rattle.pm_types.specs.Counts.{capped};
 ghost use Rattle.pm_dump.specs.Read.{words_in, before_in, AreKept, ReadsLine, FailsLine, ReadsWords, FailsWords, LacksForm, IsHead, IsRoot, IsObject, PutsFields, FailsFields, LacksName, IsAbovePlaces, LacksFields, HasFields, IsAboveRoots, root_shown};
 ghost use Rattle.pm_dump.specs.Reading.{some_number, id_at, fields_at, object_at, root_at, end_at, head_at, line_at};
 ghost use Rattle.pm_script.specs.Values.{name_of, hex_of};
@@ -104,7 +104,7 @@ fn read_name(alloc: Global, word: &[u8]) -> Result<Name, LineFault>
 {
     match Name::read(alloc, word) {
         Ok(name) => Ok(name),
-        Err(NameFault::Memory) => Err(LineFault::Memory),
+        Err(NameFault::Memory(refused)) => Err(LineFault::Memory(refused)),
         Err(_) => Err(LineFault::Bad(DumpCause::Form)),
     }
 }
@@ -192,7 +192,7 @@ fn read_bytes(alloc: Global, word: &[u8]) -> Result<Vec<u8>, LineFault>
     match read_hex(alloc, word) {
         Ok(Some(bytes)) => Ok(bytes.into_vec()),
         Ok(None) => Err(LineFault::Bad(DumpCause::Form)),
-        Err(_) => Err(LineFault::Memory),
+        Err(refused) => Err(LineFault::Memory(refused)),
     }
 }
 

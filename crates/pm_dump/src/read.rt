@@ -27,7 +27,7 @@ fn read_numbered(
     match read_line(alloc, parts, line) {
         Ok(()) => Ok(()),
         Err(LineFault::Bad(cause)) => Err(DumpFault::Line { number, cause }),
-        Err(LineFault::Memory) => Err(DumpFault::Memory),
+        Err(LineFault::Memory(refused)) => Err(DumpFault::Memory(refused)),
     }
 }
 

@@ -3,7 +3,7 @@ ghost use Rattle.std.specs.List.{list_all};
 ghost use Rattle.std.specs.Option.{MatchOption, option_map};
 ghost use Rattle.std.specs.Cmp.Lexicographic.{pointwise};
 ghost use Rattle.std.specs.Str.Parse.{digits_value};
-ghost use Rattle.pm_base.specs.Counts.{capped};
+ghost use Rattle.pm_types.specs.Counts.{capped};
 ghost use Rattle.pm_script.specs.Values.{is_numeral};
 ghost use Rattle.pm_dump.specs.Read.{words_in};
 ghost use Rattle.pm_dump.specs.Reading.{numeral_at};

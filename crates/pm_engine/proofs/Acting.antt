@@ -7,10 +7,10 @@ use Rattle.pm_types.specs.declared.reply.Reply.{Reply}
 use Rattle.pm_disk.specs.declared.disk.Disk.{Ghosts}
 use Rattle.pm_view.specs.View.{SpaceView}
 use Rattle.pm_view.specs.Commands.{is_act}
-use Rattle.pm_works.proofs.law_course.Kept.{command_keeps}
-use Rattle.pm_works.specs.declared.works.Works.{Works}
-use Rattle.pm_works.specs.Acting.{DoesItsRow, ChangesSpace}
-use Rattle.pm_works.specs.Working.{Answers, view_in}
+use Rattle.pm_law_course.proofs.Kept.{command_keeps}
+use Rattle.pm_engine.specs.declared.works.works.Works.{Works}
+use Rattle.pm_engine.specs.Works.Acting.{DoesItsRow, ChangesSpace}
+use Rattle.pm_engine.specs.Works.Working.{Answers, view_in}
 use Rattle.pm_engine.proofs.Answering.{save_view, settle_view, unsave_view, watch_view}
 
 -- a command on the space does its row

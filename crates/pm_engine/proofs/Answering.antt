@@ -21,25 +21,25 @@ use Rattle.pm_model.proofs.Members.{at_first}
 use Rattle.pm_image.specs.Stands.{StandsForCopy}
 use Rattle.pm_view.specs.View.{Cars, SpaceView}
 use Rattle.pm_view.specs.Work.{work}
-use Rattle.pm_works.specs.law_work.Raises.{raises}
+use Rattle.pm_law_collect.specs.Work.Raises.{raises}
 use Rattle.pm_view.specs.Law.{HeapLaw}
 use Rattle.pm_view.specs.Commands.{is_act}
-use Rattle.pm_works.specs.saving.Progress.{Progress, cars_or_none, copy_of}
-use Rattle.pm_works.specs.saving.Paging.{NextPage, CarPage, PartPage, next_page, with_next, written_on}
-use Rattle.pm_works.specs.saving.Tied.{HasCopy}
-use Rattle.pm_works.specs.save_below.Answers.{TellsOn}
-use Rattle.pm_works.specs.save_below.Settling.{SparesEither}
-use Rattle.pm_works.specs.serving.Serving.{IsServed, numbered_copy, opening, world}
-use Rattle.pm_works.specs.serving.Events.{Appends, Serves}
-use Rattle.pm_works.specs.serving.Images.{IsSettledCopy, IsStored, IsTold}
-use Rattle.pm_law_serving.proofs.Following as law
-use Rattle.pm_law_serving.proofs.Images.{acknowledged, failed}
+use Rattle.pm_saving.specs.Progress.{Progress, cars_or_none, copy_of}
+use Rattle.pm_saving.specs.Paging.{NextPage, CarPage, PartPage, next_page, with_next, written_on}
+use Rattle.pm_saving.specs.Tied.{HasCopy}
+use Rattle.pm_save.specs.Progress.Answers.{TellsOn}
+use Rattle.pm_save.specs.Writer.Settling.{SparesEither}
+use Rattle.pm_saving.specs.Serving.{IsServed, numbered_copy, opening, world}
+use Rattle.pm_saving.specs.Events.{Appends, Serves}
+use Rattle.pm_saving.specs.Images.{IsSettledCopy, IsStored, IsTold}
+use Rattle.pm_law_saving.proofs.ServingLemmas.Following as law
+use Rattle.pm_law_saving.proofs.ServingLemmas.Images.{acknowledged, failed}
 use Rattle.pm_engine.specs.declared.start.Start.{Start}
-use Rattle.pm_works.specs.declared.works.Works.{Works}
-use Rattle.pm_works.specs.Working.{Acts, Adds, Answers, IsTiedIn, LeavesEither, Rests, Saves, SetsWatch, SettlesCopy, SettlesIt, StaysStill, Unsaves, Watches, contents_in, disk_at, frozen_in, room_in, saving_in, state_in, view_in, watches_in}
+use Rattle.pm_engine.specs.declared.works.works.Works.{Works}
+use Rattle.pm_engine.specs.Works.Working.{Acts, Adds, Answers, IsTiedIn, LeavesEither, Rests, Saves, SetsWatch, SettlesCopy, SettlesIt, StaysStill, Unsaves, Watches, contents_in, disk_at, frozen_in, room_in, saving_in, state_in, view_in, watches_in}
 use Rattle.pm_engine.specs.Seen.{IsSound, disk_then, seen}
 use Rattle.pm_engine.proofs.Going.{answers_sound, appends, appends_so, serves_on, settled_there}
-use Rattle.pm_works.proofs.Kept.{pages_last, spares_still}
+use Rattle.pm_engine.proofs.WorksLemmas.Kept.{pages_last, spares_still}
 
 -- only `settle` says that a copy settled
 pub not_saved : (world : World) (client : ℕ) (cmd : Cmd) (reply : Reply) → reply ≡ (answer world client cmd).0 → saves cmd ≡ false → says_saved reply ≡ false

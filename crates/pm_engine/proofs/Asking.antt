@@ -15,12 +15,12 @@ use Rattle.pm_model.specs.Closed.{IsClosed}
 use Rattle.pm_model.specs.Answer.{answer}
 use Rattle.pm_image.specs.Stands.{StandsForCopy}
 use Rattle.pm_copies.specs.Listed.{copy_in}
-use Rattle.pm_works.specs.saving.Progress.{Progress, cars_or_none, copy_of}
-use Rattle.pm_works.specs.save_below.Answers.{Spares, TellsOn}
-use Rattle.pm_works.specs.save_below.Settling.{SparesEither}
-use Rattle.pm_works.specs.serving.Serving.{IsServed, Serving, numbered_copy, opening, world}
-use Rattle.pm_works.specs.serving.Events.{Serves}
-use Rattle.pm_works.specs.serving.Images.{IsCopyInProgress, IsSettledCopy, IsStored, IsTold, KeepsImages}
+use Rattle.pm_saving.specs.Progress.{Progress, cars_or_none, copy_of}
+use Rattle.pm_save.specs.Progress.Answers.{Spares, TellsOn}
+use Rattle.pm_save.specs.Writer.Settling.{SparesEither}
+use Rattle.pm_saving.specs.Serving.{IsServed, Serving, numbered_copy, opening, world}
+use Rattle.pm_saving.specs.Events.{Serves}
+use Rattle.pm_saving.specs.Images.{IsCopyInProgress, IsSettledCopy, IsStored, IsTold, KeepsImages}
 use Rattle.pm_model.specs.Journal.{IsLegal}
 use Rattle.pm_types.specs.declared.entry.Entry.{Entry}
 use Rattle.pm_types.specs.declared.event.Flushed.{Flushed}
@@ -29,14 +29,14 @@ use Rattle.arrayvec.specs.ArrayVec.{ArrayVec}
 use Rattle.pm_shadow.specs.Pages.{current_kept, disk_of, state}
 use Rattle.pm_shadow.specs.declared.pages.Pages.{Pages}
 use Rattle.pm_space.specs.Shown.{view}
-use Rattle.pm_works.specs.save_below.Shown.{frozen_of, saving}
-use Rattle.pm_works.proofs.law_saving.Publishing.{copy_held}
-use Rattle.pm_law_serving.proofs.Splitting.{splits_once}
-use Rattle.pm_law_serving.proofs.Stored.{splits_stored}
-use Rattle.pm_works.specs.Course.{told_before}
+use Rattle.pm_save.specs.Shown.{frozen_of, saving}
+use Rattle.pm_law_saving.proofs.Publishing.{copy_held}
+use Rattle.pm_law_saving.proofs.ServingLemmas.Splitting.{splits_once}
+use Rattle.pm_law_saving.proofs.ServingLemmas.Stored.{splits_stored}
+use Rattle.pm_engine.specs.Works.Course.{told_before}
 use Rattle.pm_engine.specs.declared.start.Start.{Start}
-use Rattle.pm_works.specs.declared.works.Works.{Works}
-use Rattle.pm_works.specs.Working.{Answers, FlushesOn, IsTiedIn, LastsIn, Rests, contents_in, disk_at, frozen_in, saving_in, state_in}
+use Rattle.pm_engine.specs.declared.works.works.Works.{Works}
+use Rattle.pm_engine.specs.Works.Working.{Answers, FlushesOn, IsTiedIn, LastsIn, Rests, contents_in, disk_at, frozen_in, saving_in, state_in}
 use Rattle.pm_engine.specs.Seen.{IsSound, disk_then, seen}
 use Rattle.pm_engine.proofs.Going.{failed_still, leaves, rests_sound}
 use Rattle.pm_engine.proofs.Flushed.{flush_sound}

@@ -11,23 +11,22 @@ use Rattle.pm_shadow.specs.declared.page_use.PageUse.TheVariants.{Current}
 use Rattle.pm_shadow.specs.State.{State, keeps_by}
 use Rattle.pm_shadow.specs.Copies.{KeepsGraph}
 use Rattle.pm_shadow.specs.Images.{Holds}
-use Rattle.pm_shadow.specs.Pages.{current_kept}
+use Rattle.pm_shadow.specs.Pages.{current_kept, disk_of}
 use Rattle.pm_view.specs.View.{Cars}
 use Rattle.pm_copies.specs.Listed.{copy_in}
-use Rattle.pm_works.specs.saving.Progress.{Saving}
-use Rattle.pm_works.specs.saving.Tied.{HasCopy, IsOnPage, IsTied}
-use Rattle.pm_works.proofs.law_saving.Giving.{store_begins}
+use Rattle.pm_saving.specs.Progress.{Saving}
+use Rattle.pm_saving.specs.Tied.{HasCopy, IsOnPage, IsTied}
+use Rattle.pm_law_saving.proofs.Giving.{store_begins}
 use Rattle.pm_reopen.specs.Opening.{KnowsPages, MakesSpace, OpensStore}
 use Rattle.pm_reopen.proofs.StoodLaws.{copy_kept, bytes_stand, graph_kept}
-use Rattle.pm_works.specs.serving.Serving.{IsServed, Serving, just_opened, world}
-use Rattle.pm_works.specs.serving.Images.{IsSettledCopy, IsStored, KeepsImages}
+use Rattle.pm_saving.specs.Serving.{IsServed, Serving, just_opened, world}
+use Rattle.pm_saving.specs.Images.{IsSettledCopy, IsStored, KeepsImages}
 use Rattle.pm_space.specs.Shown.{view}
-use Rattle.pm_shadow.specs.Pages.{disk_of}
-use Rattle.pm_law_serving.proofs.Opening.{begins_served}
-use Rattle.pm_law_serving.proofs.Images.{begins}
+use Rattle.pm_law_saving.proofs.ServingLemmas.Opening.{begins_served}
+use Rattle.pm_law_saving.proofs.ServingLemmas.Images.{begins}
 use Rattle.pm_engine.specs.declared.start.Start.{Start}
-use Rattle.pm_works.specs.declared.works.Works.{Works}
-use Rattle.pm_works.specs.Working.{contents_in, course_in, disk_at, frozen_in, saving_in, state_in, view_in}
+use Rattle.pm_engine.specs.declared.works.works.Works.{Works}
+use Rattle.pm_engine.specs.Works.Working.{contents_in, course_in, disk_at, frozen_in, saving_in, state_in, view_in}
 use Rattle.pm_engine.specs.Seen.{IsSound, disk_then, seen}
 use Rattle.pm_engine.proofs.Going.{settled_there}
 

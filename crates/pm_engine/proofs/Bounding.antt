@@ -22,17 +22,17 @@ use Rattle.pm_view.specs.Events.{next_row, after}
 use Rattle.pm_view.specs.Watches.{lines_from, watch_in}
 use Rattle.pm_space.specs.declared.space.Space.{Space}
 use Rattle.pm_space.specs.Shown.{view}
-use Rattle.pm_works.specs.law_course.Course.{completes}
-use Rattle.pm_works.proofs.law_course.Completing.{completed_then}
-use Rattle.pm_works.specs.reclaim.Steps.{IsEvent, IsMade}
-use Rattle.pm_bound.specs.Bounded.{CountsOne, KeepsBound, KeepsWatches, IsHonest}
+use Rattle.pm_law_course.specs.Course.{completes}
+use Rattle.pm_law_course.proofs.Completing.{completed_then}
+use Rattle.pm_evac.specs.Steps.{IsEvent, IsMade}
+use Rattle.pm_view.specs.Bounded.{CountsOne, KeepsBound, KeepsWatches, IsHonest}
 use Rattle.pm_law_bound.proofs.Many.{all_stay, all_with_one, all_honest, kept_still}
-use Rattle.pm_law_serving.proofs.Splitting.{splits_once}
-use Rattle.pm_works.specs.serving.Serving.{IsServed, opening}
-use Rattle.pm_works.specs.serving.Bounds.{KeepsBounds}
+use Rattle.pm_law_saving.proofs.ServingLemmas.Splitting.{splits_once}
+use Rattle.pm_saving.specs.Serving.{IsServed, opening}
+use Rattle.pm_saving.specs.Bounds.{KeepsBounds}
 use Rattle.pm_engine.specs.declared.start.Start.{Start}
-use Rattle.pm_works.specs.declared.works.Works.{Works}
-use Rattle.pm_works.specs.Working.{Adds, Answers, CollectsOn, FlushesOn, IsLeft, Rests, SetsWatch, Watches, place_in, view_in, watches_in}
+use Rattle.pm_engine.specs.declared.works.works.Works.{Works}
+use Rattle.pm_engine.specs.Works.Working.{Adds, Answers, CollectsOn, FlushesOn, IsLeft, Rests, SetsWatch, Watches, place_in, view_in, watches_in}
 use Rattle.pm_engine.specs.Seen.{IsSound, seen}
 use Rattle.pm_engine.proofs.Answering.{save_adds, save_view, settle_adds, settle_view, unsave_adds, unsave_view, watch_view}
 

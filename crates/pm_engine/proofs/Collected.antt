@@ -5,20 +5,20 @@ use Rattle.pm_types.specs.declared.entry.Entry.{Entry}
 use Rattle.pm_disk.specs.declared.disk.Disk.{Ghosts}
 use Rattle.pm_model.specs.Journal.{after, chain, settled_in}
 use Rattle.pm_shadow.specs.Pages.{disk_of}
-use Rattle.pm_works.specs.reclaim.Steps.{KeepsWorlds}
-use Rattle.pm_works.specs.saving.Progress.{Saving}
-use Rattle.pm_works.specs.save_below.Shown.{saving}
-use Rattle.pm_works.specs.save_below.Answers.{TellsOn}
-use Rattle.pm_works.specs.serving.Serving.{opening}
-use Rattle.pm_works.specs.serving.Events.{Collects}
-use Rattle.pm_law_serving.proofs.Following as law
+use Rattle.pm_evac.specs.Steps.{KeepsWorlds}
+use Rattle.pm_saving.specs.Progress.{Saving}
+use Rattle.pm_save.specs.Shown.{saving}
+use Rattle.pm_save.specs.Progress.Answers.{TellsOn}
+use Rattle.pm_saving.specs.Serving.{opening}
+use Rattle.pm_saving.specs.Events.{Collects}
+use Rattle.pm_law_saving.proofs.ServingLemmas.Following as law
 use Rattle.pm_engine.specs.declared.start.Start.{Start}
-use Rattle.pm_works.specs.declared.works.Works.{Works}
-use Rattle.pm_works.specs.Working.{CollectsOn, IsLeft, IsTiedIn, Rests, contents_in, disk_at, saving_in, view_in}
+use Rattle.pm_engine.specs.declared.works.works.Works.{Works}
+use Rattle.pm_engine.specs.Works.Working.{CollectsOn, IsLeft, IsTiedIn, Rests, contents_in, disk_at, saving_in, view_in}
 use Rattle.pm_engine.specs.Seen.{IsSound, seen}
 use Rattle.pm_engine.proofs.Asking.{at_none, rest_sound, stored}
 use Rattle.pm_engine.proofs.Going.{lasts, stays_same}
-use Rattle.pm_works.proofs.Kept.{pages_last, spares_still}
+use Rattle.pm_engine.proofs.WorksLemmas.Kept.{pages_last, spares_still}
 
 module _ {D : Type 0} {F : Type 0} {g : Ghosts D} (start : Start D F g) (stopped : Option ℕ) (old new : Works D F g) (is : CollectsOn old new) where
   -- all but the space stays

@@ -1,6 +1,6 @@
 -- The disk's count of failed calls is never below the one at the opening.
 use Rattle.std.proofs.Common.{◌≡◌, ℕ, ◌<◌, ◌≤◌, ⊎_elim, arith}
-use Rattle.pm_base.specs.Counts.{Rose}
+use Rattle.pm_types.specs.Counts.{Rose}
 
 -- nothing was called yet
 pub counted_first : (opened now : ℕ) → opened ≡ now → opened ≤ now

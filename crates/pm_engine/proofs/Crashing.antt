@@ -17,21 +17,21 @@ use Rattle.pm_model.specs.Journal.{after, settled_in, says_saved}
 use Rattle.pm_model.proofs.ChainLaws.{after_more, saved}
 use Rattle.pm_image.specs.Stands.{StandsForCopy}
 use Rattle.pm_view.specs.Commands.{is_act}
-use Rattle.pm_works.specs.saving.Progress.{Progress, cars_or_none, copy_of}
-use Rattle.pm_works.specs.saving.Tied.{HasCopy}
-use Rattle.pm_works.specs.save_below.Answers.{Spares}
-use Rattle.pm_works.specs.serving.Serving.{opening, world}
-use Rattle.pm_works.specs.serving.Events.{Serves}
-use Rattle.pm_works.specs.serving.Images.{IsCopyInProgress, IsSettledCopy, IsTold}
-use Rattle.pm_law_serving.proofs.Following as law
+use Rattle.pm_saving.specs.Progress.{Progress, cars_or_none, copy_of}
+use Rattle.pm_saving.specs.Tied.{HasCopy}
+use Rattle.pm_save.specs.Progress.Answers.{Spares}
+use Rattle.pm_saving.specs.Serving.{opening, world}
+use Rattle.pm_saving.specs.Events.{Serves}
+use Rattle.pm_saving.specs.Images.{IsCopyInProgress, IsSettledCopy, IsTold}
+use Rattle.pm_law_saving.proofs.ServingLemmas.Following as law
 use Rattle.pm_engine.specs.declared.start.Start.{Start}
-use Rattle.pm_works.specs.declared.works.Works.{Works}
-use Rattle.pm_works.specs.Working.{Answers, LeavesEither, SettlesCopy, StaysStill, contents_in, disk_at, frozen_in, saving_in, state_in}
+use Rattle.pm_engine.specs.declared.works.works.Works.{Works}
+use Rattle.pm_engine.specs.Works.Working.{Answers, LeavesEither, SettlesCopy, StaysStill, contents_in, disk_at, frozen_in, saving_in, state_in}
 use Rattle.pm_engine.specs.Seen.{IsSound, disk_then, seen}
 use Rattle.pm_engine.specs.Calls.{MayStand}
 use Rattle.pm_engine.proofs.Answering.{not_saved}
 use Rattle.pm_engine.proofs.Asking.{leaves_begun, leaves_settled, saving_is, stored, tells}
-use Rattle.pm_works.proofs.Kept.{spares_still}
+use Rattle.pm_engine.proofs.WorksLemmas.Kept.{spares_still}
 
 -- only `settle` settles a copy
 never_acts : (world : World) (client : ℕ) (cmd : Cmd) (number : ℕ) → is_act cmd ≡ true → Saved number ≡ (answer world client cmd).0 → ⊥

@@ -9,19 +9,19 @@ use Rattle.pm_shadow.specs.State.{State}
 use Rattle.pm_space.specs.declared.space.Space.{Space}
 use Rattle.pm_space.specs.Shown.{view}
 use Rattle.pm_view.specs.View.{Cars}
-use Rattle.pm_works.specs.saving.Progress.{Progress, Saving, cars_or_none}
-use Rattle.pm_works.specs.saving.Tied.{IsTied}
-use Rattle.pm_works.proofs.law_saving.Next.{next_goes}
-use Rattle.pm_works.specs.save_below.Answers.{IsFlushed, Spares, TellsOn}
-use Rattle.pm_works.specs.save_below.Shown.{frozen_of}
-use Rattle.pm_works.specs.serving.Serving.{opening}
-use Rattle.pm_works.specs.serving.Events.{Flushes, StaysBegun}
+use Rattle.pm_saving.specs.Progress.{Progress, Saving, cars_or_none}
+use Rattle.pm_saving.specs.Tied.{IsTied}
+use Rattle.pm_law_saving.proofs.Next.{next_goes}
+use Rattle.pm_save.specs.Progress.Answers.{IsFlushed, Spares, TellsOn}
+use Rattle.pm_save.specs.Shown.{frozen_of}
+use Rattle.pm_saving.specs.Serving.{opening}
+use Rattle.pm_saving.specs.Events.{Flushes, StaysBegun}
 use Rattle.pm_engine.specs.declared.start.Start.{Start}
-use Rattle.pm_works.specs.declared.works.Works.{Works}
-use Rattle.pm_works.specs.Working.{FlushesOn, IsTiedIn, LastsIn, contents_in, disk_at, frozen_in, saving_in, state_in, view_in}
+use Rattle.pm_engine.specs.declared.works.works.Works.{Works}
+use Rattle.pm_engine.specs.Works.Working.{FlushesOn, IsTiedIn, LastsIn, contents_in, disk_at, frozen_in, saving_in, state_in, view_in}
 use Rattle.pm_engine.specs.Seen.{IsSound, seen}
 use Rattle.pm_engine.proofs.Going.{lasts, serves_on, stays_same}
-use Rattle.pm_works.proofs.Kept.{begun_from}
+use Rattle.pm_engine.proofs.WorksLemmas.Kept.{begun_from}
 
 -- and so do the settled cars, and the copy in progress but for its pages
 pub flushed_stays : (old new : Saving) (frozen : Option Cars) (s t : State) (was now : Option (List ℕ)) (flushed : Flushed) → IsTied old frozen s was → IsFlushed old new (cars_or_none frozen) s t was now flushed

@@ -13,16 +13,16 @@ use Rattle.pm_model.proofs.Members.{at_first, in_rest}
 use Rattle.pm_image.specs.Stands.{StandsForCopy}
 use Rattle.pm_view.specs.View.{Cars, SpaceView}
 use Rattle.pm_view.specs.Represents.{Represents}
-use Rattle.pm_works.specs.saving.Progress.{Progress, cars_or_none}
-use Rattle.pm_works.specs.saving.Tied.{GoesOn, HasCopy}
-use Rattle.pm_works.specs.save_below.Answers.{Spares, TellsOn}
-use Rattle.pm_works.specs.serving.Serving.{IsServed, Serving, numbered_copy, opening, world}
-use Rattle.pm_works.specs.serving.Events.{Appends, Serves, StaysBegun, watched}
-use Rattle.pm_works.specs.serving.Images.{IsSettledCopy, IsStored, IsTold}
-use Rattle.pm_law_serving.proofs.Images.{spared}
+use Rattle.pm_saving.specs.Progress.{Progress, cars_or_none}
+use Rattle.pm_saving.specs.Tied.{GoesOn, HasCopy}
+use Rattle.pm_save.specs.Progress.Answers.{Spares, TellsOn}
+use Rattle.pm_saving.specs.Serving.{IsServed, Serving, numbered_copy, opening, world}
+use Rattle.pm_saving.specs.Events.{Appends, Serves, StaysBegun, watched}
+use Rattle.pm_saving.specs.Images.{IsSettledCopy, IsStored, IsTold}
+use Rattle.pm_law_saving.proofs.ServingLemmas.Images.{spared}
 use Rattle.pm_engine.specs.declared.start.Start.{Start}
-use Rattle.pm_works.specs.declared.works.Works.{Works}
-use Rattle.pm_works.specs.Working.{Adds, IsTiedIn, LastsIn, Rests, contents_in, course_in, disk_at, frozen_in, saving_in, state_in, view_in, watches_in}
+use Rattle.pm_engine.specs.declared.works.works.Works.{Works}
+use Rattle.pm_engine.specs.Works.Working.{Adds, IsTiedIn, LastsIn, Rests, contents_in, course_in, disk_at, frozen_in, saving_in, state_in, view_in, watches_in}
 use Rattle.pm_engine.specs.Seen.{IsSound, disk_then, seen}
 
 -- ---- the copy that settled last is one of the chain

@@ -1,3 +1,4 @@
+pub mod WorksLemmas
 pub mod Going
 pub mod Answering
 pub mod Flushed
@@ -10,3 +11,4 @@ pub mod Telling
 pub mod Collected
 pub mod Acting
 pub mod Counts
+pub mod EventsLemmas

@@ -5,11 +5,11 @@ use Rattle.pm_types.specs.declared.reply.Reply.{Reply}
 use Rattle.pm_types.specs.declared.command.Cmd.TheVariants.{Unsave}
 use Rattle.pm_types.specs.declared.reply.Reply.TheVariants.{Dropped, Saved}
 use Rattle.pm_disk.specs.declared.disk.Disk.{Ghosts}
-use Rattle.pm_works.specs.serving.Bounds.{KeepsBounds}
-use Rattle.pm_works.specs.serving.Events.{Serves}
+use Rattle.pm_saving.specs.Bounds.{KeepsBounds}
+use Rattle.pm_saving.specs.Events.{Serves}
 use Rattle.pm_engine.specs.declared.engine.Engine.{Engine}
-use Rattle.pm_works.specs.declared.works.Works.{Works}
-use Rattle.pm_works.specs.Working.{Answers, Unsaves, disk_at}
+use Rattle.pm_engine.specs.declared.works.works.Works.{Works}
+use Rattle.pm_engine.specs.Works.Working.{Answers, Unsaves, disk_at}
 use Rattle.pm_engine.specs.Seen.{IsSound, seen}
 use Rattle.pm_engine.specs.Calls.{DropsPages, IsDropped, SettlesAs}
 use Rattle.pm_engine.proofs.Crashing.{settled_images, settled_number, settles_copy}

@@ -2,7 +2,7 @@
 use Rattle.std.proofs.Common.{◌≡◌, ℕ, Bool, true, false, List, Option, Some, None, Err, refl, sym, subst, arith}
 use Rattle.std.specs.Borrow.{Bor}
 use Rattle.std.specs.Fn.{Shared}
-use Rattle.pm_base.specs.Counts.{Rose, ShowsRise}
+use Rattle.pm_types.specs.Counts.{Rose, ShowsRise}
 use Rattle.pm_types.specs.Replies.{IsShortReply}
 use Rattle.pm_types.specs.declared.command.Cmd.{Cmd}
 use Rattle.pm_types.specs.declared.command.Cmd.TheVariants.{Save, Settle, Unsave, Watch}
@@ -12,16 +12,16 @@ use Rattle.pm_types.specs.declared.reply.Reply.TheVariants.{Begun, Busy, Dropped
 use Rattle.pm_disk.specs.declared.disk.Disk.{Ghosts}
 use Rattle.pm_model.specs.Frames.{is_settle, saves}
 use Rattle.pm_space.specs.Shown.{view}
-use Rattle.pm_works.specs.serving.Events.{ServesNothing}
+use Rattle.pm_saving.specs.Events.{ServesNothing}
 use Rattle.pm_law_bound.proofs.Many.{kept_still}
 use Rattle.pm_engine.specs.declared.start.Start.{Start}
-use Rattle.pm_works.specs.declared.works.Works.{Works}
-use Rattle.pm_works.specs.Working.{Answers, IsLeft, LeavesEither, Rests, Saves, SettlesIt, StaysStill, Unsaves, Watches, disk_at, saving_in}
+use Rattle.pm_engine.specs.declared.works.works.Works.{Works}
+use Rattle.pm_engine.specs.Works.Working.{Answers, IsLeft, LeavesEither, Rests, Saves, SettlesIt, StaysStill, Unsaves, Watches, disk_at, saving_in}
 use Rattle.pm_engine.specs.Seen.{seen}
 use Rattle.pm_engine.specs.declared.engine.Engine.{Engine}
-use Rattle.pm_works.specs.save_below.Settling.{settling_syncs, settling_writes}
+use Rattle.pm_save.specs.Writer.Settling.{settling_syncs, settling_writes}
 use Rattle.pm_engine.specs.Shown.{disk_in, pages_in, serving}
-use Rattle.pm_works.proofs.Kept.{none_made}
+use Rattle.pm_engine.proofs.WorksLemmas.Kept.{none_made}
 use Rattle.pm_engine.specs.Calls.{AnswersClient, AnswersCollect, AnswersFlush, KeepsCopies}
 
 -- ---- a reply shows at most an object's bytes

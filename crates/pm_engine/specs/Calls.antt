@@ -17,43 +17,43 @@ use Rattle.pm_disk.specs.Made.{MadeAtMost, MadeMore}
 use Rattle.pm_model.specs.Frames.{is_settle, saves}
 use Rattle.pm_shadow.specs.State.{abandoned_in}
 use Rattle.pm_view.specs.Work.{work}
-use Rattle.pm_bound.specs.Bounded.{KeepsWatches}
-use Rattle.pm_works.specs.law_work.Raises.{raises}
-use Rattle.pm_works.specs.reclaim.Steps.{IsMade}
-use Rattle.pm_works.specs.saving.Paging.{left_of}
-use Rattle.pm_works.specs.saving.Tied.{Settles}
-use Rattle.pm_works.specs.saving.Progress.{cars_or_none}
-use Rattle.pm_works.specs.save_below.Answers.{IsFlushed}
-use Rattle.pm_works.specs.save_below.Settling.{settling_syncs, settling_writes}
-use Rattle.pm_works.specs.serving.Serving.{Serving, world}
-use Rattle.pm_works.specs.serving.Events.{Collects, FailsAs, Flushes, Serves}
-use Rattle.pm_works.specs.serving.Images as images
-use Rattle.pm_works.specs.serving.Images.{IsCopyInProgress, IsTold}
+use Rattle.pm_view.specs.Bounded.{KeepsWatches}
+use Rattle.pm_law_collect.specs.Work.Raises.{raises}
+use Rattle.pm_evac.specs.Steps.{IsMade}
+use Rattle.pm_saving.specs.Paging.{left_of}
+use Rattle.pm_saving.specs.Tied.{Settles}
+use Rattle.pm_saving.specs.Progress.{cars_or_none}
+use Rattle.pm_save.specs.Progress.Answers.{IsFlushed}
+use Rattle.pm_save.specs.Writer.Settling.{settling_syncs, settling_writes}
+use Rattle.pm_saving.specs.Serving.{Serving, world}
+use Rattle.pm_saving.specs.Events.{Collects, FailsAs, Flushes, Serves}
+use Rattle.pm_saving.specs.Images as images
+use Rattle.pm_saving.specs.Images.{IsCopyInProgress, IsTold}
 use Rattle.pm_engine.specs.declared.engine.Engine.{Engine}
-use Rattle.pm_works.specs.Acting.{ChangesSpace}
+use Rattle.pm_engine.specs.Works.Acting.{ChangesSpace}
 use Rattle.pm_engine.specs.Shown.{chooser, disk_in, opened_disk, pages_in, room, serving}
 
 -- the fault is none of the disk
 abbrev pub IsNoDisk : EngineFault → Type 0
-IsNoDisk Memory = Unit {0}
+IsNoDisk (Memory _) = Unit {0}
 IsNoDisk (Disk before after) = ⊥
 IsNoDisk (Reopen count) = Unit {0}
 
 -- the fault is one of the disk
 abbrev pub IsOfDisk : EngineFault → Type 0
-IsOfDisk Memory = ⊥
+IsOfDisk (Memory _) = ⊥
 IsOfDisk (Disk before after) = Unit {0}
 IsOfDisk (Reopen count) = ⊥
 
 -- P holds where memory ran out
 abbrev pub IfMemory : Type 0 → EngineFault → Type 0
-IfMemory P Memory = P
+IfMemory P (Memory _) = P
 IfMemory P (Disk before after) = Unit {0}
 IfMemory P (Reopen count) = Unit {0}
 
 -- P holds, unless an earlier call had answered that the disk failed
 abbrev pub UnlessReopen : Type 0 → EngineFault → Type 0
-UnlessReopen P Memory = P
+UnlessReopen P (Memory _) = P
 UnlessReopen P (Disk before after) = P
 UnlessReopen P (Reopen count) = Unit {0}
 
@@ -76,7 +76,7 @@ module _ {D : Type 0} {F : Type 0} {g : Ghosts D} where
 
   -- where the engine was stopped nothing at all changed
   abbrev pub StaysWhole : Engine D F g → Engine D F g → EngineFault → Type 0
-  StaysWhole old new Memory = Unit {0}
+  StaysWhole old new (Memory _) = Unit {0}
   StaysWhole old new (Disk before after) = Unit {0}
   StaysWhole old new (Reopen count) = new ≡ old
 
@@ -127,7 +127,7 @@ module _ {D : Type 0} {F : Type 0} {g : Ghosts D} where
 
   -- memory runs out in `settle` only where something of the copy was left to be written, and is, or no entry had room
   abbrev pub MayRunOut : Cmd → Engine D F g → Engine D F g → EngineFault → Type 0
-  MayRunOut cmd old new Memory = is_settle cmd ≡ true → ((0 < left_of (serving old).saving.progress) × (0 < left_of (serving new).saving.progress)) ⊎ (room old ≡ 0)
+  MayRunOut cmd old new (Memory _) = is_settle cmd ≡ true → ((0 < left_of (serving old).saving.progress) × (0 < left_of (serving new).saving.progress)) ⊎ (room old ≡ 0)
   MayRunOut cmd old new (Disk before after) = Unit {0}
   MayRunOut cmd old new (Reopen count) = Unit {0}
 

@@ -3,11 +3,11 @@ use Rattle.std.specs.Prelude.{◌≡◌, ℕ, Option, None}
 use Rattle.pm_disk.specs.declared.disk.Disk.{Ghosts}
 use Rattle.pm_shadow.specs.Pages.{disk_of}
 use Rattle.pm_space.specs.Shown.{view}
-use Rattle.pm_works.specs.serving.Serving.{IsServed, Serving}
-use Rattle.pm_works.specs.serving.Images.{IsStored, KeepsImages}
+use Rattle.pm_saving.specs.Serving.{IsServed, Serving}
+use Rattle.pm_saving.specs.Images.{IsStored, KeepsImages}
 use Rattle.pm_engine.specs.declared.start.Start.{Start}
-use Rattle.pm_works.specs.declared.works.Works.{Works}
-use Rattle.pm_works.specs.Working.{contents_in, course_in, disk_at, frozen_in, saving_in, state_in, view_in, watches_in}
+use Rattle.pm_engine.specs.declared.works.works.Works.{Works}
+use Rattle.pm_engine.specs.Works.Working.{contents_in, course_in, disk_at, frozen_in, saving_in, state_in, view_in, watches_in}
 
 module _ {D : Type 0} {F : Type 0} {g : Ghosts D} where
   -- an engine of these parts

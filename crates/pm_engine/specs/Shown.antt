@@ -6,14 +6,14 @@ use Rattle.pm_disk.specs.declared.disk.Disk.{Ghosts}
 use Rattle.pm_shadow.specs.State.{State}
 use Rattle.pm_view.specs.Counts.{standing}
 use Rattle.pm_view.specs.Watches.{lines_from}
-use Rattle.pm_base.specs.Counts.{capped}
-use Rattle.pm_works.specs.saving.Paging.{left_of}
-use Rattle.pm_works.specs.save_below.Shown.{saving}
-use Rattle.pm_works.specs.serving.Serving.{Before, KeepsOpening, Serving}
+use Rattle.pm_types.specs.Counts.{capped}
+use Rattle.pm_saving.specs.Paging.{left_of}
+use Rattle.pm_save.specs.Shown.{saving}
+use Rattle.pm_saving.specs.Serving.{Before, KeepsOpening, Serving}
 use Rattle.pm_engine.specs.declared.engine.Engine.{Engine}
 use Rattle.pm_engine.specs.declared.tally.Tally.{Tally}
-use Rattle.pm_works.specs.Course.{told_before}
-use Rattle.pm_works.specs.Working.{disk_at, place_in, room_in, state_in}
+use Rattle.pm_engine.specs.Works.Course.{told_before}
+use Rattle.pm_engine.specs.Works.Working.{disk_at, place_in, room_in, state_in}
 use Rattle.pm_engine.specs.Seen.{disk_then, seen}
 
 module _ {D : Type 0} {F : Type 0} {g : Ghosts D} where

@@ -5,9 +5,9 @@ ghost use Rattle.pm_types.specs.declared.limits.TheConstants.{CLIENTS};
 ghost use Rattle.pm_model.specs.Frames.{is_settle};
 
 use crate::Engine;
+use crate::works::SaveFault;
 use pm_disk::Disk;
 use pm_types::{Cmd, EngineFault, NoMemory, Reply};
-use pm_works::SaveFault;
 use std::alloc::Global;
 
 // The command that an entry keeps. That of `settle` takes no memory.
@@ -43,7 +43,7 @@ impl<D: Disk, F: Drop> Engine<D, F> {
             Some(count) => Err(EngineFault::Reopen { count }),
             None => match kept(alloc, cmd) {
                 Ok(cmd) => self.ask(alloc, client, cmd),
-                Err(NoMemory) => Err(EngineFault::Memory),
+                Err(refused) => Err(EngineFault::Memory(refused)),
             },
         }
     }
@@ -75,7 +75,7 @@ impl<D: Disk, F: Drop> Engine<D, F> {
         let before = self.works.pages.faults();
         match self.works.answer(alloc, client, cmd) {
             Ok(reply) => Ok(reply),
-            Err(SaveFault::Memory) => Err(EngineFault::Memory),
+            Err(SaveFault::Memory(refused)) => Err(EngineFault::Memory(refused)),
             Err(SaveFault::Disk) => {
                 let after = self.works.pages.faults();
                 self.stopped = Some(after);

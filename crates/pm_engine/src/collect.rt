@@ -38,7 +38,7 @@ impl<D: Disk, F: Fn(&[u64]) -> usize + Drop> Engine<D, F> {
     {
         match self.works.collect(alloc) {
             Ok(step) => Ok(step),
-            Err(_) => Err(EngineFault::Memory),
+            Err(refused) => Err(EngineFault::Memory(refused)),
         }
     }
 }

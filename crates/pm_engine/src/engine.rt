@@ -1,17 +1,17 @@
 //! The engine: what it keeps, how it is opened, and what it tells.
 
 ghost use Rattle.std.specs.Prelude.{◌≤◌};
-ghost use Rattle.pm_works.specs.serving.Bounds.{KeepsBounds};
-ghost use Rattle.pm_works.specs.Working.{disk_at};
+ghost use Rattle.pm_saving.specs.Bounds.{KeepsBounds};
+ghost use Rattle.pm_engine.specs.Works.Working.{disk_at};
 ghost use Rattle.pm_engine.specs.Seen.{IsSound, seen};
 
 use crate::Tally;
 use crate::start::Start;
+use crate::works::{WATCH_ROOM, Works, tell_watches};
 use arrayvec::ArrayVec;
 use pm_disk::Disk;
 use pm_space::Space;
 use pm_types::{Entry, NoMemory, Watch, WatchLine};
-use pm_works::{WATCH_ROOM, Works, tell_watches};
 use std::snapshot::Snapshot;
 
 /// A space, the pages of its store on a disk, the saver between them, and the journal: one value, which is changed by one
@@ -35,12 +35,12 @@ impl<D: Disk, F: Drop> Engine<D, F> {
     ghost use Rattle.pm_view.specs.Represents.{IsHeld};
     ghost use Rattle.pm_model.specs.Closed.{IsClosed};
     ghost use Rattle.pm_model.specs.Journal.{IsLegal};
-    ghost use Rattle.pm_works.specs.serving.Serving.{IsServed, opening, world};
-    ghost use Rattle.pm_works.specs.serving.Images.{IsSettledCopy, IsTold, KeepsImages};
-    ghost use Rattle.pm_bound.specs.Bounded.{IsHonest};
+    ghost use Rattle.pm_saving.specs.Serving.{IsServed, opening, world};
+    ghost use Rattle.pm_saving.specs.Images.{IsSettledCopy, IsTold, KeepsImages};
+    ghost use Rattle.pm_view.specs.Bounded.{IsHonest};
     ghost use Rattle.pm_view.specs.Counts.{old, standing};
     ghost use Rattle.pm_view.specs.Watches.{lines_from};
-    ghost use Rattle.pm_base.specs.Counts.{capped};
+    ghost use Rattle.pm_types.specs.Counts.{capped};
     ghost use Rattle.pm_space.specs.Shown.{view};
     ghost use Rattle.pm_engine.specs.Shown.{KeepsStart, disk_in, opened_count, opened_disk, room, serving};
     ghost use Rattle.pm_engine.specs.Shown.{tally_in, tally_of};

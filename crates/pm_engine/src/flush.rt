@@ -3,9 +3,9 @@
 ghost use Rattle.std.specs.Prelude.{◌≡◌, None};
 
 use crate::Engine;
+use crate::works::SaveFault;
 use pm_disk::Disk;
 use pm_types::{EngineFault, Flushed};
-use pm_works::SaveFault;
 use std::alloc::Global;
 
 impl<D: Disk, F: Drop> Engine<D, F> {
@@ -37,7 +37,7 @@ impl<D: Disk, F: Drop> Engine<D, F> {
         let before = self.works.pages.faults();
         match self.works.flush(alloc) {
             Ok(flushed) => Ok(flushed),
-            Err(SaveFault::Memory) => Err(EngineFault::Memory),
+            Err(SaveFault::Memory(refused)) => Err(EngineFault::Memory(refused)),
             Err(SaveFault::Disk) => {
                 let after = self.works.pages.faults();
                 self.stopped = Some(after);

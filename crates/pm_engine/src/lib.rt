@@ -5,11 +5,13 @@
 mod client;
 mod collect;
 mod engine;
+pub mod events;
 mod flush;
 mod open;
 mod start;
 mod tally;
+pub mod works;
 
+pub use crate::works::SaveFault;
 pub use engine::Engine;
-pub use pm_works::SaveFault;
 pub use tally::Tally;

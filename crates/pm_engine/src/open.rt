@@ -2,13 +2,13 @@
 
 use crate::Engine;
 use crate::start::Start;
+use crate::works::{Course, Saver, Works};
 use arrayvec::ArrayVec;
 use pm_disk::Disk;
 use pm_place::Placement;
 use pm_reopen::open_space;
 use pm_shadow::Pages;
 use pm_types::OpenFault;
-use pm_works::{Course, Saver, Works};
 use std::alloc::Global;
 use std::snapshot::Snapshot;
 
@@ -18,7 +18,7 @@ impl<D: Disk, F: Drop> Engine<D, F> {
     ghost use Rattle.pm_disk.specs.Made.{with_sync};
     ghost use Rattle.pm_image.specs.Stands.{StandsForCopy};
     ghost use Rattle.pm_copies.specs.Listed.{copy_in};
-    ghost use Rattle.pm_works.specs.serving.Serving.{just_opened};
+    ghost use Rattle.pm_saving.specs.Serving.{just_opened};
     ghost use Rattle.pm_engine.specs.Shown.{chooser, disk_in, opened_count, opened_disk, serving};
     ghost use Rattle.pm_reopen.specs.Refused.{IsOpenFault, IsRefusal};
 

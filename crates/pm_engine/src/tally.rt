@@ -2,9 +2,9 @@
 
 ghost use Rattle.std.specs.Prelude.{◌≡◌};
 
+use crate::works::{Course, Saver, WATCH_ROOM};
 use arrayvec::ArrayVec;
 use pm_types::{Entry, WatchLine};
-use pm_works::{Course, Saver, WATCH_ROOM};
 use std::snapshot::Snapshot;
 
 /// What an engine came to. It is made where an engine is taken apart, and nothing changes it.

@@ -37,7 +37,7 @@ fn push_fault(fault: EngineFault, out: &mut String) -> Result<bool, Fault> {
     let (text, numbers) = match fault {
         EngineFault::Disk { before, after } => (" / disk fault % %", [before, after]),
         EngineFault::Reopen { count } => (" / reopen %", [count, 0]),
-        EngineFault::Memory => return Err(refuse("no memory")),
+        EngineFault::Memory(_) => return Err(refuse("no memory")),
     };
     push_filled(text, &numbers, out)?;
     Ok(false)

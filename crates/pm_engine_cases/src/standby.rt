@@ -2,8 +2,8 @@
 
 use crate::stopping::{disk_of, push_images};
 use pm_case_text::{Fault, push_filled};
+use pm_disk::fuse::FuseDisk;
 use pm_disk::{Disk, MemDisk};
-use pm_fuse::FuseDisk;
 use pm_script::Line;
 use pm_ship::{ShipEnd, ShipFault, Shipped, ship_disks};
 use std::alloc::Global;

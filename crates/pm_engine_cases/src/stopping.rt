@@ -3,8 +3,8 @@
 use crate::chosen::Chosen;
 use crate::running::push_run;
 use pm_case_text::{Fault, Texts, push_filled, push_words, refuse};
+use pm_disk::fuse::FuseDisk;
 use pm_disk::{DiskCall, MemDisk};
-use pm_fuse::FuseDisk;
 use pm_script::Line;
 use pm_types::PAGE_BYTES;
 use std::alloc::Global;

@@ -10,7 +10,7 @@ use Rattle.pm_trains.specs.Trains.{is_among}
 use Rattle.pm_place.specs.Choosers.{IsPicked}
 use Rattle.pm_view.specs.View.{SpaceView}
 use Rattle.pm_view.specs.Events.{Row, start, move_out, next_row, after, ways_out, MayNote, MayPick, MayPlace}
-use Rattle.pm_relocate.specs.Changed.{counted}
+use Rattle.pm_evac.specs.Relocate.Changed.{counted}
 use Rattle.pm_evac.specs.Steps.{step_of, IsNoted, IsChosen, IsChosenEvent}
 
 -- an item of a list is among it

@@ -16,7 +16,7 @@ use Rattle.pm_cars.specs.Entries.{holds_object}
 use Rattle.pm_trains.specs.Trains.{first_car, oldest, train_of}
 use Rattle.pm_remset.specs.Remembered.{FindsFirstThat}
 use Rattle.pm_remset.proofs.First.{first_found}
-use Rattle.pm_law_rows.proofs.OpenTrain.{first_home}
+use Rattle.pm_law_commands.proofs.RowLemmas.OpenTrain.{first_home}
 use Rattle.pm_view.specs.declared.phase.Phase.TheVariants.{Moving, Sweeping}
 use Rattle.pm_view.specs.View.{Sources, SpaceView}
 use Rattle.pm_view.specs.Reading.{slot_at, object_at, stored, is_aside, aside_in}

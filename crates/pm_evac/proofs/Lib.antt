@@ -1,3 +1,4 @@
+pub mod RelocateLemmas
 pub mod Lawful
 pub mod MoveRows
 pub mod Chosen

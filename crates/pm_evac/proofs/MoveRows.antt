@@ -14,11 +14,11 @@ use Rattle.pm_view.specs.Law.{HeapLaw}
 use Rattle.pm_view.specs.Rows.{IsVacant}
 use Rattle.pm_view.specs.Candidates.{set_of, is_beyond, candidates}
 use Rattle.pm_view.specs.Events.{anchor_in, first_of, home, ways_out}
-use Rattle.pm_law_phases.proofs.Comes.{IsMovingAnchor, IsMovingOut, IsMovingOn}
-use Rattle.pm_law_phases.proofs.Finds.{found_entry}
-use Rattle.pm_law_moves.proofs.MoveRows.{remembered_live, home_is, front, anchor_car, anchor_tail, out_tail, train_tail}
-use Rattle.pm_law_phases.proofs.PhaseRows.{pick_stands}
-use Rattle.pm_law_phases.proofs.Fronts.{first_cars}
+use Rattle.pm_law_collect.proofs.PhasesLemmas.Comes.{IsMovingAnchor, IsMovingOut, IsMovingOn}
+use Rattle.pm_law_collect.proofs.PhasesLemmas.Finds.{found_entry}
+use Rattle.pm_law_collect.proofs.MovesLemmas.MoveRows.{remembered_live, home_is, front, anchor_car, anchor_tail, out_tail, train_tail}
+use Rattle.pm_law_collect.proofs.PhasesLemmas.PhaseRows.{pick_stands}
+use Rattle.pm_law_collect.proofs.PhasesLemmas.Fronts.{first_cars}
 
 -- the object at an address may move to a train
 pub record MayMove (v : SpaceView) (a : Addr) (train : ℕ) : Type 0 where

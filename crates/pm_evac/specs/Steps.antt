@@ -20,11 +20,11 @@ use Rattle.pm_view.specs.Counts.{IsStanding, IsStandingAt, IsPlaced}
 use Rattle.pm_view.specs.Stale.{IsSole}
 use Rattle.pm_view.specs.Work.{work, lowers}
 use Rattle.pm_law_course.specs.Course.{completes}
-use Rattle.pm_bound.specs.Bounded.{KeepsRank, KeepsSunk}
+use Rattle.pm_view.specs.Bounded.{KeepsRank, KeepsSunk}
 use Rattle.pm_space.specs.declared.parts.Parts.{Parts}
 use Rattle.pm_space.specs.Quiet.{IsQuiet}
 use Rattle.pm_space.specs.Shown.{view, KeepsRest}
-use Rattle.pm_relocate.specs.Changed.{counted, identity}
+use Rattle.pm_evac.specs.Relocate.Changed.{counted, identity}
 
 -- what an event answers, where a train is picked this one
 abbrev pub step_of : SpaceView → ℕ → Row → Step

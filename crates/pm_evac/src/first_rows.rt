@@ -9,11 +9,11 @@ ghost use Rattle.pm_evac.specs.Noted.{IsAnchored};
 ghost use Rattle.pm_evac.specs.Steps.{IsChosenEvent};
 
 use pm_law_collect::there_is_a_train_to_pick;
+use pm_next::ways::pick_way;
 use pm_space::Parts;
 use pm_trains::MOST_TRAINS;
 use pm_types::{Addr, NoMemory, Step};
 use pm_view::Phase;
-use pm_ways::pick_way;
 use std::alloc::Global;
 
 // A train that has a car is selected, after a new open train was opened where it is the open one. Want of memory is
@@ -26,7 +26,7 @@ fn select_train<F>(parts: &mut Parts<F>, alloc: Global, train: u64) -> Result<()
 {
     if train == parts.trains.youngest() {
         if train >= MOST_TRAINS {
-            return Err(NoMemory);
+            return Err(NoMemory::uncountable(train));
         }
         parts.trains.rotate(alloc)?;
     }

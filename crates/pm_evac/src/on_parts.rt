@@ -7,12 +7,12 @@ ghost use Rattle.pm_next.specs.Seen.{seen_row};
 ghost use Rattle.pm_evac.specs.Steps.{IsChosenEvent, IsPicking};
 
 use crate::first_rows::{doom_at, select_at, start_at};
+use crate::relocate::{apply, finish, fix, free, relocate, sweep};
 use pm_law_collect::there_is_a_train_to_pick;
 use pm_next::Row;
-use pm_relocate::{apply, finish, fix, free, relocate, sweep};
+use pm_next::ways::pick_way;
 use pm_space::Parts;
 use pm_types::{Addr, NoMemory, RefSource, Step};
-use pm_ways::pick_way;
 use std::alloc::Global;
 
 // No event comes, and nothing is done.

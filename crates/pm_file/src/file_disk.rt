@@ -1,4 +1,4 @@
-ghost use Rattle.std.specs.Prelude.{◌≡◌, ℕ, IfOk, OnOk, OnErr};
+ghost use Rattle.std.specs.Prelude.{◌≡◌, IfOk, OnOk, OnErr};
 ghost use Rattle.pm_disk.specs.Disk.{HasCause};
 ghost use Rattle.pm_file.specs.Calls.{SameOk};
 
@@ -40,7 +40,7 @@ fn counted<T>(outcome: io::Result<T>, faults: &mut u64) -> Result<T, DiskFailed>
 }
 
 impl<R: StoreFiles + Drop> FileDisk<R> {
-    ghost use Rattle.std.specs.Prelude.{◌≡◌, ℕ, ◌∷◌, Some, None, length, string_bytes, IfOk, OnOk, OnErr};
+    ghost use Rattle.std.specs.Prelude.{◌≡◌, Some, None, length, string_bytes, IfOk, OnOk, OnErr};
     ghost use Rattle.pm_disk.specs.Disk.{SameImages, HasCause};
     ghost use Rattle.pm_file.specs.Calls.{SameEach, told_in, left_in, since_in, past_in, IsHeld, MarksCall};
 
@@ -102,7 +102,7 @@ impl<R: StoreFiles + Drop> FileDisk<R> {
 }
 
 impl<R: StoreFiles + Drop> Disk for FileDisk<R> {
-    ghost use Rattle.std.specs.Prelude.{ℕ, ◌+◌, ◌-◌, length, string_bytes};
+    ghost use Rattle.std.specs.Prelude.{◌+◌, ◌-◌, length, string_bytes};
     ghost use Rattle.pm_disk.specs.Made.{numbers};
     ghost use Rattle.pm_file.specs.Calls.{told_in, left_in, since_in, past_in, missed_past, made_with};
     ghost use Rattle.pm_file.specs.Laws.{counts_now_in, only_now_in, earlier_in, contents_stay_in, leaves_bytes_in};

@@ -1,4 +1,4 @@
-ghost use Rattle.std.specs.Prelude.{◌≡◌, ◌+◌, ◌-◌, ◌^◌, ◌<◌, ◌≤◌, ℕ, Bool, true, List, Option, Some, length, take, drop, option_map, IfOk, OnOk, OnErr};
+ghost use Rattle.std.specs.Prelude.{◌≡◌, ◌+◌, ◌-◌, ◌^◌, ◌<◌, ◌≤◌, ℕ, true, List, Option, Some, length, take, drop, option_map, IfOk, OnOk, OnErr};
 ghost use Rattle.std.specs.Fd.{file_raw_fd};
 ghost use Rattle.pm_disk.specs.Images.{IsBytes};
 ghost use Rattle.pm_disk.specs.Writes.{written, TornIfTold};

@@ -11,7 +11,7 @@ use Rattle.pm_image.specs.declared.catalog.CatEntry.{CatEntry}
 use Rattle.pm_image.specs.declared.catalog.CatEntry.TheVariants.{Car, Root}
 use Rattle.pm_image.specs.declared.catalog.CatalogPage.{CatalogPage}
 use Rattle.pm_image.specs.declared.settled.KeptPage.{KeptPage}
-use Rattle.pm_base.specs.Results.{◌>>=◌}
+use Rattle.pm_types.specs.Results.{◌>>=◌}
 use Rattle.pm_image.specs.CarPages.{Numbers}
 use Rattle.pm_image.specs.CatalogPages.{Met, meeting, meeting_next, meeting_all, meeting_page, is_free_page, HasCatalogPage, AreNext, catalog_at, catalog_used}
 use Rattle.pm_image.specs.Graphs.{Pages as Store, Catalog, undamaged, on_page, catalog_from, catalog_of, entries_of, most_pages}
@@ -19,8 +19,8 @@ use Rattle.pm_layout.specs.declared.header.Header.{Header}
 use Rattle.pm_image.specs.Opening.{is_placed}
 use Rattle.pm_image.proofs.RuleLaws.{catalog_fault}
 use Rattle.pm_image.proofs.Results.{both_true}
-use Rattle.pm_base.proofs.Fronts.{with_front, regroup}
-use Rattle.pm_base.proofs.Results.{bind_ok, bound, err_same}
+use Rattle.pm_types.proofs.Fronts.{with_front, regroup}
+use Rattle.pm_types.proofs.Results.{bind_ok, bound, err_same}
 use Rattle.pm_graphs.specs.declared.fault.ReadFault.{ReadFault}
 use Rattle.pm_graphs.specs.Reading.{Fails, link_at, IsThere, IsEntryThere, IsEntryNamed, root_count, page_numbers, IsSound, MayFollow, AreRead, LeadsOn, car_list, with_car}
 use Rattle.pm_graphs.proofs.Faults.{fails_too}

@@ -2,8 +2,8 @@
 use Rattle.std.proofs.Common.{◌≡◌, Result, Ok, Err, ap}
 use Rattle.pm_types.specs.declared.fault.OpenFault.{OpenFault}
 use Rattle.pm_types.specs.declared.fault.OpenFault.TheVariants.{Damaged, Malformed as MalformedAt}
-use Rattle.pm_base.specs.Results.{◌>>=◌}
-use Rattle.pm_base.proofs.Results.{bound}
+use Rattle.pm_types.specs.Results.{◌>>=◌}
+use Rattle.pm_types.proofs.Results.{bound}
 use Rattle.pm_graphs.specs.declared.fault.ReadFault.{ReadFault}
 use Rattle.pm_graphs.specs.declared.fault.ReadFault.TheVariants.{Damaged as DamagedPage, Malformed as MalformedPage, Failed, Memory}
 use Rattle.pm_graphs.specs.Reading.{Fails}
@@ -13,7 +13,7 @@ pub fails_too : {A B : Type 0} (fault : ReadFault) (a : Result A OpenFault) (b :
 fails_too (DamagedPage page kept found) a b on is = on (Damaged page kept found) is
 fails_too (MalformedPage page at) a b on is = on (MalformedAt page at) is
 fails_too Failed a b on is = tt
-fails_too Memory a b on is = tt
+fails_too (Memory _) a b on is = tt
 
 -- what fails first fails
 pub first_fails : {A B : Type 0} (fault : ReadFault) (m : Result A OpenFault) (f : A → Result B OpenFault) → Fails {X = A} fault m → Fails {X = B} fault (m >>= f)

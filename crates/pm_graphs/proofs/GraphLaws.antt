@@ -6,7 +6,7 @@ use Rattle.pm_layout.specs.declared.header.Header.{Header}
 use Rattle.pm_layout.specs.Headers.{most_fields}
 use Rattle.pm_image.specs.declared.settled.KeptPage.{KeptPage}
 use Rattle.pm_image.specs.Graphs.{images_of, Pages as Store, Catalog, Graph, sites_of, linked, catalog_of, cars_from, entries_of, graph_of}
-use Rattle.pm_base.proofs.Results.{bound}
+use Rattle.pm_types.proofs.Results.{bound}
 use Rattle.pm_graphs.specs.declared.fault.ReadFault.{ReadFault}
 use Rattle.pm_graphs.specs.Reading.{Fails}
 use Rattle.pm_graphs.proofs.Faults.{first_fails, then_fails}

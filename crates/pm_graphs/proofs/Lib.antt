@@ -1,3 +1,4 @@
+pub mod SettledLemmas
 pub mod Faults
 pub mod ReadLaws
 pub mod Lists

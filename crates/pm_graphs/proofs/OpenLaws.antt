@@ -1,7 +1,7 @@
 -- Why no graph was read.
 use Rattle.std.proofs.Common.{◌≡◌, ℕ, List, Result, Err, sym, subst}
 use Rattle.pm_types.specs.declared.fault.OpenFault.{OpenFault}
-use Rattle.pm_base.specs.Counts.{Rose}
+use Rattle.pm_types.specs.Counts.{Rose}
 use Rattle.pm_image.specs.declared.settled.KeptPage.{KeptPage}
 use Rattle.pm_image.specs.Graphs.{Catalog, Graph}
 use Rattle.pm_graphs.specs.Reopening.{IsGraph, IsGraphFault, open_fault}
@@ -13,7 +13,7 @@ pub graph_answer : (fault : ReadFault) (b a before after : ℕ) (graph : Result 
 graph_answer (DamagedPage page kept found) b a before after graph counts is = is
 graph_answer (MalformedPage page at) b a before after graph counts is = is
 graph_answer Failed b a before after graph counts is = tt
-graph_answer Memory b a before after graph counts is = tt
+graph_answer (Memory _) b a before after graph counts is = tt
 
 shown : (b a before after : ℕ) → b ≡ before → a ≡ after → Rose before after → Rose b a
 shown b a before after first last rose = subst (λ (n : ℕ). Rose n a) (sym first) (subst (Rose before) (sym last) rose)
@@ -22,4 +22,4 @@ pub graph_cause : (fault : ReadFault) (b a before after : ℕ) → b ≡ before 
 graph_cause (DamagedPage page kept found) b a before after first last counts = counts
 graph_cause (MalformedPage page at) b a before after first last counts = counts
 graph_cause Failed b a before after first last counts = (first, last, shown b a before after first last counts)
-graph_cause Memory b a before after first last counts = counts
+graph_cause (Memory _) b a before after first last counts = counts

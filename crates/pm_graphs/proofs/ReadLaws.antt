@@ -12,15 +12,15 @@ use Rattle.pm_image.specs.declared.car.CarImage.{CarImage}
 use Rattle.pm_image.specs.declared.catalog.CatalogPage.{CatalogPage}
 use Rattle.pm_image.specs.declared.settled.KeptPage.{KeptPage}
 use Rattle.pm_image.specs.Answers.{Gives as PageGives}
-use Rattle.pm_base.specs.Results.{◌>>=◌}
+use Rattle.pm_types.specs.Results.{◌>>=◌}
 use Rattle.pm_image.specs.CarPages.{Numbers, car_at}
 use Rattle.pm_image.specs.CarAnswers.{a_car}
 use Rattle.pm_image.specs.CatalogPages.{Met, catalog_at}
 use Rattle.pm_image.specs.declared.catalog.CatEntry.{CatEntry}
 use Rattle.pm_image.specs.declared.catalog.CatEntry.TheVariants.{Car, Root}
 use Rattle.pm_image.specs.Graphs.{Pages as Store, Catalog, undamaged, on_page, entries_of, cars_from, with_identities}
-use Rattle.pm_base.proofs.Fronts.{with_front, regroup}
-use Rattle.pm_base.proofs.Results.{ok_same, bind_ok, bound, err_same}
+use Rattle.pm_types.proofs.Fronts.{with_front, regroup}
+use Rattle.pm_types.proofs.Results.{ok_same, bind_ok, bound, err_same}
 use Rattle.pm_graphs.specs.declared.fault.ReadFault.{ReadFault}
 use Rattle.pm_graphs.proofs.Faults.{fails_too, first_fails, then_fails}
 use Rattle.pm_graphs.specs.Reading.{of_page, Fails, link_at, car_on, entry_car, with_car, car_list}
@@ -34,7 +34,7 @@ other_digest store page kept bytes found is digest other =
 -- a fault in a page
 pub page_fails : {A : Type 0} (fault : PageFault) (page : ℕ) (read : Result A ℕ) → PageGives {X = A} (Err fault) read → Fails {X = A} (of_page page fault) (on_page page read)
 page_fails (Malformed at) page read is = ap (on_page page) is
-page_fails NoPageMemory page read is = tt
+page_fails (NoPageMemory _) page read is = tt
 
 pub link_kept : (store : Store) (met : Met) (page : ℕ) (kept : List ℕ) (fault : ReadFault) → Fails {X = Unit {0}} fault (undamaged store page kept) → Fails {X = CatalogPage} fault (link_at store met page kept)
 unfolding link_at

@@ -1,3 +1,4 @@
+pub mod Settled
 pub mod Reading
 pub mod Linking
 pub mod Reopening

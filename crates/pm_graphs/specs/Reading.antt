@@ -1,9 +1,9 @@
 -- What the readers of the pages of a store may answer, by what the definitions give.
-use Rattle.std.specs.Prelude.{◌≡◌, ℕ, ◌+◌, ◌<◌, ◌≤◌, List, [], ◌∷◌, ◌++◌, map, Option, Some, None, Result, Ok, Err}
-use Rattle.std.specs.Prelude.{true, false}
+use Rattle.std.specs.Prelude.{◌≡◌, ℕ, ◌+◌, ◌<◌, ◌≤◌, List, [], ◌∷◌, ◌++◌, map, Option, Some, None, Result, Ok, Err, true, false}
 use Rattle.std.specs.FinSet as set
 use Rattle.std.specs.List.{AllByRecursion}
-use Rattle.pm_base.specs.Counts.{Rose}
+use Rattle.pm_types.specs.Memory.{no_memory}
+use Rattle.pm_types.specs.Counts.{Rose}
 use Rattle.pm_types.specs.declared.limits.TheConstants.{FIELDS, ROOTS, PAGE_BYTES}
 use Rattle.pm_types.specs.Names.{IsName}
 use Rattle.pm_types.specs.declared.fault.OpenFault.{OpenFault}
@@ -17,7 +17,7 @@ use Rattle.pm_image.specs.declared.catalog.CatEntry.{CatEntry}
 use Rattle.pm_image.specs.declared.catalog.CatEntry.TheVariants.{Car, Root}
 use Rattle.pm_image.specs.declared.catalog.CatalogPage.{CatalogPage}
 use Rattle.pm_image.specs.declared.settled.KeptPage.{KeptPage}
-use Rattle.pm_base.specs.Results.{◌>>=◌}
+use Rattle.pm_types.specs.Results.{◌>>=◌}
 use Rattle.pm_image.specs.CarPages.{Numbers, HasCarPage, car_at, car_used}
 use Rattle.pm_image.specs.CarAnswers.{a_car}
 use Rattle.pm_image.specs.CatalogPages.{Met, is_next_name, catalog_at, catalog_used}
@@ -32,7 +32,7 @@ use Rattle.pm_graphs.specs.declared.fault.ReadFault.TheVariants.{Damaged as Dama
 -- a fault of a page
 abbrev pub of_page : ℕ → PageFault → ReadFault
 of_page page (Malformed at) = MalformedPage page at
-of_page page NoPageMemory = Memory
+of_page page (NoPageMemory _) = Memory no_memory
 
 -- The page that is at fault is the first that the definition refuses, and so is the place. Where the disk or memory
 -- failed nothing is said.
@@ -40,7 +40,7 @@ abbrev pub Fails : {X : Type 0} → ReadFault → Result X OpenFault → Type 0
 Fails (DamagedPage page kept found) read = read ≡ Err (Damaged page kept found)
 Fails (MalformedPage page at) read = read ≡ Err (MalformedAt page at)
 Fails Failed read = Unit {0}
-Fails Memory read = Unit {0}
+Fails (Memory _) read = Unit {0}
 
 -- what was read is what the definition gives, or its first fault
 abbrev pub Gives : {X : Type 0} → Result X ReadFault → Result X OpenFault → Type 0
@@ -53,7 +53,7 @@ Counts before after (Ok x) = after ≡ before
 Counts before after (Err (DamagedPage page kept found)) = after ≡ before
 Counts before after (Err (MalformedPage page at)) = after ≡ before
 Counts before after (Err Failed) = Rose before after
-Counts before after (Err Memory) = after ≡ before
+Counts before after (Err (Memory _)) = after ≡ before
 
 -- the pages of a store are as they were, and nothing was written
 pub record Looked {D : Type 0} {g : Ghosts D} (old new : Pages D g) : Type 0 where

@@ -1,6 +1,7 @@
 -- What is read behind a header, and why nothing was.
 use Rattle.std.specs.Prelude.{◌≡◌, ℕ, List, Result, Ok, Err}
-use Rattle.pm_base.specs.Counts.{ShowsRise}
+use Rattle.pm_types.specs.Memory.{no_memory}
+use Rattle.pm_types.specs.Counts.{ShowsRise}
 use Rattle.pm_types.specs.declared.fault.OpenFault.{OpenFault}
 use Rattle.pm_types.specs.declared.fault.OpenFault.TheVariants.{NotAStore, Version, Damaged, Malformed, Disk, Memory}
 use Rattle.pm_image.specs.declared.settled.KeptPage.{KeptPage}
@@ -13,7 +14,7 @@ abbrev pub open_fault : ReadFault → ℕ → ℕ → OpenFault
 open_fault (DamagedPage page kept found) before after = Damaged page kept found
 open_fault (MalformedPage page at) before after = Malformed page at
 open_fault Failed before after = Disk before after
-open_fault NoRoom before after = Memory
+open_fault (NoRoom _) before after = Memory no_memory
 
 -- A page behind the header is at fault or memory ran out, and the count of faults stands still; or the disk failed,
 -- which has raised its count.
@@ -23,7 +24,7 @@ IsGraphFault before after (Version version) = ⊥
 IsGraphFault before after (Damaged page kept found) = after ≡ before
 IsGraphFault before after (Malformed page at) = after ≡ before
 IsGraphFault before after (Disk b a) = ShowsRise b a before after
-IsGraphFault before after Memory = after ≡ before
+IsGraphFault before after (Memory _) = after ≡ before
 
 -- What was read is the graph behind the header, or its first fault. Where the disk or memory failed nothing is said.
 abbrev pub IsGraph : Result (Catalog × List KeptPage) OpenFault → Result Graph OpenFault → Type 0
@@ -33,4 +34,4 @@ IsGraph (Err (Version version)) graph = ⊥
 IsGraph (Err (Damaged page kept found)) graph = graph ≡ Err (Damaged page kept found)
 IsGraph (Err (Malformed page at)) graph = graph ≡ Err (Malformed page at)
 IsGraph (Err (Disk before after)) graph = Unit {0}
-IsGraph (Err Memory) graph = Unit {0}
+IsGraph (Err (Memory _)) graph = Unit {0}

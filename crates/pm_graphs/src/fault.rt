@@ -2,6 +2,7 @@
 
 ghost use Rattle.std.specs.Prelude.{◌≡◌};
 ghost use Rattle.pm_graphs.specs.declared.fault.ReadFault.TheVariants.{Malformed, Failed, Memory};
+ghost use Rattle.pm_types.specs.Memory.{no_memory};
 
 use pm_disk::DiskFailed;
 use pm_types::NoMemory;
@@ -29,7 +30,7 @@ pub(crate) enum ReadFault {
     /// The disk failed.
     Failed,
     /// Memory ran out.
-    Memory,
+    Memory(NoMemory),
 }
 
 /// The place of an address.
@@ -61,25 +62,25 @@ impl From<DiskFailed> for ReadFault {
 }
 
 impl From<NoMemory> for ReadFault {
-    ghost from_gives = { λ _ e. e ≡ Memory };
+    ghost from_gives = { λ refused e. e ≡ Memory refused };
 
-    fn from(_e: NoMemory) -> ReadFault {
-        ReadFault::Memory
+    fn from(refused: NoMemory) -> ReadFault {
+        ReadFault::Memory(refused)
     }
 }
 
 impl From<AllocError> for ReadFault {
-    ghost from_gives = { λ _ e. e ≡ Memory };
+    ghost from_gives = { λ _ e. e ≡ Memory no_memory };
 
-    fn from(_e: AllocError) -> ReadFault {
-        ReadFault::Memory
+    fn from(refused: AllocError) -> ReadFault {
+        ReadFault::Memory(NoMemory::from(refused))
     }
 }
 
 impl<T: Drop> From<AllocFailed<T>> for ReadFault {
-    ghost from_gives = { λ _ e. e ≡ Memory };
+    ghost from_gives = { λ _ e. e ≡ Memory no_memory };
 
-    fn from(_e: AllocFailed<T>) -> ReadFault {
-        ReadFault::Memory
+    fn from(refused: AllocFailed<T>) -> ReadFault {
+        ReadFault::Memory(NoMemory::from(refused))
     }
 }

@@ -6,8 +6,8 @@ ghost use Rattle.pm_types.specs.declared.limits.TheConstants.{FIELDS, PAGE_BYTES
 ghost use Rattle.pm_image.specs.declared.settled.KeptPage.{KeptPage};
 ghost use Rattle.pm_image.specs.CarPages.{HasCarPage, car_spelling, one_car, padded};
 
+use crate::settled::{PackedCar, PackedPage};
 use pm_image::KeptPage;
-use pm_settled::{PackedCar, PackedPage};
 use pm_types::NoMemory;
 use std::alloc::Global;
 

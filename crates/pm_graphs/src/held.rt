@@ -5,8 +5,7 @@ ghost use Rattle.pm_types.specs.declared.object.Slot.{Slot};
 ghost use Rattle.pm_graphs.specs.Linking.{identity_of, held_slots, held_cars, held_at, may_name};
 
 use pm_image::KeptPage;
-use pm_numbered::Numbered;
-use pm_types::{Addr, Id, NoMemory, Slot};
+use pm_types::{Addr, Id, NoMemory, Numbered, Slot};
 use std::alloc::Global;
 
 /// What stands in the slots of a car that are listed: the identity of an object, or none where it moved.

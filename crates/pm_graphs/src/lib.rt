@@ -9,6 +9,7 @@ mod links;
 mod opening;
 mod read_cars;
 mod reading;
+pub mod settled;
 
 pub use chain::Chain;
 pub use from_page::{FromPage, Unpacked};

@@ -86,7 +86,7 @@ fn open_fault(fault: ReadFault, before: u64, after: u64) -> OpenFault
         ReadFault::Damaged { page, kept, found } => OpenFault::Damaged { page, kept, found },
         ReadFault::Malformed { page, at } => OpenFault::Malformed { page, at },
         ReadFault::Failed => OpenFault::Disk { before, after },
-        ReadFault::Memory => OpenFault::Memory,
+        ReadFault::Memory(refused) => OpenFault::Memory(refused),
     }
 }
 

@@ -8,8 +8,8 @@ ghost use Rattle.pm_image.specs.CarPages.{HasCarPage, car_spelling, one_car, pad
 ghost use Rattle.pm_graphs.specs.Reading.{car_list};
 
 use crate::from_page::FromPage;
+use crate::settled::{PackedPage, PackedPages};
 use pm_image::{KeptPage, Settled};
-use pm_settled::{PackedPage, PackedPages};
 use pm_types::NoMemory;
 use std::alloc::Global;
 use std::marker::Model;

@@ -33,7 +33,7 @@ fn on_page(page: u64, fault: PageFault) -> ReadFault
 {
     match fault {
         PageFault::Malformed(at) => ReadFault::Malformed { page, at },
-        PageFault::Memory => ReadFault::Memory,
+        PageFault::Memory(refused) => ReadFault::Memory(refused),
     }
 }
 

@@ -2,7 +2,7 @@
 use Rattle.std.proofs.Common.{◌≡◌, ℕ, Result, Ok, Err, refl, sym, subst, ap}
 use Rattle.pm_image.specs.declared.fault.PageFault.{PageFault}
 use Rattle.pm_image.specs.declared.fault.PageFault.TheVariants.{Malformed, Memory}
-use Rattle.pm_base.specs.Results.{◌>>=◌}
+use Rattle.pm_types.specs.Results.{◌>>=◌}
 use Rattle.pm_image.specs.Answers.{answer, Gives}
 
 exact_gives : {X : Type 0} (read : Result X ℕ) → Gives (answer read) read
@@ -16,4 +16,4 @@ answer_gives answered read exact = subst (λ (r : Result _ PageFault). Gives r r
 -- a fault of the first step is that of both
 pub fails_too : {A B : Type 0} (fault : PageFault) (read : Result A ℕ) (f : A → Result B ℕ) → Gives (Err fault) read → Gives (Err fault) (read >>= f)
 fails_too (Malformed at) read f is = ap (λ (r : Result _ ℕ). r >>= f) is
-fails_too Memory read f is = tt
+fails_too (Memory _) read f is = tt

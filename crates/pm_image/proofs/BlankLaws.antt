@@ -18,7 +18,7 @@ use Rattle.pm_image.specs.Opening.{current, page_of, page_count, header_body_of,
 use Rattle.pm_image.specs.Graphs.{Pages, Graph, undamaged, on_page, catalog_from, catalog_of, cars_from, linked, graph_of, copy_of}
 use Rattle.pm_image.specs.Stands.{pages_of, StandsForCopy}
 use Rattle.pm_image.specs.Blank.{blank_catalog, blank_catalog_page, blank_header, blank_store}
-use Rattle.pm_base.proofs.Results.{bound}
+use Rattle.pm_types.proofs.Results.{bound}
 use Rattle.pm_image.proofs.FrameLaws.{opened_as}
 use Rattle.pm_image.proofs.CatalogAgain.{catalog_again}
 

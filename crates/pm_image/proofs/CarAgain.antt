@@ -15,7 +15,7 @@ use Rattle.pm_layout.proofs.Texts.{Stands-split, Stands-end, number_is}
 use Rattle.pm_layout.proofs.Again.{slot_again}
 use Rattle.pm_image.specs.declared.car.CarImage.{CarImage}
 use Rattle.pm_image.specs.Steps.{tested, rest_at}
-use Rattle.pm_base.specs.Results.{◌>>=◌}
+use Rattle.pm_types.specs.Results.{◌>>=◌}
 use Rattle.pm_image.specs.CarPages.{CarScope, Numbers, HasCarPage, AreFree, car_at, car_magic, car_spelling, is_named, is_short, is_taken, numbered, padded, record_at, record_spelling, records_at, with_identity}
 use Rattle.pm_image.specs.CarAnswers.{IsCarInRange}
 use Rattle.pm_image.proofs.PageEnds.{magic_again, rest_again}

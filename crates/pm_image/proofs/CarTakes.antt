@@ -11,13 +11,13 @@ use Rattle.pm_layout.specs.declared.fault.LayoutFault.{LayoutFault}
 use Rattle.pm_layout.specs.Spelling.{spelling, HasSpelling, Stands}
 use Rattle.pm_layout.specs.Reading.{number_from, slot_at}
 use Rattle.pm_layout.proofs.Steps.{neither}
-use Rattle.pm_base.proofs.Results.{ok_same, if_ok, bind_ok}
+use Rattle.pm_types.proofs.Results.{ok_same, if_ok, bind_ok}
 use Rattle.pm_layout.proofs.Numbers.{IsBytes, wide_2, wide_4, wide_8}
 use Rattle.pm_layout.proofs.Texts.{Stands-then, Stands-end, number_stands}
 use Rattle.pm_layout.proofs.Slots.{slot_takes}
 use Rattle.pm_image.specs.declared.car.CarImage.{CarImage}
 use Rattle.pm_image.specs.Steps.{tested, magic_at, rest_at}
-use Rattle.pm_base.specs.Results.{◌>>=◌}
+use Rattle.pm_types.specs.Results.{◌>>=◌}
 use Rattle.pm_image.specs.CarPages.{CarScope, Numbers, HasCarPage, Ascend, AreFree, car_at, car_magic, car_spelling, is_named, is_short, is_taken, numbered, padded, record_at, record_spelling, records_at, with_identity}
 use Rattle.pm_image.proofs.PageEnds.{tested_ok, magic_takes, rest_takes}
 use Rattle.pm_image.proofs.SlotIdents.{is_live_slot, ident_of, slot_front}

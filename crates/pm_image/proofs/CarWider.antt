@@ -7,7 +7,7 @@ use Rattle.pm_layout.specs.Reading.{number_from, slot_at}
 use Rattle.pm_layout.proofs.Wider.{slot_more}
 use Rattle.pm_image.specs.declared.car.CarImage.{CarImage}
 use Rattle.pm_image.specs.Steps.{tested, magic_at}
-use Rattle.pm_base.proofs.Results.{bind_ok, bound, if_ok}
+use Rattle.pm_types.proofs.Results.{bind_ok, bound, if_ok}
 use Rattle.pm_image.specs.CarPages.{CarScope, Numbers, car_at, car_magic, is_named, is_short, is_taken, numbered, record_at, records_at, with_identity}
 
 numbered_from : (place number : ℕ) (read : Result (Slot × ℕ) LayoutFault) (x : (ℕ × Slot) × ℕ) → numbered place number read ≡ Ok x → (y : Slot × ℕ) × (read ≡ Ok y)

@@ -11,7 +11,7 @@ use Rattle.pm_types.specs.declared.limits.TheConstants.{PAGE_BYTES, NAME_BYTES}
 use Rattle.pm_layout.specs.Spelling.{address, IsAddress, Stands}
 use Rattle.pm_layout.specs.Reading.{number_from, address_at}
 use Rattle.pm_layout.proofs.Steps.{other_than_zero}
-use Rattle.pm_base.proofs.Results.{ok_same}
+use Rattle.pm_types.proofs.Results.{ok_same}
 use Rattle.pm_layout.proofs.Texts.{Stands-split, Stands-end, number_is, byte_is}
 use Rattle.pm_layout.proofs.Again.{address_again}
 use Rattle.pm_image.specs.declared.catalog_kind.TheConstants.{ENTRIES, CAR_ENTRY_BYTES, ROOT_ENTRY_BYTES}
@@ -21,7 +21,7 @@ use Rattle.pm_image.specs.declared.catalog.CatEntry.{CatEntry}
 use Rattle.pm_image.specs.declared.catalog.CatEntry.TheVariants.{Car, Root}
 use Rattle.pm_image.specs.declared.catalog.CatalogPage.{CatalogPage}
 use Rattle.pm_image.specs.Steps.{tested, magic_at, rest_at}
-use Rattle.pm_base.specs.Results.{◌>>=◌}
+use Rattle.pm_types.specs.Results.{◌>>=◌}
 use Rattle.pm_image.specs.CarPages.{padded}
 use Rattle.pm_image.specs.CatalogPages.{Met, meeting, meeting_next, catalog_magic, entry_spelling, catalog_spelling, catalog_used, is_free_page, is_next_page, has_next_digest, is_next_name, has_root_left, bad_name_byte, name_bytes, car_entry_at, root_entry_at, entry_at, entries_at, catalog_at, IsNextCar, IsNextRoot, IsNextEntry, AreNext, HasCatalogPage, IsEntryInRange, IsCatalogInRange}
 use Rattle.pm_image.proofs.CatalogReads.{no_bad_byte}

@@ -8,8 +8,8 @@ use Rattle.pm_layout.proofs.Numbers.{IsBytes}
 use Rattle.pm_image.specs.declared.fault.PageFault.{PageFault}
 use Rattle.pm_image.specs.declared.catalog.CatEntry.{CatEntry}
 use Rattle.pm_image.specs.declared.catalog.CatEntry.TheVariants.{Car, Root}
-use Rattle.pm_base.specs.Results.{◌>>=◌}
-use Rattle.pm_base.proofs.Fronts.{with_front_of, regroup_of}
+use Rattle.pm_types.specs.Results.{◌>>=◌}
+use Rattle.pm_types.proofs.Fronts.{with_front_of, regroup_of}
 use Rattle.pm_image.specs.Answers.{Gives}
 use Rattle.pm_image.specs.CatalogPages.{Met, meeting, meeting_all, entry_at, entries_at}
 use Rattle.pm_image.specs.CatalogReading.{HasRoomForRoots}

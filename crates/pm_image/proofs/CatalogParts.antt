@@ -7,13 +7,13 @@ use Rattle.pm_image.specs.declared.fault.PageFault.{PageFault}
 use Rattle.pm_image.specs.declared.catalog.CatEntry.{CatEntry}
 use Rattle.pm_image.specs.declared.catalog.CatalogPage.{CatalogPage}
 use Rattle.pm_image.specs.Steps.{tested, magic_at, rest_at}
-use Rattle.pm_base.specs.Results.{◌>>=◌}
+use Rattle.pm_types.specs.Results.{◌>>=◌}
 use Rattle.pm_image.specs.Answers.{answer, Gives}
 use Rattle.pm_image.specs.CatalogPages.{Met, meeting_next, catalog_magic, is_next_page, has_next_digest, entries_at, catalog_at}
 use Rattle.pm_image.specs.CatalogReading.{next_page_at, next_digest_at}
 use Rattle.pm_image.proofs.Answered.{answer_gives, fails_too}
 use Rattle.pm_image.proofs.CatalogReads.{gives_then}
-use Rattle.pm_base.proofs.Results.{same_after}
+use Rattle.pm_types.proofs.Results.{same_after}
 
 whole : {A B C E : Type 0} (r : Result A E) (x : B) (f : B → Result C E) → (r >>= λ u. f x) ≡ ((r >>= λ u. Ok x) >>= f)
 whole (Ok u) x f = refl

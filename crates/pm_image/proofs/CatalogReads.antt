@@ -13,7 +13,7 @@ use Rattle.pm_image.specs.declared.catalog.CatEntry.TheVariants.{Root}
 use Rattle.pm_image.specs.declared.fault.PageFault.{PageFault}
 use Rattle.pm_image.specs.Answers.{Gives}
 use Rattle.pm_image.specs.Steps.{tested}
-use Rattle.pm_base.specs.Results.{◌>>=◌}
+use Rattle.pm_types.specs.Results.{◌>>=◌}
 use Rattle.pm_image.specs.CatalogPages.{Met, bad_name_byte, name_bytes, is_next_name, has_root_left, root_entry_at}
 use Rattle.pm_image.specs.CatalogReading.{name_at, root_at}
 

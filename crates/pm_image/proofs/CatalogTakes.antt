@@ -12,7 +12,7 @@ use Rattle.pm_types.proofs.NameLemmas.{name_from_bytes}
 use Rattle.pm_layout.specs.Spelling.{address, Stands}
 use Rattle.pm_layout.specs.Reading.{number_from, address_at}
 use Rattle.pm_layout.proofs.Steps.{chosen, neither, not_zero}
-use Rattle.pm_base.proofs.Results.{bind_ok, ok_same, if_ok, wanted_ok}
+use Rattle.pm_types.proofs.Results.{bind_ok, ok_same, if_ok, wanted_ok}
 use Rattle.pm_layout.proofs.Numbers.{IsBytes, wide_2, wide_8}
 use Rattle.pm_layout.proofs.Texts.{Stands-then, Stands-end, number_stands, byte_stands, between_stands}
 use Rattle.pm_layout.proofs.Slots.{address_stands}
@@ -24,7 +24,7 @@ use Rattle.pm_image.specs.declared.catalog.CatEntry.{CatEntry}
 use Rattle.pm_image.specs.declared.catalog.CatEntry.TheVariants.{Car, Root}
 use Rattle.pm_image.specs.declared.catalog.CatalogPage.{CatalogPage}
 use Rattle.pm_image.specs.Steps.{tested, magic_at, rest_at}
-use Rattle.pm_base.specs.Results.{◌>>=◌}
+use Rattle.pm_types.specs.Results.{◌>>=◌}
 use Rattle.pm_image.specs.CarPages.{padded}
 use Rattle.pm_image.specs.CatalogPages.{Met, meeting, meeting_next, catalog_magic, entry_spelling, entry_size, catalog_spelling, catalog_used, is_free_page, is_next_page, has_next_digest, is_next_name, has_root_left, bad_name_byte, name_bytes, car_entry_at, root_entry_at, entry_at, entries_at, catalog_at, IsNextEntry, AreNext, HasCatalogPage}
 use Rattle.pm_image.proofs.CatalogReads.{part_length}

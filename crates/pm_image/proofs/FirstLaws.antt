@@ -26,7 +26,7 @@ use Rattle.pm_image.specs.Opening.{current, page_of, page_count}
 use Rattle.pm_image.specs.Graphs.{Pages, Graph, on_page, catalog_from, catalog_of, cars_from, linked, graph_of, copy_of}
 use Rattle.pm_image.specs.Stands.{pages_of, StandsForCopy}
 use Rattle.pm_image.specs.First.{first_bytes, first_car, first_car_page, first_catalog, first_catalog_page, first_header, first_copy}
-use Rattle.pm_base.proofs.Results.{bound}
+use Rattle.pm_types.proofs.Results.{bound}
 use Rattle.pm_image.proofs.FrameLaws.{opened_as}
 use Rattle.pm_image.proofs.CarAgain.{car_again}
 use Rattle.pm_image.proofs.CatalogAgain.{catalog_again}

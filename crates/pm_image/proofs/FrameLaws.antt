@@ -20,7 +20,7 @@ use Rattle.pm_image.specs.Opening.{Current, current}
 use Rattle.pm_layout.specs.Headers.{most_fields}
 use Rattle.pm_image.specs.Stands.{SamePages, Opened, opened, pages_of, copy_in, StandsForCopy}
 use Rattle.pm_image.proofs.Results.{tested_ok, passed, both_true, not_false, true_not}
-use Rattle.pm_base.proofs.Results.{ok_same, bind_ok, bound, if_ok, if_not}
+use Rattle.pm_types.proofs.Results.{ok_same, bind_ok, bound, if_ok, if_not}
 
 absurd_bool : {A : Type 0} → true ≡ false → A
 absurd_bool is = cc

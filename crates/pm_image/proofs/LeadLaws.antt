@@ -10,7 +10,7 @@ use Rattle.pm_types.specs.declared.object.Slot.TheVariants.{Live, Moved}
 use Rattle.pm_layout.specs.declared.header.Header.{Header}
 use Rattle.pm_layout.specs.Headers.{most_fields}
 use Rattle.pm_layout.specs.Spelling.{slot_size}
-use Rattle.pm_base.proofs.Results.{bind_ok, ok_same, wanted_ok}
+use Rattle.pm_types.proofs.Results.{bind_ok, ok_same, wanted_ok}
 use Rattle.pm_image.specs.declared.car.CarImage.{CarImage}
 use Rattle.pm_image.specs.declared.catalog.CatEntry.{CatEntry}
 use Rattle.pm_image.specs.declared.catalog.CatEntry.TheVariants.{Car, Root}

@@ -7,8 +7,8 @@ use Rattle.pm_layout.specs.Reading.{slot_at, number_from}
 use Rattle.pm_layout.proofs.Laws.{nothing_left}
 use Rattle.pm_image.specs.declared.fault.PageFault.{PageFault}
 use Rattle.pm_image.specs.declared.fault.PageFault.TheVariants.{Malformed, Memory}
-use Rattle.pm_base.specs.Results.{◌>>=◌}
-use Rattle.pm_base.proofs.Fronts.{with_front_of, regroup_of}
+use Rattle.pm_types.specs.Results.{◌>>=◌}
+use Rattle.pm_types.proofs.Fronts.{with_front_of, regroup_of}
 use Rattle.pm_image.specs.Answers.{Gives}
 use Rattle.pm_image.specs.CarPages.{CarScope, Numbers, is_short, is_taken, numbered, with_identity, record_at, records_at}
 use Rattle.pm_image.specs.CarAnswers.{a_car}
@@ -53,7 +53,7 @@ module _ (scope : CarScope) (page : List ℕ) where
   pub stops : (met : Numbers) (least place count i : ℕ) (front : List (ℕ × Slot)) (fault : PageFault) (total : Result (List (ℕ × Slot) × ℕ) ℕ) → i < count → Gives (Err fault) (record_at scope met least page place)
       → with_front_of front (records_at scope met least page (count - i) place) ≡ total → Gives (Err fault) total
   stops met least place count i front (Malformed at) total lt read so_far = ends met least place count i front at total lt read so_far
-  stops met least place count i front Memory total lt read so_far = tt
+  stops met least place count i front (Memory _) total lt read so_far = tt
 
   -- all records were read
   pub is_done : (met : Numbers) (least place count i : ℕ) (front : List (ℕ × Slot)) (total : Result (List (ℕ × Slot) × ℕ) ℕ) → count ≤ i

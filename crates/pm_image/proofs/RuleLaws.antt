@@ -15,7 +15,7 @@ use Rattle.pm_layout.specs.declared.header.HeaderFault.TheVariants.{Magic, Versi
 use Rattle.pm_layout.specs.Headers.{header_at, most_fields}
 use Rattle.pm_layout.specs.Reading.{number_from, address_at}
 use Rattle.pm_layout.proofs.Steps.{chosen}
-use Rattle.pm_base.proofs.Results.{bind_ok, ok_same, if_ok, wanted_ok, err_same, either_fails}
+use Rattle.pm_types.proofs.Results.{bind_ok, ok_same, if_ok, wanted_ok, err_same, either_fails}
 use Rattle.pm_image.specs.declared.catalog_kind.TheConstants.{ENTRIES, CAR_ENTRY_BYTES, ROOT_ENTRY_BYTES}
 use Rattle.pm_image.specs.declared.catalog.CatEntry.{CatEntry}
 use Rattle.pm_image.specs.declared.catalog.CatEntry.TheVariants.{Car, Root}

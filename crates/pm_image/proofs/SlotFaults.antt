@@ -6,7 +6,7 @@ use Rattle.pm_types.specs.declared.object.Slot.{Slot}
 use Rattle.pm_types.specs.declared.object.Slot.TheVariants.{Moved}
 use Rattle.pm_layout.specs.declared.fault.LayoutFault.{LayoutFault}
 use Rattle.pm_layout.specs.declared.fault.LayoutFault.TheVariants.{Short, Kind, Fields, Count, Null, Ident, Memory}
-use Rattle.pm_base.specs.Results.{◌>>=◌}
+use Rattle.pm_types.specs.Results.{◌>>=◌}
 use Rattle.pm_layout.specs.Reading.{CanRunOut, Gives, address_at, number_from, live_end, end_at, ident_at, field_count_at, byte_count_at, field_at, fields_at, live_at, target_at, moved_at, slot_at}
 use Rattle.pm_layout.proofs.Slots.{end_takes, field_count_takes}
 use Rattle.pm_layout.proofs.Laws.{nothing_left, kind_live, end_cut}
@@ -21,7 +21,7 @@ not_short (Err (Fields at n)) can = refl
 not_short (Err (Count at n)) can = refl
 not_short (Err (Null at)) can = refl
 not_short (Err (Ident at)) can = refl
-not_short (Err Memory) can = refl
+not_short (Err (Memory _)) can = refl
 
 -- a reader answers that a slot is short just where it is
 pub same_short : {X : Type 0} (answered read : Result X LayoutFault) → Gives answered read → is_short answered ≡ is_short read
@@ -32,7 +32,7 @@ same_short (Err (Fields at n)) read given = ap is_short (sym given)
 same_short (Err (Count at n)) read given = ap is_short (sym given)
 same_short (Err (Null at)) read given = ap is_short (sym given)
 same_short (Err (Ident at)) read given = ap is_short (sym given)
-same_short (Err Memory) read given = sym (not_short read given)
+same_short (Err (Memory _)) read given = sym (not_short read given)
 
 live_short : (most : ℕ) (bytes : List ℕ) (at : ℕ) → length bytes < at + 13 → live_at most bytes at ≡ Err (Short at)
 unfolding live_at
@@ -153,4 +153,4 @@ fault_inside most bytes at place (Fields a n) inside given = subst (λ (r : Resu
 fault_inside most bytes at place (Count a n) inside given = subst (λ (r : Result (Slot × ℕ) LayoutFault). IsWithin (length bytes) r) given (slot_within most bytes at)
 fault_inside most bytes at place (Null a) inside given = subst (λ (r : Result (Slot × ℕ) LayoutFault). IsWithin (length bytes) r) given (slot_within most bytes at)
 fault_inside most bytes at place (Ident a) inside given = subst (λ (r : Result (Slot × ℕ) LayoutFault). IsWithin (length bytes) r) given (slot_within most bytes at)
-fault_inside most bytes at place Memory inside given = inside
+fault_inside most bytes at place (Memory _) inside given = inside

@@ -8,10 +8,10 @@ use Rattle.pm_types.specs.declared.object.Slot.{Slot}
 use Rattle.pm_types.specs.declared.object.Slot.TheVariants.{Live, Moved}
 use Rattle.pm_layout.specs.declared.fault.LayoutFault.{LayoutFault}
 use Rattle.pm_layout.specs.declared.fault.LayoutFault.TheVariants.{Short, Kind}
-use Rattle.pm_base.specs.Results.{◌>>=◌}
+use Rattle.pm_types.specs.Results.{◌>>=◌}
 use Rattle.pm_layout.specs.Reading.{number_from, end_at, ident_at, field_count_at, byte_count_at, fields_at, live_at, target_at, moved_at, slot_at}
 use Rattle.pm_layout.proofs.Steps.{chosen}
-use Rattle.pm_base.proofs.Results.{bind_ok, ok_same, if_ok, wanted_ok}
+use Rattle.pm_types.proofs.Results.{bind_ok, ok_same, if_ok, wanted_ok}
 use Rattle.pm_layout.proofs.Slots.{ident_takes}
 
 -- the kind and the identity of a slot; a Moved one has no identity

@@ -2,7 +2,7 @@
 use Rattle.std.proofs.Common.{◌≡◌, ◌⊎◌, ℕ, List, Some, Result, Ok, Err, refl, sym, ap, ◌∙◌, inl, inr}
 use Rattle.pm_types.specs.declared.fault.OpenFault.{OpenFault}
 use Rattle.pm_model.specs.World.{Copy}
-use Rattle.pm_base.proofs.Results.{ok_same}
+use Rattle.pm_types.proofs.Results.{ok_same}
 use Rattle.pm_image.specs.Stands.{Opened, opened, copy_in, StandsForCopy, fault_of, refusal}
 
 same_found : (bytes : List ℕ) (a b : Opened) → opened bytes ≡ Ok a → opened bytes ≡ Ok b → a ≡ b

@@ -12,4 +12,4 @@ answer (Err at) = Err (Malformed at)
 abbrev pub Gives : {X : Type 0} → Result X PageFault → Result X ℕ → Type 0
 Gives (Ok x) read = read ≡ Ok x
 Gives (Err (Malformed at)) read = read ≡ Err at
-Gives (Err Memory) read = Unit {0}
+Gives (Err (Memory _)) read = Unit {0}

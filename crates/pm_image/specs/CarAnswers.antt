@@ -8,6 +8,7 @@ use Rattle.pm_image.specs.declared.car.CarImage.{CarImage}
 use Rattle.pm_image.specs.declared.fault.PageFault.{PageFault}
 use Rattle.pm_image.specs.declared.fault.PageFault.TheVariants.{Malformed, Memory as NoMemory}
 use Rattle.pm_image.specs.CarPages.{CarScope}
+use Rattle.pm_types.specs.Memory.{no_memory}
 
 -- a car of a store with this next identity; its number is this one, if it is known
 abbrev pub a_car : ℕ → ℕ → Option ℕ → CarScope
@@ -26,7 +27,7 @@ page_fault place (Fields at n) = Malformed at
 page_fault place (Count at n) = Malformed at
 page_fault place (Null at) = Malformed at
 page_fault place (Ident at) = Malformed at
-page_fault place Memory = NoMemory
+page_fault place (Memory _) = NoMemory no_memory
 
 -- each number of the list is one of a byte
 abbrev pub AreBytes : List ℕ → Type 0

@@ -14,7 +14,7 @@ use Rattle.pm_layout.specs.Spelling.{spelling, slot_size, HasSpelling}
 use Rattle.pm_layout.specs.Reading.{number_from, slot_at}
 use Rattle.pm_image.specs.declared.car.CarImage.{CarImage}
 use Rattle.pm_image.specs.Steps.{tested, magic_at, rest_at}
-use Rattle.pm_base.specs.Results.{◌>>=◌}
+use Rattle.pm_types.specs.Results.{◌>>=◌}
 
 -- PCAR
 abbrev pub car_magic : List ℕ
@@ -61,7 +61,7 @@ is_short (Err (Fields at n)) = false
 is_short (Err (Count at n)) = false
 is_short (Err (Null at)) = false
 is_short (Err (Ident at)) = false
-is_short (Err Memory) = false
+is_short (Err (Memory _)) = false
 
 -- where the first fault of a slot stands (one that is cut, and one that could not be read for want of memory, have none but its beginning)
 abbrev pub fault_place : ℕ → LayoutFault → ℕ
@@ -71,7 +71,7 @@ fault_place place (Fields at n) = at
 fault_place place (Count at n) = at
 fault_place place (Null at) = at
 fault_place place (Ident at) = at
-fault_place place Memory = place
+fault_place place (Memory _) = place
 
 -- this slot that was read has this number, or the fault stands where the slot's stands
 abbrev pub numbered : ℕ → ℕ → Result (Slot × ℕ) LayoutFault → Result ((ℕ × Slot) × ℕ) ℕ

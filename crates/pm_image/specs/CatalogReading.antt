@@ -5,7 +5,7 @@ use Rattle.pm_layout.specs.Reading.{number_from, address_at}
 use Rattle.pm_image.specs.declared.catalog.CatEntry.{CatEntry}
 use Rattle.pm_image.specs.declared.catalog.CatEntry.TheVariants.{Root}
 use Rattle.pm_image.specs.Steps.{tested}
-use Rattle.pm_base.specs.Results.{◌>>=◌}
+use Rattle.pm_types.specs.Results.{◌>>=◌}
 use Rattle.pm_image.specs.CarPages.{Numbers}
 use Rattle.pm_image.specs.CatalogPages.{Met, bad_name_byte, name_bytes, is_next_name, has_root_left, is_next_page, has_next_digest}
 

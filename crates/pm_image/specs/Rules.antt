@@ -9,7 +9,7 @@ IsOfPages (Version version) = ⊥
 IsOfPages (Damaged page kept found) = Unit {0}
 IsOfPages (Malformed page at) = Unit {0}
 IsOfPages (Disk before after) = ⊥
-IsOfPages Memory = ⊥
+IsOfPages (Memory _) = ⊥
 
 -- one of the answers of the seven rules
 abbrev pub IsOfRules : OpenFault → Type 0
@@ -18,4 +18,4 @@ IsOfRules (Version version) = Unit {0}
 IsOfRules (Damaged page kept found) = Unit {0}
 IsOfRules (Malformed page at) = Unit {0}
 IsOfRules (Disk before after) = ⊥
-IsOfRules Memory = ⊥
+IsOfRules (Memory _) = ⊥

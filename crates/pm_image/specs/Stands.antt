@@ -2,7 +2,7 @@
 use Rattle.std.specs.Prelude.{◌≡◌, ℕ, ◌<◌, List, Contains, Option, Some, None, Result, Ok, Err}
 use Rattle.pm_types.specs.declared.fault.OpenFault.{OpenFault}
 use Rattle.pm_model.specs.World.{Copy}
-use Rattle.pm_base.specs.Results.{◌>>=◌}
+use Rattle.pm_types.specs.Results.{◌>>=◌}
 use Rattle.pm_image.specs.Opening.{Current, current, page_of, page_count}
 use Rattle.pm_image.specs.Graphs.{Pages, Graph, graph_of, copy_of}
 

@@ -1,7 +1,6 @@
 //! A car as its page spells it.
 
-use pm_base::Items;
-use pm_types::{CAR_HEAD_BYTES, Slot};
+use pm_types::{CAR_HEAD_BYTES, Items, Slot};
 
 /// The four bytes that a car's page begins with, `PCAR`.
 pub(crate) const MAGIC: [u8; 4] = [0x50, 0x43, 0x41, 0x52];

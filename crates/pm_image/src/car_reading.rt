@@ -9,6 +9,7 @@ ghost use Rattle.pm_image.specs.Answers.{answer, Gives};
 ghost use Rattle.pm_image.specs.CarPages.{HasCarPage, car_at, car_spelling, fault_place, is_named, is_short, is_taken, one_car, padded, record_at, records_at, with_identity};
 ghost use Rattle.pm_image.specs.CarAnswers.{IsCarInRange, a_car, page_fault};
 ghost use Rattle.pm_image.specs.Graphs.{with_identities};
+ghost use Rattle.pm_types.specs.Memory.{no_memory};
 
 use crate::car::{MAGIC, RECORDS_AT};
 use crate::steps::{check_magic, check_rest};
@@ -46,7 +47,7 @@ fn page_fault(place: usize, fault: LayoutFault) -> PageFault
         LayoutFault::Count { at, .. } => PageFault::Malformed(at as u32),
         LayoutFault::Null(at) => PageFault::Malformed(at as u32),
         LayoutFault::Ident(at) => PageFault::Malformed(at as u32),
-        LayoutFault::Memory => PageFault::Memory,
+        LayoutFault::Memory(refused) => PageFault::Memory(refused),
     }
 }
 
@@ -88,7 +89,7 @@ fn record_at(
 // The identity of the slot is met, if it has one.
 fn meet(met: &mut NumberSet, slot: &Slot) -> Result<(), PageFault>
     ensures ok { OnOk result (met.new ≡ with_identity met.old slot.now) }
-    ensures err { OnErr result (result ≡ Err Memory) }
+    ensures err { OnErr result (result ≡ Err (Memory no_memory)) }
 {
     match slot {
         Slot::Live(object) => {

@@ -1,7 +1,6 @@
 //! A page of the catalog, which lists the cars and the roots of a copy.
 
-use pm_base::Items;
-use pm_types::{Addr, Name};
+use pm_types::{Addr, Items, Name};
 
 /// An entry of a catalog.
 #[derive(Debug, Drop)]

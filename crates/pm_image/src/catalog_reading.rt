@@ -84,7 +84,7 @@ fn name_at(
         Err(NameFault::Empty) => malformed(at),
         Err(NameFault::TooLong(_)) => malformed(at),
         Err(NameFault::BadByte(ahead)) => malformed(place + ahead as usize),
-        Err(NameFault::Memory) => Err(PageFault::Memory),
+        Err(NameFault::Memory(refused)) => Err(PageFault::Memory(refused)),
     }
 }
 

@@ -2,6 +2,7 @@
 
 ghost use Rattle.std.specs.Prelude.{◌≡◌};
 ghost use Rattle.pm_image.specs.declared.fault.PageFault.TheVariants.{Memory};
+ghost use Rattle.pm_types.specs.Memory.{no_memory};
 
 use pm_types::NoMemory;
 use std::alloc::{AllocError, AllocFailed};
@@ -16,29 +17,29 @@ pub enum PageFault {
     Malformed(u32),
     /// Memory ran out.
     #[error("no memory")]
-    Memory,
+    Memory(NoMemory),
 }
 
 impl From<NoMemory> for PageFault {
-    ghost from_gives = { λ _ e. e ≡ Memory };
+    ghost from_gives = { λ refused e. e ≡ Memory refused };
 
-    fn from(_e: NoMemory) -> PageFault {
-        PageFault::Memory
+    fn from(refused: NoMemory) -> PageFault {
+        PageFault::Memory(refused)
     }
 }
 
 impl From<AllocError> for PageFault {
-    ghost from_gives = { λ _ e. e ≡ Memory };
+    ghost from_gives = { λ _ e. e ≡ Memory no_memory };
 
-    fn from(_e: AllocError) -> PageFault {
-        PageFault::Memory
+    fn from(refused: AllocError) -> PageFault {
+        PageFault::Memory(NoMemory::from(refused))
     }
 }
 
 impl<T: Drop> From<AllocFailed<T>> for PageFault {
-    ghost from_gives = { λ _ e. e ≡ Memory };
+    ghost from_gives = { λ _ e. e ≡ Memory no_memory };
 
-    fn from(_e: AllocFailed<T>) -> PageFault {
-        PageFault::Memory
+    fn from(refused: AllocFailed<T>) -> PageFault {
+        PageFault::Memory(NoMemory::from(refused))
     }
 }

@@ -1,7 +1,7 @@
 //! The cars of a settled copy.
 
 use crate::CarImage;
-use pm_base::Items;
+use pm_types::Items;
 
 /// A car of a settled copy, and the page where it stands.
 #[derive(Debug, Drop)]

@@ -13,7 +13,7 @@ use Rattle.pm_types.specs.declared.object.Slot.{Slot}
 use Rattle.pm_types.specs.declared.object.Slot.TheVariants.{Live}
 use Rattle.pm_types.specs.declared.source.RefSource.TheVariants.{Root}
 use Rattle.pm_cars.specs.Cars.{one_live, one_moved, slot_room, live_count, moved_count, used}
-use Rattle.pm_law_rows.specs.Examples.{at}
+use Rattle.pm_law_commands.specs.Row.Examples.{at}
 use Rattle.pm_view.specs.View.{Sources}
 use Rattle.pm_view.specs.Candidates.{set_of, queue_of}
 use Rattle.pm_view.specs.Counts.{live_in}

@@ -1,3 +1,4 @@
 pub mod Places
 pub mod Linked
 pub mod Examples
+pub mod TellLemmas

@@ -3,7 +3,7 @@ use Rattle.std.proofs.Common.{◌≡◌, ℕ, [], Option, ap, sym, ◌∙◌, le
 use Rattle.std.specs.Ordering.{nat_cmp}
 use Rattle.std.specs.Option.{unwrap_or, option_map}
 use Rattle.std.specs.FinMap.{get, len, empty}
-use Rattle.pm_base.proofs.Mapped.{get-mapped}
+use Rattle.pm_types.proofs.Mapped.{get-mapped}
 use Rattle.pm_space.specs.declared.links.Links.{Links}
 use Rattle.pm_space.specs.Linked.{Linked, set_of, queue_of, sets_of, queues_of}
 

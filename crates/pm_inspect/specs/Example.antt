@@ -7,7 +7,7 @@ use Rattle.pm_types.specs.declared.source.RefSource.TheVariants.{Root}
 use Rattle.pm_cars.specs.Cars.{Car}
 use Rattle.pm_view.specs.View.{SpaceView}
 use Rattle.pm_view.specs.Rows.{new_space}
-use Rattle.pm_law_rows.specs.Examples.{at}
+use Rattle.pm_law_commands.specs.Row.Examples.{at}
 
 -- object 1 has two null fields and the bytes cafe
 abbrev pub first_object : Object

@@ -7,7 +7,7 @@ use Rattle.pm_trains.specs.Trains.{Train, cars_at}
 use Rattle.pm_view.specs.View.{SpaceView}
 use Rattle.pm_view.specs.Candidates.{set_of, queue_of}
 use Rattle.pm_view.specs.Counts.{live_in}
-use Rattle.pm_base.specs.Counts.{capped}
+use Rattle.pm_types.specs.Counts.{capped}
 
 -- a line: a word, then its columns in decimal digits, each after one space
 abbrev pub line : List ℕ → List ℕ → List ℕ

@@ -3,7 +3,7 @@ ghost use Rattle.std.specs.FinMap.{get, len};
 ghost use Rattle.pm_trains.specs.Trains.{cars_at};
 ghost use Rattle.pm_view.specs.Candidates.{set_of, queue_of};
 ghost use Rattle.pm_view.specs.Counts.{live_in};
-ghost use Rattle.pm_base.specs.Counts.{capped};
+ghost use Rattle.pm_types.specs.Counts.{capped};
 ghost use Rattle.pm_space.specs.Shown.{view};
 ghost use Rattle.pm_inspect.specs.Report.{car_count, live_in_cars, live_total, CountsLive};
 

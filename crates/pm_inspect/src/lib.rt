@@ -6,6 +6,7 @@ mod counting;
 mod laws;
 mod lines;
 mod reporting;
+pub mod tell;
 
 pub use laws::{the_report_of_a_new_space, the_report_of_one_object};
 pub use reporting::report;

@@ -1,7 +1,7 @@
 -- How the source and the sink in memory count their calls, and which of them fail.
 use Rattle.std.specs.Prelude.{ℕ, ◌+◌, ◌==◌, ◌&&◌, Bool, List, nat_lt}
 use Rattle.std.specs.List.{list_any}
-use Rattle.pm_base.specs.Counts.{greatest_count}
+use Rattle.pm_types.specs.Counts.{greatest_count}
 
 -- the call after so many calls is to fail: its number, counted from 1, is listed
 abbrev pub is_listed : List ℕ → ℕ → Bool

@@ -1,6 +1,6 @@
 -- What contracts see of the source and the sink in memory.
 use Rattle.std.specs.Prelude.{ℕ, List}
-use Rattle.pm_base.specs.Counts.{raised}
+use Rattle.pm_types.specs.Counts.{raised}
 
 -- a source in memory: the bytes that are left, the most that a call gives, the numbers of the calls that fail,
 -- how many calls were made, and how many of them failed

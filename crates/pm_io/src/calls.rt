@@ -1,6 +1,6 @@
 ghost use Rattle.std.specs.Prelude.{◌≡◌, is_err, IsErr, OnOk, OnErr, MatchResult};
-ghost use Rattle.pm_base.specs.Counts.{Rose};
-ghost use Rattle.pm_base.specs.Counts.{raised};
+ghost use Rattle.pm_types.specs.Counts.{Rose};
+ghost use Rattle.pm_types.specs.Counts.{raised};
 ghost use Rattle.pm_io.specs.Calls.{is_listed};
 
 use crate::Failed;

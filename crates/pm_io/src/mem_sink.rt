@@ -1,6 +1,6 @@
 ghost use Rattle.std.specs.Prelude.{◌≡◌, [], ◌++◌, length, true, false, is_err, IsErr, OnOk, OnErr, Some};
-ghost use Rattle.pm_base.specs.Counts.{Rose};
-ghost use Rattle.pm_base.specs.Counts.{raised};
+ghost use Rattle.pm_types.specs.Counts.{Rose};
+ghost use Rattle.pm_types.specs.Counts.{raised};
 ghost use Rattle.pm_io.specs.Calls.{is_listed};
 ghost use Rattle.pm_io.specs.Memory.{after_failed_call, after_refused_growth};
 

@@ -1,6 +1,6 @@
 ghost use Rattle.std.specs.Prelude.{◌≡◌, ◌<◌, [], ◌++◌, min, length, take, drop, is_err, IfOk, OnErr, Some};
-ghost use Rattle.pm_base.specs.Counts.{Rose};
-ghost use Rattle.pm_base.specs.Counts.{raised};
+ghost use Rattle.pm_types.specs.Counts.{Rose};
+ghost use Rattle.pm_types.specs.Counts.{raised};
 ghost use Rattle.pm_io.specs.Calls.{is_listed};
 ghost use Rattle.pm_io.specs.Memory.{after_failed_take};
 

@@ -1,9 +1,10 @@
 ghost use Rattle.std.specs.Prelude.{◌≡◌, ◌≢◌, ℕ, ◌+◌, ◌<◌, ◌≤◌, ◌↔◌, List, [], ◌++◌, length, vec_len, Some, IfOk, IfErr, OnOk, IsErrOf};
 ghost use Rattle.pm_io.specs.Streams.{LeavesEnd};
 ghost use Rattle.pm_io.specs.Reading.{CountsAs};
+ghost use Rattle.pm_types.specs.Memory.{no_memory};
 
 use crate::{Failed, Source};
-use pm_types::SOURCE_BYTES;
+use pm_types::{NoMemory, SOURCE_BYTES};
 use std::alloc::{AllocError, Global};
 use std::error::Error;
 use std::fmt;
@@ -24,7 +25,7 @@ pub enum ReadAll {
     /// More than 268,435,456 bytes came.
     TooLong,
     /// Memory ran out.
-    Memory,
+    Memory(NoMemory),
 }
 
 impl fmt::Display for ReadAll {
@@ -37,7 +38,7 @@ impl fmt::Display for ReadAll {
         match self {
             ReadAll::Failed => write!(f, "the source failed"),
             ReadAll::TooLong => write!(f, "the source is too long"),
-            ReadAll::Memory => write!(f, "no memory"),
+            ReadAll::Memory(_) => write!(f, "no memory"),
         }
     }
 }
@@ -58,11 +59,12 @@ impl From<Failed> for ReadAll {
 impl From<AllocError> for ReadAll {
     ghost use Rattle.std.specs.Prelude.{◌≡◌};
     ghost use Rattle.pm_io.specs.declared.reading.ReadAll.TheVariants.{Memory};
+    ghost use Rattle.pm_types.specs.Memory.{no_memory};
 
-    ghost from_gives = { λ _ why. why ≡ Memory };
+    ghost from_gives = { λ _ why. why ≡ Memory no_memory };
 
-    fn from(_e: AllocError) -> ReadAll {
-        ReadAll::Memory
+    fn from(refused: AllocError) -> ReadAll {
+        ReadAll::Memory(NoMemory::from(refused))
     }
 }
 

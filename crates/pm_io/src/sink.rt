@@ -1,5 +1,5 @@
 ghost use Rattle.std.specs.Prelude.{◌≡◌, ℕ, List, Option, Some, ◌++◌, length, OnOk, OnErr};
-ghost use Rattle.pm_base.specs.Counts.{Rose};
+ghost use Rattle.pm_types.specs.Counts.{Rose};
 ghost use Rattle.pm_io.specs.Streams.{AppendsPart};
 
 use crate::Failed;

@@ -1,7 +1,7 @@
 ghost use Rattle.std.specs.Prelude.{◌≡◌, ◌≢◌, ℕ, ◌<◌, ◌≤◌, List, ◌++◌, length, take, Some, None, IfOk, IfErr, OnOk, OnErr};
 ghost use Rattle.std.specs.Io.KnownBytes.{Appends, Keeps};
 ghost use Rattle.std.specs.IoError.{error_kind};
-ghost use Rattle.pm_base.specs.Counts.{Rose};
+ghost use Rattle.pm_types.specs.Counts.{Rose};
 ghost use Rattle.pm_io.specs.Streams.{AppendsPart};
 
 use crate::calls::count;

@@ -2,7 +2,7 @@ ghost use Rattle.std.specs.Prelude.{◌≡◌, ◌≢◌, ◌≤◌, length, Non
 ghost use Rattle.std.specs.Io.{ReadsAtMost};
 ghost use Rattle.std.specs.Io.KnownBytes.{ReadConsumes};
 ghost use Rattle.std.specs.IoError.{error_kind};
-ghost use Rattle.pm_base.specs.Counts.{Rose};
+ghost use Rattle.pm_types.specs.Counts.{Rose};
 
 use crate::calls::count;
 use crate::{Failed, Source};

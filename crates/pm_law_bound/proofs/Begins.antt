@@ -15,12 +15,12 @@ use Rattle.pm_view.specs.Counts.{standing_of, standing, old_in, old}
 use Rattle.pm_view.specs.Law.{HeapLaw}
 use Rattle.pm_view.specs.Represents.{Represents}
 use Rattle.pm_view.specs.Watches.{watch_in}
-use Rattle.pm_bound.specs.Ranking.{Fits, taking, up_to, rank_of, rank}
-use Rattle.pm_bound.specs.Sinking.{Sunk, IsLost}
-use Rattle.pm_bound.specs.Bounded.{KeepsBound}
-use Rattle.pm_law_count.proofs.Watched.{objects_noted, bound_noted}
-use Rattle.pm_law_rank.proofs.Bounds.{rank_below}
-use Rattle.pm_law_sunk.proofs.Lost.{lost_sunk}
+use Rattle.pm_view.specs.Ranking.{Fits, taking, up_to, rank_of, rank}
+use Rattle.pm_view.specs.Sinking.{Sunk, IsLost}
+use Rattle.pm_view.specs.Bounded.{KeepsBound}
+use Rattle.pm_law_course.proofs.CountLemmas.Watched.{objects_noted, bound_noted}
+use Rattle.pm_law_bound.proofs.RankLemmas.Bounds.{rank_below}
+use Rattle.pm_law_bound.proofs.SunkLemmas.Lost.{lost_sunk}
 
 -- no more stand in some trains than in all
 old_few : (view : SpaceView) (n : ℕ) (ts : List Train) → old_in view n ts ≤ sum_by (standing_of view) ts

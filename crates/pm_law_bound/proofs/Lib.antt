@@ -1,3 +1,5 @@
+pub mod RankLemmas
+pub mod SunkLemmas
 pub mod Begins
 pub mod Stays
 pub mod Reached

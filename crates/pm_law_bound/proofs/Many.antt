@@ -9,7 +9,7 @@ use Rattle.pm_view.specs.View.{SpaceView}
 use Rattle.pm_view.specs.Law.{HeapLaw}
 use Rattle.pm_view.specs.Represents.{Represents}
 use Rattle.pm_view.specs.Watches.{lines_from, watch_in}
-use Rattle.pm_bound.specs.Bounded.{KeepsRank, KeepsSunk, CountsOne, KeepsWatches, KeepsBound, IsHonest}
+use Rattle.pm_view.specs.Bounded.{KeepsRank, KeepsSunk, CountsOne, KeepsWatches, KeepsBound, IsHonest}
 use Rattle.pm_law_bound.proofs.Begins.{begins_bounded}
 use Rattle.pm_law_bound.proofs.Stays.{stays_bounded}
 use Rattle.pm_law_bound.proofs.Reached.{line_honest}

@@ -13,10 +13,10 @@ use Rattle.pm_view.specs.Reading.{id_at}
 use Rattle.pm_view.specs.Counts.{standing_of, old_in, old}
 use Rattle.pm_view.specs.Law.{HeapLaw}
 use Rattle.pm_view.specs.Watches.{line_of}
-use Rattle.pm_bound.specs.Ranking.{up_to}
-use Rattle.pm_bound.specs.Sinking.{IsLost}
-use Rattle.pm_bound.specs.Bounded.{KeepsBound, IsHonest}
-use Rattle.pm_law_rank.proofs.Bounds.{none_left}
+use Rattle.pm_view.specs.Ranking.{up_to}
+use Rattle.pm_view.specs.Sinking.{IsLost}
+use Rattle.pm_view.specs.Bounded.{KeepsBound, IsHonest}
+use Rattle.pm_law_bound.proofs.RankLemmas.Bounds.{none_left}
 
 -- where no train is numbered up to this one
 module _ (n : ℕ) where

@@ -7,9 +7,9 @@ use Rattle.pm_types.specs.declared.event.Watch.{Watch}
 use Rattle.pm_model.specs.World.{World}
 use Rattle.pm_model.specs.Journal.{after}
 use Rattle.pm_view.specs.View.{SpaceView}
-use Rattle.pm_bound.specs.Ranking.{rank}
-use Rattle.pm_bound.specs.Sinking.{Sunk, IsLost}
-use Rattle.pm_bound.specs.Bounded.{KeepsRank, KeepsSunk, CountsOne, KeepsBound}
+use Rattle.pm_view.specs.Ranking.{rank}
+use Rattle.pm_view.specs.Sinking.{Sunk, IsLost}
+use Rattle.pm_view.specs.Bounded.{KeepsRank, KeepsSunk, CountsOne, KeepsBound}
 
 module _ (start : World) (journal more : List Entry) (old new : SpaceView) (watch : Watch) (is : KeepsBound start journal old watch) (ranks : KeepsRank old new) (sinks : KeepsSunk old new) (counts : CountsOne old new) where
   below : (old.completed - watch.completed + rank old watch.youngest watch.objects < watch.bound) → (old.completed < new.completed) ⊎ (new.completed ≤ old.completed)

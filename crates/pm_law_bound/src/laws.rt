@@ -14,8 +14,8 @@ ghost use Rattle.pm_view.specs.Represents.{Represents};
 ghost use Rattle.pm_view.specs.Reading.{id_at};
 ghost use Rattle.pm_view.specs.Counts.{old};
 ghost use Rattle.pm_view.specs.Watches.{line_of, lines_from, watch_in};
-ghost use Rattle.pm_bound.specs.Sinking.{IsLost};
-ghost use Rattle.pm_bound.specs.Bounded.{KeepsRank, KeepsSunk, CountsOne, KeepsBound, IsHonest};
+ghost use Rattle.pm_view.specs.Sinking.{IsLost};
+ghost use Rattle.pm_view.specs.Bounded.{KeepsRank, KeepsSunk, CountsOne, KeepsBound, IsHonest};
 
 /// A law of watches: one that is set in a space that stands for the world at the journal's end begins with its bound. Its
 /// lost set is what that world has lost.

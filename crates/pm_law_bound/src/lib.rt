@@ -3,6 +3,8 @@
 #![tactic(auto)]
 
 mod laws;
+pub mod rank;
+pub mod sunk;
 
 pub use laws::{
     a_bound_that_is_reached_ends_what_was_lost, a_watch_begins_with_its_bound,

@@ -15,16 +15,16 @@ use Rattle.pm_view.specs.Counts.{IsStandingAt, IsPlaced}
 use Rattle.pm_view.specs.Law.{HeapLaw}
 use Rattle.pm_view.specs.Candidates.{queue_of}
 use Rattle.pm_view.specs.Events.{Row, nothing, select, apply, doom, start, fix, move_anchor, move_out, move_on, finish, sweep, free, free_doomed, next_row, after, MayPick, MayPlace, moving_id, goal_of, ended_by, clears, MovesTo}
-use Rattle.pm_law_phases.proofs.MeansSame.{Keeps, unchanged_keeps}
-use Rattle.pm_law_phases.proofs.Small.{none_some}
-use Rattle.pm_law_phases.proofs.Stays.{Stays, stays_itself, selected_stays, doomed_stays, started_stays, finished_stays, applied_stays, fixed_stays, swept_stays}
-use Rattle.pm_law_phases.proofs.Comes.{comes_where}
-use Rattle.pm_law_phases.proofs.PhaseRows.{selected_keeps, doomed_keeps, started_keeps, finished_keeps}
-use Rattle.pm_law_changes.proofs.Requeued.{applied_keeps}
-use Rattle.pm_law_changes.proofs.FixRow.{fixed_keeps}
-use Rattle.pm_law_moves.proofs.MoveRows.{same_some, anchor_tail, out_tail, train_tail, anchor_moves, object_moves_out, object_moves_on}
-use Rattle.pm_law_sweeps.proofs.SweepRow.{swept_keeps}
-use Rattle.pm_law_sweeps.proofs.FreeRow.{freed_goes, freed_doomed_goes}
+use Rattle.pm_law_collect.proofs.PhasesLemmas.MeansSame.{Keeps, unchanged_keeps}
+use Rattle.pm_law_collect.proofs.PhasesLemmas.Small.{none_some}
+use Rattle.pm_law_collect.proofs.PhasesLemmas.Stays.{Stays, stays_itself, selected_stays, doomed_stays, started_stays, finished_stays, applied_stays, fixed_stays, swept_stays}
+use Rattle.pm_law_collect.proofs.PhasesLemmas.Comes.{comes_where}
+use Rattle.pm_law_collect.proofs.PhasesLemmas.PhaseRows.{selected_keeps, doomed_keeps, started_keeps, finished_keeps}
+use Rattle.pm_law_collect.proofs.ChangesLemmas.Requeued.{applied_keeps}
+use Rattle.pm_law_collect.proofs.ChangesLemmas.FixRow.{fixed_keeps}
+use Rattle.pm_law_collect.proofs.MovesLemmas.MoveRows.{same_some, anchor_tail, out_tail, train_tail, anchor_moves, object_moves_out, object_moves_on}
+use Rattle.pm_law_collect.proofs.SweepsLemmas.SweepRow.{swept_keeps}
+use Rattle.pm_law_collect.proofs.SweepsLemmas.FreeRow.{freed_goes, freed_doomed_goes}
 
 pub event_keeps : (view : SpaceView) (picked number : ℕ) (row : Row) → HeapLaw view → next_row view ≡ row → MayPick view picked row → MayPlace view number row → Keeps view (after view picked number row)
 event_keeps view picked number nothing law next may vacant = unchanged_keeps view law

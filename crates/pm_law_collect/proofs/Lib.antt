@@ -1,3 +1,9 @@
+pub mod PhasesLemmas
+pub mod ChangesLemmas
+pub mod SweepsLemmas
+pub mod MovesLemmas
 pub mod Event
 pub mod Picks
 pub mod WaysOut
+pub mod WorkLemmas
+pub mod TracesLemmas

@@ -18,14 +18,14 @@ use Rattle.pm_view.specs.Effective.{effective}
 use Rattle.pm_view.specs.Law.{HeapLaw}
 use Rattle.pm_view.specs.Candidates.{set_of, is_beyond, is_bare, is_named_by, is_named_from, naming_trains, candidates, least_outside, referenced_car}
 use Rattle.pm_view.specs.Events.{named_in, home, ways_out}
-use Rattle.pm_law_rows.proofs.Places.{slot_of}
-use Rattle.pm_law_rows.proofs.OpenTrain.{among_home}
-use Rattle.pm_law_rows.proofs.Born.{home_among}
-use Rattle.pm_law_phases.proofs.Small.{some_same, none_some, or_left, or_right}
-use Rattle.pm_law_phases.proofs.Finds.{found_passes, found_entry}
-use Rattle.pm_law_phases.proofs.Comes.{IsStarting, IsMovingOut}
-use Rattle.pm_law_phases.proofs.PhaseRows.{drained_aside, drained_oldest, drained_set, emptied_aside, emptied_set, remembered_leads, pick_stands}
-use Rattle.pm_law_moves.proofs.MoveRows.{front, home_is}
+use Rattle.pm_law_commands.proofs.RowLemmas.Places.{slot_of}
+use Rattle.pm_law_commands.proofs.RowLemmas.OpenTrain.{among_home}
+use Rattle.pm_law_commands.proofs.RowLemmas.Born.{home_among}
+use Rattle.pm_law_collect.proofs.PhasesLemmas.Small.{some_same, none_some, or_left, or_right}
+use Rattle.pm_law_collect.proofs.PhasesLemmas.Finds.{found_passes, found_entry}
+use Rattle.pm_law_collect.proofs.PhasesLemmas.Comes.{IsStarting, IsMovingOut}
+use Rattle.pm_law_collect.proofs.PhasesLemmas.PhaseRows.{drained_aside, drained_oldest, drained_set, emptied_aside, emptied_set, remembered_leads, pick_stands}
+use Rattle.pm_law_collect.proofs.MovesLemmas.MoveRows.{front, home_is}
 
 -- ---- what is found in a list is in it
 

@@ -17,9 +17,9 @@ use Rattle.pm_view.specs.View.{SpaceView}
 use Rattle.pm_view.specs.Law.{HeapLaw}
 use Rattle.pm_view.specs.Candidates.{set_of, is_bare, is_named_by, is_named_from, naming_trains}
 use Rattle.pm_view.specs.Events.{home, ways_out}
-use Rattle.pm_law_rows.proofs.OpenTrain.{among_home}
-use Rattle.pm_law_phases.proofs.Small.{some_same, none_some, or_left, or_right}
-use Rattle.pm_law_phases.proofs.Finds.{found_entry, no_entry}
+use Rattle.pm_law_commands.proofs.RowLemmas.OpenTrain.{among_home}
+use Rattle.pm_law_collect.proofs.PhasesLemmas.Small.{some_same, none_some, or_left, or_right}
+use Rattle.pm_law_collect.proofs.PhasesLemmas.Finds.{found_entry, no_entry}
 use Rattle.pm_law_collect.specs.Ways.{IsRemembered, IsNamedFromTrain, IsRootOrRegister, IsOpenToHeld, Ascend}
 use Rattle.pm_law_collect.proofs.Picks.{any_found}
 

@@ -1,7 +1,13 @@
 //! Laws of the collector's events: each keeps the heap law and what a space stands for.
 #![tactic(auto)]
 
+pub mod changes;
 mod laws;
+pub mod moves;
+pub mod phases;
+pub mod sweeps;
+pub mod traces;
+pub mod work;
 
 pub use laws::{
     an_anchor_stands_until_it_moves, an_event_keeps_the_law_and_the_worlds,

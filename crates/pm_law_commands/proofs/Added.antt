@@ -13,7 +13,7 @@ use Rattle.pm_view.specs.Law.{HeapLaw}
 use Rattle.pm_view.specs.Objects.{KeepsObjects, AddsObject}
 use Rattle.pm_view.specs.Rows.{spread, spent, born, birthplace, IsVacant}
 use Rattle.pm_view.specs.Commands.{fresh, row_new}
-use Rattle.pm_law_rows.proofs.Born.{born_gives}
+use Rattle.pm_law_commands.proofs.RowLemmas.Born.{born_gives}
 use Rattle.pm_law_commands.proofs.Births.{spent_law, may_be_born}
 use Rattle.pm_law_commands.proofs.Objects.{spread_keeps}
 

@@ -23,10 +23,10 @@ use Rattle.pm_view.specs.Law.{HeapLaw}
 use Rattle.pm_view.specs.Represents.{names, meaning, Represents, registered}
 use Rattle.pm_view.specs.Rows.{spread, spent, born, birthplace, MayBeBorn, IsVacant}
 use Rattle.pm_view.specs.Commands.{refused, fresh, row_new}
-use Rattle.pm_law_rows.proofs.SpreadKept.{spread_keeps_law}
-use Rattle.pm_law_rows.proofs.SpreadMeans.{register_stands}
-use Rattle.pm_law_rows.proofs.Born.{born_gives}
-use Rattle.pm_law_rows.proofs.News.{at_insert}
+use Rattle.pm_law_commands.proofs.RowLemmas.SpreadKept.{spread_keeps_law}
+use Rattle.pm_law_commands.proofs.RowLemmas.SpreadMeans.{register_stands}
+use Rattle.pm_law_commands.proofs.RowLemmas.Born.{born_gives}
+use Rattle.pm_law_commands.proofs.RowLemmas.News.{at_insert}
 use Rattle.pm_law_commands.specs.Served.{IsServed}
 use Rattle.pm_law_commands.proofs.Registers.{refused_both}
 

@@ -16,9 +16,9 @@ use Rattle.pm_view.specs.View.{SpaceView}
 use Rattle.pm_view.specs.Law.{HeapLaw}
 use Rattle.pm_view.specs.Represents.{names, Represents}
 use Rattle.pm_view.specs.Commands.{emptied, row_close}
-use Rattle.pm_law_rows.proofs.SameSource.{place_ties}
-use Rattle.pm_law_rows.proofs.SpreadKept.{spread_keeps_law}
-use Rattle.pm_law_rows.proofs.SpreadMeans.{register_stands}
+use Rattle.pm_law_commands.proofs.RowLemmas.SameSource.{place_ties}
+use Rattle.pm_law_commands.proofs.RowLemmas.SpreadKept.{spread_keeps_law}
+use Rattle.pm_law_commands.proofs.RowLemmas.SpreadMeans.{register_stands}
 use Rattle.pm_law_commands.specs.Served.{IsServed}
 
 -- the registers without those of this client below a number

@@ -21,9 +21,9 @@ use Rattle.pm_view.specs.Law.{HeapLaw}
 use Rattle.pm_view.specs.Represents.{names, meaning, Represents}
 use Rattle.pm_view.specs.Rows.{spread, with_bytes_at, HasBytesAt}
 use Rattle.pm_view.specs.Commands.{register, refused, object_held, field_at, set_field, row_store, row_clear, named_in, swap_field, row_swap, put_bytes, row_put}
-use Rattle.pm_law_rows.proofs.SpreadKept.{spread_keeps_law}
-use Rattle.pm_law_rows.proofs.SpreadMeans.{field_stands}
-use Rattle.pm_law_rows.proofs.Bytes.{bytes_keep_law, bytes_stand}
+use Rattle.pm_law_commands.proofs.RowLemmas.SpreadKept.{spread_keeps_law}
+use Rattle.pm_law_commands.proofs.RowLemmas.SpreadMeans.{field_stands}
+use Rattle.pm_law_commands.proofs.RowLemmas.Bytes.{bytes_keep_law, bytes_stand}
 use Rattle.pm_law_commands.specs.Served.{IsServed}
 use Rattle.pm_law_commands.proofs.Held.{LeadsTo, named_then, may_store, known_by}
 use Rattle.pm_law_commands.proofs.Registers.{refused_both, found_in, wanted_in, held_is, field_leads, fields_mean}

@@ -21,11 +21,11 @@ use Rattle.pm_view.specs.Law.{HeapLaw}
 use Rattle.pm_view.specs.Rows.{spread, with_name, with_bytes_at, spent, born, birthplace, IsVacant}
 use Rattle.pm_types.specs.Registers.{HasRegisters}
 use Rattle.pm_view.specs.Commands.{register, hold, object_held, row_copy, row_id, row_data, row_drop, field_at, load_field, row_load, set_field, row_store, row_clear, named_in, swap_field, row_swap, put_bytes, row_put, bind, row_root, row_unroot, row_find, emptied, fresh, row_new, row, Picks, ArePicked}
-use Rattle.pm_law_rows.proofs.SpreadKept.{spread_keeps_law}
-use Rattle.pm_law_rows.proofs.Bytes.{bytes_keep_law}
-use Rattle.pm_law_rows.proofs.Binding.{name_keeps_law, unbinding_keeps_law}
-use Rattle.pm_law_rows.proofs.Numbers.{found_by_number}
-use Rattle.pm_law_rows.proofs.Born.{born_gives}
+use Rattle.pm_law_commands.proofs.RowLemmas.SpreadKept.{spread_keeps_law}
+use Rattle.pm_law_commands.proofs.RowLemmas.Bytes.{bytes_keep_law}
+use Rattle.pm_law_commands.proofs.RowLemmas.Binding.{name_keeps_law, unbinding_keeps_law}
+use Rattle.pm_law_commands.proofs.RowLemmas.Numbers.{found_by_number}
+use Rattle.pm_law_commands.proofs.RowLemmas.Born.{born_gives}
 use Rattle.pm_law_commands.proofs.Held.{LeadsTo, leads, may_store}
 use Rattle.pm_law_commands.proofs.Births.{spent_law, may_be_born}
 

@@ -1,3 +1,4 @@
+pub mod RowLemmas
 pub mod Held
 pub mod Registers
 pub mod Fields

@@ -2,8 +2,8 @@
 use Rattle.std.proofs.Common.{◌≡◌, ℕ, ◌&&◌, nat_le, if◌then◌else◌, Bool, true, false, not, refl, ap, sym, subst, ◌∙◌, List, Option, Some, None, is_some}
 use Rattle.std.specs.Option.{IsSome, option_map, option_and_then}
 use Rattle.std.specs.FinMap.{get, len, same_map}
-use Rattle.pm_base.specs.Mapped.{mapped}
-use Rattle.pm_base.proofs.Mapped.{get-mapped, len-mapped}
+use Rattle.pm_types.specs.Mapped.{mapped}
+use Rattle.pm_types.proofs.Mapped.{get-mapped, len-mapped}
 use Rattle.pm_types.specs.Orders.{name_cmp}
 use Rattle.pm_types.proofs.Orders.{names_total, names_antisymmetric}
 use Rattle.std.proofs.lemmas.Bool.{true≢false, leb-false}
@@ -21,10 +21,10 @@ use Rattle.pm_view.specs.Law.{HeapLaw}
 use Rattle.pm_view.specs.Represents.{names, Represents}
 use Rattle.pm_view.specs.Rows.{with_name}
 use Rattle.pm_view.specs.Commands.{register, refused, bind, row_root, row_unroot}
-use Rattle.pm_law_rows.proofs.SpreadKept.{spread_keeps_law}
-use Rattle.pm_law_rows.proofs.SpreadMeans.{root_stands}
-use Rattle.pm_law_rows.proofs.Numbers.{found_by_number}
-use Rattle.pm_law_rows.proofs.Binding.{name_keeps_law, name_stands, unbinding_keeps_law, unbinding_stands}
+use Rattle.pm_law_commands.proofs.RowLemmas.SpreadKept.{spread_keeps_law}
+use Rattle.pm_law_commands.proofs.RowLemmas.SpreadMeans.{root_stands}
+use Rattle.pm_law_commands.proofs.RowLemmas.Numbers.{found_by_number}
+use Rattle.pm_law_commands.proofs.RowLemmas.Binding.{name_keeps_law, name_stands, unbinding_keeps_law, unbinding_stands}
 use Rattle.pm_law_commands.specs.Served.{IsServed}
 use Rattle.pm_law_commands.proofs.Held.{LeadsTo, leads, named, named_then, may_store, known_by}
 use Rattle.pm_law_commands.proofs.Registers.{refused_both, found_in, wanted_in, held_is}

@@ -14,11 +14,11 @@ use Rattle.pm_view.specs.View.{SpaceView}
 use Rattle.pm_view.specs.Reading.{object_at}
 use Rattle.pm_view.specs.Rows.{spread, with_name, without_name, with_bytes_at}
 use Rattle.pm_view.specs.Commands.{emptied, row, Picks, is_new}
-use Rattle.pm_law_rows.proofs.SameSource.{same_address-true}
-use Rattle.pm_law_rows.proofs.Places.{object_after}
-use Rattle.pm_law_rows.proofs.Built.{IsReshaped, aside_same}
-use Rattle.pm_law_rows.proofs.Meaning.{id_same}
-use Rattle.pm_law_rows.proofs.SpreadKept.{reshaped_spread}
+use Rattle.pm_law_commands.proofs.RowLemmas.SameSource.{same_address-true}
+use Rattle.pm_law_commands.proofs.RowLemmas.Places.{object_after}
+use Rattle.pm_law_commands.proofs.RowLemmas.Built.{IsReshaped, aside_same}
+use Rattle.pm_law_commands.proofs.RowLemmas.Meaning.{id_same}
+use Rattle.pm_law_commands.proofs.RowLemmas.SpreadKept.{reshaped_spread}
 use Rattle.pm_view.specs.Objects.{KeepsObjects}
 use Rattle.pm_law_commands.proofs.EveryRow.{OfRows, row_holds}
 

@@ -20,9 +20,9 @@ use Rattle.pm_view.specs.Law.{HeapLaw}
 use Rattle.pm_view.specs.Represents.{names, meaning, IsForgotten, Represents, registered}
 use Rattle.pm_view.specs.Rows.{spread}
 use Rattle.pm_view.specs.Commands.{register, refused, hold, row_copy, row_id, row_data, object_held, row_drop, field_at, load_field, row_load, row_find}
-use Rattle.pm_law_rows.proofs.SpreadKept.{spread_keeps_law}
-use Rattle.pm_law_rows.proofs.SpreadMeans.{register_stands}
-use Rattle.pm_law_rows.proofs.Numbers.{found_by_number}
+use Rattle.pm_law_commands.proofs.RowLemmas.SpreadKept.{spread_keeps_law}
+use Rattle.pm_law_commands.proofs.RowLemmas.SpreadMeans.{register_stands}
+use Rattle.pm_law_commands.proofs.RowLemmas.Numbers.{found_by_number}
 use Rattle.pm_law_commands.specs.Served.{IsServed}
 use Rattle.pm_law_commands.proofs.Held.{LeadsTo, leads, named, named_then, may_store, known_by, register_wanted, name_wanted, field_wanted}
 

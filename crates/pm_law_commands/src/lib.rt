@@ -3,6 +3,7 @@
 #![tactic(auto)]
 
 mod laws;
+pub mod row;
 
 pub use laws::{
     a_command_is_answered_as_by_the_world, a_command_keeps_the_heap_law,

@@ -10,7 +10,7 @@ use Rattle.std.proofs.lemmas.Bool.{eqb-true}
 use Rattle.std.proofs.lemmas.Map.Views.{tells_apart}
 use Rattle.std.proofs.lemmas.List.Sums.{sum_by-cons}
 use Rattle.std.proofs.lemmas.Option.{same_Some}
-use Rattle.pm_base.proofs.Mapped.{get-mapped, len-mapped}
+use Rattle.pm_types.proofs.Mapped.{get-mapped, len-mapped}
 use Rattle.pm_types.specs.Orders.{name_cmp, place_cmp}
 use Rattle.pm_types.proofs.Orders.{names_total}
 use Rattle.pm_types.specs.declared.address.Addr.{Addr}
@@ -26,7 +26,7 @@ use Rattle.pm_trains.specs.Sound as line
 use Rattle.pm_view.specs.View.{SpaceView}
 use Rattle.pm_view.specs.Reading.{slot_at, object_at, field_of, stored}
 use Rattle.pm_view.specs.Law.{IsCar, HeapLaw}
-use Rattle.pm_law_rows.proofs.Numbers.{owner}
+use Rattle.pm_law_commands.proofs.RowLemmas.Numbers.{owner}
 use Rattle.pm_copies.specs.Built.{Placed, built_cars, place_of, CarsDiffer, IsFull, MayBuild, IsBuiltOf}
 use Rattle.pm_law_copies.proofs.Fresh.{IsMade, fresh_law}
 use Rattle.pm_law_copies.proofs.OpenedLaw.{all_found, flat_from}

@@ -5,7 +5,7 @@ use Rattle.std.proofs.lemmas.Bool.{ltb-true}
 use Rattle.pm_types.specs.declared.limits.TheConstants.{PAGE_BYTES, ROOTS}
 use Rattle.pm_layout.specs.declared.header.Header.{Header}
 use Rattle.pm_layout.proofs.Numbers.{IsBytes}
-use Rattle.pm_base.proofs.Results.{bind_ok, ok_same}
+use Rattle.pm_types.proofs.Results.{bind_ok, ok_same}
 use Rattle.pm_image.specs.declared.catalog.CatEntry.{CatEntry}
 use Rattle.pm_image.specs.declared.catalog.CatEntry.TheVariants.{Car, Root}
 use Rattle.pm_image.specs.declared.catalog.CatalogPage.{CatalogPage}

@@ -3,7 +3,7 @@ use Rattle.std.proofs.Common.{◌≡◌, ℕ, ap, subst, List, [], ◌∷◌, So
 use Rattle.std.specs.FinSet as set
 use Rattle.pm_layout.specs.declared.header.Header.{Header}
 use Rattle.pm_layout.specs.Headers.{most_fields}
-use Rattle.pm_base.proofs.Results.{bind_ok, ok_same}
+use Rattle.pm_types.proofs.Results.{bind_ok, ok_same}
 use Rattle.pm_image.specs.declared.catalog.CatEntry.{CatEntry}
 use Rattle.pm_image.specs.declared.catalog.CatEntry.TheVariants.{Car, Root}
 use Rattle.pm_image.specs.declared.settled.KeptPage.{KeptPage}

@@ -11,7 +11,7 @@ use Rattle.pm_types.specs.declared.object.Slot.TheVariants.{Live, Moved}
 use Rattle.pm_layout.specs.declared.header.Header.{Header}
 use Rattle.pm_layout.specs.Headers.{most_fields}
 use Rattle.pm_layout.specs.Spelling.{HasSpelling}
-use Rattle.pm_base.proofs.Results.{bind_ok, ok_same}
+use Rattle.pm_types.proofs.Results.{bind_ok, ok_same}
 use Rattle.pm_model.proofs.Unused.{tied_nat}
 use Rattle.pm_image.specs.declared.car.CarImage.{CarImage}
 use Rattle.pm_image.specs.declared.catalog.CatEntry.{CatEntry}

@@ -8,7 +8,7 @@ use Rattle.pm_layout.specs.declared.header.HeaderFault.{HeaderFault}
 use Rattle.pm_layout.specs.Headers.{HasHeaderSpelling, header_at}
 use Rattle.pm_layout.proofs.Numbers.{IsBytes, IsBytes-take, IsBytes-drop}
 use Rattle.pm_layout.proofs.HeaderLaws.{header_found}
-use Rattle.pm_base.proofs.Results.{bind_ok, ok_same, if_ok, wanted_ok}
+use Rattle.pm_types.proofs.Results.{bind_ok, ok_same, if_ok, wanted_ok}
 use Rattle.pm_image.specs.Opening.{page_count, header_body_of, is_open, epoch_in, greater_slot, open_slot, Current, is_placed, sound_header, header_in, current}
 use Rattle.pm_image.specs.Graphs.{graph_of, entries_of, copy_of}
 use Rattle.pm_image.specs.Stands.{Opened, opened, pages_of, copy_in, StandsForCopy}

@@ -1,3 +1,4 @@
+pub mod GraphsLemmas
 pub mod Lists
 pub mod Naming
 pub mod Listing
@@ -26,3 +27,5 @@ pub mod BuiltLaw
 pub mod OpenedBuilt
 pub mod OpeningBuilds
 pub mod WorldOf
+pub mod WalksLemmas
+pub mod LayoutLemmas

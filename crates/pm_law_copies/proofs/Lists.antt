@@ -12,7 +12,7 @@ use Rattle.pm_roots.proofs.Sorted.{first, second, find_first}
 use Rattle.std.proofs.lemmas.Bool.{eqb-true, eq-eqb, true≢false}
 use Rattle.std.proofs.lemmas.Option.{same_Some}
 use Rattle.pm_model.proofs.Unused.{tied_nat}
-use Rattle.pm_base.proofs.Shown.{tied}
+use Rattle.pm_types.proofs.Shown.{tied}
 
 -- ---- what holds of each element
 

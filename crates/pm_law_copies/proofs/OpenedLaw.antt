@@ -29,7 +29,7 @@ use Rattle.pm_view.specs.View.{SpaceView}
 use Rattle.pm_view.specs.Reading.{slot_at, object_at, field_of, stored, followed, aside_in, is_aside}
 use Rattle.pm_view.specs.Law.{IsObject, HeapLaw}
 use Rattle.pm_view.specs.Law as law_of
-use Rattle.pm_law_rows.proofs.Numbers.{owner}
+use Rattle.pm_law_commands.proofs.RowLemmas.Numbers.{owner}
 use Rattle.pm_copies.specs.Listed.{Listed, images}
 use Rattle.pm_copies.specs.Accepted.{IsAccepted, roots_in}
 use Rattle.pm_copies.specs.Accepted as accepted

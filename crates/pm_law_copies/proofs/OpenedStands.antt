@@ -24,8 +24,8 @@ use Rattle.pm_image.specs.Graphs.{slot_in, slot_named, identity_in, identity_thr
 use Rattle.pm_view.specs.View.{SpaceView}
 use Rattle.pm_view.specs.Reading.{object_at, is_aside, followed, id_at, named_by}
 use Rattle.pm_view.specs.Represents.{names, meaning, IsForgotten, Represents}
-use Rattle.pm_law_rows.proofs.Reaches.{Means}
-use Rattle.pm_law_rows.proofs.SpreadMeans.{stands_for}
+use Rattle.pm_law_commands.proofs.RowLemmas.Reaches.{Means}
+use Rattle.pm_law_commands.proofs.RowLemmas.SpreadMeans.{stands_for}
 use Rattle.pm_copies.specs.Listed.{Listed, images, copy_listed, copy_in}
 use Rattle.pm_copies.specs.Accepted.{IsAccepted, roots_in}
 use Rattle.pm_copies.specs.Opened.{resolved_at, opened_object, IsOpened}

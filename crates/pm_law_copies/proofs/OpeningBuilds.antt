@@ -4,7 +4,7 @@ use Rattle.std.specs.Option.{IsSome}
 use Rattle.std.specs.List.{flat_map, AllByRecursion}
 use Rattle.std.specs.FinMap.{FinMap, entries}
 use Rattle.std.proofs.lemmas.List.{length-map}
-use Rattle.pm_base.proofs.Mapped.{entries-mapped}
+use Rattle.pm_types.proofs.Mapped.{entries-mapped}
 use Rattle.pm_types.specs.Orders.{name_cmp}
 use Rattle.pm_types.proofs.Orders.{names_total, names_antisymmetric}
 use Rattle.pm_types.specs.declared.limits.TheConstants.{ROOTS}

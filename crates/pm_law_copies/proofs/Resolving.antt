@@ -15,7 +15,7 @@ use Rattle.pm_view.specs.View.{Cars, SpaceView}
 use Rattle.pm_view.specs.Reading.{slot_at, object_at, field_of, stored, is_aside, followed, id_at, named_by}
 use Rattle.pm_view.specs.Seen.{seen, Leads}
 use Rattle.pm_view.specs.Law.{HeapLaw}
-use Rattle.pm_law_rows.proofs.Numbers.{found_by_number}
+use Rattle.pm_law_commands.proofs.RowLemmas.Numbers.{found_by_number}
 use Rattle.pm_copies.specs.Listed.{listed_cars}
 use Rattle.pm_law_copies.proofs.Listing.{slot_kept, slot_stands}
 

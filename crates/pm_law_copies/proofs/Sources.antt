@@ -23,7 +23,7 @@ use Rattle.pm_roots.specs.Bindings.{Bindings, AllNumbersDiffer}
 use Rattle.pm_view.specs.Sources.{outside, slot_in}
 use Rattle.pm_view.specs.View.{Cars}
 use Rattle.pm_view.specs.Reading.{slot_at, object_at, field_of}
-use Rattle.pm_law_rows.proofs.Numbers.{owner, found_by_number}
+use Rattle.pm_law_commands.proofs.RowLemmas.Numbers.{owner, found_by_number}
 use Rattle.pm_law_copies.specs.Storing.{Stored, field_sources, slot_sources, car_sources, root_source, stored_of, pick, remembering, stores}
 use Rattle.pm_law_copies.proofs.Lists.{or_else, all_append, all_mapped, all_entries, both_true}
 use Rattle.pm_law_copies.proofs.Objects.{find_in_two}

@@ -4,8 +4,8 @@ use Rattle.std.specs.Option.{IsSome, option_and_then, option_map, option_flatten
 use Rattle.std.specs.List.{slice_get, AllByRecursion}
 use Rattle.std.specs.FinMap.{get}
 use Rattle.std.proofs.lemmas.Option.{same_Some, slice_get-map}
-use Rattle.pm_base.specs.Mapped.{mapped}
-use Rattle.pm_base.proofs.Mapped.{get-mapped}
+use Rattle.pm_types.specs.Mapped.{mapped}
+use Rattle.pm_types.proofs.Mapped.{get-mapped}
 use Rattle.pm_types.specs.Orders.{place_cmp}
 use Rattle.pm_types.specs.declared.address.Addr.{Addr}
 use Rattle.pm_types.specs.declared.object.Object as kept
@@ -23,9 +23,9 @@ use Rattle.pm_view.specs.Reading.{object_at, field_of, is_aside, named_by}
 use Rattle.pm_view.specs.Counts.{IsStanding}
 use Rattle.pm_view.specs.Law.{HeapLaw}
 use Rattle.pm_view.specs.Represents.{names, meaning, Represents}
-use Rattle.pm_law_rows.proofs.Numbers.{found_by_number}
-use Rattle.pm_law_rows.proofs.Reaches.{Means, stored_stands}
-use Rattle.pm_law_rows.proofs.SpreadMeans.{stands_for}
+use Rattle.pm_law_commands.proofs.RowLemmas.Numbers.{found_by_number}
+use Rattle.pm_law_commands.proofs.RowLemmas.Reaches.{Means, stored_stands}
+use Rattle.pm_law_commands.proofs.RowLemmas.SpreadMeans.{stands_for}
 use Rattle.pm_copies.specs.Listed.{listed_cars, root_entries}
 use Rattle.pm_copies.specs.Accepted.{IsAcceptedCar}
 use Rattle.pm_law_copies.specs.Stood.{HasWhatStands}

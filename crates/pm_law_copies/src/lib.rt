@@ -3,7 +3,10 @@
 
 mod building;
 mod examples;
+pub mod graphs;
 mod laws;
+pub mod layout;
+pub mod walks;
 
 pub use building::{a_built_space_keeps_the_law, opening_builds_a_space};
 pub use examples::examples_of_opening;

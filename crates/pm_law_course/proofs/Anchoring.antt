@@ -6,8 +6,8 @@ use Rattle.pm_view.specs.View.{SpaceView}
 use Rattle.pm_view.specs.Reading.{cars_of}
 use Rattle.pm_view.specs.Collecting.{without_car, completing}
 use Rattle.pm_view.specs.Events.{Row, nothing, select, apply, doom, start, fix, move_anchor, move_out, move_on, finish, sweep, free, free_doomed, anchor_in, next_row, after, clears, MovesTo}
-use Rattle.pm_law_phases.proofs.Small.{some_pair, none_some}
-use Rattle.pm_law_phases.proofs.Comes.{comes_where}
+use Rattle.pm_law_collect.proofs.PhasesLemmas.Small.{some_pair, none_some}
+use Rattle.pm_law_collect.proofs.PhasesLemmas.Comes.{comes_where}
 use Rattle.pm_law_course.specs.Course.{notes}
 use Rattle.pm_law_course.proofs.Kept.{applied_keeps, fixed_keeps, moved_keeps, swept_keeps}
 

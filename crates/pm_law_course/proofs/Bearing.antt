@@ -24,17 +24,17 @@ use Rattle.pm_view.specs.Objects.{KeepsObjects, AddsObject}
 use Rattle.pm_view.specs.Rows.{spent, birthplace}
 use Rattle.pm_types.specs.Registers.{HasRegisters}
 use Rattle.pm_view.specs.Commands.{fresh, row_new, row, is_new, Picks, ArePicked}
-use Rattle.pm_law_rows.proofs.Places.{slot_of}
-use Rattle.pm_law_rows.proofs.SameSource.{same_address-true}
-use Rattle.pm_law_rows.proofs.OpenTrain.{first_home}
+use Rattle.pm_law_commands.proofs.RowLemmas.Places.{slot_of}
+use Rattle.pm_law_commands.proofs.RowLemmas.SameSource.{same_address-true}
+use Rattle.pm_law_commands.proofs.RowLemmas.OpenTrain.{first_home}
 use Rattle.pm_law_commands.proofs.EveryRow.{object_made}
 use Rattle.pm_law_commands.proofs.Keeps.{row_keeps}
 use Rattle.pm_law_commands.proofs.Objects.{row_keeps_objects}
 use Rattle.pm_law_commands.proofs.Added.{new_adds}
-use Rattle.pm_law_phases.proofs.Small.{some_same, none_some}
+use Rattle.pm_law_collect.proofs.PhasesLemmas.Small.{some_same, none_some}
 use Rattle.pm_law_course.specs.Course.{train_in, collected}
 use Rattle.pm_law_course.proofs.Kept.{command_keeps}
-use Rattle.pm_law_phases.proofs.Fronts.{front_of}
+use Rattle.pm_law_collect.proofs.PhasesLemmas.Fronts.{front_of}
 
 -- the train that is collected is the oldest, and not the open one
 collected_oldest : (p : Phase) (ts : List Train) (anchor : Option (Addr × ℕ)) (n : ℕ) → ((q : ℕ) → line.places q ts ≤ 1) → IsPhaseOf p ts anchor → train_in p ts ≡ Some n → IsOldest ts n

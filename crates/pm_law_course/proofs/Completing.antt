@@ -14,10 +14,10 @@ use Rattle.pm_view.specs.Law.{IsPhaseOf, IsOldest, HeapLaw}
 use Rattle.pm_view.specs.Candidates.{queue_of}
 use Rattle.pm_view.specs.Collecting.{without_car, completing}
 use Rattle.pm_view.specs.Events.{Row, nothing, select, apply, doom, start, fix, move_anchor, move_out, move_on, finish, sweep, free, free_doomed, has_change, changed_car, next_row, after}
-use Rattle.pm_law_phases.proofs.Comes.{IsChanged, IsFirstDoomed, comes_where}
+use Rattle.pm_law_collect.proofs.PhasesLemmas.Comes.{IsChanged, IsFirstDoomed, comes_where}
 use Rattle.pm_law_course.specs.Course.{completes}
 use Rattle.pm_law_course.proofs.Kept.{applied_keeps, fixed_keeps, moved_keeps, swept_keeps}
-use Rattle.pm_law_phases.proofs.Fronts.{at_remove, first_cars}
+use Rattle.pm_law_collect.proofs.PhasesLemmas.Fronts.{at_remove, first_cars}
 
 pub completed_then : (view : SpaceView) (row : Row) (picked number : ℕ) → (after view picked number row).completed ≡ cond (completes view row) (view.completed + 1) view.completed
 completed_then view nothing picked number = refl

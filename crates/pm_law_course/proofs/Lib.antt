@@ -4,3 +4,4 @@ pub mod Anchoring
 pub mod Bearing
 pub mod Counting
 pub mod Opening
+pub mod CountLemmas

@@ -5,6 +5,7 @@
 mod anchors;
 mod births;
 mod completion;
+pub mod count;
 mod standing;
 
 pub use anchors::an_anchor_is_noted_with_its_train;

@@ -14,7 +14,7 @@ use Rattle.pm_dump.specs.Sound.{IsCopyInRange}
 use Rattle.pm_dump.proofs.Copies.{copy_again, copy_spelled, reached_again}
 use Rattle.pm_dump.proofs.DumpLaws.{one_reading}
 use Rattle.pm_restore.specs.Restored.{copy_in_dump}
-use Rattle.pm_tell.specs.Told.{Dumps, IsTold}
+use Rattle.pm_inspect.specs.Tell.Told.{Dumps, IsTold}
 use Rattle.pm_law_dumps.proofs.Ranged.{store_ranged}
 
 -- what is restored of the dump of a copy that was made of a heap

@@ -36,17 +36,17 @@ use Rattle.pm_copies.specs.Listed.{Listed, copy_listed, images}
 use Rattle.pm_copies.specs.Accepted as accepted
 use Rattle.pm_copies.specs.Accepted.{IsAccepted, roots_in}
 use Rattle.pm_copies.specs.Opened.{listed_graph}
-use Rattle.pm_law_graphs.specs.Entries.{listed_names}
-use Rattle.pm_law_graphs.specs.Spelled.{IsCarSpelled}
-use Rattle.pm_law_graphs.proofs.Found.{opened_spelled}
-use Rattle.pm_law_graphs.proofs.Lists.{all_back, all_front}
+use Rattle.pm_copies.specs.Entries.{listed_names}
+use Rattle.pm_copies.specs.Spelled.{IsCarSpelled}
+use Rattle.pm_law_copies.proofs.GraphsLemmas.Found.{opened_spelled}
+use Rattle.pm_law_copies.proofs.GraphsLemmas.Lists.{all_back, all_front}
 use Rattle.pm_law_copies.proofs.Lists.{all_weaker}
 use Rattle.pm_law_copies.proofs.Naming.{all_named}
 use Rattle.pm_law_copies.proofs.Objects as heaps
 use Rattle.pm_law_copies.proofs.CopyOf.{root_of_copy}
 use Rattle.pm_law_copies.proofs.Found.{graph_listed}
 use Rattle.pm_law_copies.proofs.FoundStore.{store_accepted, store_copy, store_found}
-use Rattle.pm_law_serving.proofs.Opening.{graph_closed}
+use Rattle.pm_law_saving.proofs.ServingLemmas.Opening.{graph_closed}
 use Rattle.pm_dump.specs.Sound.{IsCopyInRange}
 
 -- ---- bytes, one by one and by their places

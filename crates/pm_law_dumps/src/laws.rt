@@ -9,7 +9,7 @@ ghost use Rattle.pm_dump.specs.Dump.{Dump, dump_of, dump_text_of};
 ghost use Rattle.pm_dump.specs.Spelled.{Spells};
 ghost use Rattle.pm_dump.specs.Sound.{IsCopyInRange, IsSoundDump};
 ghost use Rattle.pm_restore.specs.Restored.{copy_in_dump};
-ghost use Rattle.pm_tell.specs.Told.{Dumps, IsTold};
+ghost use Rattle.pm_inspect.specs.Tell.Told.{Dumps, IsTold};
 
 /// A law of stores: the copy for which bytes stand is within the limits of a dump. Whatever is named in it is an object,
 /// its names are names, and fields, bytes and names are within their limits.

@@ -26,13 +26,13 @@ use Rattle.pm_copies.specs.Listed.{Listed, copy_in, copy_listed, image_in, liste
 use Rattle.pm_copies.specs.Accepted.{IsAccepted}
 use Rattle.pm_copies.specs.Opened.{unnumbered}
 use Rattle.pm_law_copies.proofs.Accepting.{accepted}
-use Rattle.pm_law_graphs.specs.Apart.{AreApart, times}
-use Rattle.pm_law_graphs.specs.Entries.{ListedCar}
-use Rattle.pm_law_graphs.specs.Spelled.{Spells, listed_as}
-use Rattle.pm_law_graphs.proofs.Found.{bytes_whole, graph_spelled}
-use Rattle.pm_law_graphs.proofs.Lists.{all_both}
-use Rattle.pm_law_graphs.proofs.Sets.{once}
-use Rattle.pm_saving.specs.law_layout.Plans.{root_entry}
+use Rattle.pm_copies.specs.Apart.{AreApart, times}
+use Rattle.pm_copies.specs.Entries.{ListedCar}
+use Rattle.pm_copies.specs.Spelled.{Spells, listed_as}
+use Rattle.pm_law_copies.proofs.GraphsLemmas.Found.{bytes_whole, graph_spelled}
+use Rattle.pm_law_copies.proofs.GraphsLemmas.Lists.{all_both}
+use Rattle.pm_law_copies.proofs.GraphsLemmas.Sets.{once}
+use Rattle.pm_copies.specs.Plans.{root_entry}
 use Rattle.pm_saving.specs.Progress.{Place, Clean, Unwritten, Written, PlacedCar, Progress, Saving, catalog_left, copy_of, image_at, image_of, in_list, list_of, parts_of, roots_of, slots_of}
 use Rattle.pm_saving.specs.Paging.{Put, car_put, clean_pages, kept_pages, puts_of}
 use Rattle.pm_saving.specs.Beginning.{AreFrozen, ArePlaced, Begins, BeginsListed, IsCarNumbered, IsInProgress, IsPlacedAs, StandsAs, settled_at}

@@ -4,7 +4,7 @@ use Rattle.pm_types.specs.declared.limits.TheConstants.{PAGE_BYTES}
 use Rattle.pm_image.specs.declared.catalog_kind.TheConstants.{ENTRIES}
 use Rattle.pm_image.specs.declared.catalog.CatEntry.{CatEntry}
 use Rattle.pm_image.specs.CatalogPages.{entry_size}
-use Rattle.pm_saving.specs.law_layout.Cutting.{OnePage, cut_from, onto_first}
+use Rattle.pm_copies.specs.Cutting.{OnePage, cut_from, onto_first}
 use Rattle.pm_saving.specs.Progress.{Progress, catalog_left, catalog_len, draft_entry, roots_of}
 use Rattle.pm_saving.specs.Paging.{left, unwritten}
 use Rattle.pm_saving.specs.Beginning.{AreLast}

@@ -9,7 +9,7 @@ use Rattle.pm_shadow.specs.Images.{Holds}
 use Rattle.pm_shadow.specs.Copies.{KeepsSamePages}
 use Rattle.pm_shadow.proofs.CopyLemmas.{abandoned_idle, abandoned_keeps}
 use Rattle.pm_view.specs.View.{Cars}
-use Rattle.pm_law_graphs.proofs.Lists.{all_follow}
+use Rattle.pm_law_copies.proofs.GraphsLemmas.Lists.{all_follow}
 use Rattle.pm_saving.specs.Progress.{Saving}
 use Rattle.pm_saving.specs.Tied.{AreSettled, IsOnPage, IsPut, IsTied, all_puts}
 use Rattle.pm_law_saving.proofs.Staying.{held_settled, idle_pages, still_on_pages, still_settled}

@@ -7,10 +7,10 @@ use Rattle.std.proofs.lemmas.List.Elements.{Contains-append_cases, Contains-appe
 use Rattle.pm_model.proofs.Members.{first_or_rest}
 use Rattle.pm_image.specs.declared.settled.KeptPage.{KeptPage}
 use Rattle.pm_view.specs.View.{Cars}
-use Rattle.pm_law_graphs.specs.Apart.{times}
-use Rattle.pm_law_graphs.proofs.Sets.{once}
-use Rattle.pm_saving.specs.law_layout.Plans.{PlannedPage, chain_of}
-use Rattle.pm_saving.specs.law_layout.Cutting.{OnePage}
+use Rattle.pm_copies.specs.Apart.{times}
+use Rattle.pm_law_copies.proofs.GraphsLemmas.Sets.{once}
+use Rattle.pm_copies.specs.Plans.{PlannedPage, chain_of}
+use Rattle.pm_copies.specs.Cutting.{OnePage}
 use Rattle.pm_saving.specs.Progress.{Place, Clean, Unwritten, Written, PlacedCar, Progress, catalog_left, catalog_of, image_of, paired, parts_of}
 use Rattle.pm_saving.specs.Paging.{CarPage, NextPage, PartPage, Put, car_put, car_text, clean_page, clean_pages, first_unwritten, is_unwritten, kept_on, next_page, place_first, puts_of, text_of, unwritten, with_page}
 use Rattle.pm_saving.specs.Beginning.{IsInProgress}

@@ -11,7 +11,7 @@ use Rattle.pm_shadow.specs.State.{State, keeps, keeps_by, with_kept}
 use Rattle.pm_shadow.specs.Copies.{KeepsSamePages}
 use Rattle.pm_shadow.proofs.CopyLemmas.{kept_keeps}
 use Rattle.pm_shadow.proofs.UsedLemmas.{in_or_not}
-use Rattle.pm_law_graphs.proofs.Lists.{all_follow}
+use Rattle.pm_law_copies.proofs.GraphsLemmas.Lists.{all_follow}
 use Rattle.pm_saving.specs.Tied.{with_all_kept}
 
 pub use_here : (page : ℕ) (u : PageUse) (uses : ℕ → PageUse) → with_use page u uses page ≡ u

@@ -12,3 +12,4 @@ pub mod Written
 pub mod Filed
 pub mod Begun
 pub mod Whole
+pub mod ServingLemmas

@@ -5,8 +5,8 @@ use Rattle.std.proofs.lemmas.Bool.{eqb-true}
 use Rattle.std.proofs.lemmas.Bool.Decides.{nat_tests}
 use Rattle.std.proofs.lemmas.List.Elements.{Contains-append_cases, Contains-append_left, Contains-append_right}
 use Rattle.pm_model.proofs.Members.{at_first, first_or_rest, in_none, in_rest}
-use Rattle.pm_law_graphs.specs.Apart.{AreApart, times}
-use Rattle.pm_law_graphs.proofs.Sets.{once}
+use Rattle.pm_copies.specs.Apart.{AreApart, times}
+use Rattle.pm_law_copies.proofs.GraphsLemmas.Sets.{once}
 
 -- what holds of each holds of a member
 pub of_member : {A : Type 0} (P : A → Type 0) (xs : List A) (x : A) → AllByRecursion P xs → Contains xs x → P x

@@ -10,8 +10,8 @@ use Rattle.pm_image.specs.declared.settled.KeptPage.{KeptPage}
 use Rattle.pm_view.specs.View.{Cars}
 use Rattle.pm_copies.specs.Listed.{Listed, copy_listed}
 use Rattle.pm_copies.specs.Accepted.{IsAccepted}
-use Rattle.pm_law_graphs.proofs.Sets.{once}
-use Rattle.pm_saving.specs.law_layout.Cutting.{OnePage, cut}
+use Rattle.pm_law_copies.proofs.GraphsLemmas.Sets.{once}
+use Rattle.pm_copies.specs.Cutting.{OnePage, cut}
 use Rattle.pm_saving.specs.Progress.{Written, PlacedCar, Progress, catalog_left, catalog_len, draft_entry, image_of, in_list, parts_of, roots_of}
 use Rattle.pm_saving.specs.Paging.{CarPage, NextPage, PartPage, first_unwritten, is_unwritten, kept_on, left, next_after, next_page, part_before, place_first, unwritten, with_next, with_page, written_on}
 use Rattle.pm_saving.specs.Beginning.{IsCarNumbered, IsInProgress, StandsAs}

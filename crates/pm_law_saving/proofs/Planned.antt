@@ -24,14 +24,14 @@ use Rattle.pm_copies.specs.Listed.{Listed, images}
 use Rattle.pm_copies.specs.Accepted.{IsAccepted, IsAcceptedCar}
 use Rattle.pm_law_copies.proofs.Naming.{all_in_cars, all_named, slot_lies}
 use Rattle.pm_law_copies.proofs.Pages.{are_written}
-use Rattle.pm_law_graphs.proofs.Lists.{all_follow}
-use Rattle.pm_law_graphs.proofs.Sets.{once}
-use Rattle.pm_saving.specs.law_layout.Plans.{CarInTrain, PlannedTrain, car_entry, cars_in, cars_of_train, in_list as listed_in_plan, planned_entries, planned_list}
-use Rattle.pm_saving.specs.law_layout.Laid.{HasFewFields, IsStorePlan}
-use Rattle.pm_saving.specs.law_layout.Writing.{MayBeWritten}
-use Rattle.pm_saving.proofs.law_layout.Planned.{kept_of}
-use Rattle.pm_saving.proofs.law_layout.Sizes.{count_by_sizes}
-use Rattle.pm_saving.proofs.law_layout.Written.{plan_parts}
+use Rattle.pm_law_copies.proofs.GraphsLemmas.Lists.{all_follow}
+use Rattle.pm_law_copies.proofs.GraphsLemmas.Sets.{once}
+use Rattle.pm_copies.specs.Plans.{CarInTrain, PlannedTrain, car_entry, cars_in, cars_of_train, in_list as listed_in_plan, planned_entries, planned_list}
+use Rattle.pm_copies.specs.Laid.{HasFewFields, IsStorePlan}
+use Rattle.pm_copies.specs.Writing.{MayBeWritten}
+use Rattle.pm_law_copies.proofs.LayoutLemmas.Planned.{kept_of}
+use Rattle.pm_law_copies.proofs.LayoutLemmas.Sizes.{count_by_sizes}
+use Rattle.pm_law_copies.proofs.LayoutLemmas.Written.{plan_parts}
 use Rattle.pm_saving.specs.Progress.{Place, Clean, Unwritten, Written, PlacedCar, Progress, cars_plan, catalog_len, draft_entry, image_of, in_list, list_of, page_in, parts_of, planned, roots_of}
 use Rattle.pm_saving.specs.Paging.{NextPage, is_unwritten, next_page, unwritten}
 use Rattle.pm_saving.specs.Beginning.{IsCarNumbered, IsInProgress, StandsAs}

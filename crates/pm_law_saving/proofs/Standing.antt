@@ -12,7 +12,7 @@ use Rattle.pm_shadow.specs.declared.page_use.PageUse.TheVariants.{Claimed, Kept}
 use Rattle.pm_shadow.specs.Uses.{is_next}
 use Rattle.pm_shadow.specs.State.{State}
 use Rattle.pm_view.specs.View.{Cars}
-use Rattle.pm_saving.specs.law_layout.Plans.{chain_of}
+use Rattle.pm_copies.specs.Plans.{chain_of}
 use Rattle.pm_saving.specs.Progress.{Place, Clean, Unwritten, Written, PlacedCar, Progress, Saving, car_pages, catalog_of, image_of, page_in}
 use Rattle.pm_saving.specs.Paging.{Put, car_put, car_text, clean_page, clean_pages, kept_pages, left, puts_of}
 use Rattle.pm_saving.specs.Beginning.{IsInProgress, StandsAs}

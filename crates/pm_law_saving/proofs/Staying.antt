@@ -8,7 +8,7 @@ use Rattle.pm_shadow.specs.State.{State, IsIdle, other}
 use Rattle.pm_shadow.specs.Images.{Heads, Holds}
 use Rattle.pm_shadow.specs.Copies.{KeepsSamePages}
 use Rattle.pm_shadow.proofs.CopyLemmas.{held_keeps, keeps_still}
-use Rattle.pm_law_graphs.proofs.Lists.{all_follow}
+use Rattle.pm_law_copies.proofs.GraphsLemmas.Lists.{all_follow}
 use Rattle.pm_saving.specs.Tied.{AreItsPages, AreSettled, IsOnPage}
 
 pub still_settled : (settled : List KeptPage) (s t : State) (bytes : List ℕ) → KeepsSamePages s t → AreSettled settled s bytes → AreSettled settled t bytes

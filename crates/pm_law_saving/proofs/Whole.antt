@@ -23,16 +23,16 @@ use Rattle.pm_shadow.proofs.UsedLemmas.{graph_first}
 use Rattle.pm_view.specs.View.{Cars}
 use Rattle.pm_copies.specs.Listed.{Listed, copy_listed, images}
 use Rattle.pm_copies.specs.Accepted.{Differ}
-use Rattle.pm_law_graphs.specs.Apart.{AreApart, times}
-use Rattle.pm_law_graphs.proofs.Lists.{all_back}
-use Rattle.pm_law_graphs.proofs.Sets.{once, times_append}
-use Rattle.pm_saving.specs.law_layout.Plans.{PlannedPage, chain_of, graph_of_plan, planned_cars, planned_entries, planned_list, planned_pages}
-use Rattle.pm_saving.specs.law_layout.Cutting.{IsCutInto, OnePage}
-use Rattle.pm_saving.specs.law_layout.Laid.{IsCarHeld, IsLaidBehind, IsCatalogFilled, IsPageHeld, IsStorePlan}
-use Rattle.pm_saving.proofs.law_layout.Again.{laid_found}
-use Rattle.pm_saving.proofs.law_layout.Keeping.{cars_held}
-use Rattle.pm_saving.proofs.law_layout.Planned.{plan_copy, plan_pages}
-use Rattle.pm_saving.proofs.law_layout.Sizes.{planned_cut}
+use Rattle.pm_copies.specs.Apart.{AreApart, times}
+use Rattle.pm_law_copies.proofs.GraphsLemmas.Lists.{all_back}
+use Rattle.pm_law_copies.proofs.GraphsLemmas.Sets.{once, times_append}
+use Rattle.pm_copies.specs.Plans.{PlannedPage, chain_of, graph_of_plan, planned_cars, planned_entries, planned_list, planned_pages}
+use Rattle.pm_copies.specs.Cutting.{IsCutInto, OnePage}
+use Rattle.pm_copies.specs.Laid.{IsCarHeld, IsLaidBehind, IsCatalogFilled, IsPageHeld, IsStorePlan}
+use Rattle.pm_law_copies.proofs.LayoutLemmas.Again.{laid_found}
+use Rattle.pm_law_copies.proofs.LayoutLemmas.Keeping.{cars_held}
+use Rattle.pm_law_copies.proofs.LayoutLemmas.Planned.{plan_copy, plan_pages}
+use Rattle.pm_law_copies.proofs.LayoutLemmas.Sizes.{planned_cut}
 use Rattle.pm_saving.specs.Progress.{Place, Clean, Unwritten, Written, PlacedCar, Progress, Saving, car_pages, catalog_of, image_of, in_list, list_of, page_in, paired, parts_of, plan_of, roots_of}
 use Rattle.pm_saving.specs.Paging.{Put, car_put, car_text, clean_page, clean_pages, header_of, kept_pages, left, puts_of}
 use Rattle.pm_saving.specs.Beginning.{StandsAs}

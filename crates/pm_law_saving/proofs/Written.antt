@@ -20,8 +20,8 @@ use Rattle.pm_shadow.proofs.PageLemmas.{page_made}
 use Rattle.pm_shadow.proofs.RunLemmas.{told_before}
 use Rattle.pm_shadow.proofs.UsedLemmas.{in_or_not}
 use Rattle.pm_view.specs.View.{Cars}
-use Rattle.pm_law_graphs.specs.Apart.{times}
-use Rattle.pm_law_graphs.proofs.Sets.{once}
+use Rattle.pm_copies.specs.Apart.{times}
+use Rattle.pm_law_copies.proofs.GraphsLemmas.Sets.{once}
 use Rattle.pm_saving.specs.Progress.{Place, Clean, Unwritten, Written, PlacedCar, Progress, Saving, image_of}
 use Rattle.pm_saving.specs.Paging.{Put, clean_page, clean_pages, kept_pages, newly_kept, puts_of, text_of, with_page}
 use Rattle.pm_saving.specs.Beginning.{IsInProgress, StandsAs}

@@ -15,7 +15,7 @@ ghost use Rattle.pm_view.specs.View.{Cars, SpaceView};
 ghost use Rattle.pm_view.specs.Law.{HeapLaw};
 ghost use Rattle.pm_copies.specs.Listed.{Listed, copy_in, copy_listed, images};
 ghost use Rattle.pm_copies.specs.Accepted.{IsAccepted};
-ghost use Rattle.pm_saving.specs.law_layout.Plans.{root_entry};
+ghost use Rattle.pm_copies.specs.Plans.{root_entry};
 ghost use Rattle.pm_saving.specs.Progress.{Place, Unwritten, Saving, cars_of, copy_of};
 ghost use Rattle.pm_saving.specs.Beginning.{AreFrozen, Begins, BeginsListed, IsCarNumbered, IsPlacedAs};
 ghost use Rattle.pm_saving.specs.Tied.{AreSettled, IsOnPage, IsTied};

@@ -4,6 +4,7 @@
 
 mod beginning;
 mod ending;
+pub mod serving;
 mod writing;
 
 pub use beginning::{

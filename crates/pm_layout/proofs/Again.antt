@@ -13,7 +13,7 @@ use Rattle.pm_types.specs.declared.object.Slot.TheVariants.{Live, Moved}
 use Rattle.pm_layout.specs.declared.fault.LayoutFault.{LayoutFault}
 use Rattle.pm_layout.specs.declared.fault.LayoutFault.TheVariants.{Short, Kind, Fields, Count, Null, Ident}
 use Rattle.pm_layout.specs.Spelling.{address, field, spelling, HasCar, IsAddress, IsInRange, Stands, IsSpelled}
-use Rattle.pm_base.specs.Results.{◌>>=◌}
+use Rattle.pm_types.specs.Results.{◌>>=◌}
 use Rattle.pm_layout.specs.Reading.{number_from, live_end, end_at, ident_at, field_count_at, byte_count_at, field_at, fields_at, live_at, target_at, moved_at, slot_at}
 use Rattle.pm_layout.proofs.Steps.{holds, passes, other_than_zero}
 use Rattle.pm_layout.proofs.Sizes.{field_length, fields_length}

@@ -13,11 +13,11 @@ use Rattle.pm_layout.specs.declared.header.Header.{Header}
 use Rattle.pm_layout.specs.declared.header.HeaderFault.{HeaderFault}
 use Rattle.pm_layout.specs.declared.header.HeaderFault.TheVariants.{Magic, Version, Digest, Next}
 use Rattle.pm_layout.specs.Spelling.{Stands}
-use Rattle.pm_base.specs.Results.{◌>>=◌}
+use Rattle.pm_types.specs.Results.{◌>>=◌}
 use Rattle.pm_layout.specs.Reading.{number_from}
 use Rattle.pm_layout.specs.Headers.{HasHeaderSpelling, IsHeaderInRange, magic, header_numbers, header_body, header_spelling, magic_at, is_version, version_at, digest_kept, next_at, header_at}
 use Rattle.pm_layout.proofs.Steps.{holds, passes, neither, not_zero, other_than_zero}
-use Rattle.pm_base.proofs.Results.{bind_ok, ok_same, if_ok, wanted_ok}
+use Rattle.pm_types.proofs.Results.{bind_ok, ok_same, if_ok, wanted_ok}
 use Rattle.pm_layout.proofs.Numbers.{IsBytes, wide_4, wide_8}
 use Rattle.pm_layout.proofs.Texts.{Stands-then, Stands-split, Stands-end, number_stands, number_is, between_stands}
 

@@ -12,10 +12,10 @@ use Rattle.pm_types.specs.declared.object.Slot.TheVariants.{Live, Moved}
 use Rattle.pm_layout.specs.declared.fault.LayoutFault.{LayoutFault}
 use Rattle.pm_layout.specs.declared.fault.LayoutFault.TheVariants.{Short, Kind}
 use Rattle.pm_layout.specs.Spelling.{field, spelling, slot_size, IsInRange, HasSpelling, Stands}
-use Rattle.pm_base.specs.Results.{◌>>=◌}
+use Rattle.pm_types.specs.Results.{◌>>=◌}
 use Rattle.pm_layout.specs.Reading.{number_from, live_end, end_at, live_at, target_at, moved_at, slot_at}
 use Rattle.pm_layout.proofs.Steps.{holds, passes}
-use Rattle.pm_base.proofs.Results.{ok_same}
+use Rattle.pm_types.proofs.Results.{ok_same}
 use Rattle.pm_layout.proofs.Sizes.{spelling_length}
 use Rattle.pm_layout.proofs.Again.{slot_again}
 

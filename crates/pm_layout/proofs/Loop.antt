@@ -4,8 +4,8 @@ use Rattle.std.proofs.lemmas.List.{append-nil}
 use Rattle.pm_types.specs.declared.address.Addr.{Addr}
 use Rattle.pm_layout.specs.declared.fault.LayoutFault.{LayoutFault}
 use Rattle.pm_layout.specs.declared.fault.LayoutFault.TheVariants.{Short, Kind, Fields, Count, Null, Ident, Memory}
-use Rattle.pm_base.specs.Results.{◌>>=◌}
-use Rattle.pm_base.proofs.Fronts.{with_front, regroup}
+use Rattle.pm_types.specs.Results.{◌>>=◌}
+use Rattle.pm_types.proofs.Fronts.{with_front, regroup}
 use Rattle.pm_layout.specs.Reading.{CanRunOut, Fails, address_at, field_at, fields_at}
 
 -- one field more was read
@@ -36,7 +36,7 @@ is_done bytes front count i place total le so_far =
 
 -- the fault that reading meets may be answered
 pub fails_as : {X : Type 0} (e : LayoutFault) (read : Result X LayoutFault) → read ≡ Err e → Fails e read
-fails_as Memory read h = subst (λ (r : Result _ LayoutFault). CanRunOut r) (sym h) tt
+fails_as (Memory _) read h = subst (λ (r : Result _ LayoutFault). CanRunOut r) (sym h) tt
 fails_as (Short at) read h = h
 fails_as (Kind at byte) read h = h
 fails_as (Fields at n) read h = h
@@ -60,7 +60,7 @@ can_then (Err (Fields at n)) f h k = absurd h
 can_then (Err (Count at n)) f h k = absurd h
 can_then (Err (Null at)) f h k = tt
 can_then (Err (Ident at)) f h k = absurd h
-can_then (Err Memory) f h k = tt
+can_then (Err (Memory _)) f h k = tt
 
 field_can : (bytes : List ℕ) (p : ℕ) → CanRunOut (field_at bytes p)
 unfolding field_at

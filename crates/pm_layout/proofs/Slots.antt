@@ -11,10 +11,10 @@ use Rattle.pm_types.specs.declared.object.Slot.TheVariants.{Live, Moved}
 use Rattle.pm_layout.specs.declared.fault.LayoutFault.{LayoutFault}
 use Rattle.pm_layout.specs.declared.fault.LayoutFault.TheVariants.{Short, Kind, Fields, Count, Null, Ident}
 use Rattle.pm_layout.specs.Spelling.{address, field, spelling, HasCar, Stands, IsSpelled}
-use Rattle.pm_base.specs.Results.{◌>>=◌}
+use Rattle.pm_types.specs.Results.{◌>>=◌}
 use Rattle.pm_layout.specs.Reading.{Gives, number_from, live_end, end_at, ident_at, field_count_at, byte_count_at, address_at, field_at, fields_at, live_at, target_at, moved_at, slot_at}
 use Rattle.pm_layout.proofs.Steps.{chosen, neither, not_positive, not_zero}
-use Rattle.pm_base.proofs.Results.{bind_ok, ok_same, if_ok, wanted_ok}
+use Rattle.pm_types.proofs.Results.{bind_ok, ok_same, if_ok, wanted_ok}
 use Rattle.pm_layout.proofs.Numbers.{IsBytes, wide_2, wide_4, wide_8}
 use Rattle.pm_layout.proofs.Texts.{Stands-then, number_stands, byte_stands, between_stands}
 

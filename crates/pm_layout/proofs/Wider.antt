@@ -6,7 +6,7 @@ use Rattle.pm_layout.specs.declared.fault.LayoutFault.{LayoutFault}
 use Rattle.pm_layout.specs.declared.fault.LayoutFault.TheVariants.{Short, Kind, Fields}
 use Rattle.pm_layout.specs.Reading.{number_from, end_at, ident_at, field_count_at, live_at, moved_at, slot_at}
 use Rattle.pm_layout.proofs.Steps.{chosen, holds, passes}
-use Rattle.pm_base.proofs.Results.{bind_ok, bound, if_ok, if_not}
+use Rattle.pm_types.proofs.Results.{bind_ok, bound, if_ok, if_not}
 
 -- a number of fields that is within one limit is within a greater one
 field_count_more : (most more : ℕ) (bytes : List ℕ) (place n : ℕ) → most ≤ more → field_count_at most bytes place ≡ Ok n → field_count_at more bytes place ≡ Ok n

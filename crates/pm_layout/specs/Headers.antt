@@ -1,7 +1,7 @@
 -- How headers are spelled, which have a spelling, and what bytes say of one.
 use Rattle.std.specs.Prelude.{◌≡◌, ℕ, ◌<◌, ◌≤◌, ◌^◌, List, [], ◌∷◌, ◌++◌, length, take, slice_range, Result, Ok, Err, nat_lt, ◌==◌, ◌||◌, if◌then◌else◌, Bool, true}
 use Rattle.std.specs.Str.{bytes_eq}
-use Rattle.pm_base.specs.Results.{◌>>=◌}
+use Rattle.pm_types.specs.Results.{◌>>=◌}
 use Rattle.byteorder.specs.Endian.{big_bytes}
 use Rattle.sha2.specs.Sha256.{sha256}
 use Rattle.pm_types.specs.declared.limits.TheConstants.{FIELDS, OLD_FIELDS, VERSION, OLD_VERSION, END_ID}

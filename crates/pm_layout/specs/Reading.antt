@@ -1,6 +1,6 @@
 -- Reading a slot from left to right, with the first fault that is met. Bytes are read at places of the whole.
 use Rattle.std.specs.Prelude.{◌≡◌, ℕ, zero, suc, ◌+◌, ◌-◌, ◌*◌, List, [], ◌∷◌, length, drop, slice_index, slice_range, Option, Some, None, Result, Ok, Err, nat_lt, nat_le, ◌==◌, ◌||◌, if◌then◌else◌}
-use Rattle.pm_base.specs.Results.{◌>>=◌}
+use Rattle.pm_types.specs.Results.{◌>>=◌}
 use Rattle.byteorder.specs.Endian.{big_number}
 use Rattle.pm_types.specs.declared.limits.TheConstants.{OBJECT_BYTES, LAST_ID}
 use Rattle.pm_types.specs.declared.address.Addr.{Addr}
@@ -19,11 +19,11 @@ CanRunOut (Err (Fields at n)) = ⊥
 CanRunOut (Err (Count at n)) = ⊥
 CanRunOut (Err (Null at)) = Unit {0}
 CanRunOut (Err (Ident at)) = ⊥
-CanRunOut (Err Memory) = Unit {0}
+CanRunOut (Err (Memory _)) = Unit {0}
 
 -- an error that was answered is the fault that reading meets, or memory ran out
 abbrev pub Fails : {X : Type 0} → LayoutFault → Result X LayoutFault → Type 0
-Fails Memory read = CanRunOut read
+Fails (Memory _) read = CanRunOut read
 Fails (Short at) read = read ≡ Err (Short at)
 Fails (Kind at byte) read = read ≡ Err (Kind at byte)
 Fails (Fields at n) read = read ≡ Err (Fields at n)

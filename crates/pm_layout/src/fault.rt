@@ -2,7 +2,9 @@
 
 ghost use Rattle.std.specs.Prelude.{◌≡◌};
 ghost use Rattle.pm_layout.specs.declared.fault.LayoutFault.TheVariants.{Memory};
+ghost use Rattle.pm_types.specs.Memory.{no_memory};
 
+use pm_types::NoMemory;
 use std::alloc::{AllocError, AllocFailed};
 use thiserror::Error;
 
@@ -32,21 +34,21 @@ pub enum LayoutFault {
     Ident(u64),
     /// Memory ran out.
     #[error("no memory")]
-    Memory,
+    Memory(NoMemory),
 }
 
 impl From<AllocError> for LayoutFault {
-    ghost from_gives = { λ _ e. e ≡ Memory };
+    ghost from_gives = { λ _ e. e ≡ Memory no_memory };
 
-    fn from(_e: AllocError) -> LayoutFault {
-        LayoutFault::Memory
+    fn from(refused: AllocError) -> LayoutFault {
+        LayoutFault::Memory(NoMemory::from(refused))
     }
 }
 
 impl<T: Drop> From<AllocFailed<T>> for LayoutFault {
-    ghost from_gives = { λ _ e. e ≡ Memory };
+    ghost from_gives = { λ _ e. e ≡ Memory no_memory };
 
-    fn from(_e: AllocFailed<T>) -> LayoutFault {
-        LayoutFault::Memory
+    fn from(refused: AllocFailed<T>) -> LayoutFault {
+        LayoutFault::Memory(NoMemory::from(refused))
     }
 }

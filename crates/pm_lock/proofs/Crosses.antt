@@ -6,16 +6,16 @@ use Rattle.std.specs.contracts.snapshot.Snapshot as snapshot
 use Rattle.std.proofs.Crossing as crossing
 use Rattle.pm_disk.specs.declared.disk.Disk.{Ghosts}
 use Rattle.pm_script.specs.contracts.Script as script
-use Rattle.pm_parts.proofs.parts.Parts.TheSendSync as parts
+use Rattle.pm_script.proofs.parted.parts.Parts.TheSendSync as parts
 use Rattle.pm_space.specs.contracts.Space as space
 use Rattle.pm_space.proofs.space.Space.TheSendSync as spaces
 use Rattle.pm_shadow.specs.contracts.Pages as pages
 use Rattle.pm_shadow.proofs.pages.Pages.TheSendSync as page_sets
-use Rattle.pm_events.specs.engine.contracts.start.Start as start
-use Rattle.pm_events.specs.engine.works.contracts.Works as works
-use Rattle.pm_events.specs.engine.works.contracts.Course as course
+use Rattle.pm_engine.specs.contracts.start.Start as start
+use Rattle.pm_engine.specs.contracts.works.Works as works
+use Rattle.pm_engine.specs.contracts.works.Course as course
 use Rattle.pm_save.proofs.saver.Saver.TheSendSync as savers
-use Rattle.pm_events.specs.engine.contracts.Engine as engine
+use Rattle.pm_engine.specs.contracts.Engine as engine
 use Rattle.pm_lock.specs.contracts.book.Book as book
 
 -- a value as it was, which has no bytes

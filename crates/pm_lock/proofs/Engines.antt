@@ -8,14 +8,14 @@ use Rattle.pm_types.specs.declared.fault.EngineFault.{EngineFault}
 use Rattle.pm_types.specs.declared.fault.EngineFault.TheVariants.{Memory, Disk, Reopen}
 use Rattle.pm_disk.specs.declared.disk.Disk.{Ghosts}
 use Rattle.pm_script.specs.declared.line.Line.{Line}
-use Rattle.pm_parts.specs.Lists.{count_left, list_of}
-use Rattle.pm_serving.specs.Serving.{Serving}
-use Rattle.pm_serving.specs.Events.{Collects, FailsAs, Flushes}
-use Rattle.pm_events.specs.engine.declared.engine.Engine.{Engine}
-use Rattle.pm_events.specs.engine.Shown.{disk_in, opened_count, room, serving}
-use Rattle.pm_events.specs.Causes.{stop_of}
-use Rattle.pm_events.specs.Events.{Adds, EngineGoesOn, IsShort}
-use Rattle.pm_events.proofs.Going.{goes_then}
+use Rattle.pm_script.specs.Parted.Lists.{count_left, list_of}
+use Rattle.pm_saving.specs.Serving.{Serving}
+use Rattle.pm_saving.specs.Events.{Collects, FailsAs, Flushes}
+use Rattle.pm_engine.specs.declared.engine.Engine.{Engine}
+use Rattle.pm_engine.specs.Shown.{disk_in, opened_count, room, serving}
+use Rattle.pm_engine.specs.Events.Causes.{stop_of}
+use Rattle.pm_engine.specs.Events.Events.{Adds, EngineGoesOn, IsShort}
+use Rattle.pm_engine.proofs.EventsLemmas.Going.{goes_then}
 use Rattle.pm_lock.specs.Kept.{HasCauseSince, HasLeft, KeepsBook, KeepsEngine, KeepsScript, stopped_by}
 use Rattle.pm_lock.proofs.Keeping.{rests, script_answered, script_collected, script_flushed, script_stays}
 
@@ -33,28 +33,28 @@ one_left (list ∷ lists) (suc client) cmd rest is =
 
 -- something is left where memory ran out
 pub left_client : (it then : Serving) (lists : List (List Cmd)) (collects flushes client : ℕ) (cmd : Cmd) (rest : List Cmd) (fault : EngineFault) → list_of lists client ≡ cmd ∷ rest → IsShort cmd it then (Some (stop_of fault)) → HasLeft (Some fault) then lists collects flushes
-left_client it then lists collects flushes client cmd rest Memory next short = inr (inr record { client = client; cmd = cmd; rest = rest; next = next; unfinished = short.1 })
+left_client it then lists collects flushes client cmd rest (Memory _) next short = inr (inr record { client = client; cmd = cmd; rest = rest; next = next; unfinished = short.1 })
 left_client it then lists collects flushes client cmd rest (Disk before after) next short = tt
 left_client it then lists collects flushes client cmd rest (Reopen count) next short = tt
 
 pub left_collect : (it : Serving) (lists : List (List Cmd)) (collects flushes : ℕ) (fault : EngineFault) → 0 < collects → HasLeft (Some fault) it lists collects flushes
-left_collect it lists collects flushes Memory some = inl some
+left_collect it lists collects flushes (Memory _) some = inl some
 left_collect it lists collects flushes (Disk before after) some = tt
 left_collect it lists collects flushes (Reopen count) some = tt
 
 pub left_flush : (it : Serving) (lists : List (List Cmd)) (collects flushes : ℕ) (fault : EngineFault) → 0 < flushes → HasLeft (Some fault) it lists collects flushes
-left_flush it lists collects flushes Memory some = inr (inl some)
+left_flush it lists collects flushes (Memory _) some = inr (inl some)
 left_flush it lists collects flushes (Disk before after) some = tt
 left_flush it lists collects flushes (Reopen count) some = tt
 
 -- an engine that answered a fault, and was not stopped before
 stopped_with : (old new : Serving) (before after : ℕ) (fault : EngineFault) → FailsAs old new before after fault → old.stopped ≡ None → new.stopped ≡ stopped_by (Some fault)
-stopped_with old new before after Memory fails none = fails.2
+stopped_with old new before after (Memory _) fails none = fails.2
 stopped_with old new before after (Disk b a) fails none = fails.2 ∙ ap Some (sym fails.3.1)
 stopped_with old new before after (Reopen count) fails none = let stopped = fails.1 in absurd (cc (none, stopped))
 
 cause_with : (old new : Serving) (opened first before after : ℕ) (fault : EngineFault) → FailsAs old new before after fault → old.stopped ≡ None → opened ≤ before → before ≡ first → HasCauseSince (Some fault) opened first after
-cause_with old new opened first before after Memory fails none counted same = tt
+cause_with old new opened first before after (Memory _) fails none counted same = tt
 cause_with old new opened first before after (Disk b a) fails none counted same = let is = fails.3.0 in (omega (arith, is, counted), (is ∙ same, fails.3.1, fails.3.2))
 cause_with old new opened first before after (Reopen count) fails none counted same = let stopped = fails.1 in absurd (cc (none, stopped))
 

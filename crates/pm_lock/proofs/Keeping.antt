@@ -3,7 +3,7 @@ use Rattle.std.proofs.Common.{◌≡◌, ◌≢◌, ⊎_elim, ℕ, ◌+◌, ◌<
 use Rattle.std.specs.List.{AllByRecursion}
 use Rattle.std.proofs.lemmas.Bool.{cases_eq}
 use Rattle.std.proofs.lemmas.List.{append-nil, map-append}
-use Rattle.pm_base.specs.Counts.{raised}
+use Rattle.pm_types.specs.Counts.{raised}
 use Rattle.pm_types.specs.declared.limits.TheConstants.{CLIENTS}
 use Rattle.pm_types.specs.declared.command.Cmd.{Cmd}
 use Rattle.pm_types.specs.declared.entry.Entry.{Entry}
@@ -13,13 +13,13 @@ use Rattle.pm_model.specs.declared.request.Request.{Request}
 use Rattle.pm_model.specs.Journal.{commands_of, part, requests_of}
 use Rattle.pm_script.specs.declared.line.Line.{Line}
 use Rattle.pm_script.specs.Script.{AreLines}
-use Rattle.pm_parts.specs.Asked.{flushes_asked, requests_asked, steps_asked}
-use Rattle.pm_parts.specs.Lists.{count_left, list_of}
-use Rattle.pm_parts.proofs.Parting.{commands_both, commands_elsewhere, commands_here}
-use Rattle.pm_serving.specs.Serving.{Serving}
-use Rattle.pm_serving.specs.Events.{FailsAs}
-use Rattle.pm_events.specs.Events.{Adds}
-use Rattle.pm_events.specs.Running.{IsFresh}
+use Rattle.pm_script.specs.Parted.Asked.{flushes_asked, requests_asked, steps_asked}
+use Rattle.pm_script.specs.Parted.Lists.{count_left, list_of}
+use Rattle.pm_script.proofs.PartedLemmas.Parting.{commands_both, commands_elsewhere, commands_here}
+use Rattle.pm_saving.specs.Serving.{Serving}
+use Rattle.pm_saving.specs.Events.{FailsAs}
+use Rattle.pm_engine.specs.Events.Events.{Adds}
+use Rattle.pm_engine.specs.Events.Running.{IsFresh}
 use Rattle.pm_lock.specs.Kept.{FitsLine, KeepsScript}
 
 -- each entry's text is a line, also that of one more
@@ -38,7 +38,7 @@ part_more client journal entry =
 
 -- what stays of an engine where nothing was answered
 pub rests : (old new : Serving) (before after : ℕ) (fault : EngineFault) → FailsAs old new before after fault → (new.journal ≡ old.journal) × (new.events ≡ old.events) × (new.steps ≡ old.steps)
-rests old new before after Memory fails = (fails.0.journal, fails.0.events, fails.0.steps)
+rests old new before after (Memory _) fails = (fails.0.journal, fails.0.events, fails.0.steps)
 rests old new before after (Disk b a) fails = (fails.0.journal, fails.0.events, fails.0.steps)
 rests old new before after (Reopen count) fails = (ap (λ (it : Serving). it.journal) fails.0, ap (λ (it : Serving). it.events) fails.0, ap (λ (it : Serving). it.steps) fails.0)
 

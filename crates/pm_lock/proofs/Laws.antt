@@ -5,7 +5,7 @@ use Rattle.std.specs.List.{AllByRecursion, AllByRecursion-prop}
 use Rattle.std.proofs.Math.Logic.{∥∥₁_elim, ∥∥₁_map}
 use Rattle.std.proofs.Props.{props}
 use mathlib.Core.HLevel.{⊥_prop}
-use Rattle.pm_base.specs.Counts.{Rose, greatest_count}
+use Rattle.pm_types.specs.Counts.{Rose, greatest_count}
 use Rattle.pm_types.specs.declared.limits.TheConstants.{CLIENTS}
 use Rattle.pm_types.specs.declared.entry.Entry.{Entry}
 use Rattle.pm_types.specs.declared.fault.EngineFault.{EngineFault}
@@ -71,7 +71,7 @@ splits_rose before after known = by (dec_lt before after)
 
 pub splits_cause : (fault : Option EngineFault) (opened first now : ℕ) → ∥ HasCauseSince fault opened first now ∥₁ → HasCauseSince fault opened first now
 splits_cause None opened first now known = tt
-splits_cause (Some Memory) opened first now known = tt
+splits_cause (Some (Memory _)) opened first now known = tt
 splits_cause (Some (Disk before after)) opened first now known = (
   splits_once (within_once opened before) (∥∥₁_map known (λ is. is.0)),
   (

@@ -3,3 +3,4 @@ pub mod Engines
 pub mod Turning
 pub mod Laws
 pub mod Crosses
+pub mod CrewLemmas

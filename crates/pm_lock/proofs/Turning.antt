@@ -8,11 +8,11 @@ use Rattle.pm_types.specs.declared.limits.TheConstants.{CLIENTS}
 use Rattle.pm_types.specs.declared.fault.EngineFault.{EngineFault}
 use Rattle.pm_disk.specs.declared.disk.Disk.{Ghosts}
 use Rattle.pm_turns.specs.declared.turn.Turn.TheVariants.{Finished}
-use Rattle.pm_events.specs.engine.declared.engine.Engine.{Engine}
-use Rattle.pm_events.specs.engine.Shown.{KeepsStart}
+use Rattle.pm_engine.specs.declared.engine.Engine.{Engine}
+use Rattle.pm_engine.specs.Shown.{KeepsStart}
 use Rattle.pm_lock.specs.declared.book.Book.{Book}
 use Rattle.pm_lock.specs.declared.workers.TheConstants.{COLLECTOR, FLUSHER}
-use Rattle.pm_parts.specs.Left.{lists_in}
+use Rattle.pm_script.specs.Parted.Left.{lists_in}
 use Rattle.pm_lock.specs.Kept.{KeepsBook}
 use Rattle.pm_lock.specs.Shown.{engine_in, fault_in}
 use Rattle.pm_lock.specs.Turns.{HasNothing, StepsBook}

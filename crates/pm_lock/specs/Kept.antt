@@ -1,7 +1,7 @@
 -- What the type of a book keeps.
 use Rattle.std.specs.Prelude.{◌≡◌, ◌⊎◌, ℕ, ◌+◌, ◌^◌, ◌<◌, ◌≤◌, true, List, ◌∷◌, ◌++◌, length, Option, Some, None, option_map}
 use Rattle.std.specs.List.{AllByRecursion}
-use Rattle.pm_base.specs.Counts.{ShowsRise}
+use Rattle.pm_types.specs.Counts.{ShowsRise}
 use Rattle.pm_types.specs.declared.limits.TheConstants.{CLIENTS}
 use Rattle.pm_types.specs.declared.command.Cmd.{Cmd}
 use Rattle.pm_types.specs.declared.entry.Entry.{Entry}
@@ -13,14 +13,14 @@ use Rattle.pm_model.specs.Frames.{is_settle}
 use Rattle.pm_model.specs.Journal.{commands_of, part}
 use Rattle.pm_script.specs.declared.line.Line.{Line}
 use Rattle.pm_script.specs.Script.{AreLines}
-use Rattle.pm_parts.specs.Asked.{events_asked, flushes_asked, requests_asked, steps_asked}
-use Rattle.pm_parts.specs.Lists.{count_left, list_of}
-use Rattle.pm_serving.specs.Serving.{Serving}
-use Rattle.pm_events.specs.engine.declared.engine.Engine.{Engine}
-use Rattle.pm_events.specs.engine.Shown.{disk_in, opened_count, room, serving}
-use Rattle.pm_events.specs.declared.stop.Stop.{Stop}
-use Rattle.pm_events.specs.Causes.{stop_of}
-use Rattle.pm_events.specs.Events.{EngineGoesOn, IsUnfinished}
+use Rattle.pm_script.specs.Parted.Asked.{events_asked, flushes_asked, requests_asked, steps_asked}
+use Rattle.pm_script.specs.Parted.Lists.{count_left, list_of}
+use Rattle.pm_saving.specs.Serving.{Serving}
+use Rattle.pm_engine.specs.declared.engine.Engine.{Engine}
+use Rattle.pm_engine.specs.Shown.{disk_in, opened_count, room, serving}
+use Rattle.pm_engine.specs.declared.events.stop.Stop.{Stop}
+use Rattle.pm_engine.specs.Events.Causes.{stop_of}
+use Rattle.pm_engine.specs.Events.Events.{EngineGoesOn, IsUnfinished}
 
 -- an entry's text is one line: who asked is a client, and what the reply shows is no longer than an object
 abbrev pub FitsLine : Entry → Type 0
@@ -50,7 +50,7 @@ stop_kept fault = option_map stop_of fault
 -- with which count the engine is stopped, where this fault is kept
 abbrev pub stopped_by : Option EngineFault → Option ℕ
 stopped_by None = None
-stopped_by (Some Memory) = None
+stopped_by (Some (Memory _)) = None
 stopped_by (Some (Disk before after)) = Some after
 stopped_by (Some (Reopen count)) = None
 
@@ -58,7 +58,7 @@ stopped_by (Some (Reopen count)) = None
 -- began, as told, and was then what it had been at the opening, or more. Reopen is never kept.
 abbrev pub HasCauseSince : Option EngineFault → ℕ → ℕ → ℕ → Type 0
 HasCauseSince None opened first now = Unit {0}
-HasCauseSince (Some Memory) opened first now = Unit {0}
+HasCauseSince (Some (Memory _)) opened first now = Unit {0}
 HasCauseSince (Some (Disk before after)) opened first now = (opened ≤ before) × ShowsRise before after first now
 HasCauseSince (Some (Reopen count)) opened first now = ⊥
 
@@ -74,7 +74,7 @@ pub record AwaitsClient (it : Serving) (lists : List (List Cmd)) : Type 0 where
 -- flushed.
 abbrev pub HasLeft : Option EngineFault → Serving → List (List Cmd) → ℕ → ℕ → Type 0
 HasLeft None it lists collects flushes = Unit {0}
-HasLeft (Some Memory) it lists collects flushes = (0 < collects) ⊎ ((0 < flushes) ⊎ AwaitsClient it lists)
+HasLeft (Some (Memory _)) it lists collects flushes = (0 < collects) ⊎ ((0 < flushes) ⊎ AwaitsClient it lists)
 HasLeft (Some (Disk before after)) it lists collects flushes = Unit {0}
 HasLeft (Some (Reopen count)) it lists collects flushes = Unit {0}
 

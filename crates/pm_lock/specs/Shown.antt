@@ -5,11 +5,11 @@ use Rattle.pm_types.specs.declared.fault.EngineFault.{EngineFault}
 use Rattle.pm_disk.specs.declared.disk.Disk.{Ghosts}
 use Rattle.pm_model.specs.Journal.{commands_of}
 use Rattle.pm_script.specs.declared.line.Line.{Line}
-use Rattle.pm_parts.specs.Asked.{flushes_asked, requests_asked, steps_asked}
-use Rattle.pm_parts.specs.Left.{lists_in}
-use Rattle.pm_parts.specs.Lists.{list_of}
-use Rattle.pm_events.specs.engine.declared.engine.Engine.{Engine}
-use Rattle.pm_events.specs.engine.Shown.{KeepsStart, disk_in, serving}
+use Rattle.pm_script.specs.Parted.Asked.{flushes_asked, requests_asked, steps_asked}
+use Rattle.pm_script.specs.Parted.Left.{lists_in}
+use Rattle.pm_script.specs.Parted.Lists.{list_of}
+use Rattle.pm_engine.specs.declared.engine.Engine.{Engine}
+use Rattle.pm_engine.specs.Shown.{KeepsStart, disk_in, serving}
 use Rattle.pm_lock.specs.declared.book.Book.{Book}
 
 module _ {D : Type 0} {F : Type 0} {g : Ghosts D} where

@@ -9,11 +9,11 @@ use Rattle.pm_types.specs.declared.event.Step.{Step}
 use Rattle.pm_types.specs.declared.fault.EngineFault.{EngineFault}
 use Rattle.pm_types.specs.declared.reply.Reply.{Reply}
 use Rattle.pm_disk.specs.declared.disk.Disk.{Ghosts}
-use Rattle.pm_parts.specs.Lists.{count_left, list_of}
+use Rattle.pm_script.specs.Parted.Lists.{count_left, list_of}
 use Rattle.pm_turns.specs.declared.turn.Turn.{Turn}
 use Rattle.pm_turns.specs.declared.turn.Turn.TheVariants.{Made, Finished, Stopped}
-use Rattle.pm_events.specs.engine.Shown.{KeepsStart}
-use Rattle.pm_events.specs.engine.Calls.{AnswersClient, AnswersCollect, AnswersFlush}
+use Rattle.pm_engine.specs.Shown.{KeepsStart}
+use Rattle.pm_engine.specs.Calls.{AnswersClient, AnswersCollect, AnswersFlush}
 use Rattle.pm_lock.specs.declared.book.Book.{Book}
 use Rattle.pm_lock.specs.declared.workers.TheConstants.{COLLECTOR, FLUSHER}
 use Rattle.pm_lock.specs.Shown.{collects_in, engine_in, fault_in, first_in, flushes_in, left_in, lines_in}

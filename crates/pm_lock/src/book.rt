@@ -1,12 +1,12 @@
 //! The book: what it keeps, how it is made, and what it tells.
 
-ghost use Rattle.pm_parts.specs.Left.{lists_in};
+ghost use Rattle.pm_script.specs.Parted.Left.{lists_in};
 ghost use Rattle.pm_lock.specs.Kept.{KeepsBook};
 
 use pm_disk::Disk;
-use pm_events::Engine;
-use pm_parts::{Parts, collects_asked, commands_asked, flushes_asked};
+use pm_engine::events::Engine;
 use pm_script::Script;
+use pm_script::parted::{Parts, collects_asked, commands_asked, flushes_asked};
 use pm_types::{EngineFault, NoMemory};
 use std::alloc::Global;
 use std::snapshot::Snapshot;
@@ -33,14 +33,14 @@ impl<D: Disk, F: Drop> Book<D, F> {
     ghost use Rattle.std.specs.Prelude.{◌≡◌, ◌+◌, ◌<◌, ◌≤◌, ◌^◌, ℕ, ◌++◌, List, None, length, IfOk, IfErr};
     ghost use Rattle.std.specs.List.{AllByRecursion};
     ghost use Rattle.pm_model.specs.Journal.{IsLegal, commands_of, part};
-    ghost use Rattle.pm_parts.specs.Asked.{events_asked, flushes_asked, requests_asked, steps_asked};
-    ghost use Rattle.pm_parts.specs.Lists.{count_left, list_of};
+    ghost use Rattle.pm_script.specs.Parted.Asked.{events_asked, flushes_asked, requests_asked, steps_asked};
+    ghost use Rattle.pm_script.specs.Parted.Lists.{count_left, list_of};
     ghost use Rattle.pm_script.specs.Script.{AreLines};
-    ghost use Rattle.pm_serving.specs.Serving.{opening, world};
-    ghost use Rattle.pm_serving.specs.Images.{IsSettledCopy, IsTold};
-    ghost use Rattle.pm_events.specs.engine.Shown.{KeepsStart, disk_in, opened_count, opened_disk, room, serving};
-    ghost use Rattle.pm_events.specs.Running.{IsFresh};
-    ghost use Rattle.pm_events.specs.Events.{EngineGoesOn};
+    ghost use Rattle.pm_saving.specs.Serving.{opening, world};
+    ghost use Rattle.pm_saving.specs.Images.{IsSettledCopy, IsTold};
+    ghost use Rattle.pm_engine.specs.Shown.{KeepsStart, disk_in, opened_count, opened_disk, room, serving};
+    ghost use Rattle.pm_engine.specs.Events.Running.{IsFresh};
+    ghost use Rattle.pm_engine.specs.Events.Events.{EngineGoesOn};
     ghost use Rattle.pm_lock.specs.Kept.{FitsLine, HasCauseSince, HasLeft, stop_kept, stopped_by};
     ghost use Rattle.pm_lock.specs.Shown.{BeginsBook, collects_in, engine_in, fault_in, first_in, flushes_in};
     ghost use Rattle.pm_lock.specs.Shown.{left_in, lines_in};

@@ -3,6 +3,7 @@
 #![tactic(auto)]
 
 mod book;
+pub mod crew;
 mod step;
 mod value;
 mod workers;

@@ -3,7 +3,7 @@
 use crate::Book;
 use crate::workers::COLLECTOR;
 use pm_disk::Disk;
-use pm_events::{ask, collect_once, flush_once};
+use pm_engine::events::{ask, collect_once, flush_once};
 use pm_turns::Turn;
 use pm_types::CLIENTS;
 use std::alloc::Global;
@@ -13,7 +13,7 @@ impl<D: Disk, F: Fn(&[u64]) -> usize + Drop> Book<D, F> {
     ghost use Rattle.pm_types.specs.declared.limits.TheConstants.{CLIENTS};
     ghost use Rattle.pm_turns.specs.declared.limits.TheConstants.{WORKERS};
     ghost use Rattle.pm_place.specs.Choosers.{IsChooser};
-    ghost use Rattle.pm_events.specs.engine.Shown.{chooser};
+    ghost use Rattle.pm_engine.specs.Shown.{chooser};
     ghost use Rattle.pm_lock.specs.Shown.{engine_in, fault_in};
     ghost use Rattle.pm_lock.specs.declared.workers.TheConstants.{COLLECTOR, FLUSHER};
     ghost use Rattle.pm_lock.specs.Turns.{StepsBook};

@@ -1,12 +1,12 @@
 //! A book as a value that workers take turns at.
 
 ghost use Rattle.pm_place.specs.Choosers.{IsChooser};
-ghost use Rattle.pm_events.specs.engine.Shown.{chooser};
+ghost use Rattle.pm_engine.specs.Shown.{chooser};
 ghost use Rattle.pm_lock.specs.Shown.{engine_in, first_in, lines_in};
 
 use crate::Book;
 use pm_disk::Disk;
-use pm_events::Engine;
+use pm_engine::events::Engine;
 use pm_script::Script;
 use pm_turns::{Turn, Turned};
 use std::alloc::Global;

@@ -3,18 +3,18 @@
 ghost use Rattle.std.specs.Prelude.{◌≡◌, IfOk};
 ghost use Rattle.pm_place.specs.Choosers.{IsChooser};
 ghost use Rattle.pm_engine.specs.Shown.{chooser, serving};
-ghost use Rattle.pm_events.specs.Running.{IsFresh};
-ghost use Rattle.pm_workers.specs.Shown.{engine_in};
+ghost use Rattle.pm_engine.specs.Events.Running.{IsFresh};
+ghost use Rattle.pm_lock.specs.Shown.{engine_in};
 
 use crate::spelling::script;
 use crate::turned::{push_counts, push_turns};
 use pm_case_text::{Fault, refuse};
 use pm_disk::{Disk, MemDisk};
 use pm_engine::Engine;
+use pm_lock::crew::Book;
 use pm_place::Placement;
 use pm_script::Script;
 use pm_shadow::init;
-use pm_workers::Book;
 use std::alloc::Global;
 
 // The bytes of a new store.

@@ -1,6 +1,6 @@
 //! What a journal serves of a script.
 
-use pm_case_scripts::alike_in;
+use pm_case_text::told::alike_in;
 use pm_case_text::{Fault, push_filled, push_value_line, push_words};
 use pm_script::Line;
 use pm_types::{CLIENTS, Cmd, Entry};

@@ -2,8 +2,8 @@
 
 ghost use Rattle.pm_place.specs.Choosers.{IsChooser};
 ghost use Rattle.pm_engine.specs.Shown.{chooser, serving};
-ghost use Rattle.pm_events.specs.Running.{IsFresh};
-ghost use Rattle.pm_workers.specs.Shown.{engine_in};
+ghost use Rattle.pm_engine.specs.Events.Running.{IsFresh};
+ghost use Rattle.pm_lock.specs.Shown.{engine_in};
 
 use crate::opened::{disk_of, new_disk, open};
 use crate::served::{count_parts, push_legal};
@@ -12,11 +12,11 @@ use crate::turned::made_alone;
 use pm_case_text::{Fault, push_filled, push_text, push_value, refuse};
 use pm_disk::Disk;
 use pm_engine::Engine;
+use pm_lock::crew::{Book, run_all};
 use pm_place::Placement;
 use pm_script::{Script, journal_text};
 use pm_turns::Gate;
 use pm_types::Entry;
-use pm_workers::{Book, run_all};
 use std::alloc::Global;
 use std::fmt::Debug;
 use std::sync::Wait;

@@ -4,16 +4,16 @@ ghost use Rattle.std.specs.Prelude.{◌≡◌, ◌<◌};
 ghost use Rattle.pm_turns.specs.declared.limits.TheConstants.{WORKERS};
 ghost use Rattle.pm_place.specs.Choosers.{IsChooser};
 ghost use Rattle.pm_engine.specs.Shown.{chooser};
-ghost use Rattle.pm_workers.specs.Shown.{engine_in};
+ghost use Rattle.pm_lock.specs.Shown.{engine_in};
 
 use pm_case_text::{
     Fault, push_filled, push_text, push_value, push_value_line, push_words, refuse,
 };
 use pm_disk::Disk;
+use pm_lock::crew::Book;
 use pm_script::reply_text;
 use pm_turns::{Turn, WORKERS};
 use pm_types::Entry;
-use pm_workers::Book;
 use std::alloc::Global;
 
 // Adds the line of a reply, without its end.

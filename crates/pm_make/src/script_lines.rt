@@ -50,7 +50,7 @@ fn name_of(alloc: Global, number: u32) -> Result<Name, NoMemory>
     bytes.extend_from_slice(digits)?;
     match Name::read(alloc, bytes.as_slice()) {
         Ok(name) => Ok(name),
-        Err(NameFault::Memory) => Err(NoMemory),
+        Err(NameFault::Memory(refused)) => Err(refused),
         Err(_) => unreachable!(),
     }
 }

@@ -5,7 +5,7 @@ use Rattle.std.specs.Option.{IsSome}
 use Rattle.std.specs.Ordering.{eq_by_cmp}
 use Rattle.std.specs.Cmp.{IsTotalOrder, eq_by_cmp_equiv}
 use Rattle.std.specs.FinMap.{FinMap, IsAntisymmetric, get, insert, remove, retain_keys, get-insert, get-remove, get-retain_keys}
-use Rattle.pm_base.proofs.Shown.{tied}
+use Rattle.pm_types.proofs.Shown.{tied}
 
 picked_value : {X : Type 0} (b : Bool) (v x : X) (old : Option X) → cond b (Some v) old ≡ Some x → ((b ≡ true) × (v ≡ x)) ⊎ ((b ≡ false) × (old ≡ Some x))
 picked_value true v x old is = inl (refl, cc)

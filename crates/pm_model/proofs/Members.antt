@@ -8,7 +8,7 @@ use Rattle.std.specs.FinMap.{FinMap, find, is_sorted, get, values, entries, entr
 use Rattle.std.specs.FinMap.Entries.{below_all}
 use Rattle.std.proofs.lemmas.List.Elements.{Contains-append_right, Contains-append_cases}
 use Rattle.std.proofs.lemmas.Option.{same_Some, none-some}
-use Rattle.pm_base.proofs.Shown.{tied}
+use Rattle.pm_types.proofs.Shown.{tied}
 
 -- a list has its first element, and those of its rest
 pub at_first : {X : Type 0} (x : X) (xs : List X) → Contains (x ∷ xs) x

@@ -10,14 +10,14 @@ use Rattle.pm_model.specs.Answer.{is_refusal}
 use Rattle.pm_view.specs.View.{SpaceView}
 use Rattle.pm_view.specs.Objects.{AddsObject}
 use Rattle.pm_view.specs.Work.{work}
-use Rattle.pm_law_work.specs.Raises.{raises}
-use Rattle.pm_bound.specs.Bounded.{KeepsSunk}
+use Rattle.pm_law_collect.specs.Work.Raises.{raises}
+use Rattle.pm_view.specs.Bounded.{KeepsSunk}
 use Rattle.pm_view.specs.Rows.{spent, birthplace, IsVacant}
 use Rattle.pm_types.specs.Registers.{HasRegisters}
 use Rattle.pm_view.specs.Commands.{row, fresh, Picks, ArePicked}
-use Rattle.pm_commands.specs.Picked.{IsForSomeRoot, IsForSomeCar, IsRow}
+use Rattle.pm_mutate.specs.Commands.Picked.{IsForSomeRoot, IsForSomeCar, IsRow}
 use Rattle.pm_mutate.specs.Acts.{IsBirth, AddsLittleWork}
-use Rattle.pm_commands.proofs.FreeNumbers.{spare_root, is_spare}
+use Rattle.pm_mutate.proofs.CommandsLemmas.FreeNumbers.{spare_root, is_spare}
 
 -- what is picked: a number of a root that no name has, and this number of a car
 abbrev pub picked : SpaceView → ℕ → Picks

@@ -1,2 +1,3 @@
+pub mod CommandsLemmas
 pub mod ShownBytes
 pub mod Carried

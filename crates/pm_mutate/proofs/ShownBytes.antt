@@ -14,7 +14,7 @@ use Rattle.pm_view.specs.View.{SpaceView}
 use Rattle.pm_view.specs.Law.{HeapLaw}
 use Rattle.pm_view.specs.Reading.{object_at, resolve}
 use Rattle.pm_view.specs.Commands.{Picks, bind, field_at, hold, load_field, named_in, object_held, put_bytes, register, row, row_clear, row_copy, row_data, row_drop, row_find, row_id, row_load, row_new, row_put, row_root, row_store, row_swap, row_unroot, set_field, swap_field}
-use Rattle.pm_commands.specs.Picked.{IsRow}
+use Rattle.pm_mutate.specs.Commands.Picked.{IsRow}
 use Rattle.pm_mutate.specs.Acts.{LeavesWhereShown}
 
 -- the reply shows no bytes, or at most an object's, and then the space after it is the one before

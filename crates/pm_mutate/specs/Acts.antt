@@ -12,8 +12,8 @@ use Rattle.pm_view.specs.View.{SpaceView}
 use Rattle.pm_view.specs.Represents.{Represents}
 use Rattle.pm_view.specs.Objects.{AddsObject}
 use Rattle.pm_view.specs.Work.{work}
-use Rattle.pm_law_work.specs.Raises.{raises}
-use Rattle.pm_bound.specs.Bounded.{KeepsRank, KeepsSunk}
+use Rattle.pm_law_collect.specs.Work.Raises.{raises}
+use Rattle.pm_view.specs.Bounded.{KeepsRank, KeepsSunk}
 use Rattle.pm_law_commands.specs.Served.{IsServed}
 
 -- for every world that the space stands for the reply is the world's answer, and the space after it keeps the heap law

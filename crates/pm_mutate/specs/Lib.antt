@@ -1,1 +1,3 @@
+pub mod Births
+pub mod Commands
 pub mod Acts

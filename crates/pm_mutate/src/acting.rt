@@ -4,21 +4,21 @@ ghost use Rattle.pm_view.specs.Commands.{is_act, is_new};
 ghost use Rattle.pm_view.specs.Law.{HeapLaw};
 ghost use Rattle.pm_view.specs.Objects.{KeepsObjects};
 ghost use Rattle.pm_space.specs.Shown.{view, KeepsRest, MakesRow};
-ghost use Rattle.pm_commands.specs.Picked.{IsRow};
+ghost use Rattle.pm_mutate.specs.Commands.Picked.{IsRow};
 ghost use Rattle.pm_types.specs.Replies.{IsShortReply};
 ghost use Rattle.pm_mutate.specs.Acts.{Serves, IsStill, IsBirth, KeepsCourse, LeavesWhereShown};
 
-use pm_commands::{
+use crate::commands::{
     clear, close, copy, data, find, forget, id, load, new, put, root, store, swap, unroot,
 };
+use pm_law_bound::rank::a_command_keeps_the_rank;
+use pm_law_bound::sunk::a_command_keeps_sunk_sets;
+use pm_law_collect::work::{a_command_adds_little_work, a_command_leaves_the_slot_that_moved};
 use pm_law_commands::{
     a_command_is_answered_as_by_the_world, a_command_keeps_the_heap_law,
     a_refused_command_leaves_the_space, every_command_but_new_leaves_objects_where_they_stand,
     new_adds_one_object_in_the_open_train,
 };
-use pm_law_rank::a_command_keeps_the_rank;
-use pm_law_sunk::a_command_keeps_sunk_sets;
-use pm_law_work::{a_command_adds_little_work, a_command_leaves_the_slot_that_moved};
 use pm_space::{Parts, Space};
 use pm_types::{Cmd, NoMemory, Reply};
 use std::alloc::Global;

@@ -2,5 +2,7 @@
 #![tactic(auto)]
 
 mod acting;
+pub mod births;
+pub mod commands;
 
 pub use acting::act;

@@ -6,7 +6,7 @@ use Rattle.pm_types.specs.declared.source.RefSource.TheVariants.{Root, Handle, F
 use Rattle.pm_trains.specs.Trains.{Train, train_of, is_among}
 use Rattle.pm_trains.specs.Sound as line
 use Rattle.pm_remset.specs.Remembered.{Fact, Remembered, FindsFirst}
-use Rattle.pm_law_rows.proofs.OpenTrain.{among_home}
+use Rattle.pm_law_commands.proofs.RowLemmas.OpenTrain.{among_home}
 use Rattle.pm_view.specs.Reading.{cars_of}
 use Rattle.pm_view.specs.Candidates.{is_beyond}
 use Rattle.pm_next.specs.Sought.{inside_car}

@@ -6,7 +6,7 @@ use Rattle.pm_trains.specs.Trains.{cars_at}
 use Rattle.pm_view.specs.declared.phase.Phase.TheVariants.{Draining}
 use Rattle.pm_view.specs.View.{SpaceView}
 use Rattle.pm_view.specs.Law.{HeapLaw, IsPhaseOf}
-use Rattle.pm_law_phases.proofs.PhaseRows.{oldest_has}
+use Rattle.pm_law_collect.proofs.PhasesLemmas.PhaseRows.{oldest_has}
 use Rattle.pm_space.proofs.HeldCars.{some_and}
 
 -- a train that is drained stands

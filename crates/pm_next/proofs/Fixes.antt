@@ -20,8 +20,8 @@ use Rattle.pm_view.specs.Reading.{slot_at}
 use Rattle.pm_view.specs.Candidates.{set_of}
 use Rattle.pm_view.specs.Events.{went, has_gone, has_change, first_of, named_in, least_stale, to_fix, least}
 use Rattle.pm_view.specs.Stale.{NamesOnly}
-use Rattle.pm_law_phases.proofs.Small.{some_same}
-use Rattle.pm_law_work.specs.Names.{names_gone, front_names_gone}
+use Rattle.pm_law_collect.proofs.PhasesLemmas.Small.{some_same}
+use Rattle.pm_law_collect.specs.Work.Names.{names_gone, front_names_gone}
 use Rattle.pm_next.specs.Sought.{is_moved}
 use Rattle.pm_next.proofs.Searches.{same_search, none_found, empty_finds, moved_at}
 

@@ -1,3 +1,4 @@
+pub mod WaysLemmas
 pub mod Searches
 pub mod Lowest
 pub mod Drained

@@ -6,6 +6,7 @@ mod next;
 mod row;
 mod skipping;
 mod sources;
+pub mod ways;
 
 pub use finding::{anchor_in, changed_car, has_change, lowest_live};
 pub use next::next_row;

@@ -10,10 +10,10 @@ use crate::finding::{anchor_in, changed_car, has_change, lowest_live, to_note};
 use crate::row::Row;
 use crate::skipping::outside;
 use crate::sources::{least, stale_now};
+use crate::ways::home;
 use pm_space::{Parts, Space};
 use pm_types::Addr;
 use pm_view::Phase;
-use pm_ways::home;
 
 // Where no collection is in progress: the oldest train that has a car is selected.
 fn idle_row<F>(parts: &Parts<F>) -> Row

@@ -7,11 +7,11 @@ ghost use Rattle.pm_view.specs.Reading.{slot_at};
 ghost use Rattle.pm_view.specs.Events.{least, to_fix, went, has_gone};
 ghost use Rattle.pm_space.specs.Shown.{view};
 ghost use Rattle.pm_view.specs.Stale.{NamesOnly, IsSole};
-ghost use Rattle.pm_law_work.specs.Names.{front_names_gone};
+ghost use Rattle.pm_law_collect.specs.Work.Names.{front_names_gone};
 ghost use Rattle.pm_next.specs.Sought.{lesser, has_moved, is_moved};
 
 use pm_cars::Look;
-use pm_law_work::only_the_slot_that_moved_last_is_named;
+use pm_law_collect::work::only_the_slot_that_moved_last_is_named;
 use pm_remset::Remset;
 use pm_space::{Parts, Space};
 use pm_types::{Addr, RefSource, Slot};

@@ -18,12 +18,12 @@ use Rattle.pm_view.specs.Reading.{stored, is_kept}
 use Rattle.pm_view.specs.Represents.{names, Represents}
 use Rattle.pm_view.specs.Work.{work, work_in}
 use Rattle.pm_view.specs.Events.{Row, nothing, select, apply, doom, start, fix, move_anchor, move_out, move_on, finish, sweep, free, free_doomed, ended_by}
-use Rattle.pm_bound.specs.Ranking.{taking, up_to, content, way, value, rank_of, rank}
-use Rattle.pm_bound.specs.Sinking.{IsFieldOf, Sunk, Passes, IsLost}
-use Rattle.pm_bound.specs.Bounded.{KeepsRank, KeepsSunk}
+use Rattle.pm_view.specs.Ranking.{taking, up_to, content, way, value, rank_of, rank}
+use Rattle.pm_view.specs.Sinking.{IsFieldOf, Sunk, Passes, IsLost}
+use Rattle.pm_view.specs.Bounded.{KeepsRank, KeepsSunk}
 use Rattle.pm_space.specs.declared.parts.Parts.{Parts}
 use Rattle.pm_space.specs.Shown.{view, KeepsRest}
-use Rattle.pm_evac.specs.Changed.{counted}
+use Rattle.pm_evac.specs.Relocate.Changed.{counted}
 use Rattle.pm_evac.specs.Steps.{IsEvent, IsChosenEvent, KeepsWorlds, MovesOneAtMost, LowersWork, AnswersByPhase, MovesOn, MakesEvent}
 
 -- the law says nothing of the count of completed collections

@@ -4,9 +4,8 @@ use Rattle.std.specs.List.{find}
 use Rattle.std.specs.Cmp.{nat_cmp_total}
 use Rattle.std.specs.Option.{unwrap_or}
 use Rattle.std.specs.FinMap.{get, insert, get-insert}
-use Rattle.std.proofs.lemmas.Bool.{true≢false}
+use Rattle.std.proofs.lemmas.Bool.{true≢false, eqb-true}
 use Rattle.std.proofs.lemmas.Option.{none-some, same_Some}
-use Rattle.std.proofs.lemmas.Bool.{eqb-true}
 use Rattle.std.specs.Ordering.{nat_cmp, eq_by_cmp}
 use Rattle.pm_model.proofs.Unused.{tied_nat}
 use Rattle.pm_types.specs.declared.address.Addr.{Addr}
@@ -20,7 +19,7 @@ use Rattle.pm_view.specs.Candidates.{queue_of}
 use Rattle.pm_view.specs.Collecting.{applied_front, applied_in}
 use Rattle.pm_view.specs.Events.{Row, nothing, apply, after, has_change, changed_car, to_note, draining_row, row_in, next_row}
 use Rattle.pm_space.specs.Quiet.{IsQuiet}
-use Rattle.pm_evac.specs.Changed.{counted}
+use Rattle.pm_evac.specs.Relocate.Changed.{counted}
 use Rattle.pm_evac.specs.Steps.{IsEvent}
 
 -- ---- lists

@@ -9,10 +9,10 @@ use Rattle.pm_view.specs.Reading.{slot_at, object_at}
 use Rattle.pm_view.specs.Candidates.{set_of}
 use Rattle.pm_view.specs.Events.{Row, after, next_row, MayPick, MayPlace}
 use Rattle.pm_view.specs.Stale.{IsSole, NamesOnly}
-use Rattle.pm_law_phases.proofs.Comes.{IsEmptied}
-use Rattle.pm_law_moves.proofs.MoveRows.{remembered_live}
-use Rattle.pm_law_work.proofs.StaleLooks.{stands_here}
-use Rattle.pm_evac.specs.Changed.{counted}
+use Rattle.pm_law_collect.proofs.PhasesLemmas.Comes.{IsEmptied}
+use Rattle.pm_law_collect.proofs.MovesLemmas.MoveRows.{remembered_live}
+use Rattle.pm_law_collect.proofs.WorkLemmas.StaleLooks.{stands_here}
+use Rattle.pm_evac.specs.Relocate.Changed.{counted}
 use Rattle.pm_evac.specs.Steps.{IsEvent}
 
 -- nothing is said of how many collections are completed

@@ -7,18 +7,18 @@ ghost use Rattle.pm_view.specs.Stale.{IsSole};
 ghost use Rattle.pm_view.specs.Events.{next_row};
 ghost use Rattle.pm_space.specs.Shown.{view};
 ghost use Rattle.pm_space.specs.Quiet.{IsQuiet};
-ghost use Rattle.pm_bound.specs.Bounded.{KeepsRank, KeepsSunk};
-ghost use Rattle.pm_evac.specs.next.Seen.{seen_row};
+ghost use Rattle.pm_view.specs.Bounded.{KeepsRank, KeepsSunk};
+ghost use Rattle.pm_next.specs.Seen.{seen_row};
 ghost use Rattle.pm_evac.specs.Steps.{IsEvent, IsApply, IsFix, IsMove, IsFinish, IsSweep, IsFree, IsPicking, HoldOnceMade, KeepsWorlds, MovesOneAtMost, LowersWork, AnswersByPhase, MovesOn, MakesEvent};
 
 use pm_evac::{
     Row, apply_at, finish_at, fix_at, free_at, free_doomed_at, make, moved_once_applied, next_row,
 };
+use pm_law_bound::rank::an_event_keeps_the_rank;
+use pm_law_bound::sunk::an_event_keeps_sunk_sets;
+use pm_law_collect::work::{an_event_lowers_the_work_left, only_the_slot_that_moved_last_is_named};
 use pm_law_collect::{an_event_keeps_the_law_and_the_worlds, an_event_moves_one_object_at_most};
 use pm_law_course::one_event_completes_a_collection;
-use pm_law_rank::an_event_keeps_the_rank;
-use pm_law_sunk::an_event_keeps_sunk_sets;
-use pm_law_work::{an_event_lowers_the_work_left, only_the_slot_that_moved_last_is_named};
 use pm_space::Space;
 use pm_types::{NoMemory, Step};
 use std::alloc::Global;

@@ -19,7 +19,7 @@ use Rattle.pm_types.specs.Orders.{source_cmp}
 use Rattle.pm_types.proofs.Orders.{source_cmp_is, sources_total}
 use Rattle.pm_remset.specs.Indexed.{pair_cmp, is_slot, IsIndexed}
 use Rattle.pm_remset.specs.Remembered.{FindsLeastOf, FindsAtOrAfter}
-use Rattle.pm_base.proofs.Shown.{get_shown}
+use Rattle.pm_types.proofs.Shown.{get_shown}
 use Rattle.pm_remset.proofs.Sources.{derived_is, get_seen}
 
 slot_found : (found : Option ℕ) (slot : ℕ) → is_slot found slot ≡ true → found ≡ Some slot

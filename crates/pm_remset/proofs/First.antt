@@ -14,7 +14,7 @@ use Rattle.pm_types.specs.declared.source.RefSource.{RefSource}
 use Rattle.pm_types.specs.Orders.{source_cmp}
 use Rattle.pm_types.proofs.Orders.{sources_total, sources_antisymmetric}
 use Rattle.pm_remset.specs.Remembered.{Remembered, FindsFirstThat, first_that}
-use Rattle.pm_base.proofs.Shown.{find-lookup}
+use Rattle.pm_types.proofs.Shown.{find-lookup}
 use Rattle.pm_remset.proofs.Nexts.{Searched, search_goes_on, search_finds, search_ends}
 
 parts : (a b : Bool) → T (a && b) → T a × T b

@@ -17,7 +17,7 @@ use Rattle.pm_types.specs.declared.source.RefSource.{RefSource}
 use Rattle.pm_types.specs.contracts.source.RefSourceOrd.TheImpl.{ghosts}
 use Rattle.pm_types.specs.Orders.{source_cmp}
 use Rattle.pm_types.proofs.Orders.{sources_total, sources_antisymmetric}
-use Rattle.pm_base.proofs.Shown.{get_shown}
+use Rattle.pm_types.proofs.Shown.{get_shown}
 use Rattle.pm_remset.specs.Gathered.{with_told, gathered}
 use Rattle.pm_remset.specs.Indexed.{pair_cmp, is_slot, IsIndexed}
 use Rattle.pm_remset.specs.Remembered.{Remembered}

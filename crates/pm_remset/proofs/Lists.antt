@@ -24,7 +24,7 @@ use Rattle.pm_types.specs.declared.source.RefSource.{RefSource}
 use Rattle.pm_types.specs.contracts.source.RefSourceOrd.TheImpl.{ghosts}
 use Rattle.pm_types.specs.Orders.{source_cmp}
 use Rattle.pm_types.proofs.Orders.{sources_total, sources_antisymmetric}
-use Rattle.pm_base.proofs.Shown.{find-lookup, tied}
+use Rattle.pm_types.proofs.Shown.{find-lookup, tied}
 use Rattle.pm_remset.specs.Gathered.{gathered}
 use Rattle.pm_remset.specs.Listed.{Entry, IsInOrder, IsEntry, IsGap, IsFirstFrom, named}
 use Rattle.pm_remset.specs.Remembered.{Fact, Remembered, EachEntry, IsFirstEntry, FindsAtOrAfter, AppendsSources}

@@ -15,7 +15,7 @@ use Rattle.pm_types.specs.contracts.source.RefSourceOrd.TheImpl.{ghosts}
 use Rattle.pm_types.specs.Orders.{source_cmp}
 use Rattle.pm_types.proofs.Orders.{sources_total, sources_antisymmetric}
 use Rattle.pm_remset.specs.Remembered.{Fact, Remembered, EachEntry, IsFirstEntry}
-use Rattle.pm_base.proofs.Shown.{get_shown}
+use Rattle.pm_types.proofs.Shown.{get_shown}
 use Rattle.pm_remset.proofs.Sources.{derived_is}
 
 -- a source that is below another, which is below all keys, is below all keys

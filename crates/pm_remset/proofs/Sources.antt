@@ -11,7 +11,7 @@ use Rattle.pm_types.specs.contracts.source.RefSourceOrd.TheImpl.{ghosts}
 use Rattle.pm_types.specs.Orders.{source_cmp}
 use Rattle.pm_types.proofs.Orders.{source_cmp_is, sources_total, sources_antisymmetric}
 use Rattle.pm_remset.specs.Indexed.{pair_cmp}
-use Rattle.pm_base.proofs.Shown.{get_shown, insert_shown, remove_shown, len_shown}
+use Rattle.pm_types.proofs.Shown.{get_shown, insert_shown, remove_shown, len_shown}
 
 -- the derived order is the one that is said
 pub derived_is : ghosts.cmp ≡ source_cmp

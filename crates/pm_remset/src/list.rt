@@ -179,9 +179,9 @@ impl SourceList {
             if *named != slot {
                 continue;
             }
-            if out.push(*source).is_err() {
+            if let Err(failed) = out.push(*source) {
                 out.truncate(before);
-                return Err(NoMemory);
+                return Err(NoMemory::from(failed));
             }
         }
         Ok(())

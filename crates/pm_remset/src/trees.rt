@@ -86,9 +86,9 @@ impl SourceTrees {
                 Ok(())
             }
             Ok(Some(_)) => Ok(()),
-            Err(_) => {
+            Err(failed) => {
                 self.index.remove(&(slot, source));
-                Err(NoMemory)
+                Err(NoMemory::from(failed))
             }
         }
     }
@@ -154,9 +154,9 @@ impl SourceTrees {
             if *found != slot {
                 return Ok(());
             }
-            if out.push(*source).is_err() {
+            if let Err(failed) = out.push(*source) {
                 out.truncate(before);
-                return Err(NoMemory);
+                return Err(NoMemory::from(failed));
             }
         }
         Ok(())

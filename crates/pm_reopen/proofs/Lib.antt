@@ -1,3 +1,4 @@
+pub mod RebuildLemmas
 pub mod CarLaws
 pub mod NameLaws
 pub mod LeadingLaws

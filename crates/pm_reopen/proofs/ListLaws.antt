@@ -16,10 +16,10 @@ use Rattle.pm_copies.specs.Built.{Placed, opened_placed, renumbered, renumbered_
 use Rattle.pm_graphs.proofs.Lists.{drop_here}
 use Rattle.pm_reopen.specs.declared.opened_cars.LastTrain.{LastTrain}
 use Rattle.pm_reopen.specs.Leading.{Leads, lead_cars, resolved_by}
-use Rattle.pm_rebuild.specs.Lists.{placed_of}
+use Rattle.pm_reopen.specs.Rebuild.Lists.{placed_of}
 use Rattle.pm_reopen.specs.Listing.{opened_by, number_after, renumbered_after, listed_on, followed_root}
 use Rattle.pm_reopen.specs.Making.{with_slots}
-use Rattle.pm_rebuild.proofs.Ends.{map_both}
+use Rattle.pm_reopen.proofs.RebuildLemmas.Ends.{map_both}
 use Rattle.pm_reopen.proofs.LeadingLaws.{resolved_same}
 use Rattle.pm_reopen.proofs.CarLaws as car
 

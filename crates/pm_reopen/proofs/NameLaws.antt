@@ -12,7 +12,7 @@ use Rattle.pm_image.specs.declared.catalog.CatEntry.{CatEntry}
 use Rattle.pm_image.specs.declared.catalog.CatEntry.TheVariants as kinds
 use Rattle.pm_copies.specs.Accepted.{NamesAscend, roots_in}
 use Rattle.pm_reopen.specs.Leading.{Leads}
-use Rattle.pm_rebuild.specs.Lists.{NamesDiffer}
+use Rattle.pm_reopen.specs.Rebuild.Lists.{NamesDiffer}
 use Rattle.pm_reopen.specs.Listing.{followed_root}
 
 is_less : (r : Ordering) → is_lt r ≡ true → r ≡ Less

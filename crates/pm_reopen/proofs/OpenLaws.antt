@@ -6,8 +6,8 @@ use Rattle.std.proofs.lemmas.List.Elements.{Contains-append_left, Contains-appen
 use Rattle.pm_types.specs.declared.fault.OpenFault.{OpenFault}
 use Rattle.pm_types.specs.declared.fault.OpenFault.TheVariants.{NotAStore, Version, Damaged, Malformed, Disk, Memory}
 use Rattle.pm_layout.specs.declared.header.Header.{Header}
-use Rattle.pm_base.specs.Results.{◌>>=◌}
-use Rattle.pm_base.proofs.Results.{bound}
+use Rattle.pm_types.specs.Results.{◌>>=◌}
+use Rattle.pm_types.proofs.Results.{bound}
 use Rattle.pm_image.specs.declared.settled.KeptPage.{KeptPage}
 use Rattle.pm_image.specs.Graphs.{Pages as Store, Catalog, Graph, graph_of, images_of, entries_of, used_pages}
 use Rattle.pm_image.specs.Opening.{Current, current, page_count, header_in, sound_header, is_placed}
@@ -158,7 +158,7 @@ module _ (s : State) (bytes : List ℕ) (images : List ℕ → Type 0) (sound : 
   refused_by (Damaged page kept damaged) there counted is = refused (Damaged page kept damaged) there counted is
   refused_by (Malformed page at) there counted is = refused (Malformed page at) there counted is
   refused_by (Disk before after) there counted is = tt
-  refused_by Memory there counted is = tt
+  refused_by (Memory _) there counted is = tt
 
   -- pages that are there are found among those that are counted
   kept_there : s.settled ≤ s.count → (graph : Graph) → KeepsGraph s bytes graph → (page : ℕ) → Contains (used_pages graph) page → IsThere s.count page
@@ -174,7 +174,7 @@ module _ (s : State) (bytes : List ℕ) (images : List ℕ → Type 0) (sound : 
   kept_by (Damaged page kept damaged) graph read is = absurd (cc (read, is))
   kept_by (Malformed page at) graph read is = absurd (cc (read, is))
   kept_by (Disk before after) graph read is = tt
-  kept_by Memory graph read is = tt
+  kept_by (Memory _) graph read is = tt
 
   -- the graph was not read
   pub graph_unopened : (fault : OpenFault) → s.settled ≤ s.count → IsThere s.count s.header.first → IsGraph (Err fault) (graph_of (store_of s.count bytes) s.header) → IsUnopened s bytes fault

@@ -1,6 +1,6 @@
 -- Why none was opened: the first rule that fails of a header, or behind it.
 use Rattle.std.proofs.Common.{◌≡◌, ℕ, List, Result, Ok, Err, ap}
-use Rattle.pm_base.specs.Results.{◌>>=◌}
+use Rattle.pm_types.specs.Results.{◌>>=◌}
 use Rattle.pm_types.specs.declared.fault.OpenFault.{OpenFault}
 use Rattle.pm_types.specs.declared.fault.OpenFault.TheVariants.{NotAStore, Version, Damaged, Malformed, Disk, Memory}
 use Rattle.pm_image.specs.Graphs.{graph_of}
@@ -20,7 +20,7 @@ header_refused bytes (Version version) is = refused bytes (Version version) is
 header_refused bytes (Damaged page kept found) is = refused bytes (Damaged page kept found) is
 header_refused bytes (Malformed page at) is = refused bytes (Malformed page at) is
 header_refused bytes (Disk before after) is = tt
-header_refused bytes Memory is = absurd is
+header_refused bytes (Memory _) is = absurd is
 
 pub graph_refused : (bytes : List ℕ) (fault : OpenFault) → IsRefusedBy bytes fault → IsRefusal bytes fault
 graph_refused bytes NotAStore is = absurd is
@@ -28,4 +28,4 @@ graph_refused bytes (Version version) is = absurd is
 graph_refused bytes (Damaged page kept found) is = is
 graph_refused bytes (Malformed page at) is = is
 graph_refused bytes (Disk before after) is = tt
-graph_refused bytes Memory is = tt
+graph_refused bytes (Memory _) is = tt

@@ -1,3 +1,4 @@
+pub mod Rebuild
 pub mod Leading
 pub mod Making
 pub mod Listing

@@ -71,7 +71,7 @@ IsRefusedBy bytes (Version version) = ⊥
 IsRefusedBy bytes (Damaged page kept found) = opened bytes ≡ Err (Damaged page kept found)
 IsRefusedBy bytes (Malformed page at) = opened bytes ≡ Err (Malformed page at)
 IsRefusedBy bytes (Disk before after) = Unit {0}
-IsRefusedBy bytes Memory = Unit {0}
+IsRefusedBy bytes (Memory _) = Unit {0}
 
 -- the disk failed, or memory ran out
 abbrev pub IsNoRefusal : OpenFault → Type 0
@@ -80,7 +80,7 @@ IsNoRefusal (Version version) = ⊥
 IsNoRefusal (Damaged page kept found) = ⊥
 IsNoRefusal (Malformed page at) = ⊥
 IsNoRefusal (Disk before after) = Unit {0}
-IsNoRefusal Memory = Unit {0}
+IsNoRefusal (Memory _) = Unit {0}
 
 -- Why no space was opened of these pages, whose disk holds these bytes.
 pub record IsUnopened (pages : State) (bytes : List ℕ) (fault : OpenFault) : Type 0 where

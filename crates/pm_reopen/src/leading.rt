@@ -4,8 +4,7 @@ ghost use Rattle.std.specs.Prelude.{◌≡◌, IfOk};
 ghost use Rattle.pm_reopen.specs.Leading.{moved_to, lead_slots, lead_cars, lead_at, resolved_by};
 
 use pm_image::KeptPage;
-use pm_numbered::Numbered;
-use pm_types::{Addr, NoMemory, Slot};
+use pm_types::{Addr, NoMemory, Numbered, Slot};
 use std::alloc::Global;
 
 /// The slots of a car that are listed: where the object went, or none where it stands.

@@ -8,14 +8,14 @@ ghost use Rattle.pm_image.specs.Graphs.{images_of};
 ghost use Rattle.pm_copies.specs.Listed.{Listed};
 ghost use Rattle.pm_copies.specs.Accepted.{IsAcceptedCar};
 ghost use Rattle.pm_copies.specs.Opened.{has_object, listed_in};
-ghost use Rattle.pm_rebuild.specs.Lists.{placed_of};
+ghost use Rattle.pm_reopen.specs.Rebuild.Lists.{placed_of};
 ghost use Rattle.pm_reopen.specs.Listing.{number_after, listed_on};
 
 use crate::leading::Leads;
 use crate::opened_car::open_car;
+use crate::rebuild::CarList;
 use pm_cars::Car;
 use pm_image::{CarImage, CatEntry, KeptPage, Settled};
-use pm_rebuild::CarList;
 use pm_types::{NoMemory, Slot};
 use std::alloc::Global;
 use std::vec::IntoIter;
@@ -63,7 +63,7 @@ fn number_after(last: Option<LastTrain>, train: u64) -> Result<u64, NoMemory>
     match last.number.checked_add(1) {
         Some(number) => Ok(number),
         // No list is so long.
-        None => Err(NoMemory),
+        None => Err(NoMemory::uncountable(last.number)),
     }
 }
 

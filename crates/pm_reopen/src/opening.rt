@@ -21,10 +21,10 @@ ghost use Rattle.pm_reopen.specs.Opening.{KnowsPages, IsUnopened};
 
 use crate::build_listed;
 use pm_disk::Disk;
+use pm_graphs::settled::PackedPages;
 use pm_graphs::{Chain, FromPage, Unpacked, flatten, read_graph, with_cars};
 use pm_image::Settled;
 use pm_place::Placement;
-use pm_settled::PackedPages;
 use pm_shadow::Pages;
 use pm_space::Space;
 use pm_types::{NoMemory, OpenFault};
@@ -108,13 +108,15 @@ fn open_with<D: Disk, F: Drop, P: FromPage>(
     let (chain, read) = read_graph(alloc, pages)?;
     let (cars, made) = read.into_made();
     let built = build_graph(alloc, place, chain, cars, header.next);
-    let Ok((space, used)) = built else {
-        return Err(OpenFault::Memory);
+    let (space, used) = match built {
+        Ok((space, used)) => (space, used),
+        Err(refused) => return Err(OpenFault::Memory(refused)),
     };
     let known = know_pages(alloc, pages, used.as_slice());
-    let Ok(()) = known else {
-        return Err(OpenFault::Memory);
-    };
+    match known {
+        Ok(()) => {}
+        Err(refused) => return Err(OpenFault::Memory(refused)),
+    }
     Ok((space, made))
 }
 

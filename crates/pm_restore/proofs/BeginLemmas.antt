@@ -10,22 +10,22 @@ use Rattle.pm_shadow.specs.State.{State}
 use Rattle.pm_view.specs.View.{Cars}
 use Rattle.pm_copies.specs.Accepted.{IsAccepted}
 use Rattle.pm_copies.specs.Listed.{Listed, copy_listed}
-use Rattle.pm_law_layout.specs.Plans.{root_entry}
+use Rattle.pm_copies.specs.Plans.{root_entry}
 use Rattle.pm_saving.specs.Beginning.{AreFrozen, ArePlaced, BeginsListed, IsCarNumbered}
 use Rattle.pm_saving.specs.Progress.{Progress, Saving, copy_of}
 use Rattle.pm_saving.specs.Tied.{IsTied}
-use Rattle.pm_progress.specs.declared.place.Place.TheVariants.{Unwritten}
-use Rattle.pm_progress.specs.declared.place.PlacedCar.{PlacedCar}
-use Rattle.pm_progress.specs.Kept.{IsWithin}
-use Rattle.pm_writer.specs.Planned.{IsPlanned}
-use Rattle.pm_progress.specs.Seen.{car_seen}
+use Rattle.pm_save.specs.declared.progress.place.Place.TheVariants.{Unwritten}
+use Rattle.pm_save.specs.declared.progress.place.PlacedCar.{PlacedCar}
+use Rattle.pm_save.specs.Progress.Kept.{IsWithin}
+use Rattle.pm_save.specs.Writer.Planned.{IsPlanned}
+use Rattle.pm_save.specs.Progress.Seen.{car_seen}
 use Rattle.pm_dump.specs.Dump.{Dump}
 use Rattle.pm_dump.specs.Read.{root_shown}
 use Rattle.pm_dump.specs.declared.parts.DumpRoot.{DumpRoot}
 use Rattle.pm_dump.specs.Sound.{IsListed, IsSoundDump, IsIdBelow}
-use Rattle.pm_packing.proofs.Accepted.{packed_accepted}
-use Rattle.pm_packing.proofs.Copies.{copy_packed}
-use Rattle.pm_packing.specs.Packing.{DumpEntry, address_of, filled, packed_cars, packed_list, packed_names, packed_parts}
+use Rattle.pm_restore.proofs.PackingLemmas.Accepted.{packed_accepted}
+use Rattle.pm_restore.proofs.PackingLemmas.Copies.{copy_packed}
+use Rattle.pm_restore.specs.Packing.Packing.{DumpEntry, address_of, filled, packed_cars, packed_list, packed_names, packed_parts}
 use Rattle.pm_restore.specs.Parts.{cars_of_dump}
 use Rattle.pm_restore.specs.Restored.{BeginsDump, open_cars}
 use Rattle.pm_restore.proofs.PartLemmas.{frozen_dump}

@@ -7,12 +7,12 @@ use Rattle.std.proofs.lemmas.Bool.{cases_lt, le-leb, le-ltb, leb-false, leb-true
 use Rattle.std.proofs.lemmas.Bool.Decides.{nat_tests}
 use Rattle.std.proofs.lemmas.Option.{same_Some}
 use Rattle.pm_types.specs.declared.limits.TheConstants.{CAR_HEAD_BYTES, PAGE_BYTES}
-use Rattle.pm_law_layout.specs.Filling.{HasRoom, HasRoomAlone, filled_from, joined_parts, onto_first_part}
+use Rattle.pm_copies.specs.Filling.{HasRoom, HasRoomAlone, filled_from, joined_parts, onto_first_part}
 use Rattle.pm_law_copies.proofs.Lists.{all_at}
 use Rattle.pm_dump.specs.Dump.{Dump}
 use Rattle.pm_dump.specs.Sound.{IsSoundDump, IsSoundObject}
-use Rattle.pm_packing.proofs.Filled.{few_objects, filled_room, filled_whole, sound_alone}
-use Rattle.pm_packing.specs.Packing.{DumpEntry, car_room, filled, object_room, place_among}
+use Rattle.pm_restore.proofs.PackingLemmas.Filled.{few_objects, filled_room, filled_whole, sound_alone}
+use Rattle.pm_restore.specs.Packing.Packing.{DumpEntry, car_room, filled, object_room, place_among}
 use Rattle.pm_restore.specs.Firsts.{firsts_from, firsts_of}
 
 -- the first places of the parts that are begun behind the one of which so many bytes are used, where the next object has

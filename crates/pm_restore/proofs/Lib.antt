@@ -1,3 +1,4 @@
+pub mod PackingLemmas
 pub mod FirstLemmas
 pub mod SearchLemmas
 pub mod PartLemmas

@@ -10,11 +10,11 @@ use Rattle.pm_shadow.specs.declared.page_use.PageUse.TheVariants.{Free, Current}
 use Rattle.pm_shadow.specs.State.{keeps, keeps_by, new_store}
 use Rattle.pm_shadow.specs.Copies.{IsKept, KeepsGraph}
 use Rattle.pm_shadow.proofs.NewLemmas.{catalog_stands, three_pages}
-use Rattle.pm_law_layout.specs.Plans.{graph_of_plan}
-use Rattle.pm_law_layout.specs.Laid.{IsLaidBehind}
-use Rattle.pm_law_layout.specs.Examples.{nothing}
-use Rattle.pm_law_layout.proofs.Again.{laid_found}
-use Rattle.pm_law_layout.proofs.Nothing.{holds_nothing}
+use Rattle.pm_copies.specs.Plans.{graph_of_plan}
+use Rattle.pm_copies.specs.Laid.{IsLaidBehind}
+use Rattle.pm_law_copies.specs.Layout.Examples.{nothing}
+use Rattle.pm_law_copies.proofs.LayoutLemmas.Again.{laid_found}
+use Rattle.pm_law_copies.proofs.LayoutLemmas.Nothing.{holds_nothing}
 use Rattle.pm_restore.specs.Restored.{IsNewStore}
 
 laid : IsLaidBehind (pages_of blank_store) blank_header nothing

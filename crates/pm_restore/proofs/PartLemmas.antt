@@ -15,18 +15,18 @@ use Rattle.pm_model.specs.Copying.{field_id}
 use Rattle.pm_cars.specs.Cars.{Car}
 use Rattle.pm_image.specs.declared.car.CarImage.{CarImage}
 use Rattle.pm_view.specs.View.{Cars}
-use Rattle.pm_law_layout.specs.Filling.{HasRoom, joined_parts}
+use Rattle.pm_copies.specs.Filling.{HasRoom, joined_parts}
 use Rattle.pm_law_copies.proofs.Lists.{nat_turned}
 use Rattle.pm_law_saving.proofs.Filed.{found_listed}
 use Rattle.pm_saving.specs.Progress.{car_of, cars_of, image_at, slots_of}
 use Rattle.pm_saving.specs.Beginning.{AreFrozen}
 use Rattle.pm_dump.specs.Dump.{Dump}
 use Rattle.pm_dump.specs.Sound.{IsListed, IsSoundDump}
-use Rattle.pm_packing.proofs.Accepted.{packed_accepted}
-use Rattle.pm_packing.proofs.Copies.{packed_images}
-use Rattle.pm_packing.proofs.Filled.{few_objects, filled_room, filled_whole, sound_alone}
-use Rattle.pm_packing.proofs.Places.{got_within}
-use Rattle.pm_packing.specs.Packing.{DumpEntry, address_of, car_room, filled, packed_cars, packed_list, packed_parts, packed_roots, packed_slot, packed_slots}
+use Rattle.pm_restore.proofs.PackingLemmas.Accepted.{packed_accepted}
+use Rattle.pm_restore.proofs.PackingLemmas.Copies.{packed_images}
+use Rattle.pm_restore.proofs.PackingLemmas.Filled.{few_objects, filled_room, filled_whole, sound_alone}
+use Rattle.pm_restore.proofs.PackingLemmas.Places.{got_within}
+use Rattle.pm_restore.specs.Packing.Packing.{DumpEntry, address_of, car_room, filled, packed_cars, packed_list, packed_parts, packed_roots, packed_slot, packed_slots}
 use Rattle.pm_restore.specs.Firsts.{firsts_from, firsts_of}
 use Rattle.pm_restore.specs.Parts.{AreListed, IsPartRange, cars_of_dump, part_from, part_of}
 

@@ -22,17 +22,17 @@ use Rattle.pm_shadow.specs.Images.{shutting}
 use Rattle.pm_shadow.specs.Pages.{current_kept, disk_of, state}
 use Rattle.pm_shadow.specs.declared.pages.Pages.{Pages}
 use Rattle.pm_view.specs.View.{Cars}
-use Rattle.pm_law_layout.specs.Plans.{graph_of_plan}
-use Rattle.pm_law_layout.specs.Examples.{nothing}
+use Rattle.pm_copies.specs.Plans.{graph_of_plan}
+use Rattle.pm_law_copies.specs.Layout.Examples.{nothing}
 use Rattle.pm_law_saving.proofs.Giving.{store_begins}
 use Rattle.pm_law_saving.proofs.Publishing.{copy_held}
 use Rattle.pm_saving.specs.Progress.{Progress, Saving, copy_of}
 use Rattle.pm_saving.specs.Paging.{CarPage, NextPage, PartPage, left, left_of, next_page, with_next, written_on}
 use Rattle.pm_saving.specs.Tied.{HasCopy, IsTied, settled_on}
-use Rattle.pm_progress.specs.declared.fault.SaveFault.{SaveFault}
-use Rattle.pm_progress.specs.declared.fault.SaveFault.TheVariants.{Disk, Memory}
-use Rattle.pm_progress.specs.Answers.{IfMemory, OnMemory, Spares}
-use Rattle.pm_writer.specs.Settling.{IsLeftSo, SettlesPages, SparesEither, StandsThen, settling_syncs, settling_writes}
+use Rattle.pm_save.specs.declared.progress.fault.SaveFault.{SaveFault}
+use Rattle.pm_save.specs.declared.progress.fault.SaveFault.TheVariants.{Disk, Memory}
+use Rattle.pm_save.specs.Progress.Answers.{IfMemory, OnMemory, Spares}
+use Rattle.pm_save.specs.Writer.Settling.{IsLeftSo, SettlesPages, SparesEither, StandsThen, settling_syncs, settling_writes}
 use Rattle.pm_dump.specs.Dump.{Dump}
 use Rattle.pm_restore.specs.Parts.{cars_of_dump}
 use Rattle.pm_restore.specs.Restored.{BeginsDump, IsNewStore, IsRestored, LeavesEither, LeavesEmpty, copy_in_dump, dump_progress, pages_from, restored_in}
@@ -83,7 +83,7 @@ has_empty s bytes same keeps = subst (λ (t : State). HasCopy t bytes empty_copy
 pub on_memory : {T : Type 0} (P : Type 0) (result : Result T SaveFault) → P → OnMemory result P
 on_memory P (Ok x) holds = tt
 on_memory P (Err Disk) holds = tt
-on_memory P (Err Memory) holds = holds
+on_memory P (Err (Memory _)) holds = holds
 
 written_number : (cars : Cars) (pages : List ℕ) (progress : Progress) → (written_on cars pages progress).number ≡ progress.number
 written_number cars [] progress = refl
@@ -141,7 +141,7 @@ module _ {D : Type 0} {g : Ghosts D} where
   pub memory_spared : (before after : Pages D g) → IsNewStore (state before) (g.contents (disk_of before)) → (old new : Saving) (t : State) (e : SaveFault)
       → IfMemory (IsLeftSo g.contents g.moment g.since old new (state before) t (disk_of before) (disk_of after)) e → IfMemory (LeavesEmpty before after) e
   memory_spared before after is_new old new t Disk left = tt
-  memory_spared before after is_new old new t Memory left = spared_empty before after is_new left.spares
+  memory_spared before after is_new old new t (Memory _) left = spared_empty before after is_new left.spares
 
   module _ (dump : Dump) (saving : Saving) (begun : BeginsDump dump saving) (before after : Pages D g) where
     is_dumps : (image : List ℕ) (number : ℕ) → number ≡ 1 → StandsForCopy image number (copy_of (cars_of_dump dump) begun.progress) → StandsForCopy image 1 (copy_in_dump dump)

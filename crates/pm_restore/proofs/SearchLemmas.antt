@@ -9,9 +9,9 @@ use Rattle.std.proofs.lemmas.Option.{same_Some}
 use Rattle.pm_model.specs.Heap.{Object}
 use Rattle.pm_dump.specs.Sound.{IsListed}
 use Rattle.pm_dump.proofs.Sorted.{sorted_below, sorted_rest}
-use Rattle.pm_packing.specs.Packing.{DumpEntry, place_in}
-use Rattle.pm_packing.proofs.Found.{below_at, found_of, place_found}
-use Rattle.pm_packing.proofs.Places.{got_within}
+use Rattle.pm_restore.specs.Packing.Packing.{DumpEntry, place_in}
+use Rattle.pm_restore.proofs.PackingLemmas.Found.{below_at, found_of, place_found}
+use Rattle.pm_restore.proofs.PackingLemmas.Places.{got_within}
 
 -- later objects have greater identities
 ids_rise : (objects : List DumpEntry) → T (is_sorted nat_cmp objects) → (i j : ℕ) (e f : DumpEntry) → i < j → slice_get objects i ≡ Some e → slice_get objects j ≡ Some f → e.0 < f.0

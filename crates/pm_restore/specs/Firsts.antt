@@ -1,6 +1,6 @@
 -- Where the cars of a packing begin.
 use Rattle.std.specs.Prelude.{ℕ, ◌+◌, List, [], ◌∷◌, length}
-use Rattle.pm_packing.specs.Packing.{DumpEntry, filled}
+use Rattle.pm_restore.specs.Packing.Packing.{DumpEntry, filled}
 
 -- the first place of each part, where the first part begins at this place
 abbrev pub firsts_from : {A : Type 0} → ℕ → List (List A) → List ℕ

@@ -1,3 +1,4 @@
+pub mod Packing
 pub mod Firsts
 pub mod Parts
 pub mod Restored

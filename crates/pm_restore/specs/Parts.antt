@@ -5,7 +5,7 @@ use Rattle.pm_view.specs.View.{Cars}
 use Rattle.pm_saving.specs.Progress.{cars_of}
 use Rattle.pm_dump.specs.Dump.{Dump}
 use Rattle.pm_dump.specs.Sound.{IsListed}
-use Rattle.pm_packing.specs.Packing.{DumpEntry, filled, packed_cars}
+use Rattle.pm_restore.specs.Packing.Packing.{DumpEntry, filled, packed_cars}
 
 -- the part of this number, where the first one has that number; without an object where there is none
 abbrev pub part_from : {A : Type 0} → ℕ → List (List A) → ℕ → List A

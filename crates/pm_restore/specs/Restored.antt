@@ -11,16 +11,16 @@ use Rattle.pm_shadow.specs.State.{State, new_store}
 use Rattle.pm_shadow.specs.Copies.{KeepsGraph}
 use Rattle.pm_shadow.specs.Pages.{disk_of, state}
 use Rattle.pm_shadow.specs.declared.pages.Pages.{Pages}
-use Rattle.pm_law_layout.specs.Plans.{graph_of_plan}
-use Rattle.pm_law_layout.specs.Examples.{nothing}
+use Rattle.pm_copies.specs.Plans.{graph_of_plan}
+use Rattle.pm_law_copies.specs.Layout.Examples.{nothing}
 use Rattle.pm_saving.specs.Progress as seen
 use Rattle.pm_saving.specs.Progress.{Progress, Saving, copy_of}
 use Rattle.pm_saving.specs.Paging.{left}
 use Rattle.pm_saving.specs.Tied.{HasCopy, IsTied, settled_on}
-use Rattle.pm_progress.specs.declared.place.Place.TheVariants.{Unwritten}
-use Rattle.pm_progress.specs.declared.place.PlacedCar.{PlacedCar}
+use Rattle.pm_save.specs.declared.progress.place.Place.TheVariants.{Unwritten}
+use Rattle.pm_save.specs.declared.progress.place.PlacedCar.{PlacedCar}
 use Rattle.pm_dump.specs.Dump.{Dump, copy_of_dump}
-use Rattle.pm_packing.specs.Packing.{packed_cars, packed_names}
+use Rattle.pm_restore.specs.Packing.Packing.{packed_cars, packed_names}
 use Rattle.pm_restore.specs.Parts.{cars_of_dump}
 
 -- the copy that a dump is: its roots, and the objects that they reach

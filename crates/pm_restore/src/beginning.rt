@@ -2,7 +2,7 @@
 ghost use Rattle.std.specs.Prelude.{◌≡◌, ◌<◌, ◌^◌, IfOk};
 ghost use Rattle.pm_restore.specs.Restored.{open_cars};
 
-use pm_progress::{Place, PlacedCar};
+use pm_save::progress::{Place, PlacedCar};
 use pm_types::NoMemory;
 use std::alloc::Global;
 

@@ -5,6 +5,7 @@ mod beginning;
 mod laws;
 mod names;
 mod packed;
+pub mod packing;
 mod placing;
 mod settling;
 mod slots;

@@ -3,7 +3,7 @@ ghost use Rattle.std.specs.Prelude.{◌≡◌, map, IfOk};
 ghost use Rattle.std.specs.List.{AllByRecursion};
 ghost use Rattle.pm_dump.specs.declared.parts.DumpRoot.{DumpRoot};
 ghost use Rattle.pm_dump.specs.Sound.{IsListed, IsSoundDump};
-ghost use Rattle.pm_packing.specs.Packing.{address_of};
+ghost use Rattle.pm_restore.specs.Packing.Packing.{address_of};
 ghost use Rattle.pm_restore.specs.Firsts.{firsts_of};
 
 use crate::Placing;

@@ -7,10 +7,10 @@ use crate::beginning::unwritten;
 use crate::names::named;
 use crate::slots::slots_between;
 use pm_dump::Dump;
-use pm_progress::{CarPage, Frozen, spell};
-use pm_settled::PackedPages;
+use pm_graphs::settled::PackedPages;
+use pm_save::progress::{CarPage, Frozen, spell};
+use pm_save::writer::Writer;
 use pm_types::{NoMemory, Slot};
-use pm_writer::Writer;
 use std::alloc::Global;
 use std::marker::Model;
 
@@ -40,8 +40,8 @@ impl<'a> PackedDump<'a> {
     ghost use Rattle.std.specs.FinMap.{get};
     ghost use Rattle.pm_dump.specs.Sound.{IsSoundDump};
     ghost use Rattle.pm_saving.specs.Progress.{slots_of};
-    ghost use Rattle.pm_packing.specs.Packing.{packed_cars};
-    ghost use Rattle.pm_writer.specs.Shown.{writing};
+    ghost use Rattle.pm_restore.specs.Packing.Packing.{packed_cars};
+    ghost use Rattle.pm_save.specs.Writer.Shown.{writing};
     ghost use Rattle.pm_restore.specs.Parts.{cars_of_dump};
     ghost use Rattle.pm_restore.specs.Restored.{BeginsDump};
 

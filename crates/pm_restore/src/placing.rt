@@ -3,7 +3,7 @@ ghost use Rattle.std.specs.Prelude.{◌≡◌, ◌≤◌, get_or, length, IfOk};
 ghost use Rattle.pm_types.specs.declared.limits.TheConstants.{FIELDS, OBJECT_BYTES};
 ghost use Rattle.pm_dump.specs.Lent.{object_shown};
 ghost use Rattle.pm_dump.specs.Sound.{IsListed, IsSoundDump};
-ghost use Rattle.pm_packing.specs.Packing.{object_room, place_in};
+ghost use Rattle.pm_restore.specs.Packing.Packing.{object_room, place_in};
 ghost use Rattle.pm_restore.specs.Firsts.{firsts_of};
 
 use pm_dump::{Dump, DumpObject};
@@ -88,7 +88,7 @@ fn first_or(firsts: &[usize], index: usize, end: usize) -> usize
 impl Placing {
     ghost use Rattle.std.specs.Prelude.{◌≡◌, ◌<◌, IfOk, length};
     ghost use Rattle.pm_dump.specs.Sound.{IsListed, IsSoundDump};
-    ghost use Rattle.pm_packing.specs.Packing.{address_of, place_of};
+    ghost use Rattle.pm_restore.specs.Packing.Packing.{address_of, place_of};
     ghost use Rattle.pm_restore.specs.Firsts.{firsts_of};
     ghost use Rattle.pm_restore.specs.Parts.{IsPartRange};
 

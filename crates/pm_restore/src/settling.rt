@@ -4,13 +4,13 @@ ghost use Rattle.pm_disk.specs.Made.{MadeAtMost};
 ghost use Rattle.pm_dump.specs.Sound.{IsSoundDump};
 ghost use Rattle.pm_saving.specs.Paging.{left};
 ghost use Rattle.pm_shadow.specs.Pages.{disk_of, state};
-ghost use Rattle.pm_progress.specs.Answers.{HasSaveCause, OnMemory, TellsOn};
+ghost use Rattle.pm_save.specs.Progress.Answers.{HasSaveCause, OnMemory, TellsOn};
 ghost use Rattle.pm_restore.specs.Restored.{IsNewStore, IsRestored, LeavesEither, LeavesEmpty, dump_progress};
 
 use crate::PackedDump;
 use pm_disk::Disk;
 use pm_dump::Dump;
-use pm_progress::SaveFault;
+use pm_save::progress::SaveFault;
 use pm_shadow::Pages;
 use std::alloc::Global;
 

@@ -2,7 +2,7 @@
 ghost use Rattle.std.specs.Prelude.{◌≡◌, ◌<◌, ◌≤◌, ◌-◌, length, map, option_map, slice_get, slice_range};
 ghost use Rattle.std.specs.Prelude.{Some, IfOk, IfSome};
 ghost use Rattle.pm_dump.specs.Sound.{IsListed, IsSoundDump};
-ghost use Rattle.pm_packing.specs.Packing.{address_of, packed_slot, packed_slots};
+ghost use Rattle.pm_restore.specs.Packing.Packing.{address_of, packed_slot, packed_slots};
 ghost use Rattle.pm_restore.specs.Firsts.{firsts_of};
 ghost use Rattle.pm_restore.specs.Parts.{AreListed};
 

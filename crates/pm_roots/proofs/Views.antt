@@ -8,6 +8,7 @@ use Rattle.std.specs.FinMap.Entries.{find, below_all, is_sorted}
 use Rattle.std.proofs.lemmas.Bool.Decides.{nat_tests}
 use Rattle.std.proofs.lemmas.Map.Views.{tells_apart}
 use Rattle.std.proofs.lemmas.Grind.{common_steps}
+use Rattle.pm_types.specs.Memory.{no_memory}
 use Rattle.pm_types.specs.declared.address.Addr.{Addr}
 use Rattle.pm_roots.specs.declared.fault.BindFault.{BindFault}
 use Rattle.pm_roots.specs.declared.fault.BindFault.TheVariants.{TooMany, Memory}
@@ -158,5 +159,5 @@ some_is_no_none is = cc
 pub none_is_not_some : {A : Type 0} {found : Option A} → found ≡ None → IsSome found → ⊥
 none_is_not_some {found = found} none there = grind (arith, common_steps)
 
-pub memory_is_not_too_many : {A : Type 0} → ◌≡◌ {A = Result A BindFault} (Err Memory) (Err TooMany) → ⊥
+pub memory_is_not_too_many : {A : Type 0} → ◌≡◌ {A = Result A BindFault} (Err (Memory no_memory)) (Err TooMany) → ⊥
 memory_is_not_too_many is = cc

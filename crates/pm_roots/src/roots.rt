@@ -64,7 +64,7 @@ fn add(
             addresses.insert_reserved(at);
             Ok(number)
         }
-        Err(_) => Err(NoMemory),
+        Err(failed) => Err(NoMemory::from(failed)),
     }
 }
 
@@ -152,8 +152,9 @@ impl Roots {
                     return Err(BindFault::TooMany);
                 }
                 let added = add(&mut self.names, &mut self.addresses, place, name, at);
-                let Ok(number) = added else {
-                    return Err(BindFault::Memory);
+                let number = match added {
+                    Ok(number) => number,
+                    Err(refused) => return Err(BindFault::Memory(refused)),
                 };
                 Ok((number as u64, None))
             }

@@ -1,4 +1,5 @@
+pub mod ThreadsLemmas
+pub mod TrialLemmas
+pub mod EndsLemmas
 pub mod Ran
 pub mod Stores
--- Passed on whole, so that who stands above need not list these crates.
-pub use Rattle.pm_ends.proofs as ends

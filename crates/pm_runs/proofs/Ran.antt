@@ -3,8 +3,9 @@ use Rattle.std.proofs.Common.{◌≡◌, inl, inr, ⊎_elim, ℕ, ◌<◌, ◌�
 use Rattle.std.proofs.lemmas.List.{length-map, map-append}
 use Rattle.std.proofs.lemmas.List.Elements.{filter-append}
 use Rattle.std.specs.List.{AllByRecursion}
+use Rattle.pm_types.specs.Memory.{no_memory}
 use Rattle.pm_types.specs.declared.entry.Entry.{Entry}
-use Rattle.pm_base.specs.Counts.{Rose, ShowsRise, greatest_count}
+use Rattle.pm_types.specs.Counts.{Rose, ShowsRise, greatest_count}
 use Rattle.pm_disk.specs.declared.disk.Disk as disk
 use Rattle.pm_disk.specs.Disk.{LeavesOnly}
 use Rattle.pm_disk.proofs.RunLemmas.{weaker}
@@ -19,41 +20,41 @@ use Rattle.pm_model.proofs.ClosedLaws.{empty_closed}
 use Rattle.pm_script.specs.declared.line.Line.{Line}
 use Rattle.pm_view.specs.View.{SpaceView}
 use Rattle.pm_view.specs.Counts.{standing}
-use Rattle.pm_bound.specs.Bounded.{IsHonest}
+use Rattle.pm_view.specs.Bounded.{IsHonest}
 use Rattle.pm_copies.specs.Listed.{copy_in}
 use Rattle.pm_saving.specs.Paging.{left_of}
 use Rattle.pm_saving.specs.Progress.{Saving}
-use Rattle.pm_serving.specs.Serving.{IsServed, Serving, just_opened, opening, world}
-use Rattle.pm_serving.specs.Images as images
-use Rattle.pm_serving.specs.Images.{IsTold}
-use Rattle.pm_ends.specs.serial.events.Engine.{Engine}
-use Rattle.pm_ends.specs.serial.events.Tally.{Tally}
-use Rattle.pm_ends.specs.serial.events.Shown.{KeepsStart, Total, disk_in, opened_disk, serving, tally_in, tally_of}
-use Rattle.pm_ends.specs.serial.events.declared.stop.Stop.{Stop}
-use Rattle.pm_ends.specs.serial.events.declared.stop.Stop.TheVariants.{Memory as StopMemory, Writing as StopWriting, Device as StopDevice}
-use Rattle.pm_ends.specs.serial.events.Causes as causes
-use Rattle.pm_ends.specs.serial.events.Causes.{IsDone, CountsDisk, OnStop}
-use Rattle.pm_ends.specs.serial.Causes.{CountsSink}
-use Rattle.pm_parts.specs.Asked.{events_asked, requests_asked}
-use Rattle.pm_ends.specs.serial.Running.{AnswersLines}
-use Rattle.pm_threads.specs.Running.{AnswersClients, LeavesSome}
-use Rattle.pm_ends.specs.serial.events.Running.{IsFresh, RunsOnDisk}
-use Rattle.pm_ends.specs.serial.Writing.{tail_of}
-use Rattle.pm_ends.specs.serial.Ordered.{StopsAmong, course_of}
-use Rattle.pm_ends.specs.declared.ended.Detail.{Detail}
-use Rattle.pm_ends.specs.declared.ended.Alone.{Alone as Ended}
+use Rattle.pm_saving.specs.Serving.{IsServed, Serving, just_opened, opening, world}
+use Rattle.pm_saving.specs.Images as images
+use Rattle.pm_saving.specs.Images.{IsTold}
+use Rattle.pm_engine.specs.declared.engine.Engine.{Engine}
+use Rattle.pm_engine.specs.declared.tally.Tally.{Tally}
+use Rattle.pm_engine.specs.Shown.{KeepsStart, Total, disk_in, opened_disk, serving, tally_in, tally_of}
+use Rattle.pm_engine.specs.declared.events.stop.Stop.{Stop}
+use Rattle.pm_engine.specs.declared.events.stop.Stop.TheVariants.{Memory as StopMemory, Writing as StopWriting, Device as StopDevice}
+use Rattle.pm_engine.specs.Events.Causes as causes
+use Rattle.pm_engine.specs.Events.Causes.{IsDone, CountsDisk, OnStop}
+use Rattle.pm_serial.specs.Causes.{CountsSink}
+use Rattle.pm_script.specs.Parted.Asked.{events_asked, requests_asked}
+use Rattle.pm_serial.specs.Running.{AnswersLines}
+use Rattle.pm_runs.specs.Threads.Running.{AnswersClients, LeavesSome}
+use Rattle.pm_engine.specs.Events.Running.{IsFresh, RunsOnDisk}
+use Rattle.pm_serial.specs.Writing.{tail_of}
+use Rattle.pm_serial.specs.Ordered.{StopsAmong, course_of}
+use Rattle.pm_runs.specs.declared.ends.ended.Detail.{Detail}
+use Rattle.pm_runs.specs.declared.ends.ended.Alone.{Alone as Ended}
 use Rattle.pm_runs.specs.declared.writes.Writes.{Writes}
-use Rattle.pm_ends.specs.Ends.{RanShort, stop_in, ended_by}
-use Rattle.pm_ends.specs.Stages.{IsPast, unreached, the_events, the_output}
-use Rattle.pm_ends.specs.Disks.{IsLastOf, IsOfDisk, IsOfRun}
-use Rattle.pm_ends.specs.Tallies.{ComesTo, ReachesAtMost}
+use Rattle.pm_runs.specs.Ends.Ends.{RanShort, stop_in, ended_by}
+use Rattle.pm_runs.specs.Ends.Stages.{IsPast, unreached, the_events, the_output}
+use Rattle.pm_runs.specs.Ends.Disks.{IsLastOf, IsOfDisk, IsOfRun}
+use Rattle.pm_runs.specs.Ends.Tallies.{ComesTo, ReachesAtMost}
 use Rattle.pm_runs.specs.Engines.{RunsEngine}
 use Rattle.pm_runs.specs.Wrote.{AcknowledgesFor, Wrote}
-use Rattle.pm_ends.specs.Journals.{IsBegun, ServesInOrder, ServesLines}
-use Rattle.pm_ends.specs.Causes.{ShowsCauses}
-use Rattle.pm_ends.proofs.Parts.{with_parts}
-use Rattle.pm_ends.proofs.Faults.{late_past}
-use Rattle.pm_ends.proofs.Tallied.{engine_comes}
+use Rattle.pm_runs.specs.Ends.Journals.{IsBegun, ServesInOrder, ServesLines}
+use Rattle.pm_runs.specs.Ends.Causes.{ShowsCauses}
+use Rattle.pm_runs.proofs.EndsLemmas.Parts.{with_parts}
+use Rattle.pm_runs.proofs.EndsLemmas.Faults.{late_past}
+use Rattle.pm_runs.proofs.EndsLemmas.Tallied.{engine_comes}
 
 -- an empty journal is legal from the world of the empty copy
 pub none_begun : IsBegun []
@@ -78,27 +79,27 @@ fresh_engine it number view saving is idle = record {
 -- it came to the events
 pub ended_late : (stop : Option Stop) (a b c d : ℕ) → the_events < unreached (ended_by stop a b c d)
 ended_late None a b c d = omega arith
-ended_late (Some StopMemory) a b c d = omega arith
+ended_late (Some (StopMemory _)) a b c d = omega arith
 ended_late (Some StopWriting) a b c d = omega arith
 ended_late (Some StopDevice) a b c d = omega arith
 
 -- why it stopped can be told from its end
 stop_back : (stop : Option Stop) (a b c d : ℕ) → stop ≡ stop_in (ended_by stop a b c d)
 stop_back None a b c d = refl
-stop_back (Some StopMemory) a b c d = refl
+stop_back (Some (StopMemory _)) a b c d = refl
 stop_back (Some StopWriting) a b c d = refl
 stop_back (Some StopDevice) a b c d = refl
 
 done_back : (stop : Option Stop) (a b c d : ℕ) → IsPast the_output (ended_by stop a b c d) → IsDone stop
 done_back None a b c d past = tt
-done_back (Some StopMemory) a b c d past = absurd (omega arith)
+done_back (Some (StopMemory _)) a b c d past = absurd (omega arith)
 done_back (Some StopWriting) a b c d past = absurd (omega arith)
 done_back (Some StopDevice) a b c d past = absurd (omega arith)
 
 -- the disk failed where the run stopped for it, and no call had answered so where it did not
 disk_back : (stop : Option Stop) (stopped : Option ℕ) (a b c d : ℕ) → ((causes.IsOfDisk stop → ⊥) → stopped ≡ None) → IsSome stopped → IsOfDisk (ended_by stop a b c d)
 disk_back None stopped a b c d going some = absurd (cc (subst IsSome (going (λ no. no)) some))
-disk_back (Some StopMemory) stopped a b c d going some = absurd (cc (subst IsSome (going (λ no. no)) some))
+disk_back (Some (StopMemory _)) stopped a b c d going some = absurd (cc (subst IsSome (going (λ no. no)) some))
 disk_back (Some StopWriting) stopped a b c d going some = absurd (cc (subst IsSome (going (λ no. no)) some))
 disk_back (Some StopDevice) stopped a b c d going some = tt
 
@@ -118,9 +119,9 @@ commands_behind client one two =
 first_parts : (journal : List Entry) (rest asked : List Request) → requests_of journal ++ rest ≡ asked → (client : ℕ) → IsFirstPart (part client journal) (commands_of client asked)
 first_parts journal rest asked served client = (commands_of client rest, sym (commands_behind client (requests_of journal) rest) ∙ ap (commands_of client) served)
 
-short_back : (stop : Option Stop) (a b c d : ℕ) → RanShort (ended_by stop a b c d) → stop ≡ Some StopMemory
+short_back : (stop : Option Stop) (a b c d : ℕ) → RanShort (ended_by stop a b c d) → stop ≡ Some (StopMemory no_memory)
 short_back None a b c d ran = absurd ran
-short_back (Some StopMemory) a b c d ran = refl
+short_back (Some (StopMemory _)) a b c d ran = refl
 short_back (Some StopWriting) a b c d ran = absurd ran
 short_back (Some StopDevice) a b c d ran = absurd ran
 
@@ -256,7 +257,7 @@ module _ {D S K : Type 0} (d : disk.Ghosts D) (s : source.Ghosts S) (k : sink.Gh
       → ShowsCauses d s k start source sink (with_parts it (ended_by stop a b c e) (Some tally) end source last)
   causes_end start end source sink last it tally None a b c e is_a is_b is_c is_e on_disk on_sink reads =
       record { reading = refl; writing = on_sink; device = on_disk; rule = tt; opened = tt; reads = reads }
-  causes_end start end source sink last it tally (Some StopMemory) a b c e is_a is_b is_c is_e on_disk on_sink reads =
+  causes_end start end source sink last it tally (Some (StopMemory _)) a b c e is_a is_b is_c is_e on_disk on_sink reads =
       record { reading = refl; writing = tt; device = on_disk; rule = tt; opened = refl; reads = reads }
   causes_end start end source sink last it tally (Some StopWriting) a b c e is_a is_b is_c is_e on_disk on_sink reads =
       record { reading = refl; writing = shows_rise c e (k.count sink) (k.count last) is_c is_e on_sink; device = on_disk; rule = tt; opened = tt; reads = reads }

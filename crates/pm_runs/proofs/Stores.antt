@@ -8,22 +8,22 @@ use Rattle.pm_model.specs.Text.{text}
 use Rattle.pm_script.specs.declared.line.Line.{Line}
 use Rattle.pm_model.specs.World.{begin}
 use Rattle.pm_image.specs.Stands.{StandsForCopy}
-use Rattle.pm_ends.specs.serial.events.Tally.{Tally}
-use Rattle.pm_ends.specs.serial.events.Shown.{tally_of}
-use Rattle.pm_parts.specs.Asked.{requests_asked}
-use Rattle.pm_ends.specs.serial.Writing.{tail_of}
-use Rattle.pm_ends.specs.declared.ended.Detail.{Detail}
-use Rattle.pm_ends.specs.declared.ended.Alone.{Alone as Ended}
+use Rattle.pm_engine.specs.declared.tally.Tally.{Tally}
+use Rattle.pm_engine.specs.Shown.{tally_of}
+use Rattle.pm_script.specs.Parted.Asked.{requests_asked}
+use Rattle.pm_serial.specs.Writing.{tail_of}
+use Rattle.pm_runs.specs.declared.ends.ended.Detail.{Detail}
+use Rattle.pm_runs.specs.declared.ends.ended.Alone.{Alone as Ended}
 use Rattle.pm_runs.specs.declared.writes.Writes.{Writes}
-use Rattle.pm_ends.specs.Ends.{stop_in}
-use Rattle.pm_ends.specs.Stages.{IsPast, unreached, the_words, the_store, the_events, the_output}
-use Rattle.pm_ends.specs.Journals.{IsBegun, ServesInOrder, ServesLines}
-use Rattle.pm_ends.specs.Disks.{LeavesDisk}
-use Rattle.pm_ends.specs.Tallies.{ComesTo}
+use Rattle.pm_runs.specs.Ends.Ends.{stop_in}
+use Rattle.pm_runs.specs.Ends.Stages.{IsPast, unreached, the_words, the_store, the_events, the_output}
+use Rattle.pm_runs.specs.Ends.Journals.{IsBegun, ServesInOrder, ServesLines}
+use Rattle.pm_runs.specs.Ends.Disks.{LeavesDisk}
+use Rattle.pm_runs.specs.Ends.Tallies.{ComesTo}
 use Rattle.pm_runs.specs.Wrote.{Wrote}
 use Rattle.pm_runs.specs.Runs.{RunsStore}
-use Rattle.pm_ends.proofs.serial.Cutting.{on_stop}
-use Rattle.pm_ends.proofs.Parts.{with_parts}
+use Rattle.pm_serial.proofs.Cutting.{on_stop}
+use Rattle.pm_runs.proofs.EndsLemmas.Parts.{with_parts}
 use Rattle.pm_runs.proofs.Ran.{none_begun}
 
 -- what holds anyway holds of a tally

@@ -6,17 +6,17 @@ use Rattle.pm_io.specs.declared.sink.Sink as sink
 use Rattle.pm_model.specs.Closed.{IsClosed}
 use Rattle.pm_model.specs.Journal.{IsLegal, after}
 use Rattle.pm_model.specs.Text.{text}
-use Rattle.pm_serving.specs.Serving.{opening}
-use Rattle.pm_serving.specs.Images.{IsTold}
-use Rattle.pm_ends.specs.serial.events.Engine.{Engine}
-use Rattle.pm_ends.specs.serial.events.Shown.{disk_in, opened_disk, serving, tally_of}
-use Rattle.pm_ends.specs.serial.Writing.{tail_of}
-use Rattle.pm_ends.specs.declared.ended.Alone.{Alone as Ended}
+use Rattle.pm_saving.specs.Serving.{opening}
+use Rattle.pm_saving.specs.Images.{IsTold}
+use Rattle.pm_engine.specs.declared.engine.Engine.{Engine}
+use Rattle.pm_engine.specs.Shown.{disk_in, opened_disk, serving, tally_of}
+use Rattle.pm_serial.specs.Writing.{tail_of}
+use Rattle.pm_runs.specs.declared.ends.ended.Alone.{Alone as Ended}
 use Rattle.pm_runs.specs.declared.writes.Writes.{Writes}
-use Rattle.pm_ends.specs.Ends.{stop_in}
-use Rattle.pm_ends.specs.Stages.{unreached, the_events}
-use Rattle.pm_ends.specs.Disks.{IsLastOf, IsOfRun}
-use Rattle.pm_ends.specs.Tallies.{ComesTo}
+use Rattle.pm_runs.specs.Ends.Ends.{stop_in}
+use Rattle.pm_runs.specs.Ends.Stages.{unreached, the_events}
+use Rattle.pm_runs.specs.Ends.Disks.{IsLastOf, IsOfRun}
+use Rattle.pm_runs.specs.Ends.Tallies.{ComesTo}
 use Rattle.pm_runs.specs.Wrote.{Wrote}
 
 module _ {D F S K : Type 0} {g : Ghosts D} (k : sink.Ghosts K) where

@@ -6,20 +6,20 @@ use Rattle.pm_io.specs.declared.sink.Sink as sink
 use Rattle.pm_model.specs.World.{begin}
 use Rattle.pm_model.specs.Text.{text}
 use Rattle.pm_image.specs.Stands.{StandsForCopy}
-use Rattle.pm_ends.specs.serial.events.Shown.{tally_of}
-use Rattle.pm_ends.specs.serial.Acknowledged.{Acknowledges}
-use Rattle.pm_ends.specs.serial.Writing.{tail_of}
+use Rattle.pm_engine.specs.Shown.{tally_of}
+use Rattle.pm_serial.specs.Acknowledged.{Acknowledges}
+use Rattle.pm_serial.specs.Writing.{tail_of}
 use Rattle.pm_script.specs.declared.line.Line.{Line}
 use Rattle.pm_script.specs.Script.{IsScript}
-use Rattle.pm_threads.specs.Running.{LeavesSome}
-use Rattle.pm_ends.specs.declared.ended.Alone.{Alone as Ended}
+use Rattle.pm_runs.specs.Threads.Running.{LeavesSome}
+use Rattle.pm_runs.specs.declared.ends.ended.Alone.{Alone as Ended}
 use Rattle.pm_runs.specs.declared.writes.Writes.{Writes}
 use Rattle.pm_runs.specs.declared.writes.Writes.TheVariants.{Replies}
-use Rattle.pm_ends.specs.Ends.{RanShort, stop_in}
-use Rattle.pm_ends.specs.Stages.{IsPast, the_words, the_script}
-use Rattle.pm_ends.specs.Journals.{IsBegun, KeepsOrder, ReadsScript}
-use Rattle.pm_ends.specs.Disks.{LeavesDisk}
-use Rattle.pm_ends.specs.Tallies.{TalliesRun}
+use Rattle.pm_runs.specs.Ends.Ends.{RanShort, stop_in}
+use Rattle.pm_runs.specs.Ends.Stages.{IsPast, the_words, the_script}
+use Rattle.pm_runs.specs.Ends.Journals.{IsBegun, KeepsOrder, ReadsScript}
+use Rattle.pm_runs.specs.Ends.Disks.{LeavesDisk}
+use Rattle.pm_runs.specs.Ends.Tallies.{TalliesRun}
 use Rattle.pm_runs.specs.Wrote.{Wrote}
 
 module _ {D S K : Type 0} (d : disk.Ghosts D) (k : sink.Ghosts K) where

@@ -2,10 +2,10 @@
 use Rattle.std.specs.Prelude.{ℕ, List, Option}
 use Rattle.pm_types.specs.declared.entry.Entry.{Entry}
 use Rattle.pm_io.specs.declared.sink.Sink as sink
-use Rattle.pm_ends.specs.serial.events.declared.stop.Stop.{Stop}
-use Rattle.pm_ends.specs.serial.Acknowledged.{Acknowledges}
-use Rattle.pm_ends.specs.serial.Writing.{WroteRun}
-use Rattle.pm_trial.specs.Trials.{WroteTrial}
+use Rattle.pm_engine.specs.declared.events.stop.Stop.{Stop}
+use Rattle.pm_serial.specs.Acknowledged.{Acknowledges}
+use Rattle.pm_serial.specs.Writing.{WroteRun}
+use Rattle.pm_runs.specs.Trial.Trials.{WroteTrial}
 use Rattle.pm_runs.specs.declared.writes.Writes.{Writes}
 use Rattle.pm_runs.specs.declared.writes.Writes.TheVariants.{Replies, Digest}
 

@@ -2,15 +2,18 @@
 //! threads.
 #![tactic(auto)]
 
+pub mod ends;
 mod opening;
 mod running;
+pub mod threads;
 mod together;
+pub mod trial;
 mod writes;
 
-pub use opening::run_lines;
-pub use pm_ends::{
+pub use crate::ends::{
     Alone, Detail, Ended, detail_text, end_unopened, line_of, not_opened, shipped_line, write_text,
 };
+pub use opening::run_lines;
 pub use running::run_source;
 pub use together::{images_since_now, run_together};
 pub use writes::Writes;

@@ -2,18 +2,18 @@
 ghost use Rattle.std.specs.Prelude.{◌≡◌, IfSome};
 ghost use Rattle.pm_script.specs.Script.{AreLines};
 ghost use Rattle.pm_place.specs.Choosers.{IsChooser};
-ghost use Rattle.pm_ends.specs.serial.events.Shown.{chooser, disk_in, serving};
-ghost use Rattle.pm_ends.specs.serial.events.Running.{IsFresh};
-ghost use Rattle.pm_ends.specs.Ends.{status_of, stop_in};
-ghost use Rattle.pm_ends.specs.Journals.{ServesInOrder, ServesLines};
+ghost use Rattle.pm_engine.specs.Shown.{chooser, disk_in, serving};
+ghost use Rattle.pm_engine.specs.Events.Running.{IsFresh};
+ghost use Rattle.pm_runs.specs.Ends.Ends.{status_of, stop_in};
+ghost use Rattle.pm_runs.specs.Ends.Journals.{ServesInOrder, ServesLines};
 ghost use Rattle.pm_runs.specs.Wrote.{AcknowledgesFor};
-ghost use Rattle.pm_ends.specs.Causes.{ShowsCauses};
+ghost use Rattle.pm_runs.specs.Ends.Causes.{ShowsCauses};
 ghost use Rattle.pm_runs.specs.Runs.{RunsStore};
 ghost use Rattle.pm_runs.specs.Engines.{RunsEngine};
 
+use crate::ends::{Alone, Engine, end_unopened, end_with, ended_by, not_opened};
 use crate::writes::{Writes, write_lines};
 use pm_disk::Disk;
-use pm_ends::{Alone, Engine, end_unopened, end_with, ended_by, not_opened};
 use pm_io::{Sink, Source};
 use pm_place::Placement;
 use pm_script::Line;

@@ -1,14 +1,14 @@
 //! A run in the order of the lines: the source is read as a script, and the script is run.
 ghost use Rattle.std.specs.Prelude.{◌≡◌};
 ghost use Rattle.pm_place.specs.Choosers.{IsChooser};
-ghost use Rattle.pm_ends.specs.Ends.{status_of};
-ghost use Rattle.pm_ends.specs.Causes.{ShowsCauses};
+ghost use Rattle.pm_runs.specs.Ends.Ends.{status_of};
+ghost use Rattle.pm_runs.specs.Ends.Causes.{ShowsCauses};
 ghost use Rattle.pm_runs.specs.Runs.{RunsScript};
 
+use crate::ends::{Alone, end_unopened, read_source};
 use crate::opening::run_lines;
 use crate::writes::Writes;
 use pm_disk::Disk;
-use pm_ends::{Alone, end_unopened, read_source};
 use pm_io::{Sink, Source};
 use pm_place::Placement;
 use std::alloc::Global;

@@ -1,22 +1,22 @@
 //! A run in threads: the source is read, the store is opened, and workers take turns at an engine over its copy.
 ghost use Rattle.std.specs.Prelude.{◌≡◌, List, ℕ, IfSome};
 ghost use Rattle.pm_place.specs.Choosers.{IsChooser};
-ghost use Rattle.pm_ends.specs.serial.events.Shown.{chooser, disk_in, serving, tally_of};
-ghost use Rattle.pm_ends.specs.serial.events.Running.{IsFresh};
+ghost use Rattle.pm_engine.specs.Shown.{chooser, disk_in, serving, tally_of};
+ghost use Rattle.pm_engine.specs.Events.Running.{IsFresh};
 ghost use Rattle.pm_runs.specs.declared.writes.Writes.TheVariants.{Replies};
-ghost use Rattle.pm_threads.specs.Running.{LeavesSome};
-ghost use Rattle.pm_ends.specs.Ends.{RanShort, status_of};
-ghost use Rattle.pm_ends.specs.Journals.{ServesLines};
-ghost use Rattle.pm_ends.specs.Causes.{ShowsCauses};
+ghost use Rattle.pm_runs.specs.Threads.Running.{LeavesSome};
+ghost use Rattle.pm_runs.specs.Ends.Ends.{RanShort, status_of};
+ghost use Rattle.pm_runs.specs.Ends.Journals.{ServesLines};
+ghost use Rattle.pm_runs.specs.Ends.Causes.{ShowsCauses};
 ghost use Rattle.pm_runs.specs.Runs.{RunsStore, RunsTogether};
 ghost use Rattle.pm_runs.specs.Engines.{RunsEngine};
 
+use crate::ends::{Alone, Engine, end_unopened, end_with, ended_by, not_opened, read_source};
+use crate::threads::run_script;
 use pm_disk::Disk;
-use pm_ends::{Alone, Engine, end_unopened, end_with, ended_by, not_opened, read_source};
 use pm_io::{Sink, Source};
 use pm_place::Placement;
 use pm_script::Script;
-use pm_threads::run_script;
 use pm_turns::Gate;
 use std::alloc::Global;
 use std::mem;

@@ -2,19 +2,19 @@
 ghost use Rattle.pm_model.specs.Text.{text};
 ghost use Rattle.pm_script.specs.Script.{AreLines};
 ghost use Rattle.pm_place.specs.Choosers.{IsChooser};
-ghost use Rattle.pm_ends.specs.serial.events.Shown.{KeepsStart, chooser, serving, tally_in};
-ghost use Rattle.pm_ends.specs.serial.Causes.{CountsSink};
-ghost use Rattle.pm_ends.specs.serial.events.Causes.{why};
-ghost use Rattle.pm_ends.specs.serial.Running.{AnswersLines};
-ghost use Rattle.pm_ends.specs.serial.events.Running.{IsFresh, RunsOnDisk};
-ghost use Rattle.pm_ends.specs.serial.Writing.{tail_of};
+ghost use Rattle.pm_engine.specs.Shown.{KeepsStart, chooser, serving, tally_in};
+ghost use Rattle.pm_serial.specs.Causes.{CountsSink};
+ghost use Rattle.pm_engine.specs.Events.Causes.{why};
+ghost use Rattle.pm_serial.specs.Running.{AnswersLines};
+ghost use Rattle.pm_engine.specs.Events.Running.{IsFresh, RunsOnDisk};
+ghost use Rattle.pm_serial.specs.Writing.{tail_of};
 ghost use Rattle.pm_runs.specs.Wrote.{AcknowledgesFor, Wrote};
 
+use crate::ends::{Engine, Stop, run_lines};
+use crate::trial::run_trial;
 use pm_disk::Disk;
-use pm_ends::{Engine, Stop, run_lines};
 use pm_io::Sink;
 use pm_script::Line;
-use pm_trial::run_trial;
 use std::alloc::Global;
 
 /// What a run of lines writes.

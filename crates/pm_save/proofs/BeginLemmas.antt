@@ -8,8 +8,8 @@ use Rattle.pm_view.specs.Law.{HeapLaw}
 use Rattle.pm_copies.specs.Listed.{copy_in, listed}
 use Rattle.pm_copies.specs.Accepted.{IsAccepted}
 use Rattle.pm_copies.specs.Opened.{unnumbered}
-use Rattle.pm_law_layout.specs.Plans.{root_entry}
-use Rattle.pm_writer.proofs.progress.law_saving.Begun.{view_accepted}
+use Rattle.pm_copies.specs.Plans.{root_entry}
+use Rattle.pm_law_saving.proofs.Begun.{view_accepted}
 use Rattle.pm_saving.specs.Progress.{Progress, Saving, copy_of, cars_or_none}
 use Rattle.pm_saving.specs.Beginning.{Begins}
 

@@ -3,8 +3,8 @@ use Rattle.std.proofs.Common.{◌≡◌, ℕ, Option, Some, None, sym, ap, ◌�
 use Rattle.std.specs.Ordering.{nat_cmp}
 use Rattle.std.specs.Prelude.{option_map}
 use Rattle.std.specs.FinMap.{FinMap, get, get-empty}
-use Rattle.pm_base.proofs.Mapped.{get-mapped}
-use Rattle.pm_base.specs.Mapped.{mapped}
+use Rattle.pm_types.proofs.Mapped.{get-mapped}
+use Rattle.pm_types.specs.Mapped.{mapped}
 use Rattle.pm_cars.specs.Cars.{Car}
 use Rattle.pm_snap.specs.Snapped.{at_key}
 use Rattle.pm_space.specs.declared.held.Held.{Held}

@@ -1,3 +1,5 @@
+pub mod ProgressLemmas
+pub mod WriterLemmas
 mod ListLemmas
 mod RootLemmas
 mod BeginLemmas

@@ -15,8 +15,8 @@ use Rattle.pm_view.specs.View.{SpaceView}
 use Rattle.pm_view.specs.Reading.{is_aside}
 use Rattle.pm_image.specs.declared.settled.KeptPage.{KeptPage}
 use Rattle.pm_copies.specs.Listed.{Listed, image_in, listed_car, listed_of}
-use Rattle.pm_writer.specs.progress.declared.place.PlacedCar.{PlacedCar}
-use Rattle.pm_writer.specs.Planned.{IsPlanned}
+use Rattle.pm_save.specs.declared.progress.place.PlacedCar.{PlacedCar}
+use Rattle.pm_save.specs.Writer.Planned.{IsPlanned}
 
 left : (b : Bool) (o : Option Car) (train number : ℕ) → b ≡ false → (if b then [] else image_in train number o) ≡ image_in train number o
 left true o train number is = absurd cc

@@ -1,6 +1,6 @@
 -- The frozen cars of a table.
 use Rattle.std.specs.Prelude.{option_map}
-use Rattle.pm_base.specs.Mapped.{mapped}
+use Rattle.pm_types.specs.Mapped.{mapped}
 use Rattle.pm_snap.specs.Snapped.{Snapped}
 use Rattle.pm_view.specs.View.{Cars}
 use Rattle.pm_space.specs.declared.held.Held.{Held}

@@ -1,11 +1,11 @@
 -- What contracts see of a saver, and of the frozen cars of a space.
 use Rattle.std.specs.Prelude.{Option, option_map}
-use Rattle.pm_base.specs.Mapped.{mapped}
+use Rattle.pm_types.specs.Mapped.{mapped}
 use Rattle.pm_view.specs.View.{Cars}
 use Rattle.pm_space.specs.declared.parts.Parts.{Parts}
 use Rattle.pm_space.specs.Shown.{car_of}
 use Rattle.pm_saving.specs.Progress.{Saving, cars_or_none}
-use Rattle.pm_writer.specs.Shown.{writing}
+use Rattle.pm_save.specs.Writer.Shown.{writing}
 use Rattle.pm_save.specs.declared.saver.Saver.{Saver}
 
 -- the settled cars and the copy in progress

@@ -2,7 +2,7 @@
 use Rattle.std.specs.Prelude.{◌≡◌, None, Result, MatchResult}
 use Rattle.pm_space.specs.declared.parts.Parts.{Parts}
 use Rattle.pm_space.specs.Shown.{view}
-use Rattle.pm_writer.specs.progress.declared.fault.SaveFault.{SaveFault}
+use Rattle.pm_save.specs.declared.progress.fault.SaveFault.{SaveFault}
 use Rattle.pm_save.specs.Shown.{frozen_of}
 
 -- What is seen of the space stays, and so does its chooser.

@@ -5,14 +5,14 @@ ghost use Rattle.std.specs.Ordering.{nat_cmp};
 ghost use Rattle.std.specs.FinMap.{entries};
 ghost use Rattle.std.specs.BTreeMap as tree;
 ghost use Rattle.pm_saving.specs.Beginning.{IsPlacedAs};
-ghost use Rattle.pm_writer.specs.progress.Seen.{place_seen};
-ghost use Rattle.pm_writer.specs.progress.Kept.{IsWithin};
-ghost use Rattle.pm_writer.specs.Planned.{IsIndex, first_of};
+ghost use Rattle.pm_save.specs.Progress.Seen.{place_seen};
+ghost use Rattle.pm_save.specs.Progress.Kept.{IsWithin};
+ghost use Rattle.pm_save.specs.Writer.Planned.{IsIndex, first_of};
 
+use crate::writer::Place;
 use pm_cars::Car;
-use pm_settled::PackedPage;
+use pm_graphs::settled::PackedPage;
 use pm_types::NoMemory;
-use pm_writer::Place;
 use std::alloc::Global;
 use std::collections::BTreeMap;
 

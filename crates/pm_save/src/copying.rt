@@ -5,10 +5,10 @@ ghost use Rattle.std.specs.FinMap.{get};
 ghost use Rattle.pm_saving.specs.Progress.{slots_of};
 ghost use Rattle.pm_save.specs.Frozen.{frozen_in};
 
+use crate::writer::{CarPage, Frozen, spell};
 use pm_snap::Table;
 use pm_space::Held;
 use pm_types::{NoMemory, Slot};
-use pm_writer::{CarPage, Frozen, spell};
 use std::alloc::Global;
 
 /// The slots of the car of this number, as it was frozen; none where there is no such car.

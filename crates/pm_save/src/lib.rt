@@ -4,8 +4,10 @@
 mod clean;
 mod copying;
 mod listed_cars;
+pub mod progress;
 mod roots;
 mod saver;
+pub mod writer;
 
-pub use pm_writer::SaveFault;
+pub use crate::writer::SaveFault;
 pub use saver::Saver;

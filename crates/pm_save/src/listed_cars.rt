@@ -5,14 +5,14 @@ ghost use Rattle.std.specs.List.{flat_map};
 ghost use Rattle.pm_trains.specs.Trains.{cars_at, train_of};
 ghost use Rattle.pm_copies.specs.Listed.{listed, listed_car};
 ghost use Rattle.pm_space.specs.Shown.{view};
-ghost use Rattle.pm_writer.specs.Planned.{IsIndex, IsPlanned, PlansOn};
+ghost use Rattle.pm_save.specs.Writer.Planned.{IsIndex, IsPlanned, PlansOn};
 
 use crate::clean::{index_of, place_of};
-use pm_settled::PackedPage;
+use crate::writer::PlacedCar;
+use pm_graphs::settled::PackedPage;
 use pm_space::{Parts, is_aside};
 use pm_trains::a_car_is_found_where_it_stands;
 use pm_types::NoMemory;
-use pm_writer::PlacedCar;
 use std::alloc::Global;
 use std::collections::BTreeMap;
 

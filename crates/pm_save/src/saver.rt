@@ -3,14 +3,14 @@
 use crate::copying::SpaceCars;
 use crate::listed_cars::plan_cars;
 use crate::roots::copy_roots;
+use crate::writer::{
+    SaveFault, Writer, a_copy_begins_beside_the_settled_one, a_published_copy_is_the_settled_one,
+};
 use pm_disk::Disk;
-use pm_settled::PackedPages;
+use pm_graphs::settled::PackedPages;
 use pm_shadow::Pages;
 use pm_space::Space;
 use pm_types::{Flushed, NoMemory};
-use pm_writer::{
-    SaveFault, Writer, a_copy_begins_beside_the_settled_one, a_published_copy_is_the_settled_one,
-};
 use std::alloc::Global;
 
 /// Saves copies of a space: it writes the cars that the space froze when the copy in progress was begun.
@@ -30,8 +30,8 @@ impl Saver {
     ghost use Rattle.pm_saving.specs.Beginning.{Begins};
     ghost use Rattle.pm_saving.specs.Tied.{IsTied};
     ghost use Rattle.pm_save.specs.Shown.{saving, frozen_of, frozen_cars};
-    ghost use Rattle.pm_writer.specs.progress.Answers.{HasSaveCause, IsFlushed, Makes, IsStill, KeepsCopy, OnMemory, Spares, TellsOn, UnlessDisk};
-    ghost use Rattle.pm_writer.specs.Settling.{IsCausedBy, IsLeftSo, SettlesPages, SparesEither, StaysOn, settling_syncs, settling_writes};
+    ghost use Rattle.pm_save.specs.Progress.Answers.{HasSaveCause, IsFlushed, Makes, IsStill, KeepsCopy, OnMemory, Spares, TellsOn, UnlessDisk};
+    ghost use Rattle.pm_save.specs.Writer.Settling.{IsCausedBy, IsLeftSo, SettlesPages, SparesEither, StaysOn, settling_syncs, settling_writes};
     ghost use Rattle.pm_save.specs.Thawed.{IsThawed, LeavesSpace};
 
     /// A saver whose settled copy has these cars. No copy is in progress. It takes no memory.

@@ -7,9 +7,9 @@ use Rattle.pm_types.specs.declared.address.Addr.{Addr}
 use Rattle.pm_image.specs.declared.car.CarImage.{CarImage}
 use Rattle.pm_image.specs.declared.settled.KeptPage.{KeptPage}
 use Rattle.pm_view.specs.View.{Cars, SpaceView}
-use Rattle.pm_law_layout.specs.law_copies.copies.Listed.{Listed, listed}
-use Rattle.pm_law_layout.specs.law_copies.copies.Accepted.{IsAccepted}
-use Rattle.pm_law_layout.specs.law_copies.copies.Opened.{unnumbered}
+use Rattle.pm_copies.specs.Listed.{Listed, listed}
+use Rattle.pm_copies.specs.Accepted.{IsAccepted}
+use Rattle.pm_copies.specs.Opened.{unnumbered}
 use Rattle.pm_saving.specs.Progress.{Place, Clean, Unwritten, Written, PlacedCar, Progress, Saving, catalog_len, image_at, image_of, list_of, roots_of}
 use Rattle.pm_saving.specs.Paging.{kept_on, unwritten}
 

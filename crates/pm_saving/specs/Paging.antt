@@ -12,8 +12,8 @@ use Rattle.pm_image.specs.CarPages.{car_spelling, padded}
 use Rattle.pm_image.specs.CatalogPages.{catalog_spelling}
 use Rattle.pm_shadow.specs.Images.{place_of}
 use Rattle.pm_view.specs.View.{Cars}
-use Rattle.pm_law_layout.specs.Plans.{PlannedPage, chain_of, digest_of, first_of, linked_to}
-use Rattle.pm_law_layout.specs.Cutting.{OnePage}
+use Rattle.pm_copies.specs.Plans.{PlannedPage, chain_of, digest_of, first_of, linked_to}
+use Rattle.pm_copies.specs.Cutting.{OnePage}
 use Rattle.pm_saving.specs.Progress.{Place, Clean, Unwritten, Written, PlacedCar, Progress, catalog_left, catalog_of, image_of, parts_of}
 
 -- ---- what a page spells

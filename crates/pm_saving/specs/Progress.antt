@@ -11,10 +11,10 @@ use Rattle.pm_image.specs.declared.catalog.CatEntry.{CatEntry}
 use Rattle.pm_image.specs.declared.catalog.CatEntry.TheVariants.{Car as CarEntry}
 use Rattle.pm_image.specs.declared.settled.KeptPage.{KeptPage}
 use Rattle.pm_view.specs.View.{Cars}
-use Rattle.pm_law_layout.specs.law_copies.copies.Listed.{Listed, copy_listed}
-use Rattle.pm_law_layout.specs.law_copies.copies.Opened.{next_after}
-use Rattle.pm_law_layout.specs.Plans.{CarPlan, PlannedPage, PlannedTrain, planned_entries, root_entry}
-use Rattle.pm_law_layout.specs.Cutting.{OnePage, cut}
+use Rattle.pm_copies.specs.Listed.{Listed, copy_listed}
+use Rattle.pm_copies.specs.Opened.{next_after}
+use Rattle.pm_copies.specs.Plans.{CarPlan, PlannedPage, PlannedTrain, planned_entries, root_entry}
+use Rattle.pm_copies.specs.Cutting.{OnePage, cut}
 
 -- Where a car of a copy in progress stands: on a page of the settled copy, which has the same content; on no page yet; or
 -- on a page that was written for this copy.

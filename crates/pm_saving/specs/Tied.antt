@@ -16,8 +16,8 @@ use Rattle.pm_shadow.specs.State.{State, keeps, other, with_claimed, with_kept, 
 use Rattle.pm_shadow.specs.Images.{place_of, with_gate, with_header, with_shut_gate}
 use Rattle.pm_shadow.specs.Copies.{KeepsGraph, NextGraph}
 use Rattle.pm_view.specs.View.{Cars}
-use Rattle.pm_law_graphs.specs.Apart.{AreApart}
-use Rattle.pm_law_layout.specs.Writing.{MayBeWritten}
+use Rattle.pm_copies.specs.Apart.{AreApart}
+use Rattle.pm_copies.specs.Writing.{MayBeWritten}
 use Rattle.pm_saving.specs.Progress.{Progress, Saving, car_pages, copy_of}
 use Rattle.pm_saving.specs.Paging.{Put, NextPage, CarPage, PartPage, header_of, kept_pages, left, left_of, newly_kept, next_page, put_on, puts_of, text_of, with_page, written_on}
 use Rattle.pm_saving.specs.Beginning.{IsInProgress}

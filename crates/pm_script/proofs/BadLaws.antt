@@ -1,6 +1,7 @@
 -- The fault that is told of bytes is the first that applies, and the first that applies is told.
 use Rattle.std.proofs.Common.{◌≡◌, ◌⊎◌, inl, inr, ℕ, suc, ◌+◌, ◌<◌, ◌≤◌, Bool, true, false, cond, not, List, [], ◌∷◌, ◌++◌, length, Result, Ok, Err, refl, ap, sym, subst, ◌∙◌, arith, nat_lt, if◌then◌else◌}
-use Rattle.pm_base.specs.Results.{◌>>=◌}
+use Rattle.pm_types.specs.Memory.{no_memory}
+use Rattle.pm_types.specs.Results.{◌>>=◌}
 use Rattle.pm_script.specs.declared.fault.Cause.{Cause}
 use Rattle.pm_script.specs.declared.fault.ScriptFault.{ScriptFault}
 use Rattle.pm_script.specs.declared.fault.ScriptFault.TheVariants as fault
@@ -13,7 +14,7 @@ use Rattle.pm_script.proofs.ResultSteps.{first_err}
 use Rattle.pm_script.proofs.BodyLaws.{body_found, body_again}
 use Rattle.pm_script.proofs.CauseLaws.{cause_found, cause_again}
 use Rattle.pm_script.proofs.ScriptLaws.{numbered_ok, not_many, are_many, script_many, script_few, script_again}
-use Rattle.pm_base.proofs.Results.{either_fails}
+use Rattle.pm_types.proofs.Results.{either_fails}
 
 -- one line, and those after it
 abbrev then_lines : ℕ → List ℕ → List (List ℕ) → Result (List Line) ScriptFault
@@ -112,13 +113,13 @@ pub bad_again : (f : ScriptFault) (bytes : List ℕ) → length bytes ≤ 268435
 bad_again (fault.Line number c) bytes short is = script_few bytes is.1 ∙ among_again 1 (lines_of bytes) number c is.2
 bad_again fault.TooManyLines bytes short is = script_many bytes is.1
 bad_again fault.TooLong bytes short is = absurd (omega (arith, short, is))
-bad_again fault.Memory bytes short is = absurd is
+bad_again (fault.Memory _) bytes short is = absurd is
 
 read_long : (f : ScriptFault) (bytes : List ℕ) → 268435456 < length bytes → IsBad f bytes → f ≡ fault.TooLong
 read_long (fault.Line number c) bytes long is = absurd (omega (arith, long, is.0))
 read_long fault.TooManyLines bytes long is = absurd (omega (arith, long, is.0))
 read_long fault.TooLong bytes long is = refl
-read_long fault.Memory bytes long is = absurd is
+read_long (fault.Memory _) bytes long is = absurd is
 
 short_one : (bytes : List ℕ) (a b : ScriptFault) → length bytes ≤ 268435456 → IsBad a bytes → IsBad b bytes → a ≡ b
 short_one bytes a b short is_a is_b =
@@ -143,18 +144,18 @@ no_fault bytes f lines is script =
     cc same
 
 -- where the reader ends in a fault, it is the first that applies
-pub bad_stops : (f : ScriptFault) (bytes : List ℕ) → length bytes ≤ 268435456 → Stops {X = List Line} f (script_at bytes) → (f ≡ fault.Memory) ⊎ IsBad f bytes
+pub bad_stops : (f : ScriptFault) (bytes : List ℕ) → length bytes ≤ 268435456 → Stops {X = List Line} f (script_at bytes) → (f ≡ fault.Memory no_memory) ⊎ IsBad f bytes
 bad_stops (fault.Line number c) bytes short stops = inr (bad_found bytes (fault.Line number c) short stops)
 bad_stops fault.TooManyLines bytes short stops = inr (bad_found bytes fault.TooManyLines short stops)
 bad_stops fault.TooLong bytes short stops = inr (bad_found bytes fault.TooLong short stops)
-bad_stops fault.Memory bytes short stops = inl refl
+bad_stops (fault.Memory _) bytes short stops = inl refl
 
 -- the first that applies is the one that it ends in
 pub fault_told : (f first : ScriptFault) (bytes : List ℕ) → length bytes ≤ 268435456 → Stops {X = List Line} f (script_at bytes) → IsBad first bytes → Stops {X = List Line} f (Err first)
 fault_told (fault.Line number c) first bytes short stops is = sym (bad_again first bytes short is) ∙ stops
 fault_told fault.TooManyLines first bytes short stops is = sym (bad_again first bytes short is) ∙ stops
 fault_told fault.TooLong first bytes short stops is = sym (bad_again first bytes short is) ∙ stops
-fault_told fault.Memory first bytes short stops is = tt
+fault_told (fault.Memory _) first bytes short stops is = tt
 
 -- where it reads lines, none applies
 pub ok_told : (first : ScriptFault) (bytes : List ℕ) (lines : List Line) → length bytes ≤ 268435456 → script_at bytes ≡ Ok lines → IsBad first bytes → ⊥

@@ -5,8 +5,8 @@ use Rattle.std.proofs.lemmas.Bool.Decides.{nat_tests}
 use Rattle.std.proofs.lemmas.List.Splits.{join_with_byte-slice_split}
 use Rattle.std.specs.Option.{ok_or}
 use Rattle.std.specs.List.{AllByRecursion, join_with_byte}
-use Rattle.pm_base.specs.Results.{◌>>=◌}
-use Rattle.pm_base.proofs.Results.{bind_ok}
+use Rattle.pm_types.specs.Results.{◌>>=◌}
+use Rattle.pm_types.proofs.Results.{bind_ok}
 use Rattle.pm_script.specs.declared.fault.Cause.{Cause}
 use Rattle.pm_script.specs.declared.fault.Cause.TheVariants as cause
 use Rattle.pm_script.specs.declared.verb.Verb.{Verb}

@@ -3,7 +3,7 @@ use Rattle.std.proofs.Common.{◌≡◌, ◌⊎◌, inl, inr, ℕ, ◌<◌, ◌�
 use Rattle.std.proofs.lemmas.Bool.{eqb-true}
 use Rattle.std.proofs.lemmas.Bool.Decides.{nat_tests}
 use Rattle.std.specs.Option.{ok_or}
-use Rattle.pm_base.specs.Results.{◌>>=◌}
+use Rattle.pm_types.specs.Results.{◌>>=◌}
 use Rattle.pm_script.specs.declared.fault.Cause.{Cause}
 use Rattle.pm_script.specs.declared.fault.Cause.TheVariants as cause
 use Rattle.pm_script.specs.declared.verb.Verb.{Verb}
@@ -20,7 +20,7 @@ use Rattle.pm_script.proofs.ResultSteps.{some_ok, none_err}
 use Rattle.pm_script.proofs.FirstLaws.{first_found, first_again, verb_found, verb_again}
 use Rattle.pm_script.proofs.TakingLaws.{wrong_found, wrong_again}
 use Rattle.pm_script.proofs.BodyLaws.{same_count, within, not_long}
-use Rattle.pm_base.proofs.Results.{either_fails}
+use Rattle.pm_types.proofs.Results.{either_fails}
 
 -- what the words of a line that is not too long tell
 abbrev pub IsWordsCause : Cause → List (List ℕ) → Type 0

@@ -19,3 +19,4 @@ pub mod CutLemmas
 pub mod ReadLines
 pub mod VerbTable
 pub mod TakingLaws
+pub mod PartedLemmas

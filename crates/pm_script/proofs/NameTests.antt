@@ -4,6 +4,7 @@ use Rattle.std.proofs.lemmas.Bool.{lt-ltb, le-leb}
 use Rattle.std.proofs.lemmas.Bool.Decides.{nat_tests}
 use Rattle.std.proofs.lemmas.Iterator.Adapters.{position_from-zero}
 use Rattle.std.specs.List.{AllByRecursion, list_all, position_from}
+use Rattle.pm_types.specs.Memory.{no_memory}
 use Rattle.pm_types.specs.Names.{is_name_byte, IsName}
 use Rattle.pm_types.specs.NameFaults.{IsFirstFault}
 use Rattle.pm_types.specs.declared.name.NameFault.{NameFault}
@@ -45,8 +46,8 @@ name_passes word named =
     let short : nat_le (length word) 64 ≡ true = le-leb _ _ named.short in
     tests (nat_lt 0 (length word)) (nat_le (length word) 64) (list_all is_name_byte word) some short (each_passes is_name_byte word named.each)
 
-pub fault_fails : (fault : NameFault) (word : List ℕ) → IsFirstFault fault word → (fault ≡ Memory → ⊥) → is_name word ≡ false
+pub fault_fails : (fault : NameFault) (word : List ℕ) → IsFirstFault fault word → (fault ≡ Memory no_memory → ⊥) → is_name word ≡ false
 fault_fails Empty word fault other = ap is_name fault
 fault_fails (TooLong len) word fault other = second_fails (nat_lt 0 (length word)) (nat_le (length word) 64) (list_all is_name_byte word) (lt-leb_false _ _ fault.0)
 fault_fails (BadByte place) word fault other = third_fails (nat_lt 0 (length word)) (nat_le (length word) 64) (list_all is_name_byte word) (some_fails is_name_byte 0 place word (sym (position_from-zero (λ b. not (is_name_byte b)) word) ∙ fault.1))
-fault_fails Memory word fault other = absurd (other refl)
+fault_fails (Memory _) word fault other = absurd (other refl)

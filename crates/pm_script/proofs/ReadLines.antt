@@ -5,8 +5,8 @@ use Rattle.std.proofs.lemmas.List.{at_drop_more, at_drop_all, append-nil, take-a
 use Rattle.std.specs.Option.{MatchOption, unwrap_or}
 use Rattle.std.specs.List.{slice_split, onto_first}
 use Rattle.std.specs.Cmp.Lexicographic.{pointwise}
-use Rattle.pm_base.specs.Results.{◌>>=◌}
-use Rattle.pm_base.proofs.Fronts.{with_front, regroup}
+use Rattle.pm_types.specs.Results.{◌>>=◌}
+use Rattle.pm_types.proofs.Fronts.{with_front, regroup}
 use Rattle.pm_script.specs.declared.fault.ScriptFault.{ScriptFault}
 use Rattle.pm_script.specs.declared.fault.ScriptFault.TheVariants as fault
 use Rattle.pm_script.specs.declared.line.Line.{Line}
@@ -52,7 +52,7 @@ pub bad_ends : (f : ScriptFault) (front : List Line) (left more : List (List ℕ
 bad_ends (fault.Line number cause) front left more all m body is spoken so read = stopped front left more all m body (fault.Line number cause) is spoken so read
 bad_ends fault.TooManyLines front left more all m body is spoken so read = stopped front left more all m body fault.TooManyLines is spoken so read
 bad_ends fault.TooLong front left more all m body is spoken so read = stopped front left more all m body fault.TooLong is spoken so read
-bad_ends fault.Memory front left more all m body is spoken so read = tt
+bad_ends (fault.Memory _) front left more all m body is spoken so read = tt
 
 -- all lines are read
 pub lines_done : (front : List Line) (left : List (List ℕ)) (all : Result (List Line) ScriptFault) (m : ℕ) → left ≡ [] → with_front front (lines_at m left) ≡ all → all ≡ Ok front

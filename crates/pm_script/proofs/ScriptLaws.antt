@@ -2,8 +2,8 @@
 use Rattle.std.proofs.Common.{◌≡◌, ℕ, ◌+◌, ◌<◌, ◌≤◌, Bool, true, false, cond, not, List, [], ◌∷◌, length, Result, Ok, Err, refl, ap, sym, subst, ◌∙◌, arith, nat_lt, if◌then◌else◌}
 use Rattle.std.proofs.lemmas.Bool.Decides.{nat_tests}
 use Rattle.std.specs.List.{AllByRecursion}
-use Rattle.pm_base.specs.Results.{◌>>=◌}
-use Rattle.pm_base.proofs.Results.{bind_ok}
+use Rattle.pm_types.specs.Results.{◌>>=◌}
+use Rattle.pm_types.proofs.Results.{bind_ok}
 use Rattle.pm_script.specs.declared.fault.Cause.{Cause}
 use Rattle.pm_script.specs.declared.fault.ScriptFault.{ScriptFault}
 use Rattle.pm_script.specs.declared.fault.ScriptFault.TheVariants.{TooManyLines}
@@ -124,4 +124,4 @@ pub not_stopped : (f : ScriptFault) (bytes : List ℕ) (lines : List Line) → S
 not_stopped (fault.Line number cause) bytes lines stops is = sym (script_again bytes lines is) ∙ stops
 not_stopped fault.TooManyLines bytes lines stops is = sym (script_again bytes lines is) ∙ stops
 not_stopped fault.TooLong bytes lines stops is = sym (script_again bytes lines is) ∙ stops
-not_stopped fault.Memory bytes lines stops is = tt
+not_stopped (fault.Memory _) bytes lines stops is = tt

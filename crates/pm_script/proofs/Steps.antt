@@ -1,7 +1,7 @@
 -- Steps that may give nothing, one after another.
 use Rattle.std.proofs.Common.{◌≡◌, Bool, true, false, Option, Some, None, refl, if◌then◌else◌}
 use Rattle.std.specs.Option.{option_map}
-use Rattle.pm_base.specs.Options.{◌>>=◌}
+use Rattle.pm_types.specs.Options.{◌>>=◌}
 
 -- where two steps gave something, each did
 pub both : {A B : Type 0} (first : Option A) (second : A → Option B) (y : B) → (first >>= second) ≡ Some y → (x : A) × (first ≡ Some x) × (second x ≡ Some y)

@@ -3,14 +3,14 @@ use Rattle.std.proofs.Common.{◌≡◌, ◌⊎◌, inl, inr, ℕ, suc, ◌+◌,
 use Rattle.std.proofs.lemmas.Bool.Decides.{nat_tests}
 use Rattle.std.proofs.lemmas.List.Splits.{length-slice_split}
 use Rattle.std.specs.Option.{ok_or}
-use Rattle.pm_base.specs.Results.{◌>>=◌}
-use Rattle.pm_base.proofs.Results.{ok_same, err_same}
+use Rattle.pm_types.specs.Results.{◌>>=◌}
+use Rattle.pm_types.proofs.Results.{ok_same, err_same}
 use Rattle.pm_types.specs.declared.command.Cmd.{Cmd}
 use Rattle.pm_types.specs.declared.command.Cmd.TheVariants as cmd
 use Rattle.pm_script.specs.declared.fault.Cause.{Cause}
 use Rattle.pm_script.specs.declared.fault.Cause.TheVariants as cause
-use Rattle.pm_script.specs.declared.fault.LineFault.{LineFault}
-use Rattle.pm_script.specs.declared.fault.LineFault.TheVariants.{Bad, Memory}
+use Rattle.pm_types.specs.declared.caused.Fault.{Fault}
+use Rattle.pm_types.specs.declared.caused.Fault.TheVariants.{Bad, Memory}
 use Rattle.pm_script.specs.declared.verb.Verb.{Verb}
 use Rattle.pm_script.specs.declared.verb.Verb.TheVariants as verb
 use Rattle.pm_script.specs.declared.verb.First.{First}
@@ -27,13 +27,13 @@ use Rattle.pm_script.specs.Taking.{taken, command_at, events_at, asked_at}
 use Rattle.pm_script.specs.Reading.{Gives, Takes, counted_at, said_at}
 use Rattle.pm_script.proofs.ValueLaws.{IsReader, registers, numbers, hexes, names}
 
-with_rest : {X : Type 0} (r : Result X LineFault) (o : Option X) (why : Cause) (rest : List (List ℕ)) → Gives r (ok_or o why) → Takes r (ok_or o why >>= λ x. Ok (x, rest)) rest
+with_rest : {X : Type 0} (r : Result X (Fault Cause)) (o : Option X) (why : Cause) (rest : List (List ℕ)) → Gives r (ok_or o why) → Takes r (ok_or o why >>= λ x. Ok (x, rest)) rest
 with_rest (Ok x) o why rest is = ap (λ (r : Result _ Cause). r >>= λ x. Ok (x, rest)) is
 with_rest (Err (Bad c)) o why rest is = ap (λ (r : Result _ Cause). r >>= λ x. Ok (x, rest)) is
-with_rest (Err Memory) o why rest is = tt
+with_rest (Err (Memory _)) o why rest is = tt
 
 -- what a reader of one word gives, at the front of words
-pub takes : {X : Type 0} (r : Result X LineFault) (read : List ℕ → Option X) (why : Cause) (words : List (List ℕ)) (word : List ℕ) (rest : List (List ℕ))
+pub takes : {X : Type 0} (r : Result X (Fault Cause)) (read : List ℕ → Option X) (why : Cause) (words : List (List ℕ)) (word : List ℕ) (rest : List (List ℕ))
     → words ≡ word ∷ rest → Gives r (ok_or (read word) why) → Takes r (taken read why words) rest
 takes r read why words word rest is given = subst (λ (ws : List (List ℕ)). Takes r (taken read why ws) rest) (sym is) (with_rest r (read word) why rest given)
 

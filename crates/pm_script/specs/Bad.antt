@@ -85,4 +85,4 @@ abbrev pub IsBad : ScriptFault → List ℕ → Type 0
 IsBad fault.TooLong bytes = SOURCE_BYTES < length bytes
 IsBad fault.TooManyLines bytes = (length bytes ≤ SOURCE_BYTES) × (SCRIPT_LINES < length (lines_of bytes))
 IsBad (fault.Line number cause) bytes = (length bytes ≤ SOURCE_BYTES) × (length (lines_of bytes) ≤ SCRIPT_LINES) × IsBadAmong 1 (lines_of bytes) number cause
-IsBad fault.Memory bytes = ⊥
+IsBad (fault.Memory _) bytes = ⊥

@@ -7,3 +7,4 @@ pub mod Taking
 pub mod Reading
 pub mod Bad
 pub mod Texts
+pub mod Parted

@@ -1,13 +1,13 @@
 -- Reading bytes, as functions on lists. Each step gives a value, or the cause why the line is bad.
 use Rattle.std.specs.Prelude.{◌≡◌, ℕ, ◌+◌, ◌==◌, List, [], ◌∷◌, length, Option, Result, Ok, Err, nat_lt, if◌then◌else◌}
 use Rattle.std.specs.Option.{ok_or}
-use Rattle.pm_base.specs.Results.{◌>>=◌}
+use Rattle.pm_types.specs.Results.{◌>>=◌}
 use Rattle.pm_types.specs.declared.limits.TheConstants.{SCRIPT_LINES}
 use Rattle.pm_script.specs.declared.limits.TheConstants.{LINE_BYTES}
 use Rattle.pm_script.specs.declared.fault.Cause.{Cause}
 use Rattle.pm_script.specs.declared.fault.Cause.TheVariants as cause
-use Rattle.pm_script.specs.declared.fault.LineFault.{LineFault}
-use Rattle.pm_script.specs.declared.fault.LineFault.TheVariants as line_fault
+use Rattle.pm_types.specs.declared.caused.Fault.{Fault}
+use Rattle.pm_types.specs.declared.caused.Fault.TheVariants as line_fault
 use Rattle.pm_script.specs.declared.fault.ScriptFault.{ScriptFault}
 use Rattle.pm_script.specs.declared.fault.ScriptFault.TheVariants as script_fault
 use Rattle.pm_script.specs.declared.verb.Verb.{Verb}
@@ -19,27 +19,27 @@ use Rattle.pm_script.specs.Values.{first_at, verb_at}
 use Rattle.pm_script.specs.Taking.{asked_at}
 
 -- a fault of a line is what reading gives; want of memory may come at any time
-abbrev pub Fails : {X : Type 0} → LineFault → Result X Cause → Type 0
+abbrev pub Fails : {X : Type 0} → Fault Cause → Result X Cause → Type 0
 Fails (line_fault.Bad cause) read = read ≡ Err cause
-Fails line_fault.Memory read = Unit {0}
+Fails (line_fault.Memory _) read = Unit {0}
 
 -- what a reader answered is what reading gives, unless memory ran out
-abbrev pub Gives : {X : Type 0} → Result X LineFault → Result X Cause → Type 0
+abbrev pub Gives : {X : Type 0} → Result X (Fault Cause) → Result X Cause → Type 0
 Gives (Ok x) read = read ≡ Ok x
 Gives (Err fault) read = Fails fault read
 
 -- the same of a reader of one word, which is not of its kind for this cause
-abbrev pub Finds : {X : Type 0} → Result X LineFault → Cause → Option X → Type 0
+abbrev pub Finds : {X : Type 0} → Result X (Fault Cause) → Cause → Option X → Type 0
 Finds result cause found = Gives result (ok_or found cause)
 
 -- what a reader took from the front, and the words that it left, unless memory ran out
-abbrev pub Takes : {X : Type 0} → Result X LineFault → Result (X × List (List ℕ)) Cause → List (List ℕ) → Type 0
+abbrev pub Takes : {X : Type 0} → Result X (Fault Cause) → Result (X × List (List ℕ)) Cause → List (List ℕ) → Type 0
 Takes (Ok x) read left = read ≡ Ok (x, left)
 Takes (Err fault) read left = Fails fault read
 
 -- a fault of a script is what reading gives; want of memory may come at any time
 abbrev pub Stops : {X : Type 0} → ScriptFault → Result X ScriptFault → Type 0
-Stops script_fault.Memory read = Unit {0}
+Stops (script_fault.Memory _) read = Unit {0}
 Stops fault read = read ≡ Err fault
 
 -- what the reader of scripts answered is what reading gives, unless memory ran out

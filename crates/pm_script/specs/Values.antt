@@ -6,7 +6,7 @@ use Rattle.std.specs.Cmp.Lexicographic.{pointwise}
 use Rattle.std.specs.Str.Parse.{digits_value}
 use Rattle.hex.specs.Hex.{decode_of}
 use Rattle.hex.specs.declared.error.FromHexError.{FromHexError}
-use Rattle.pm_base.specs.Options.{◌>>=◌}
+use Rattle.pm_types.specs.Options.{◌>>=◌}
 use Rattle.pm_types.specs.declared.limits.TheConstants.{CLIENTS, NAME_BYTES}
 use Rattle.pm_types.specs.Names.{is_name_byte}
 use Rattle.pm_script.specs.declared.verb.Verb.{Verb}

@@ -1,3 +1,6 @@
+ghost use Rattle.std.specs.Prelude.{◌≡◌, [], ◌∷◌, MatchResult};
+ghost use Rattle.pm_types.specs.declared.caused.Fault.TheVariants as line_fault;
+ghost use Rattle.pm_script.specs.declared.fault.Cause.TheVariants as causes;
 ghost use Rattle.pm_script.specs.Lines.{parts_in};
 ghost use Rattle.pm_script.specs.Reading.{Gives, Takes};
 ghost use Rattle.pm_script.specs.declared.verb.Verb.TheVariants as verb;
@@ -11,14 +14,25 @@ use crate::verb::{First, Verb};
 use pm_types::{Bytes, Cmd, Name, Reg};
 use std::alloc::Global;
 
+// The word that stands first of those that are left, which is taken away.
+fn next_word<'a>(words: &mut Option<&'a [u8]>) -> Result<&'a [u8], LineFault>
+    ensures { MatchResult result (λ word. parts_in 32 words.old ≡ word.now ∷ parts_in 32 words.new)
+        (λ fault. (fault ≡ line_fault.Bad causes.Count) × (parts_in 32 words.old ≡ [])) }
+{
+    match take_word(*words) {
+        Some((word, rest)) => {
+            *words = rest;
+            Ok(word)
+        }
+        None => Err(LineFault::Bad(Cause::Count)),
+    }
+}
+
 // The register that stands first of the words that are left.
 fn register(words: &mut Option<&[u8]>) -> Result<Reg, LineFault>
     ensures { Takes result (register_at (parts_in 32 words.old)) (parts_in 32 words.new) }
 {
-    let Some((word, rest)) = take_word(*words) else {
-        return Err(LineFault::Bad(Cause::Count));
-    };
-    *words = rest;
+    let word = next_word(words)?;
     match register_of(word) {
         Some(register) => Ok(register),
         None => Err(LineFault::Bad(Cause::Number)),
@@ -29,10 +43,7 @@ fn register(words: &mut Option<&[u8]>) -> Result<Reg, LineFault>
 fn number(words: &mut Option<&[u8]>) -> Result<u32, LineFault>
     ensures { Takes result (number_at (parts_in 32 words.old)) (parts_in 32 words.new) }
 {
-    let Some((word, rest)) = take_word(*words) else {
-        return Err(LineFault::Bad(Cause::Count));
-    };
-    *words = rest;
+    let word = next_word(words)?;
     match number_of(word) {
         Some(number) => Ok(number),
         None => Err(LineFault::Bad(Cause::Number)),
@@ -43,10 +54,7 @@ fn number(words: &mut Option<&[u8]>) -> Result<u32, LineFault>
 fn bytes(alloc: Global, words: &mut Option<&[u8]>) -> Result<Bytes, LineFault>
     ensures { Takes result (bytes_at (parts_in 32 words.old)) (parts_in 32 words.new) }
 {
-    let Some((word, rest)) = take_word(*words) else {
-        return Err(LineFault::Bad(Cause::Count));
-    };
-    *words = rest;
+    let word = next_word(words)?;
     hex_word(alloc, word)
 }
 
@@ -54,10 +62,7 @@ fn bytes(alloc: Global, words: &mut Option<&[u8]>) -> Result<Bytes, LineFault>
 fn name(alloc: Global, words: &mut Option<&[u8]>) -> Result<Name, LineFault>
     ensures { Takes result (name_at (parts_in 32 words.old)) (parts_in 32 words.new) }
 {
-    let Some((word, rest)) = take_word(*words) else {
-        return Err(LineFault::Bad(Cause::Count));
-    };
-    *words = rest;
+    let word = next_word(words)?;
     name_word(alloc, word)
 }
 

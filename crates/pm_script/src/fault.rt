@@ -1,7 +1,8 @@
 ghost use Rattle.std.specs.Prelude.{◌≡◌};
-ghost use Rattle.pm_script.specs.declared.fault.LineFault.TheVariants as line_fault;
 ghost use Rattle.pm_script.specs.declared.fault.ScriptFault.TheVariants as script_fault;
+ghost use Rattle.pm_types.specs.Memory.{no_memory};
 
+use pm_types::{Fault, NoMemory};
 use std::alloc::{AllocError, AllocFailed};
 
 /// Why a line is bad. The first that applies is the one that is answered; of the last three, that of the first wrong
@@ -39,46 +40,24 @@ pub enum ScriptFault {
     /// There are more than 268,435,456 bytes. The reader takes no such bytes; who hands them in answers this.
     TooLong,
     /// Memory ran out.
-    Memory,
+    Memory(NoMemory),
 }
 
 impl From<AllocError> for ScriptFault {
-    ghost from_gives = { λ _ fault. fault ≡ script_fault.Memory };
+    ghost from_gives = { λ _ fault. fault ≡ script_fault.Memory no_memory };
 
-    fn from(_error: AllocError) -> ScriptFault {
-        ScriptFault::Memory
+    fn from(refused: AllocError) -> ScriptFault {
+        ScriptFault::Memory(NoMemory::from(refused))
     }
 }
 
 impl<T: Drop> From<AllocFailed<T>> for ScriptFault {
-    ghost from_gives = { λ _ fault. fault ≡ script_fault.Memory };
+    ghost from_gives = { λ _ fault. fault ≡ script_fault.Memory no_memory };
 
-    fn from(_error: AllocFailed<T>) -> ScriptFault {
-        ScriptFault::Memory
+    fn from(refused: AllocFailed<T>) -> ScriptFault {
+        ScriptFault::Memory(NoMemory::from(refused))
     }
 }
 
-// Why a line was not read.
-#[derive(Clone, Copy, Debug, PartialEq, Eq)]
-pub(crate) enum LineFault {
-    // The line is bad.
-    Bad(Cause),
-    // Memory ran out.
-    Memory,
-}
-
-impl From<AllocError> for LineFault {
-    ghost from_gives = { λ _ fault. fault ≡ line_fault.Memory };
-
-    fn from(_error: AllocError) -> LineFault {
-        LineFault::Memory
-    }
-}
-
-impl<T: Drop> From<AllocFailed<T>> for LineFault {
-    ghost from_gives = { λ _ fault. fault ≡ line_fault.Memory };
-
-    fn from(_error: AllocFailed<T>) -> LineFault {
-        LineFault::Memory
-    }
-}
+// Why a line was not read: it is bad, or memory ran out.
+pub(crate) type LineFault = Fault<Cause>;

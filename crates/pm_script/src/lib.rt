@@ -8,6 +8,8 @@ mod fault;
 mod laws;
 mod limits;
 mod line;
+mod memory;
+pub mod parted;
 mod parts;
 mod reply;
 mod script;

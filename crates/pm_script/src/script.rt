@@ -8,6 +8,7 @@ ghost use Rattle.pm_script.specs.Bad.{IsBad};
 ghost use Rattle.pm_script.specs.Lines.{lines_of, is_silent};
 ghost use Rattle.pm_script.specs.Reading.{Answers, Tells, numbered, line_at, lines_at, script_at};
 ghost use Rattle.pm_script.specs.Script.{IsScript, AreLines};
+ghost use Rattle.pm_types.specs.Memory.{no_memory};
 
 use crate::body::read_line;
 use crate::fault::{LineFault, ScriptFault};
@@ -87,7 +88,7 @@ fn read_numbered(alloc: Global, number: u32, body: &[u8]) -> Result<Line, Script
     match read_line(alloc, body) {
         Ok(line) => Ok(line),
         Err(LineFault::Bad(cause)) => Err(ScriptFault::Line { number, cause }),
-        Err(LineFault::Memory) => Err(ScriptFault::Memory),
+        Err(LineFault::Memory(refused)) => Err(ScriptFault::Memory(refused)),
     }
 }
 
@@ -138,7 +139,7 @@ pub fn read_script(alloc: Global, bytes: &[u8]) -> Result<Script, ScriptFault>
     // What they spell is read, unless memory runs out.
     ensures only { (lines : List Says) → IsScript bytes.now lines → Answers result (Ok lines) }
     // A fault is the first that applies to the bytes, but that memory may run out at any time.
-    ensures bad { IfErr result (λ fault. (fault ≡ script_fault.Memory) ⊎ IsBad fault bytes.now) }
+    ensures bad { IfErr result (λ fault. (fault ≡ script_fault.Memory no_memory) ⊎ IsBad fault bytes.now) }
     // The first that applies is told, unless memory runs out.
     ensures told { (fault : Fault) → IsBad fault bytes.now → Answers result (Err fault) }
 {

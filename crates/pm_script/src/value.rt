@@ -10,8 +10,8 @@ ghost use Rattle.pm_script.specs.Values.{is_digit, is_numeral, number_of, number
 ghost use Rattle.pm_script.specs.Reading.{Finds};
 
 use crate::fault::{Cause, LineFault};
+use crate::memory::out_of_memory;
 use crate::verb::First;
-use hex::FromHexError;
 use pm_types::{Bytes, CLIENTS, Name, NameFault, NoMemory, Reg};
 use std::alloc::Global;
 
@@ -122,8 +122,10 @@ fn pairs(alloc: Global, word: &[u8]) -> Result<Bytes, LineFault>
                 Ok(Bytes::from_vec(bytes))
             }
         }
-        Err(FromHexError::OutOfMemory) => Err(LineFault::Memory),
-        Err(_) => Err(LineFault::Bad(Cause::Hex)),
+        Err(error) => match out_of_memory(error) {
+            Some(refused) => Err(LineFault::Memory(refused)),
+            None => Err(LineFault::Bad(Cause::Hex)),
+        },
     }
 }
 
@@ -147,7 +149,7 @@ pub fn read_hex(alloc: Global, word: &[u8]) -> Result<Option<Bytes>, NoMemory>
     match hex_word(alloc, word) {
         Ok(bytes) => Ok(Some(bytes)),
         Err(LineFault::Bad(_)) => Ok(None),
-        Err(LineFault::Memory) => Err(NoMemory),
+        Err(LineFault::Memory(refused)) => Err(refused),
     }
 }
 
@@ -158,7 +160,7 @@ pub(crate) fn name_word(alloc: Global, word: &[u8]) -> Result<Name, LineFault>
 {
     match Name::read(alloc, word) {
         Ok(name) => Ok(name),
-        Err(NameFault::Memory) => Err(LineFault::Memory),
+        Err(NameFault::Memory(refused)) => Err(LineFault::Memory(refused)),
         Err(_) => Err(LineFault::Bad(Cause::Name)),
     }
 }

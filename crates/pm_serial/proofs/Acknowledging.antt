@@ -2,17 +2,18 @@
 use Rattle.std.proofs.Common.{◌≡◌, ◌⊎◌, ⊎_elim, inl, inr, ℕ, ◌+◌, ◌≤◌, Bool, true, false, Result, Ok, Err, OnOk, List, [], ◌∷◌, ◌++◌, length, Option, Some, None, refl, ap, sym, subst, ◌∙◌, append_assoc, length-append, arith}
 use Rattle.std.proofs.lemmas.List.{append-nil}
 use Rattle.std.proofs.lemmas.Grind.{flat_map-append}
+use Rattle.pm_types.specs.Memory.{no_memory}
 use Rattle.pm_types.specs.declared.entry.Entry.{Entry}
 use Rattle.pm_io.specs.declared.sink.Sink.{Ghosts}
 use Rattle.pm_model.specs.Journal.{says_saved}
 use Rattle.pm_model.specs.Text.{reply_line, text}
 use Rattle.pm_types.specs.declared.reply.Reply.{Reply}
 use Rattle.pm_types.specs.declared.reply.Reply.TheVariants.{Saved}
-use Rattle.pm_output.specs.Writing.{GoesOn, PutsAll}
+use Rattle.pm_serial.specs.Output.Writing.{GoesOn, PutsAll}
 use Rattle.pm_serial.proofs.Gathering.{all_then}
-use Rattle.pm_events.specs.declared.stop.Stop.{Stop}
-use Rattle.pm_events.specs.declared.stop.Stop.TheVariants.{Memory, Writing, Device}
-use Rattle.pm_events.specs.Causes.{IsDone}
+use Rattle.pm_engine.specs.declared.events.stop.Stop.{Stop}
+use Rattle.pm_engine.specs.declared.events.stop.Stop.TheVariants.{Memory, Writing, Device}
+use Rattle.pm_engine.specs.Events.Causes.{IsDone}
 use Rattle.pm_serial.specs.Causes.{IsElsewhere}
 use Rattle.pm_serial.specs.Stepping.{EndsSink, IsGathered, SinkGoesOn}
 use Rattle.pm_serial.specs.Writing.{WroteRun}
@@ -171,7 +172,7 @@ module _ {K : Type 0} (k : Ghosts K) where
           (λ both. let never : IsElsewhere (Some Writing) = subst IsElsewhere (sym is ∙ both.1) elsewhere in absurd never) ends.why
         where
           elsewhere_gathered : (other : Stop) → IsElsewhere (Some other) → IsGathered (Some other)
-          elsewhere_gathered Memory is = tt
+          elsewhere_gathered (Memory _) is = tt
           elsewhere_gathered Device is = tt
           elsewhere_gathered Writing is = absurd is
 
@@ -186,6 +187,6 @@ module _ {K : Type 0} (k : Ghosts K) where
           let longest = length-append before (text longer ++ tail) in
           let both = length-append (text longer) tail in
           saved_all (k.finished new) before longer (omega (arith, count, long, longest, both))
-      by (Some Memory) is gathered_is before told = elsewhere Memory is tt before told
+      by (Some (Memory _)) is gathered_is before told = elsewhere (Memory no_memory) is tt before told
       by (Some Device) is gathered_is before told = elsewhere Device is tt before told
       by (Some Writing) is gathered_is before told = absurd (subst IsGathered is gathered_is)

@@ -2,7 +2,8 @@
 use Rattle.std.proofs.Common.{◌≡◌, ◌⊎◌, ⊎_elim, ℕ, ◌+◌, ◌<◌, ◌≤◌, min, true, [], refl, arith, List, ◌∷◌, ◌++◌, take, Option, Some, None, Result, Ok, Err, OnErr, ap, sym, subst, ◌∙◌, append_assoc}
 use Rattle.std.proofs.Math.Seq.{take-nil}
 use Rattle.std.proofs.lemmas.List.{append-nil}
-use Rattle.pm_base.specs.Counts.{greatest_count}
+use Rattle.pm_types.specs.Memory.{no_memory}
+use Rattle.pm_types.specs.Counts.{greatest_count}
 use Rattle.pm_types.specs.declared.command.Cmd.{Cmd}
 use Rattle.pm_types.specs.declared.command.Cmd.TheVariants.{Settle}
 use Rattle.pm_model.specs.declared.request.Request.{Request}
@@ -10,18 +11,18 @@ use Rattle.pm_model.specs.Frames.{is_settle}
 use Rattle.pm_model.specs.Journal.{requests_of}
 use Rattle.pm_script.specs.declared.line.Line.{Line}
 use Rattle.pm_script.specs.declared.line.Line.TheVariants.{Client, Gc, Flush}
-use Rattle.pm_serving.specs.Serving.{Serving}
+use Rattle.pm_saving.specs.Serving.{Serving}
 use Rattle.pm_serial.specs.declared.kind.Kind.{Kind}
-use Rattle.pm_events.specs.declared.stop.Stop.{Stop}
-use Rattle.pm_events.specs.declared.stop.Stop.TheVariants.{Memory, Writing, Device}
-use Rattle.pm_parts.specs.Asked.{events_asked, request_of, requests_asked, steps_asked}
-use Rattle.pm_events.specs.Causes.{why, OnMemory, OnStop}
-use Rattle.pm_events.specs.Events.{AnswersPart, IsShort, IsUnfinished, KeepsCounts}
-use Rattle.pm_events.specs.Running.{IsFresh}
+use Rattle.pm_engine.specs.declared.events.stop.Stop.{Stop}
+use Rattle.pm_engine.specs.declared.events.stop.Stop.TheVariants.{Memory, Writing, Device}
+use Rattle.pm_script.specs.Parted.Asked.{events_asked, request_of, requests_asked, steps_asked}
+use Rattle.pm_engine.specs.Events.Causes.{why, OnMemory, OnStop}
+use Rattle.pm_engine.specs.Events.Events.{AnswersPart, IsShort, IsUnfinished, KeepsCounts}
+use Rattle.pm_engine.specs.Events.Running.{IsFresh}
 use Rattle.pm_serial.specs.Ordered.{StopsAmong, steps_first}
 use Rattle.pm_serial.specs.Running.{AnswersLines}
 use Rattle.pm_serial.specs.Stepping.{AsksSettle, IsCut, StopsLine, StopsLines, events_of, steps_in, steps_made}
-use Rattle.pm_events.proofs.Answering.{counted_then, still_counted}
+use Rattle.pm_engine.proofs.EventsLemmas.Answering.{counted_then, still_counted}
 use Rattle.pm_serial.proofs.Answering.{events_cons}
 use Rattle.pm_serial.proofs.Ordering.{events_append, few_steps}
 
@@ -37,14 +38,14 @@ is_cut kind count made old mid new within part same = record {
 -- what holds where memory ran out follows from what held there
 on_memory_then : (P Q : Type 0) (stop : Option Stop) → (P → Q) → OnMemory stop P → OnMemory stop Q
 on_memory_then P Q None goes p = tt
-on_memory_then P Q (Some Memory) goes p = goes p
+on_memory_then P Q (Some (Memory _)) goes p = goes p
 on_memory_then P Q (Some Writing) goes p = tt
 on_memory_then P Q (Some Device) goes p = tt
 
 -- and from what holds
 on_memory : (P : Type 0) (stop : Option Stop) → P → OnMemory stop P
 on_memory P None p = tt
-on_memory P (Some Memory) p = p
+on_memory P (Some (Memory _)) p = p
 on_memory P (Some Writing) p = tt
 on_memory P (Some Device) p = tt
 
@@ -142,10 +143,10 @@ same_line (first ∷ done) more (other ∷ others) rest line asked made is withi
     same_line done more others rest line asked made behind within some (omega (arith, count, same, one, two))
 
 -- memory ran out in a `settle`, where as many events were made as the lines before it ask for
-pub settle_cut : (lines : List Line) (old new : Serving) (stop : Option Stop) → old.events ≡ 0 → OnStop stop (StopsLines lines old new stop) → stop ≡ Some Memory → (done more : List Line) (client : ℕ)
+pub settle_cut : (lines : List Line) (old new : Serving) (stop : Option Stop) → old.events ≡ 0 → OnStop stop (StopsLines lines old new stop) → stop ≡ Some (Memory no_memory) → (done more : List Line) (client : ℕ)
     → lines ≡ done ++ Client client Settle ∷ more → new.events ≡ events_asked done → events_asked done < greatest_count → IsUnfinished new
 settle_cut lines old new stop first stops is done more client parted made few =
-    let cuts : StopsLines lines old new (Some Memory) = subst (λ (s : Option Stop). OnStop s (StopsLines lines old new s)) is stops in
+    let cuts : StopsLines lines old new (Some (Memory no_memory)) = subst (λ (s : Option Stop). OnStop s (StopsLines lines old new s)) is stops in
     let events : new.events ≡ min (old.events + (events_asked cuts.done + cuts.made)) greatest_count = cuts.events (omega (arith, first)) in
     let count : events_asked cuts.done + cuts.made ≡ events_asked done = omega (arith, first, events, made, few) in
     let line : cuts.line ≡ Client client Settle =
@@ -153,8 +154,8 @@ settle_cut lines old new stop first stops is done more client parted made few =
     cuts.left (subst AsksSettle (sym line) refl)
 
 -- the end of a run stops it for want of memory only where it had stopped so
-pub short_before : (before after : Option Stop) → (after ≡ before) ⊎ ((before ≡ None) × (after ≡ Some Writing)) → after ≡ Some Memory → before ≡ Some Memory
-short_before before after why is = ⊎_elim (λ same. sym same ∙ is) (λ both. let never : Some Writing ≡ Some Memory = sym both.1 ∙ is in absurd (cc never)) why
+pub short_before : (before after : Option Stop) → (after ≡ before) ⊎ ((before ≡ None) × (after ≡ Some Writing)) → after ≡ Some (Memory no_memory) → before ≡ Some (Memory no_memory)
+short_before before after why is = ⊎_elim (λ same. sym same ∙ is) (λ both. let never : Some Writing ≡ Some (Memory no_memory) = sym both.1 ∙ is in absurd (cc never)) why
 
 -- ---- where the whole run stopped
 
@@ -264,7 +265,7 @@ answers_unwritten lines new answers = record {
         events_are = counted (events_asked lines) new.events few events;
         steps_are = counted (steps_asked lines) new.steps (omega (arith, few, less)) steps;
       };
-  short = λ is. let never : Some Writing ≡ Some Memory = is in absurd (cc never);
+  short = λ is. let never : Some Writing ≡ Some (Memory no_memory) = is in absurd (cc never);
 }
   where
     counted : (n now : ℕ) → n ≤ greatest_count → now ≡ min n greatest_count → now ≡ n + 0

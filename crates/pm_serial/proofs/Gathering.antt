@@ -2,28 +2,29 @@
 use Rattle.std.proofs.Common.{◌≡◌, ◌⊎◌, ⊎_elim, inl, inr, ℕ, length, arith, List, [], ◌++◌, Option, Some, None, refl, ap, sym, subst, ◌∙◌, append_assoc}
 use Rattle.std.proofs.Math.Seq.{take-length}
 use Rattle.std.proofs.lemmas.List.{append-nil}
-use Rattle.pm_base.specs.Counts.{Rose}
+use Rattle.pm_types.specs.Memory.{no_memory}
+use Rattle.pm_types.specs.Counts.{Rose}
 use Rattle.pm_types.specs.declared.entry.Entry.{Entry}
 use Rattle.pm_io.specs.Streams.{AppendsPart}
 use Rattle.pm_model.specs.Text.{text}
-use Rattle.pm_output.specs.Writing.{GoesOn, IsDivided, PutsAll, PutsPart}
-use Rattle.pm_output.proofs.Gathering.{empty_piece, goes_then, part_behind, part_longer, part_then}
-use Rattle.pm_events.specs.declared.stop.Stop.{Stop}
-use Rattle.pm_events.specs.declared.stop.Stop.TheVariants.{Memory, Writing, Device}
+use Rattle.pm_serial.specs.Output.Writing.{GoesOn, IsDivided, PutsAll, PutsPart}
+use Rattle.pm_serial.proofs.OutputLemmas.Gathering.{empty_piece, goes_then, part_behind, part_longer, part_then}
+use Rattle.pm_engine.specs.declared.events.stop.Stop.{Stop}
+use Rattle.pm_engine.specs.declared.events.stop.Stop.TheVariants.{Memory, Writing, Device}
 use Rattle.pm_serial.specs.Causes.{CountsSink, IsElsewhere}
-use Rattle.pm_events.specs.Causes.{IsDone}
+use Rattle.pm_engine.specs.Events.Causes.{IsDone}
 use Rattle.pm_serial.specs.Stepping.{CountsWriting, EndsSink, IsGathered, IsOfSink, SinkGoesOn}
 use Rattle.pm_serial.specs.Writing.{WroteRun}
 
 counted_still : (stop : Option Stop) (n : ℕ) → IsGathered stop → CountsWriting stop n n
 counted_still None n is = refl
-counted_still (Some Memory) n is = refl
+counted_still (Some (Memory _)) n is = refl
 counted_still (Some Writing) n is = absurd is
 counted_still (Some Device) n is = refl
 
 not_both : (stop : Option Stop) → IsGathered stop → IsOfSink stop → ⊥
 not_both None is of = of
-not_both (Some Memory) is of = of
+not_both (Some (Memory _)) is of = of
 not_both (Some Writing) is of = is
 not_both (Some Device) is of = of
 
@@ -59,12 +60,12 @@ some_then piece told mid now gathered later on some bytes known =
 
 -- where the run stopped elsewhere
 elsewhere_cause : (stop : Stop) (before after : ℕ) → IsElsewhere (Some stop) → CountsSink (Some stop) before after
-elsewhere_cause Memory before after is = tt
+elsewhere_cause (Memory _) before after is = tt
 elsewhere_cause Writing before after is = absurd is
 elsewhere_cause Device before after is = tt
 
 elsewhere_not : (stop : Stop) → IsElsewhere (Some stop) → IsOfSink (Some stop) → ⊥
-elsewhere_not Memory is of = of
+elsewhere_not (Memory _) is of = of
 elsewhere_not Writing is of = is
 elsewhere_not Device is of = of
 
@@ -154,7 +155,7 @@ module _ {K : Type 0} (written : K → Option (List ℕ)) (finished count : K �
 
   gathered_where : (before after : Option Stop) → (after ≡ before) ⊎ ((before ≡ None) × (after ≡ Some Writing)) → (IsDone after ⊎ IsElsewhere after) → IsGathered before
   gathered_where None after why is = tt
-  gathered_where (Some Memory) after why is = tt
+  gathered_where (Some (Memory _)) after why is = tt
   gathered_where (Some Device) after why is = tt
   gathered_where (Some Writing) after why is =
       ⊎_elim (λ (same : after ≡ Some Writing). absurd (⊎_elim (λ done. subst IsDone same done) (λ other. subst IsElsewhere same other) is)) (λ both. let never : Some Writing ≡ None = both.0 in absurd (cc never)) why
@@ -193,7 +194,7 @@ module _ {K : Type 0} (written : K → Option (List ℕ)) (finished count : K �
 
     part_put : (stop : Option Stop) → stop ≡ before → PutsPart (written old) (written new) (text longer ++ tail)
     part_put None is = ahead (subst IsGathered is tt)
-    part_put (Some Memory) is = ahead (subst IsGathered is tt)
+    part_put (Some (Memory _)) is = ahead (subst IsGathered is tt)
     part_put (Some Device) is = ahead (subst IsGathered is tt)
     part_put (Some Writing) is =
         let of : IsOfSink before = subst IsOfSink is tt in
@@ -205,13 +206,13 @@ module _ {K : Type 0} (written : K → Option (List ℕ)) (finished count : K �
       where
         counted_mid : (stop : Option Stop) → IsGathered stop → CountsWriting stop (count old) (count mid) → count mid ≡ count old
         counted_mid None is cause = cause
-        counted_mid (Some Memory) is cause = cause
+        counted_mid (Some (Memory _)) is cause = cause
         counted_mid (Some Device) is cause = cause
         counted_mid (Some Writing) is cause = absurd is
 
     counts : (stop : Option Stop) → stop ≡ before → CountsSink after (count old) (count new)
     counts None is = subst (λ (n : ℕ). CountsSink after n (count new)) (stood (subst IsGathered is tt)) (end.cause (subst IsGathered is tt))
-    counts (Some Memory) is = subst (λ (n : ℕ). CountsSink after n (count new)) (stood (subst IsGathered is tt)) (end.cause (subst IsGathered is tt))
+    counts (Some (Memory _)) is = subst (λ (n : ℕ). CountsSink after n (count new)) (stood (subst IsGathered is tt)) (end.cause (subst IsGathered is tt))
     counts (Some Device) is = subst (λ (n : ℕ). CountsSink after n (count new)) (stood (subst IsGathered is tt)) (end.cause (subst IsGathered is tt))
     counts (Some Writing) is =
         let of : IsOfSink before = subst IsOfSink is tt in
@@ -235,7 +236,7 @@ module _ {K : Type 0} (written : K → Option (List ℕ)) (finished count : K �
     }
 
   -- nothing was run
-  pub wrote_none : (sink : K) (journal : List Entry) (tail : List ℕ) → text journal ≡ [] → WroteRun written finished count sink sink (text journal) tail (Some Memory)
+  pub wrote_none : (sink : K) (journal : List Entry) (tail : List ℕ) → text journal ≡ [] → WroteRun written finished count sink sink (text journal) tail (Some (Memory no_memory))
   wrote_none sink journal tail none = record {
     part = λ bytes told. no_part bytes (text journal ++ tail) (written sink) told;
     all = λ done. absurd done;
@@ -272,6 +273,6 @@ module _ {K : Type 0} (written : K → Option (List ℕ)) (finished count : K �
       some = subst (PutsPart (written old) (written new)) (ap (λ (g : List ℕ). g ++ run.piece) none ∙ sym run.text_is) (run.part tt)
 
       lost : (stop : Stop) → Rose (count old) (count new) → CountsSink (Some stop) (count old) (count new)
-      lost Memory rose = tt
+      lost (Memory _) rose = tt
       lost Writing rose = rose
       lost Device rose = tt

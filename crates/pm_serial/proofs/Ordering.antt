@@ -3,15 +3,15 @@ use Rattle.std.proofs.Common.{◌≡◌, ◌⊎◌, ⊎_elim, ℕ, ◌+◌, ◌�
 use Rattle.std.proofs.lemmas.List.{append-nil}
 use Rattle.std.proofs.lemmas.List.Sums.{sum_by-append, sum_by-cons}
 use Rattle.std.proofs.lemmas.Grind.{flat_map-append}
-use Rattle.pm_base.specs.Counts.{greatest_count}
+use Rattle.pm_types.specs.Counts.{greatest_count}
 use Rattle.pm_script.specs.declared.line.Line.{Line}
 use Rattle.pm_script.specs.declared.line.Line.TheVariants.{Client, Gc, Flush}
-use Rattle.pm_serving.specs.Serving.{Before, Serving}
-use Rattle.pm_events.specs.declared.stop.Stop.{Stop}
-use Rattle.pm_events.specs.declared.stop.Stop.TheVariants.{Writing}
-use Rattle.pm_events.specs.Events.{AnswersPart}
-use Rattle.pm_events.specs.Running.{IsFresh}
-use Rattle.pm_parts.specs.Asked.{events_asked, flushes_of, request_of, requests_asked, steps_asked, steps_of}
+use Rattle.pm_saving.specs.Serving.{Before, Serving}
+use Rattle.pm_engine.specs.declared.events.stop.Stop.{Stop}
+use Rattle.pm_engine.specs.declared.events.stop.Stop.TheVariants.{Writing}
+use Rattle.pm_engine.specs.Events.Events.{AnswersPart}
+use Rattle.pm_engine.specs.Events.Running.{IsFresh}
+use Rattle.pm_script.specs.Parted.Asked.{events_asked, flushes_of, request_of, requests_asked, steps_asked, steps_of}
 use Rattle.pm_model.specs.Journal.{IsFirstPart}
 use Rattle.pm_serial.specs.Ordered.{FitsCounts, TellsLines, TellsPart, course_of}
 use Rattle.pm_serial.proofs.Answering.{events_cons}

@@ -2,8 +2,8 @@
 use Rattle.std.proofs.Common.{◌≡◌, Option, Result, Ok, Err, OnOk, OnErr, subst, sym}
 use Rattle.pm_types.specs.declared.fault.EngineFault.{EngineFault}
 use Rattle.pm_types.specs.declared.fault.EngineFault.TheVariants.{Memory as NoRoom, Disk, Reopen}
-use Rattle.pm_events.specs.declared.stop.Stop.{Stop}
-use Rattle.pm_events.specs.Causes.{stop_after, why}
+use Rattle.pm_engine.specs.declared.events.stop.Stop.{Stop}
+use Rattle.pm_engine.specs.Events.Causes.{stop_after, why}
 use Rattle.pm_serial.specs.Stepping.{IsGathered}
 
 module _ {T : Type 0} (P : Type 0) where
@@ -24,7 +24,7 @@ module _ {T : Type 0} (P : Type 0) where
 -- no fault of the engine is one of the sink
 no_sink : {T : Type 0} (answer : Result T EngineFault) → IsGathered (stop_after answer)
 no_sink (Ok x) = tt
-no_sink (Err NoRoom) = tt
+no_sink (Err (NoRoom _)) = tt
 no_sink (Err (Disk before after)) = tt
 no_sink (Err (Reopen count)) = tt
 

@@ -4,7 +4,7 @@ use Rattle.pm_types.specs.declared.entry.Entry.{Entry}
 use Rattle.pm_io.specs.declared.sink.Sink.{Ghosts}
 use Rattle.pm_model.specs.Journal.{says_saved}
 use Rattle.pm_model.specs.Text.{text}
-use Rattle.pm_events.specs.declared.stop.Stop.{Stop}
+use Rattle.pm_engine.specs.declared.events.stop.Stop.{Stop}
 use Rattle.pm_serial.specs.Stepping.{IsGathered}
 
 -- So many bytes are finished that the text through each reply `saved` of the journal is, behind what stood there before.

@@ -1,15 +1,15 @@
 -- In which order events come, and where a run stops.
 use Rattle.std.specs.Prelude.{◌≡◌, ℕ, ◌+◌, ◌≤◌, List, [], ◌∷◌, ◌++◌, take, Option}
-use Rattle.pm_base.specs.Counts.{greatest_count}
+use Rattle.pm_types.specs.Counts.{greatest_count}
 use Rattle.pm_types.specs.declared.entry.Entry.{Entry}
 use Rattle.pm_model.specs.declared.request.Request.{Request}
 use Rattle.pm_model.specs.Journal.{IsFirstPart, requests_of}
 use Rattle.pm_script.specs.declared.line.Line.{Line}
 use Rattle.pm_script.specs.declared.line.Line.TheVariants.{Client, Gc, Flush}
-use Rattle.pm_serving.specs.Serving.{Before, Serving}
-use Rattle.pm_events.specs.declared.stop.Stop.{Stop}
-use Rattle.pm_events.specs.Causes.{IsDone}
-use Rattle.pm_parts.specs.Asked.{events_asked, request_of, requests_asked, steps_asked}
+use Rattle.pm_saving.specs.Serving.{Before, Serving}
+use Rattle.pm_engine.specs.declared.events.stop.Stop.{Stop}
+use Rattle.pm_engine.specs.Events.Causes.{IsDone}
+use Rattle.pm_script.specs.Parted.Asked.{events_asked, request_of, requests_asked, steps_asked}
 use Rattle.pm_serial.specs.Stepping.{events_of, steps_in}
 
 -- ---- what is made before each command

@@ -1,17 +1,18 @@
 -- A run of lines over an engine.
 use Rattle.std.specs.Prelude.{◌≡◌, ◌⊎◌, ℕ, ◌<◌, ◌≤◌, List, ◌∷◌, ◌++◌, Option, Some}
-use Rattle.pm_base.specs.Counts.{greatest_count, capped}
+use Rattle.pm_types.specs.Memory.{no_memory}
+use Rattle.pm_types.specs.Counts.{greatest_count, capped}
 use Rattle.pm_types.specs.declared.command.Cmd.TheVariants.{Settle}
 use Rattle.pm_model.specs.declared.request.Request.{Request}
 use Rattle.pm_model.specs.Journal.{IsFirstPart, requests_of}
 use Rattle.pm_script.specs.declared.line.Line.{Line}
 use Rattle.pm_script.specs.declared.line.Line.TheVariants.{Client}
 use Rattle.pm_saving.specs.Paging.{left_of}
-use Rattle.pm_serving.specs.Serving.{Serving}
-use Rattle.pm_events.specs.declared.stop.Stop.{Stop}
-use Rattle.pm_events.specs.declared.stop.Stop.TheVariants.{Memory}
-use Rattle.pm_parts.specs.Asked.{events_asked, requests_asked, steps_asked}
-use Rattle.pm_events.specs.Causes.{IsDone, OnStop}
+use Rattle.pm_saving.specs.Serving.{Serving}
+use Rattle.pm_engine.specs.declared.events.stop.Stop.{Stop}
+use Rattle.pm_engine.specs.declared.events.stop.Stop.TheVariants.{Memory}
+use Rattle.pm_script.specs.Parted.Asked.{events_asked, requests_asked, steps_asked}
+use Rattle.pm_engine.specs.Events.Causes.{IsDone, OnStop}
 use Rattle.pm_serial.specs.Ordered.{StopsAmong, course_of}
 
 -- What a run of lines answers, by why it stopped, if it did. That each reply is the world's is a law of every engine.
@@ -32,5 +33,5 @@ pub record AnswersLines (lines : List Line) (new : Serving) (stop : Option Stop)
   -- where memory runs out in a `settle`, something of the copy is left to be written, unless no event was made at all: so it
   -- does not where all of it was flushed. It is that event which was not made, where as many were made as the lines before
   -- it ask for
-  pub short : stop ≡ Some Memory → (done more : List Line) (client : ℕ) → lines ≡ done ++ Client client Settle ∷ more → new.events ≡ events_asked done → events_asked done < greatest_count
+  pub short : stop ≡ Some (Memory no_memory) → (done more : List Line) (client : ℕ) → lines ≡ done ++ Client client Settle ∷ more → new.events ≡ events_asked done → events_asked done < greatest_count
       → (new.events ≡ 0) ⊎ (0 < left_of new.saving.progress)

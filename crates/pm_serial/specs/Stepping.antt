@@ -1,21 +1,21 @@
 -- What parts of a run do, one behind another: an event, a line, the lines so far.
 use Rattle.std.specs.Prelude.{◌≡◌, ◌⊎◌, ℕ, ◌+◌, ◌<◌, ◌≤◌, true, List, ◌∷◌, ◌++◌, length, take, Option, Some, None}
-use Rattle.pm_base.specs.Counts.{Rose, greatest_count, capped}
+use Rattle.pm_types.specs.Counts.{Rose, greatest_count, capped}
 use Rattle.pm_types.specs.declared.entry.Entry.{Entry}
 use Rattle.pm_model.specs.Frames.{is_settle}
 use Rattle.pm_model.specs.Journal.{requests_of}
 use Rattle.pm_model.specs.Text.{text}
 use Rattle.pm_script.specs.declared.line.Line.{Line}
 use Rattle.pm_script.specs.declared.line.Line.TheVariants.{Client, Gc}
-use Rattle.pm_output.specs.Writing.{GoesOn, PutsAll, PutsPart}
-use Rattle.pm_serving.specs.Serving.{Serving}
+use Rattle.pm_serial.specs.Output.Writing.{GoesOn, PutsAll, PutsPart}
+use Rattle.pm_saving.specs.Serving.{Serving}
 use Rattle.pm_serial.specs.declared.kind.Kind.{Kind}
 use Rattle.pm_serial.specs.declared.kind.Kind.TheVariants.{Collect, Flush}
-use Rattle.pm_events.specs.Events.{IsUnfinished}
-use Rattle.pm_events.specs.declared.stop.Stop.{Stop}
-use Rattle.pm_events.specs.declared.stop.Stop.TheVariants.{Writing}
-use Rattle.pm_parts.specs.Asked.{events_asked, flushes_of, request_of, requests_asked, steps_asked, steps_of}
-use Rattle.pm_events.specs.Causes.{IsDone, OnMemory}
+use Rattle.pm_engine.specs.Events.Events.{IsUnfinished}
+use Rattle.pm_engine.specs.declared.events.stop.Stop.{Stop}
+use Rattle.pm_engine.specs.declared.events.stop.Stop.TheVariants.{Writing}
+use Rattle.pm_script.specs.Parted.Asked.{events_asked, flushes_of, request_of, requests_asked, steps_asked, steps_of}
+use Rattle.pm_engine.specs.Events.Causes.{IsDone, OnMemory}
 use Rattle.pm_serial.specs.Causes.{CountsSink, IsElsewhere}
 
 -- the sink did not fail

@@ -1,17 +1,17 @@
 -- What a run of lines writes.
 use Rattle.std.specs.Prelude.{◌≡◌, ◌<◌, ℕ, List, [], ◌++◌, Option, Some, length}
-use Rattle.pm_base.specs.Counts.{Rose}
+use Rattle.pm_types.specs.Counts.{Rose}
 use Rattle.pm_types.specs.declared.entry.Entry.{Entry}
 use Rattle.pm_types.specs.declared.limits.TheConstants.{CLIENTS}
 use Rattle.pm_types.specs.Replies.{IsShortReply}
 use Rattle.pm_model.specs.Text.{tail}
-use Rattle.pm_output.specs.Writing.{PutsAll, PutsPart}
-use Rattle.pm_events.specs.Shown.{Total}
+use Rattle.pm_serial.specs.Output.Writing.{PutsAll, PutsPart}
+use Rattle.pm_engine.specs.Shown.{Total}
 use Rattle.pm_serial.specs.declared.behind.Behind.{Behind}
 use Rattle.pm_serial.specs.declared.behind.Behind.TheVariants.{Nothing, LastLines}
-use Rattle.pm_events.specs.declared.stop.Stop.{Stop}
+use Rattle.pm_engine.specs.declared.events.stop.Stop.{Stop}
 use Rattle.pm_serial.specs.Causes.{CountsSink, IsElsewhere}
-use Rattle.pm_events.specs.Causes.{IsDone}
+use Rattle.pm_engine.specs.Events.Causes.{IsDone}
 
 -- the end line and the watch lines of what an engine came to
 abbrev pub tail_of : Total → List ℕ

@@ -1,19 +1,19 @@
 //! The end of a run: the lines behind the last reply, and what is gathered goes to the sink.
 
 ghost use Rattle.std.specs.Prelude.{◌≡◌, ◌++◌, ℕ, List, Some, length, OnOk, OnErr};
-ghost use Rattle.pm_base.specs.Counts.{Rose};
-ghost use Rattle.pm_output.specs.Gathered.{gathered};
-ghost use Rattle.pm_output.specs.Writing.{GoesOn, PutsAll, PutsPart};
-ghost use Rattle.pm_events.specs.Shown.{serving, tally_in};
-ghost use Rattle.pm_events.specs.Causes.{why};
+ghost use Rattle.pm_types.specs.Counts.{Rose};
+ghost use Rattle.pm_serial.specs.Output.Gathered.{gathered};
+ghost use Rattle.pm_serial.specs.Output.Writing.{GoesOn, PutsAll, PutsPart};
+ghost use Rattle.pm_engine.specs.Shown.{serving, tally_in};
+ghost use Rattle.pm_engine.specs.Events.Causes.{why};
 ghost use Rattle.pm_serial.specs.Stepping.{EndsSink};
 ghost use Rattle.pm_serial.specs.Writing.{tail_of, text_behind};
 
 use crate::behind::Behind;
+use crate::output::{Output, add_tail};
 use pm_disk::Disk;
-use pm_events::{Engine, Stop};
+use pm_engine::events::{Engine, Stop};
 use pm_io::{Failed, Sink};
-use pm_output::{Output, add_tail};
 
 // Puts what is gathered, as far as the sink takes it: the run ends for another cause.
 fn put_what_goes<K: Sink>(output: &mut Output, sink: &mut K)

@@ -3,22 +3,22 @@
 ghost use Rattle.std.specs.Prelude.{◌≡◌, ◌<◌, [], ◌∷◌, None, OnOk, OnErr};
 ghost use Rattle.pm_types.specs.declared.limits.TheConstants.{CLIENTS};
 ghost use Rattle.pm_place.specs.Choosers.{IsChooser};
-ghost use Rattle.pm_output.specs.Gathered.{gathered};
-ghost use Rattle.pm_events.specs.Shown.{chooser, room, serving};
+ghost use Rattle.pm_serial.specs.Output.Gathered.{gathered};
+ghost use Rattle.pm_engine.specs.Shown.{chooser, room, serving};
 ghost use Rattle.pm_script.specs.declared.line.Line.TheVariants as says;
-ghost use Rattle.pm_serving.specs.Serving.{made_now};
-ghost use Rattle.pm_events.specs.Causes.{OnStop, why};
-ghost use Rattle.pm_events.specs.Events.{Adds, AnswersPart, EngineGoesOn, IsShort, KeepsCounts};
+ghost use Rattle.pm_saving.specs.Serving.{made_now};
+ghost use Rattle.pm_engine.specs.Events.Causes.{OnStop, why};
+ghost use Rattle.pm_engine.specs.Events.Events.{Adds, AnswersPart, EngineGoesOn, IsShort, KeepsCounts};
 ghost use Rattle.pm_serial.specs.Stepping.{IsCut, IsGathered, SinkGoesOn, StopsLine, steps_made};
 ghost use Rattle.pm_serial.specs.Acknowledged.{KeepsSaved, TellsSaved};
 ghost use Rattle.pm_serial.specs.Ordered.{TellsPart};
 
 use crate::kind::Kind;
+use crate::output::Output;
 use crate::telling::tell_reply;
 use pm_disk::Disk;
-use pm_events::{Engine, Stop, collect_once, flush_once, give, stop_after};
+use pm_engine::events::{Engine, Stop, collect_once, flush_once, give, stop_after};
 use pm_io::Sink;
-use pm_output::Output;
 use pm_types::Cmd;
 use std::alloc::Global;
 

@@ -3,19 +3,19 @@
 ghost use Rattle.std.specs.Prelude.{◌≡◌, ◌⊎◌, [], None, Some, OnErr};
 ghost use Rattle.std.specs.List.{AllByRecursion};
 ghost use Rattle.pm_model.specs.Text.{text};
-ghost use Rattle.pm_output.specs.Gathered.{gathered};
-ghost use Rattle.pm_events.specs.Shown.{serving, tally_in};
-ghost use Rattle.pm_events.specs.declared.stop.Stop.TheVariants.{Writing};
-ghost use Rattle.pm_events.specs.Causes.{why};
+ghost use Rattle.pm_serial.specs.Output.Gathered.{gathered};
+ghost use Rattle.pm_engine.specs.Shown.{serving, tally_in};
+ghost use Rattle.pm_engine.specs.declared.events.stop.Stop.TheVariants.{Writing};
+ghost use Rattle.pm_engine.specs.Events.Causes.{why};
 ghost use Rattle.pm_serial.specs.Stepping.{IsGathered, SinkGoesOn};
 ghost use Rattle.pm_serial.specs.Writing.{FitsLine, WroteRun, tail_of};
 
 use crate::behind::Behind;
 use crate::ending::end;
+use crate::output::Output;
 use pm_disk::Disk;
-use pm_events::{Engine, Stop};
+use pm_engine::events::{Engine, Stop};
 use pm_io::Sink;
-use pm_output::Output;
 use pm_types::Entry;
 
 // Gathers the line of each entry of a journal, in order, through a buffer in which nothing is gathered yet.

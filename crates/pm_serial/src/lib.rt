@@ -8,10 +8,11 @@ mod event;
 mod journal;
 mod kind;
 mod line;
+pub mod output;
 mod run;
 mod telling;
 
 pub use ending::finish_with_last_lines;
 pub use journal::write_journal;
-pub use pm_events::{Engine, Stop, Tally, stop_after};
+pub use pm_engine::events::{Engine, Stop, Tally, stop_after};
 pub use run::{answer_lines, run_lines};

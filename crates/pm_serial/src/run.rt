@@ -4,22 +4,22 @@ ghost use Rattle.std.specs.Prelude.{◌≡◌, ◌≤◌, [], length, OnOk, IfOk
 ghost use Rattle.pm_place.specs.Choosers.{IsChooser};
 ghost use Rattle.pm_model.specs.Text.{text};
 ghost use Rattle.pm_script.specs.Script.{AreLines};
-ghost use Rattle.pm_output.specs.Gathered.{gathered};
-ghost use Rattle.pm_events.specs.Shown.{KeepsStart, chooser, disk_in, room, serving, tally_in};
-ghost use Rattle.pm_parts.specs.Asked.{requests_asked};
-ghost use Rattle.pm_events.specs.Causes.{why};
+ghost use Rattle.pm_serial.specs.Output.Gathered.{gathered};
+ghost use Rattle.pm_engine.specs.Shown.{KeepsStart, chooser, disk_in, room, serving, tally_in};
+ghost use Rattle.pm_script.specs.Parted.Asked.{requests_asked};
+ghost use Rattle.pm_engine.specs.Events.Causes.{why};
 ghost use Rattle.pm_serial.specs.Acknowledged.{Acknowledges};
 ghost use Rattle.pm_serial.specs.Running.{AnswersLines};
-ghost use Rattle.pm_events.specs.Running.{IsFresh, RunsOnDisk};
+ghost use Rattle.pm_engine.specs.Events.Running.{IsFresh, RunsOnDisk};
 ghost use Rattle.pm_serial.specs.Writing.{WroteRun, tail_of, text_behind};
 
 use crate::behind::Behind;
 use crate::ending::end;
 use crate::line::run_all;
+use crate::output::Output;
 use pm_disk::Disk;
-use pm_events::{Engine, Stop};
+use pm_engine::events::{Engine, Stop};
 use pm_io::Sink;
-use pm_output::Output;
 use pm_script::Line;
 use pm_types::NoMemory;
 use std::alloc::Global;
@@ -75,8 +75,9 @@ fn run_with<D: Disk, F: Fn(&[u64]) -> usize + Drop, K: Sink>(
     ensures start { KeepsStart engine.old engine.new }
 {
     engine.keep_their_images();
-    let Ok(mut output) = take_room(alloc, lines.as_slice(), engine) else {
-        return Err(Stop::Memory);
+    let mut output = match take_room(alloc, lines.as_slice(), engine) {
+        Ok(output) => output,
+        Err(refused) => return Err(Stop::Memory(refused)),
     };
     let ran = run_all(alloc, lines, engine, &mut output, sink);
     engine.keep_their_images();

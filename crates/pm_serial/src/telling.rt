@@ -1,17 +1,17 @@
 //! A reply on its way to the sink.
 
 ghost use Rattle.std.specs.Prelude.{◌≡◌, ◌<◌, ◌++◌, true, false, OnOk, OnErr};
-ghost use Rattle.pm_base.specs.Counts.{Rose};
+ghost use Rattle.pm_types.specs.Counts.{Rose};
 ghost use Rattle.pm_types.specs.declared.limits.TheConstants.{CLIENTS};
 ghost use Rattle.pm_types.specs.Replies.{IsShortReply};
 ghost use Rattle.pm_model.specs.Journal.{says_saved};
 ghost use Rattle.pm_model.specs.Text.{reply_line};
-ghost use Rattle.pm_output.specs.Gathered.{gathered};
-ghost use Rattle.pm_output.specs.Writing.{GoesOn, PutsPart};
+ghost use Rattle.pm_serial.specs.Output.Gathered.{gathered};
+ghost use Rattle.pm_serial.specs.Output.Writing.{GoesOn, PutsPart};
 ghost use Rattle.pm_serial.specs.Acknowledged.{TellsAll};
 
+use crate::output::Output;
 use pm_io::{Failed, Sink};
-use pm_output::Output;
 use pm_types::{Entry, Reply};
 
 /// Gathers the reply line of an entry. Where it says that a copy settled, all that is gathered is put and finished, so

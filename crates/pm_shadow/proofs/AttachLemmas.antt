@@ -190,7 +190,7 @@ fault_of_rule bytes (Version version) kind is = is
 fault_of_rule bytes (Damaged page kept found) kind is = is
 fault_of_rule bytes (Malformed page at) kind is = is
 fault_of_rule bytes (Disk before after) kind is = absurd kind
-fault_of_rule bytes Memory kind is = absurd kind
+fault_of_rule bytes (Memory _) kind is = absurd kind
 
 pub cause_of_rule : (before after : ℕ) (fault : OpenFault) → IsOfHeader fault → after ≡ before → IsAttachFault before after fault
 cause_of_rule before after NotAStore kind is = is
@@ -198,4 +198,4 @@ cause_of_rule before after (Version version) kind is = is
 cause_of_rule before after (Damaged page kept found) kind is = is
 cause_of_rule before after (Malformed page at) kind is = is
 cause_of_rule before after (Disk b a) kind is = absurd kind
-cause_of_rule before after Memory kind is = absurd kind
+cause_of_rule before after (Memory _) kind is = absurd kind

@@ -7,7 +7,7 @@ use Rattle.std.proofs.lemmas.List.{get_or-drop, get_or-take, ext_get_or}
 use Rattle.pm_types.specs.declared.limits.TheConstants.{PAGE_BYTES}
 use Rattle.pm_disk.specs.Writes.{written, Torn}
 use Rattle.pm_image.specs.Opening.{page_of, page_count, header_body_of, gate_place, open_gate, is_open, epoch_in, greater_slot, open_slot}
-use Rattle.pm_base.specs.Results.{◌>>=◌}
+use Rattle.pm_types.specs.Results.{◌>>=◌}
 use Rattle.pm_layout.specs.Reading.{number_from}
 use Rattle.pm_layout.specs.Headers.{header_at, magic_at, version_at, digest_kept, next_at}
 use Rattle.pm_layout.specs.declared.header.HeaderFault.{HeaderFault}
@@ -41,9 +41,6 @@ module _ (at m : ℕ) (was image : List ℕ) (torn : Torn at m was image) where
 -- which slot is picked, by the two gates and the two epochs
 abbrev picked_of : Bool → Bool → ℕ → ℕ → Option ℕ
 picked_of zeroth first x y = if zeroth && first then Some (greater_slot x y) else if zeroth then Some 0 else if first then Some 1 else None
-
-open_slot_is : (bytes : List ℕ) → open_slot bytes ≡ picked_of (is_open bytes 0) (is_open bytes 1) (epoch_in bytes 0) (epoch_in bytes 1)
-open_slot_is bytes = refl
 
 -- the slot that is picked is open
 picked_0 : (a b : Bool) (x y : ℕ) → picked_of a b x y ≡ Some 0 → a ≡ true

@@ -6,7 +6,7 @@ use Rattle.std.proofs.lemmas.List.Elements.{Contains-append_left}
 use Rattle.std.proofs.lemmas.Bool.{eqb-true, eq-eqb}
 use Rattle.pm_layout.specs.declared.header.Header.{Header}
 use Rattle.pm_layout.specs.Headers.{most_fields}
-use Rattle.pm_base.proofs.Results.{ok_same, bind_ok}
+use Rattle.pm_types.proofs.Results.{ok_same, bind_ok}
 use Rattle.pm_model.proofs.Members.{at_first, in_rest, in_none, first_or_rest}
 use Rattle.pm_image.specs.declared.catalog.CatalogPage.{CatalogPage}
 use Rattle.pm_image.specs.declared.settled.KeptPage.{KeptPage}

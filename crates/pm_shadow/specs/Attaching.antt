@@ -1,13 +1,12 @@
 -- What is read of a store to find its current header, and why none is found.
-use Rattle.std.specs.Prelude.{◌≡◌, ℕ, ◌*◌, ◌<◌, ◌≤◌, Bool, not, List, length, Option, Some, None, Result, Ok, Err, MatchOption, ◌==◌, ◌&&◌, if◌then◌else◌}
-use Rattle.pm_base.specs.Counts.{ShowsRise}
+use Rattle.std.specs.Prelude.{◌≡◌, ℕ, ◌*◌, ◌<◌, ◌≤◌, Bool, not, List, length, Option, Some, None, Result, Ok, Err, MatchOption, ◌==◌, ◌&&◌, if◌then◌else◌, slice_index}
+use Rattle.pm_types.specs.Counts.{ShowsRise}
 use Rattle.pm_types.specs.declared.limits.TheConstants.{PAGE_BYTES}
 use Rattle.pm_types.specs.declared.fault.OpenFault.{OpenFault}
 use Rattle.pm_types.specs.declared.fault.OpenFault.TheVariants.{NotAStore, Version, Damaged, Malformed, Disk, Memory}
 use Rattle.pm_layout.specs.Headers.{header_at}
 use Rattle.pm_layout.specs.Reading.{number_from}
 use Rattle.pm_image.specs.Opening.{Current, current, greater_slot, sound_header, open_gate, is_open, gate_place, header_body_of, page_count}
-use Rattle.std.specs.Prelude.{slice_index}
 use Rattle.pm_shadow.specs.State.{State, other}
 use Rattle.pm_shadow.specs.declared.attaching.Found.{Found}
 use Rattle.pm_shadow.specs.declared.attaching.SlotRead.{SlotRead}
@@ -20,7 +19,7 @@ IsOfHeader (Version version) = Unit {0}
 IsOfHeader (Damaged page kept found) = Unit {0}
 IsOfHeader (Malformed page at) = Unit {0}
 IsOfHeader (Disk before after) = ⊥
-IsOfHeader Memory = ⊥
+IsOfHeader (Memory _) = ⊥
 
 -- the rule of a header that these bytes fail, or the disk failed
 abbrev pub IsFaultOf : List ℕ → OpenFault → Type 0
@@ -29,7 +28,7 @@ IsFaultOf bytes (Version version) = current bytes ≡ Err (Version version)
 IsFaultOf bytes (Damaged page kept found) = current bytes ≡ Err (Damaged page kept found)
 IsFaultOf bytes (Malformed page at) = current bytes ≡ Err (Malformed page at)
 IsFaultOf bytes (Disk before after) = Unit {0}
-IsFaultOf bytes Memory = ⊥
+IsFaultOf bytes (Memory _) = ⊥
 
 -- A failure of the disk has raised its count, and comes with the count before and after; any other fault is one
 -- of a header, and the count stands still.
@@ -39,7 +38,7 @@ IsAttachFault before after (Version version) = after ≡ before
 IsAttachFault before after (Damaged page kept found) = after ≡ before
 IsAttachFault before after (Malformed page at) = after ≡ before
 IsAttachFault before after (Disk b a) = ShowsRise b a before after
-IsAttachFault before after Memory = ⊥
+IsAttachFault before after (Memory _) = ⊥
 
 -- what was found in bytes that alone a crash may leave
 pub record IsFoundIn (bytes : List ℕ) (images : List ℕ → Type 0) (found : Found) : Type 0 where

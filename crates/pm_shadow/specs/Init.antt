@@ -1,6 +1,6 @@
 -- How a store is made, and why none is.
 use Rattle.std.specs.Prelude.{◌≡◌, ℕ, ◌+◌, ◌*◌, ◌<◌, List, length, Option, Some}
-use Rattle.pm_base.specs.Counts.{ShowsRise}
+use Rattle.pm_types.specs.Counts.{ShowsRise}
 use Rattle.pm_types.specs.declared.limits.TheConstants.{PAGE_BYTES}
 use Rattle.pm_disk.specs.declared.disk.Disk.{Ghosts}
 use Rattle.pm_disk.specs.Disk.{IfTold, LeavesOnly, SameImages}
@@ -18,19 +18,19 @@ use Rattle.pm_types.specs.declared.fault.InitFault.TheVariants.{NotEmpty, Disk, 
 abbrev pub IsInitFault : ℕ → ℕ → InitFault → Type 0
 IsInitFault before after (NotEmpty n) = (0 < n) × (after ≡ before)
 IsInitFault before after (Disk b a) = ShowsRise b a before after
-IsInitFault before after Memory = after ≡ before
+IsInitFault before after (Memory _) = after ≡ before
 
 -- the disk was not empty exactly where it is said to be so, and holds so many bytes
 abbrev pub IsInitFaultOf : List ℕ → InitFault → Type 0
 IsInitFaultOf bytes (NotEmpty n) = n ≡ length bytes
 IsInitFaultOf bytes (Disk b a) = Unit {0}
-IsInitFaultOf bytes Memory = length bytes ≡ 0
+IsInitFaultOf bytes (Memory _) = length bytes ≡ 0
 
 -- P holds, unless the disk failed
 abbrev pub UnlessFailed : InitFault → Type 0 → Type 0
 UnlessFailed (NotEmpty n) P = P
 UnlessFailed (Disk b a) P = Unit {0}
-UnlessFailed Memory P = P
+UnlessFailed (Memory _) P = P
 
 -- where some byte was told, the contents are those that were told, and a crash leaves what it might have left before
 abbrev pub KeepsBytes : Option (List ℕ) → Option (List ℕ) → (List ℕ → Type 0) → (List ℕ → Type 0) → Type 0

@@ -158,7 +158,7 @@ pub(crate) fn make<D: Disk>(alloc: Global, disk: &mut D) -> Result<Header, InitF
             let after = disk.faults();
             Err(InitFault::Disk { before, after })
         }
-        Err(NoMemory) => Err(InitFault::Memory),
+        Err(refused) => Err(InitFault::Memory(refused)),
     }
 }
 

@@ -154,8 +154,9 @@ impl<D: Disk> Pages<D> {
         if let Err(fault) = ask_empty(&mut disk) {
             return Err((disk, fault));
         }
-        let Ok(table) = Table::listing(alloc, &[FIRST_PAGE]) else {
-            return Err((disk, InitFault::Memory));
+        let table = match Table::listing(alloc, &[FIRST_PAGE]) {
+            Ok(table) => table,
+            Err(refused) => return Err((disk, InitFault::Memory(refused))),
         };
         match make(alloc, &mut disk) {
             Ok(header) => Ok(Pages::fresh(disk, header, table)),

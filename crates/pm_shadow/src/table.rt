@@ -62,7 +62,7 @@ impl Table {
     {
         let len = self.uses.len();
         if len >= MOST_PAGES {
-            return Err(NoMemory);
+            return Err(NoMemory::uncountable(len as u64));
         }
         self.free.reserve(len + 1)?;
         self.uses.reserve(1)?;
@@ -77,7 +77,7 @@ impl Table {
     {
         let len = needed(pages);
         if len > MOST_PAGES {
-            return Err(NoMemory);
+            return Err(NoMemory::uncountable(len as u64));
         }
         let mut uses = free_uses(alloc, len)?;
         mark_all(&mut uses, pages);

@@ -10,13 +10,13 @@ use Rattle.pm_shadow.specs.State.{State}
 use Rattle.pm_view.specs.View.{Cars}
 use Rattle.pm_copies.specs.Accepted.{Differ, IsAccepted}
 use Rattle.pm_copies.specs.Listed.{Listed, copy_listed, images}
-use Rattle.pm_law_layout.specs.Plans.{root_entry}
+use Rattle.pm_copies.specs.Plans.{root_entry}
 use Rattle.pm_saving.specs.Beginning.{AreFrozen, ArePlaced, BeginsListed}
 use Rattle.pm_saving.specs.Progress.{Progress, Saving, cars_of, copy_of}
 use Rattle.pm_saving.specs.Tied.{IsTied}
-use Rattle.pm_progress.specs.declared.place.PlacedCar.{PlacedCar}
-use Rattle.pm_progress.specs.Kept.{IsWithin}
-use Rattle.pm_writer.specs.Planned.{IsPlanned}
+use Rattle.pm_save.specs.declared.progress.place.PlacedCar.{PlacedCar}
+use Rattle.pm_save.specs.Progress.Kept.{IsWithin}
+use Rattle.pm_save.specs.Writer.Planned.{IsPlanned}
 use Rattle.pm_ship.specs.declared.store.StoreRead.{StoreRead}
 use Rattle.pm_ship.specs.Begun.{BeginsOffered, MayBeOffered, idle}
 use Rattle.pm_ship.specs.Cars.{cars_kept}

@@ -15,8 +15,8 @@ use Rattle.pm_copies.specs.Listed.{Listed, images}
 use Rattle.pm_law_copies.proofs.Lists.{all_at, all_mapped, nat_turned}
 use Rattle.pm_saving.specs.Progress.{car_of, cars_of, image_at, slots_of}
 use Rattle.pm_saving.specs.Beginning.{AreFrozen}
-use Rattle.pm_writer.specs.Planned.{first_at}
-use Rattle.pm_writer.proofs.PlaceLemmas.{first_within, settled_is, settled_number}
+use Rattle.pm_save.specs.Writer.Planned.{first_at}
+use Rattle.pm_save.proofs.WriterLemmas.PlaceLemmas.{first_within, settled_is, settled_number}
 use Rattle.pm_ship.specs.Cars.{AreFoundAlone, cars_kept}
 
 all_under : (P : CarImage → Type 0) (cars : List KeptPage) → AllByRecursion P (images_of cars) → AllByRecursion (λ (kept : KeptPage). P kept.image) cars

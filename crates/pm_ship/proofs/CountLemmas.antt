@@ -11,8 +11,8 @@ use Rattle.pm_image.specs.declared.settled.KeptPage.{KeptPage}
 use Rattle.pm_image.specs.Graphs.{images_of}
 use Rattle.pm_copies.specs.Accepted.{Differ}
 use Rattle.pm_copies.specs.Listed.{Listed, images}
-use Rattle.pm_law_layout.specs.Plans.{root_entry}
-use Rattle.pm_law_layout.specs.Cutting.{cut}
+use Rattle.pm_copies.specs.Plans.{root_entry}
+use Rattle.pm_copies.specs.Cutting.{cut}
 use Rattle.pm_saving.specs.Progress.{Clean, PlacedCar, Place, Progress, Unwritten, Written, catalog_left, catalog_len, draft_entry}
 use Rattle.pm_saving.specs.Paging.{left, unwritten}
 use Rattle.pm_saving.specs.Beginning.{ArePlaced, IsPlacedAs, settled_at}

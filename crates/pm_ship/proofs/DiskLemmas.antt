@@ -1,5 +1,5 @@
 -- A ship from the store of one disk to that of another.
-use Rattle.std.proofs.Common.{◌≡◌, ◌⊎◌, inl, inr, ⊎_elim, ℕ, ◌+◌, ◌≤◌, Bool, true, false, List, Option, Some, Result, Ok, Err, refl, sym, ap, subst, ◌∙◌, arith, if◌then◌else◌}
+use Rattle.std.proofs.Common.{◌≡◌, ◌⊎◌, inl, inr, ⊎_elim, ℕ, ◌+◌, ◌≤◌, Bool, true, false, List, Some, Result, Ok, Err, refl, sym, ap, subst, ◌∙◌, arith, if◌then◌else◌}
 use Rattle.std.specs.Prelude.{IfErr, IfOk}
 use Rattle.std.proofs.lemmas.Bool.{cases_lt}
 use Rattle.pm_types.specs.declared.fault.OpenFault.{OpenFault}
@@ -28,12 +28,12 @@ use Rattle.pm_reopen.specs.Refused.{IsRefusal}
 use Rattle.pm_reopen.proofs.Refusals.{graph_refused, header_refused}
 use Rattle.pm_saving.specs.Tied.{HasCopy}
 use Rattle.pm_reopen.proofs.StoodLaws.{bytes_are}
-use Rattle.pm_progress.specs.Answers.{TellsOn}
+use Rattle.pm_save.specs.Progress.Answers.{TellsOn}
 use Rattle.pm_ship.specs.declared.fault.Shipped.{Shipped}
 use Rattle.pm_ship.specs.declared.fault.ShipFault.{ShipFault}
 use Rattle.pm_ship.specs.declared.fault.ShipFault.TheVariants.{From, To, Ahead, Foreign, Disk, OtherDisk, Memory}
 use Rattle.pm_ship.specs.Offers.{AreSame, IsOffered, Offer, copy_offered, offer_in}
-use Rattle.pm_ship.specs.Stores.{IsOfPage, IsReady, IsStill}
+use Rattle.pm_ship.specs.Stores.{IsOfPage, IsStill}
 use Rattle.pm_ship.specs.Written.{MakesPages, SparesCopy}
 use Rattle.pm_ship.specs.Shipped.{GotIt, HadIt, HasShipCause, IsOfDisk, IsShipFault, IsShipped, LeavesEither, ShipsFirst, TellsFirst, UnlessOther, UnlessStopped, first_fault, standby_fault}
 use Rattle.pm_ship.specs.Disks.{BreaksRule, FindsBoth, IsFaultBetween, IsOfRule, NamesRule, OnlyReads, ShipsBetween, ShipsDisks, StandsFor, Writes, number_in}
@@ -50,7 +50,7 @@ stopped_too goes (Ahead to from) holds = goes holds
 stopped_too goes (Foreign number) holds = goes holds
 stopped_too goes (Disk before after) holds = goes holds
 stopped_too goes (OtherDisk before after) holds = tt
-stopped_too goes Memory holds = tt
+stopped_too goes (Memory _) holds = tt
 
 other_too : {P Q : Type 0} → (P → Q) → (fault : ShipFault) → UnlessOther fault P → UnlessOther fault Q
 other_too goes (From fault) holds = goes holds
@@ -59,7 +59,7 @@ other_too goes (Ahead to from) holds = goes holds
 other_too goes (Foreign number) holds = goes holds
 other_too goes (Disk before after) holds = goes holds
 other_too goes (OtherDisk before after) holds = tt
-other_too goes Memory holds = goes holds
+other_too goes (Memory _) holds = goes holds
 
 -- what opening refuses breaks a rule
 breaks : (bytes : List ℕ) (fault : OpenFault) → IsOfRule fault → IsRefusal bytes fault → BreaksRule bytes fault
@@ -68,7 +68,7 @@ breaks bytes (Version version) rule is = record { rule = tt; first = is }
 breaks bytes (Damaged page kept found) rule is = record { rule = tt; first = is }
 breaks bytes (Malformed page at) rule is = record { rule = tt; first = is }
 breaks bytes (unopened.Disk before after) rule is = absurd rule
-breaks bytes unopened.Memory rule is = absurd rule
+breaks bytes (unopened.Memory _) rule is = absurd rule
 
 -- a fault of a page is of a rule
 rule_of : (fault : OpenFault) → IsOfPage fault → IsOfRule fault
@@ -77,7 +77,7 @@ rule_of (Version version) of = absurd of
 rule_of (Damaged page kept found) of = tt
 rule_of (Malformed page at) of = tt
 rule_of (unopened.Disk before after) of = absurd of
-rule_of unopened.Memory of = absurd of
+rule_of (unopened.Memory _) of = absurd of
 
 -- a page behind the header
 breaks_behind : (s : State) (bytes : List ℕ) (fault : OpenFault) → s.count ≡ page_count bytes → IsUnopened s bytes fault → (before after : ℕ) → IsGraphFault before after fault → (was : List ℕ) → IsFaultBetween bytes was (first_fault fault)
@@ -86,7 +86,7 @@ breaks_behind s bytes (Version version) counted is before after cause was = absu
 breaks_behind s bytes (Damaged page kept found) counted is before after cause was = record { rule = tt; first = is.refused counted }
 breaks_behind s bytes (Malformed page at) counted is before after cause was = record { rule = tt; first = is.refused counted }
 breaks_behind s bytes (unopened.Disk b a) counted is before after cause was = tt
-breaks_behind s bytes unopened.Memory counted is before after cause was = tt
+breaks_behind s bytes (unopened.Memory _) counted is before after cause was = tt
 
 -- a header
 first_header : (bytes was : List ℕ) (fault : OpenFault) → IsFaultOf bytes fault → IsFaultBetween bytes was (first_fault fault)
@@ -95,7 +95,7 @@ first_header bytes was (Version version) is = record { rule = tt; first = header
 first_header bytes was (Damaged page kept found) is = record { rule = tt; first = header_refused bytes (Damaged page kept found) is }
 first_header bytes was (Malformed page at) is = record { rule = tt; first = header_refused bytes (Malformed page at) is }
 first_header bytes was (unopened.Disk before after) is = tt
-first_header bytes was unopened.Memory is = tt
+first_header bytes was (unopened.Memory _) is = tt
 
 standby_header : (bytes was : List ℕ) (fault : OpenFault) → IsFaultOf was fault → IsOfDisk fault ⊎ ((theirs : Opened) × (opened bytes ≡ Ok theirs)) → IsFaultBetween bytes was (standby_fault fault)
 standby_header bytes was NotAStore is (inr found) = (found, record { rule = tt; first = header_refused was NotAStore is })
@@ -103,7 +103,7 @@ standby_header bytes was (Version version) is (inr found) = (found, record { rul
 standby_header bytes was (Damaged page kept digest) is (inr found) = (found, record { rule = tt; first = header_refused was (Damaged page kept digest) is })
 standby_header bytes was (Malformed page at) is (inr found) = (found, record { rule = tt; first = header_refused was (Malformed page at) is })
 standby_header bytes was (unopened.Disk before after) is found = tt
-standby_header bytes was unopened.Memory is found = tt
+standby_header bytes was (unopened.Memory _) is found = tt
 standby_header bytes was NotAStore is (inl of) = absurd of
 standby_header bytes was (Version version) is (inl of) = absurd of
 standby_header bytes was (Damaged page kept digest) is (inl of) = absurd of
@@ -115,7 +115,7 @@ first_ruled before after (Version version) cause = tt
 first_ruled before after (Damaged page kept found) cause = tt
 first_ruled before after (Malformed page at) cause = tt
 first_ruled before after (unopened.Disk b a) cause = tt
-first_ruled before after unopened.Memory cause = absurd cause
+first_ruled before after (unopened.Memory _) cause = absurd cause
 
 standby_ruled : (before after : ℕ) (fault : OpenFault) → IsAttachFault before after fault → NamesRule (standby_fault fault)
 standby_ruled before after NotAStore cause = tt
@@ -123,7 +123,7 @@ standby_ruled before after (Version version) cause = tt
 standby_ruled before after (Damaged page kept found) cause = tt
 standby_ruled before after (Malformed page at) cause = tt
 standby_ruled before after (unopened.Disk b a) cause = tt
-standby_ruled before after unopened.Memory cause = absurd cause
+standby_ruled before after (unopened.Memory _) cause = absurd cause
 
 behind_ruled : (before after : ℕ) (fault : OpenFault) → IsGraphFault before after fault → NamesRule (first_fault fault)
 behind_ruled before after NotAStore cause = tt
@@ -131,7 +131,7 @@ behind_ruled before after (Version version) cause = tt
 behind_ruled before after (Damaged page kept found) cause = tt
 behind_ruled before after (Malformed page at) cause = tt
 behind_ruled before after (unopened.Disk b a) cause = tt
-behind_ruled before after unopened.Memory cause = tt
+behind_ruled before after (unopened.Memory _) cause = tt
 
 -- ---- causes
 
@@ -141,7 +141,7 @@ first_cause before after n (Version version) cause = record { first = cause; sta
 first_cause before after n (Damaged page kept found) cause = record { first = cause; standby = refl }
 first_cause before after n (Malformed page at) cause = record { first = cause; standby = refl }
 first_cause before after n (unopened.Disk b a) cause = record { first = cause; standby = refl }
-first_cause before after n unopened.Memory cause = absurd cause
+first_cause before after n (unopened.Memory _) cause = absurd cause
 
 standby_cause : (n m before after : ℕ) (fault : OpenFault) → m ≡ n → IsAttachFault before after fault → HasShipCause n m before after (Err (standby_fault fault))
 standby_cause n m before after NotAStore same cause = record { first = same; standby = cause }
@@ -149,7 +149,7 @@ standby_cause n m before after (Version version) same cause = record { first = s
 standby_cause n m before after (Damaged page kept found) same cause = record { first = same; standby = cause }
 standby_cause n m before after (Malformed page at) same cause = record { first = same; standby = cause }
 standby_cause n m before after (unopened.Disk b a) same cause = record { first = same; standby = cause }
-standby_cause n m before after unopened.Memory same cause = absurd cause
+standby_cause n m before after (unopened.Memory _) same cause = absurd cause
 
 -- the standby's count stands still unless its disk failed
 header_stays : (before after : ℕ) (fault : OpenFault) → (IsOfDisk fault → ⊥) → IsAttachFault before after fault → after ≡ before
@@ -158,7 +158,7 @@ header_stays before after (Version version) apart cause = cause
 header_stays before after (Damaged page kept found) apart cause = cause
 header_stays before after (Malformed page at) apart cause = cause
 header_stays before after (unopened.Disk b a) apart cause = absurd (apart tt)
-header_stays before after unopened.Memory apart cause = absurd cause
+header_stays before after (unopened.Memory _) apart cause = absurd cause
 
 behind_cause : (before after n m : ℕ) (fault : OpenFault) → IsGraphFault before after fault → m ≡ n → HasShipCause before after n m (Err (first_fault fault))
 behind_cause before after n m NotAStore cause same = absurd cause
@@ -166,7 +166,7 @@ behind_cause before after n m (Version version) cause same = absurd cause
 behind_cause before after n m (Damaged page kept found) cause same = record { first = cause; standby = same }
 behind_cause before after n m (Malformed page at) cause same = record { first = cause; standby = same }
 behind_cause before after n m (unopened.Disk b a) cause same = record { first = cause; standby = same }
-behind_cause before after n m unopened.Memory cause same = record { first = cause; standby = same }
+behind_cause before after n m (unopened.Memory _) cause same = record { first = cause; standby = same }
 
 -- ---- pages that were attached
 
@@ -178,9 +178,6 @@ found_here : (s : State) (bytes : List ℕ) (found : Opened) → HasFound s byte
 found_here s bytes found has is =
     let now : found.current ≡ record { slot = s.slot; header = s.header } = now_is (sym (found_of bytes found is).0 ∙ has.now) in
     ap (λ (c : Current). record { current = c; graph = found.graph }) now
-
-one_found : {a b : Opened} → ◌≡◌ {A = Result Opened OpenFault} (Ok a) (Ok b) → a ≡ b
-one_found same = cc
 
 shut_most : (s : State) → shutting s ≤ 1
 shut_most s = by s.closed
@@ -235,13 +232,6 @@ module _ {D : Type 0} (d : Ghosts D) where
     has_found disk it attached_ was told mine found =
         attached_has (state it) was (number_in mine) (copy_in mine) (bytes_are was (laws.bytes disk (d.moment disk) was (laws.counts disk (d.moment disk) was (omega arith) (laws.stay disk was told))))
         (attached_.found was told) attached_.fresh (record { found = mine; is_found = found; is_number = refl; is_copy = refl })
-
--- may be shipped to
-pub fresh_ready : (s : State) (contents : Option (List ℕ)) → s ≡ attached s.slot s.header s.count s.closed → IsReady s contents
-fresh_ready s contents fresh = record {
-  sound = ap (λ (u : State). u.failed) fresh;
-  right = λ known. let none : s.known ≡ false = ap (λ (u : State). u.known) fresh in absurd (cc (known, none));
-}
 
 module _ {D E : Type 0} (d : Ghosts D) (e : Ghosts E) (of_first : IsDisk d) (of_other : IsDisk e) where
   -- ---- the first store was not attached
@@ -363,7 +353,7 @@ module _ {D E : Type 0} (d : Ghosts D) (e : Ghosts E) (of_first : IsDisk d) (of_
           }
       fault_between bytes was one two (Disk before after_) is = tt
       fault_between bytes was one two (OtherDisk before after_) is = tt
-      fault_between bytes was one two Memory is = tt
+      fault_between bytes was one two (Memory _) is = tt
 
       ruled_between : (result : Result Shipped ShipFault) → IfErr result (IsShipFault from to) → IfErr result NamesRule
       ruled_between (Ok shipped) is = tt
@@ -373,7 +363,7 @@ module _ {D E : Type 0} (d : Ghosts D) (e : Ghosts E) (of_first : IsDisk d) (of_
       ruled_between (Err (Foreign number)) is = tt
       ruled_between (Err (Disk before after_)) is = tt
       ruled_between (Err (OtherDisk before after_)) is = tt
-      ruled_between (Err Memory) is = tt
+      ruled_between (Err (Memory _)) is = tt
 
       why_between : (bytes was : List ℕ) → d.contents disk ≡ Some bytes → e.contents other ≡ Some was → (result : Result Shipped ShipFault) → IfErr result (IsShipFault from to) → IfErr result (IsFaultBetween bytes was)
       why_between bytes was one two (Ok shipped) is = tt

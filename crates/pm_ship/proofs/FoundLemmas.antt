@@ -1,6 +1,6 @@
 -- What was read is what opening finds, and why nothing was read.
-use Rattle.std.proofs.Common.{◌≡◌, ℕ, ◌≤◌, true, List, Option, Result, Ok, Err, refl, sym, ap, subst, ◌∙◌, arith, nat_lt, nat_le, ◌&&◌}
-use Rattle.std.specs.Prelude.{Contains, IfErr, IfOk}
+use Rattle.std.proofs.Common.{◌≡◌, ℕ, ◌≤◌, true, List, Option, Result, Ok, Err, refl, arith, nat_lt, nat_le, ◌&&◌}
+use Rattle.std.specs.Prelude.{IfErr, IfOk}
 use Rattle.std.proofs.lemmas.List.Elements.{All-contains}
 use Rattle.pm_types.specs.declared.fault.OpenFault.{OpenFault}
 use Rattle.pm_disk.specs.Disk.{IfTold}
@@ -13,12 +13,10 @@ use Rattle.pm_image.proofs.FrameLaws.{graph_too, opened_as}
 use Rattle.pm_shadow.specs.State.{State}
 use Rattle.pm_shadow.specs.Images.{Heads, IsSoundState}
 use Rattle.pm_shadow.proofs.AttachLemmas.{heads_current}
-use Rattle.pm_graphs.specs.Reading.{IsReadWhole, IsThere, page_numbers, store_of}
+use Rattle.pm_graphs.specs.Reading.{IsReadWhole, IsThere, store_of}
 use Rattle.pm_graphs.specs.Reopening.{IsGraph}
 use Rattle.pm_reopen.specs.Opening.{IsUnopened}
 use Rattle.pm_reopen.proofs.OpenLaws.{graph_unopened, used_there}
-use Rattle.pm_ship.specs.declared.store.StoreRead.{StoreRead}
-use Rattle.pm_ship.specs.Stores.{IsReadOf, IsTakenFrom}
 use Rattle.pm_ship.specs.Offers.{IsFound}
 
 placed : (count : ℕ) (header : Header) → IsThere count header.first → is_placed count header ≡ true
@@ -64,21 +62,3 @@ module _ (s : State) (contents : Option (List ℕ)) (images : List ℕ → Type 
       → IfErr result (λ fault. IfTold contents (λ bytes. IsUnopened s bytes fault))
   fault_if within (Ok read) graph = tt
   fault_if within (Err fault) graph = λ bytes told. graph_unopened s bytes images (sound bytes told) (left bytes told) fault within there (graph bytes told)
-
--- what was taken of it is what was read
-pub read_of : (s : State) (contents : Option (List ℕ)) (catalog : Catalog) (cars : List KeptPage) (epoch next : ℕ) (it : StoreRead) → IsTakenFrom catalog cars epoch next it → epoch ≡ s.header.epoch → next ≡ s.header.next
-    → IsReadWhole s.count s.header.next catalog cars → Contains (page_numbers catalog) s.header.first → IfTold contents (λ bytes. IsFound s bytes (record { catalog = catalog; cars = cars })) → IsReadOf s contents it
-read_of s contents catalog cars epoch next it taken epoch_is next_is whole first found = record {
-  catalog = catalog;
-  taken = record {
-    epoch_is = taken.epoch_is ∙ epoch_is;
-    next_is = taken.next_is ∙ next_is;
-    cars_are = refl;
-    trains = taken.trains;
-    roots = taken.roots;
-    pages = taken.pages ∙ ap (λ (ks : List KeptPage). used_pages (record { catalog = catalog; cars = ks })) (sym taken.cars_are);
-  };
-  whole = subst (IsReadWhole s.count s.header.next catalog) (sym taken.cars_are) whole;
-  first = first;
-  found = subst (λ (ks : List KeptPage). IfTold contents (λ bytes. IsFound s bytes (record { catalog = catalog; cars = ks }))) (sym taken.cars_are) found;
-}

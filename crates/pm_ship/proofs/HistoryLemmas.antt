@@ -23,7 +23,7 @@ use Rattle.pm_shadow.specs.Pages.{disk_of, state}
 use Rattle.pm_shadow.specs.State.{State, attached, keeps, keeps_by}
 use Rattle.pm_shadow.specs.Uses.{use_of}
 use Rattle.pm_shadow.proofs.UsedLemmas.{graph_first}
-use Rattle.pm_law_graphs.proofs.Found.{opened_spelled}
+use Rattle.pm_law_copies.proofs.GraphsLemmas.Found.{opened_spelled}
 use Rattle.pm_saving.specs.Tied.{HasCopy}
 use Rattle.pm_ship.specs.History.{AreShips, Call, Chain, Grows, IsCalled, IsJustMade, IsLookedAt, IsShip, StandsForOne, settled_by}
 use Rattle.pm_ship.proofs.WriteLemmas.{stands_now}

@@ -14,7 +14,7 @@ use Rattle.pm_image.specs.Leading.{RootLeads}
 use Rattle.pm_copies.specs.Accepted.{IsAccepted, NamesAscend, roots_in}
 use Rattle.pm_copies.specs.Listed.{Listed, copy_listed, images}
 use Rattle.pm_law_copies.proofs.CopyOf.{as_root, entry_roots}
-use Rattle.pm_law_layout.specs.Plans.{root_entry}
+use Rattle.pm_copies.specs.Plans.{root_entry}
 use Rattle.pm_graphs.specs.Reading.{IsEntryNamed}
 
 pub roots_again : (roots : List (List ℕ × Addr)) → roots_in (map root_entry roots) ≡ roots

@@ -13,7 +13,7 @@ use Rattle.pm_copies.specs.Accepted.{Differ, IsAccepted}
 use Rattle.pm_copies.specs.Listed.{Listed, images}
 use Rattle.pm_copies.specs.Opened.{listed_graph, listed_in}
 use Rattle.pm_law_copies.proofs.FoundStore.{store_copy}
-use Rattle.pm_law_layout.specs.Plans.{root_entry}
+use Rattle.pm_copies.specs.Plans.{root_entry}
 use Rattle.pm_reopen.proofs.AcceptedLaws.{whole_accepted, whole_paired}
 use Rattle.pm_ship.specs.declared.store.StoreRead.{StoreRead}
 use Rattle.pm_ship.specs.declared.standby.Standby.{Standby}

@@ -1,7 +1,7 @@
 -- What holds once a standby was read, and once it was written.
 use Rattle.std.proofs.Common.{◌≡◌, ◌⊎◌, inl, inr, ℕ, ◌+◌, ◌<◌, Bool, true, false, List, map, length, Option, Some, Result, Ok, Err, refl, sym, ap, subst, ◌∙◌, arith}
 use Rattle.std.specs.Prelude.{IfErr, IfOk}
-use Rattle.pm_base.specs.Counts.{ShowsRise}
+use Rattle.pm_types.specs.Counts.{ShowsRise}
 use Rattle.std.proofs.lemmas.List.{length-map}
 use Rattle.std.proofs.lemmas.Option.{same_Some}
 use Rattle.pm_types.specs.declared.fault.OpenFault.{OpenFault}
@@ -26,10 +26,10 @@ use Rattle.pm_shadow.specs.declared.page_use.PageUse.{PageUse}
 use Rattle.pm_shadow.specs.declared.pages.Pages.{Pages}
 use Rattle.pm_graphs.specs.Reopening.{IsGraphFault}
 use Rattle.pm_copies.specs.Listed.{copy_listed}
-use Rattle.pm_law_layout.specs.Plans.{root_entry}
+use Rattle.pm_copies.specs.Plans.{root_entry}
 use Rattle.pm_reopen.specs.Opening.{IsUnopened}
 use Rattle.pm_saving.specs.Tied.{HasCopy}
-use Rattle.pm_progress.specs.Answers.{TellsOn}
+use Rattle.pm_save.specs.Progress.Answers.{TellsOn}
 use Rattle.pm_ship.specs.declared.fault.Shipped.{Shipped}
 use Rattle.pm_ship.specs.declared.fault.ShipFault.{ShipFault}
 use Rattle.pm_ship.specs.declared.fault.ShipFault.TheVariants.{From, To, Ahead, Foreign, Disk, OtherDisk, Memory}
@@ -77,7 +77,7 @@ unless_stopped P (Ahead to from) holds = holds
 unless_stopped P (Foreign number) holds = holds
 unless_stopped P (Disk before after) holds = holds
 unless_stopped P (OtherDisk before after) holds = tt
-unless_stopped P Memory holds = tt
+unless_stopped P (Memory _) holds = tt
 
 pub unless_other : (P : Type 0) (fault : ShipFault) → P → UnlessOther fault P
 unless_other P (From fault) holds = holds
@@ -86,7 +86,7 @@ unless_other P (Ahead to from) holds = holds
 unless_other P (Foreign number) holds = holds
 unless_other P (Disk before after) holds = holds
 unless_other P (OtherDisk before after) holds = tt
-unless_other P Memory holds = holds
+unless_other P (Memory _) holds = holds
 
 -- why the standby was not read
 pub standby_refused : (offer : Offer) (s : State) (contents : Option (List ℕ)) (before after : ℕ) (fault : OpenFault) → IfTold contents (λ bytes. IsUnopened s bytes fault) → IsGraphFault before after fault
@@ -96,7 +96,7 @@ standby_refused offer s contents before after (Version version) why cause = absu
 standby_refused offer s contents before after (Damaged page kept found) why cause = record { of_page = tt; unopened = why }
 standby_refused offer s contents before after (Malformed page at) why cause = record { of_page = tt; unopened = why }
 standby_refused offer s contents before after (unopened.Disk b a) why cause = tt
-standby_refused offer s contents before after unopened.Memory why cause = tt
+standby_refused offer s contents before after (unopened.Memory _) why cause = tt
 
 pub standby_cause : (before after : ℕ) (fault : OpenFault) → IsGraphFault before after fault → IsStandbyCause before after (standby_fault fault)
 standby_cause before after NotAStore cause = absurd cause
@@ -104,7 +104,7 @@ standby_cause before after (Version version) cause = absurd cause
 standby_cause before after (Damaged page kept found) cause = cause
 standby_cause before after (Malformed page at) cause = cause
 standby_cause before after (unopened.Disk b a) cause = cause
-standby_cause before after unopened.Memory cause = cause
+standby_cause before after (unopened.Memory _) cause = cause
 
 -- ---- a standby that was read
 
@@ -292,7 +292,7 @@ module _ {E : Type 0} {e : Ghosts E} where
       told = λ was told. written.told was (looks.told ∙ told);
       cause = written.cause ∙ count;
     }
-    written_leaves after (Err Memory) written stops laid = record {
+    written_leaves after (Err (Memory _)) written stops laid = record {
       leaves = both_leave offer before mid after ready.sound it written.leaves;
       still = tt;
       spares = both_spare offer before mid after ready.sound it written.spares;
@@ -427,7 +427,7 @@ module _ {E : Type 0} {e : Ghosts E} where
       first_sound (Err (Foreign number)) why = (offer, is, why)
       first_sound (Err (Disk b a)) why = tt
       first_sound (Err (OtherDisk b a)) why = tt
-      first_sound (Err Memory) why = tt
+      first_sound (Err (Memory _)) why = tt
 
     -- the first store was not read, and the standby was not called
     pub uncalled_either : (from : Pages D d) (it : Pages E e) → (state it).failed ≡ false → ((left : List ℕ) → e.since (disk_of it) (e.moment (disk_of it)) left → e.image (disk_of it) left) → LeavesEither from it it

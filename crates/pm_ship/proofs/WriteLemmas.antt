@@ -2,7 +2,8 @@
 use Rattle.std.proofs.Common.{◌≡◌, ◌⊎◌, inl, inr, ⊎_elim, ℕ, ◌+◌, ◌≤◌, Bool, true, false, List, [], ◌∷◌, Option, Some, None, Ok, Err, refl, sym, ap, subst, ◌∙◌}
 use Rattle.std.specs.List.{AllByRecursion}
 use Rattle.std.proofs.lemmas.Option.{same_Some}
-use Rattle.pm_base.specs.Counts.{Rose}
+use Rattle.pm_types.specs.Memory.{no_memory}
+use Rattle.pm_types.specs.Counts.{Rose}
 use Rattle.pm_disk.specs.declared.disk.Disk.{Ghosts}
 use Rattle.pm_disk.specs.Made.{MadeMore}
 use Rattle.pm_disk.proofs.RunLemmas.{started, weaker}
@@ -25,10 +26,10 @@ use Rattle.pm_law_saving.proofs.Publishing.{copy_held}
 use Rattle.pm_saving.specs.Progress.{Progress, Saving, copy_of}
 use Rattle.pm_saving.specs.Paging.{CarPage, NextPage, PartPage, left, left_of, next_page, with_next, written_on}
 use Rattle.pm_saving.specs.Tied.{HasCopy, IsTied}
-use Rattle.pm_progress.specs.declared.fault.SaveFault.{SaveFault}
-use Rattle.pm_progress.specs.declared.fault.SaveFault.TheVariants as saving
-use Rattle.pm_progress.specs.Answers.{IfMemory, IsFaultOf, TellsOn}
-use Rattle.pm_writer.specs.Settling.{IsLeftSo, SettlesPages, SparesEither, StandsThen, settling_syncs}
+use Rattle.pm_save.specs.declared.progress.fault.SaveFault.{SaveFault}
+use Rattle.pm_save.specs.declared.progress.fault.SaveFault.TheVariants as saving
+use Rattle.pm_save.specs.Progress.Answers.{IfMemory, IsFaultOf, TellsOn}
+use Rattle.pm_save.specs.Writer.Settling.{IsLeftSo, SettlesPages, SparesEither, StandsThen, settling_syncs}
 use Rattle.pm_ship.specs.declared.fault.Shipped.{Shipped}
 use Rattle.pm_ship.specs.declared.fault.ShipFault.TheVariants.{Memory}
 use Rattle.pm_ship.specs.Begun.{BeginsOffered}
@@ -178,7 +179,7 @@ module _ {E : Type 0} {e : Ghosts E} where
   -- ---- what is left, whatever was answered
 
   -- nothing was written, since memory ran out
-  pub none_written : (offer : Offer) (it : Pages E e) → (state it).failed ≡ false → ((left : List ℕ) → e.since (disk_of it) (e.moment (disk_of it)) left → e.image (disk_of it) left) → LeavesWritten offer it it (Err Memory)
+  pub none_written : (offer : Offer) (it : Pages E e) → (state it).failed ≡ false → ((left : List ℕ) → e.since (disk_of it) (e.moment (disk_of it)) left → e.image (disk_of it) left) → LeavesWritten offer it it (Err (Memory no_memory))
   none_written offer it fine now = record {
     leaves = either_leaves offer it it (none_leaves it fine now);
     spares = none_spared it fine now;
@@ -192,7 +193,7 @@ module _ {E : Type 0} {e : Ghosts E} where
       → IfMemory (IsLeftSo e.contents e.moment e.since old new (state before) (state after) (disk_of before) (disk_of after)) fault → IfMemory (IsTied new frozen (state after) (e.contents (disk_of after))) fault
       → TellsOn (e.contents (disk_of before)) (e.contents (disk_of after)) → IsFaultOf (e.count (disk_of before)) (e.count (disk_of after)) fault → LeavesWritten offer before after (Err (saving_fault was is fault))
   part_written offer before after old new frozen was is saving.Disk was_is is_is leaves memory tied told rose = record { leaves = leaves; spares = tt; sound = tt; told = told; cause = (was_is, is_is, subst (λ (n : ℕ). Rose n is) (sym was_is) (subst (λ (n : ℕ). Rose (e.count (disk_of before)) n) (sym is_is) rose)) }
-  part_written offer before after old new frozen was is saving.Memory was_is is_is leaves memory tied told stays = record { leaves = leaves; spares = left_spared before after old new memory; sound = tied.sound; told = told; cause = stays }
+  part_written offer before after old new frozen was is (saving.Memory _) was_is is_is leaves memory tied told stays = record { leaves = leaves; spares = left_spared before after old new memory; sound = tied.sound; told = told; cause = stays }
 
   -- it was
   pub whole_written : (offer : Offer) (before after : Pages E e) (shipped : Shipped) → LeavesEitherOf offer before after → (state after).failed ≡ false → TellsOn (e.contents (disk_of before)) (e.contents (disk_of after))

@@ -8,7 +8,7 @@ use Rattle.pm_image.specs.Graphs.{images_of}
 use Rattle.pm_shadow.specs.State.{State}
 use Rattle.pm_copies.specs.Accepted.{IsAccepted}
 use Rattle.pm_copies.specs.Listed.{images}
-use Rattle.pm_law_layout.specs.Plans.{root_entry}
+use Rattle.pm_copies.specs.Plans.{root_entry}
 use Rattle.pm_saving.specs.Progress.{Progress, Saving, copy_of}
 use Rattle.pm_saving.specs.Paging.{left}
 use Rattle.pm_saving.specs.Tied.{IsTied}

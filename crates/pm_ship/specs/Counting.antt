@@ -4,8 +4,8 @@ use Rattle.pm_image.specs.declared.car.CarImage.{CarImage}
 use Rattle.pm_image.specs.declared.catalog.CatEntry.{CatEntry}
 use Rattle.pm_image.specs.declared.catalog.CatEntry.TheVariants.{Car}
 use Rattle.pm_copies.specs.Listed.{Listed, images}
-use Rattle.pm_law_layout.specs.Plans.{root_entry}
-use Rattle.pm_law_layout.specs.Cutting.{cut}
+use Rattle.pm_copies.specs.Plans.{root_entry}
+use Rattle.pm_copies.specs.Cutting.{cut}
 use Rattle.pm_ship.specs.Offers.{Offer}
 
 -- so many of these cars are not among the standby's: none of its pages has their content

@@ -7,7 +7,7 @@ use Rattle.pm_disk.specs.Disk.{LeavesOnly}
 use Rattle.pm_disk.specs.declared.disk.Disk.{Ghosts}
 use Rattle.pm_disk.specs.Made.{MadeMore, with_sync}
 use Rattle.pm_image.specs.Stands.{Opened, StandsForCopy, copy_in, opened}
-use Rattle.pm_progress.specs.Answers.{TellsOn}
+use Rattle.pm_save.specs.Progress.Answers.{TellsOn}
 use Rattle.pm_ship.specs.declared.fault.Shipped.{Shipped}
 use Rattle.pm_ship.specs.declared.fault.ShipFault.{ShipFault}
 use Rattle.pm_ship.specs.declared.fault.ShipFault.TheVariants.{From, To, Ahead, Foreign, Disk, OtherDisk, Memory}
@@ -41,7 +41,7 @@ IsOfRule (Version version) = Unit {0}
 IsOfRule (Damaged page kept found) = Unit {0}
 IsOfRule (Malformed page at) = Unit {0}
 IsOfRule (unopened.Disk before after) = ⊥
-IsOfRule unopened.Memory = ⊥
+IsOfRule (unopened.Memory _) = ⊥
 
 -- it is the first rule that these bytes break
 pub record BreaksRule (bytes : List ℕ) (fault : OpenFault) : Type 0 where
@@ -70,7 +70,7 @@ IsFaultBetween bytes was (Ahead to from) = IsAheadBetween bytes was to from
 IsFaultBetween bytes was (Foreign number) = IsForeignBetween bytes was number
 IsFaultBetween bytes was (Disk before after) = Unit {0}
 IsFaultBetween bytes was (OtherDisk before after) = Unit {0}
-IsFaultBetween bytes was Memory = Unit {0}
+IsFaultBetween bytes was (Memory _) = Unit {0}
 
 -- a store is refused by a rule of its bytes: a disk that fails and want of memory are faults of their own
 abbrev pub NamesRule : ShipFault → Type 0
@@ -80,7 +80,7 @@ NamesRule (Ahead to from) = Unit {0}
 NamesRule (Foreign number) = Unit {0}
 NamesRule (Disk before after) = Unit {0}
 NamesRule (OtherDisk before after) = Unit {0}
-NamesRule Memory = Unit {0}
+NamesRule (Memory _) = Unit {0}
 
 -- ---- what was shipped
 

@@ -8,7 +8,7 @@ use Rattle.pm_image.specs.Stands.{StandsForCopy}
 use Rattle.pm_shadow.specs.Pages.{disk_of, state}
 use Rattle.pm_shadow.specs.declared.pages.Pages.{Pages}
 use Rattle.pm_saving.specs.Tied.{HasCopy}
-use Rattle.pm_progress.specs.Answers.{TellsOn}
+use Rattle.pm_save.specs.Progress.Answers.{TellsOn}
 use Rattle.pm_ship.specs.Shipped.{LeavesEither}
 
 -- copies that a store has settled, each under its number

@@ -11,7 +11,7 @@ use Rattle.pm_shadow.specs.Copies.{current_graph}
 use Rattle.pm_copies.specs.Accepted.{roots_in}
 use Rattle.pm_copies.specs.Listed.{Listed, copy_listed}
 use Rattle.pm_copies.specs.Opened.{listed_graph}
-use Rattle.pm_law_layout.specs.Plans.{root_entry}
+use Rattle.pm_copies.specs.Plans.{root_entry}
 
 -- The number of a store's copy; its next identity; its cars in the order of the catalog, each with its train; and its
 -- roots, each a name with its address.

@@ -1,6 +1,7 @@
 -- What a ship promises.
 use Rattle.std.specs.Prelude.{◌≡◌, ◌⊎◌, ℕ, ◌<◌, ◌≤◌, false, List, Option, Some, Result, MatchResult, IfErr}
-use Rattle.pm_base.specs.Counts.{ShowsRise}
+use Rattle.pm_types.specs.Memory.{no_memory}
+use Rattle.pm_types.specs.Counts.{ShowsRise}
 use Rattle.pm_types.specs.declared.fault.OpenFault.{OpenFault}
 use Rattle.pm_types.specs.declared.fault.OpenFault.TheVariants.{NotAStore, Version, Damaged, Malformed}
 use Rattle.pm_types.specs.declared.fault.OpenFault.TheVariants as unopened
@@ -16,9 +17,9 @@ use Rattle.pm_shadow.specs.declared.pages.Pages.{Pages}
 use Rattle.pm_graphs.specs.Reopening.{IsGraphFault}
 use Rattle.pm_reopen.specs.Opening.{IsUnopened}
 use Rattle.pm_saving.specs.Tied.{HasCopy}
-use Rattle.pm_progress.specs.declared.fault.SaveFault.{SaveFault}
-use Rattle.pm_progress.specs.declared.fault.SaveFault.TheVariants as saving
-use Rattle.pm_progress.specs.Answers.{TellsOn}
+use Rattle.pm_save.specs.declared.progress.fault.SaveFault.{SaveFault}
+use Rattle.pm_save.specs.declared.progress.fault.SaveFault.TheVariants as saving
+use Rattle.pm_save.specs.Progress.Answers.{TellsOn}
 use Rattle.pm_ship.specs.declared.fault.Shipped.{Shipped}
 use Rattle.pm_ship.specs.declared.fault.ShipFault.{ShipFault}
 use Rattle.pm_ship.specs.declared.fault.ShipFault.TheVariants.{From, To, Ahead, Foreign, Disk, OtherDisk, Memory}
@@ -85,7 +86,7 @@ IsStandbyFault offer s contents (Ahead to from) = IsAhead offer s to from × IsO
 IsStandbyFault offer s contents (Foreign number) = IsForeign offer s contents number
 IsStandbyFault offer s contents (Disk before after) = ⊥
 IsStandbyFault offer s contents (OtherDisk before after) = Unit {0}
-IsStandbyFault offer s contents Memory = Unit {0}
+IsStandbyFault offer s contents (Memory _) = Unit {0}
 
 -- the disk failed
 abbrev pub IsOfDisk : OpenFault → Type 0
@@ -94,7 +95,7 @@ IsOfDisk (Version version) = ⊥
 IsOfDisk (Damaged page kept found) = ⊥
 IsOfDisk (Malformed page at) = ⊥
 IsOfDisk (unopened.Disk before after) = Unit {0}
-IsOfDisk unopened.Memory = ⊥
+IsOfDisk (unopened.Memory _) = ⊥
 
 -- what a fault of the pages of a standby is for a ship
 abbrev pub standby_fault : OpenFault → ShipFault
@@ -103,7 +104,7 @@ standby_fault (Version version) = To (Version version)
 standby_fault (Damaged page kept found) = To (Damaged page kept found)
 standby_fault (Malformed page at) = To (Malformed page at)
 standby_fault (unopened.Disk before after) = OtherDisk before after
-standby_fault unopened.Memory = Memory
+standby_fault (unopened.Memory _) = Memory no_memory
 
 -- and one of the first store
 abbrev pub first_fault : OpenFault → ShipFault
@@ -112,7 +113,7 @@ first_fault (Version version) = From (Version version)
 first_fault (Damaged page kept found) = From (Damaged page kept found)
 first_fault (Malformed page at) = From (Malformed page at)
 first_fault (unopened.Disk before after) = Disk before after
-first_fault unopened.Memory = Memory
+first_fault (unopened.Memory _) = Memory no_memory
 
 -- the count of the standby's disk stands still, or rose as is told
 abbrev pub IsStandbyCause : ℕ → ℕ → ShipFault → Type 0
@@ -122,7 +123,7 @@ IsStandbyCause before after (Ahead to from) = after ≡ before
 IsStandbyCause before after (Foreign number) = after ≡ before
 IsStandbyCause before after (Disk b a) = after ≡ before
 IsStandbyCause before after (OtherDisk b a) = ShowsRise b a before after
-IsStandbyCause before after Memory = after ≡ before
+IsStandbyCause before after (Memory _) = after ≡ before
 
 -- that of the first store's disk does
 abbrev pub IsFirstCause : ℕ → ℕ → ShipFault → Type 0
@@ -132,7 +133,7 @@ IsFirstCause before after (Ahead to from) = after ≡ before
 IsFirstCause before after (Foreign number) = after ≡ before
 IsFirstCause before after (Disk b a) = ShowsRise b a before after
 IsFirstCause before after (OtherDisk b a) = after ≡ before
-IsFirstCause before after Memory = after ≡ before
+IsFirstCause before after (Memory _) = after ≡ before
 
 -- The counts of the first store's disk and of the standby's: both stand still at Ok, and at a fault but for that of the
 -- disk that failed.
@@ -148,7 +149,7 @@ IsWritingFault (Ahead to from) = ⊥
 IsWritingFault (Foreign number) = ⊥
 IsWritingFault (Disk before after) = ⊥
 IsWritingFault (OtherDisk before after) = Unit {0}
-IsWritingFault Memory = Unit {0}
+IsWritingFault (Memory _) = Unit {0}
 
 -- P holds, unless the standby's disk failed
 abbrev pub UnlessOther : ShipFault → Type 0 → Type 0
@@ -158,7 +159,7 @@ UnlessOther (Ahead to from) P = P
 UnlessOther (Foreign number) P = P
 UnlessOther (Disk before after) P = P
 UnlessOther (OtherDisk before after) P = Unit {0}
-UnlessOther Memory P = P
+UnlessOther (Memory _) P = P
 
 -- P holds, unless the standby's disk failed or memory ran out
 abbrev pub UnlessStopped : ShipFault → Type 0 → Type 0
@@ -168,7 +169,7 @@ UnlessStopped (Ahead to from) P = P
 UnlessStopped (Foreign number) P = P
 UnlessStopped (Disk before after) P = P
 UnlessStopped (OtherDisk before after) P = Unit {0}
-UnlessStopped Memory P = Unit {0}
+UnlessStopped (Memory _) P = Unit {0}
 
 -- P holds, unless the standby's disk failed
 abbrev pub UnlessFails : Result Shipped ShipFault → Type 0 → Type 0
@@ -177,7 +178,7 @@ UnlessFails result P = MatchResult result (λ _. P) (λ fault. UnlessOther fault
 -- what a fault of saving the copy is for a ship, with these counts before and after
 abbrev pub saving_fault : ℕ → ℕ → SaveFault → ShipFault
 saving_fault before after saving.Disk = OtherDisk before after
-saving_fault before after saving.Memory = Memory
+saving_fault before after (saving.Memory _) = Memory no_memory
 
 -- ---- the standby, whatever is answered
 
@@ -230,7 +231,7 @@ module _ {D E : Type 0} {d : Ghosts D} {e : Ghosts E} where
   IsShipFault from to (Foreign number) = IsFaultBeside from to (Foreign number)
   IsShipFault from to (Disk before after) = Unit {0}
   IsShipFault from to (OtherDisk before after) = Unit {0}
-  IsShipFault from to Memory = Unit {0}
+  IsShipFault from to (Memory _) = Unit {0}
 
   -- At every moment between each image of the standby stands for its copy before or for the first store's.
   abbrev pub LeavesEither : Pages D d → Pages E e → Pages E e → Type 0

@@ -15,7 +15,7 @@ use Rattle.pm_graphs.specs.Reading.{IsReadWhole, page_numbers}
 use Rattle.pm_copies.specs.Accepted.{roots_in}
 use Rattle.pm_reopen.specs.Opening.{IsUnopened}
 use Rattle.pm_saving.specs.Tied.{IsTied}
-use Rattle.pm_writer.specs.Planned.{IsIndex}
+use Rattle.pm_save.specs.Writer.Planned.{IsIndex}
 use Rattle.pm_ship.specs.declared.store.StoreRead.{StoreRead}
 use Rattle.pm_ship.specs.declared.standby.Standby.{Standby}
 use Rattle.pm_ship.specs.Listing.{trains_in, with_trains}
@@ -52,7 +52,7 @@ IsOfPage (Version version) = ⊥
 IsOfPage (Damaged page kept found) = Unit {0}
 IsOfPage (Malformed page at) = Unit {0}
 IsOfPage (Disk before after) = ⊥
-IsOfPage Memory = ⊥
+IsOfPage (Memory _) = ⊥
 
 -- These pages are refused so: it is the first rule that fails in what the disk holds.
 pub record IsRefusedSo (s : State) (contents : Option (List ℕ)) (fault : OpenFault) : Type 0 where

@@ -14,7 +14,7 @@ use Rattle.pm_shadow.specs.Copies.{KeepsGraph, current_graph}
 use Rattle.pm_shadow.specs.Images.{shutting}
 use Rattle.pm_shadow.specs.Pages.{disk_of, state}
 use Rattle.pm_shadow.specs.declared.pages.Pages.{Pages}
-use Rattle.pm_law_graphs.specs.Apart.{AreApart}
+use Rattle.pm_copies.specs.Apart.{AreApart}
 use Rattle.pm_saving.specs.Tied.{HasCopy}
 use Rattle.pm_ship.specs.declared.fault.Shipped.{Shipped}
 use Rattle.pm_ship.specs.Counting.{IsCount}

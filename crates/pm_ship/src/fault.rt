@@ -1,6 +1,7 @@
 //! What a ship answers.
 ghost use Rattle.std.specs.Prelude.{◌≡◌};
 ghost use Rattle.pm_ship.specs.declared.fault.ShipFault.TheVariants.{Memory};
+ghost use Rattle.pm_types.specs.Memory.{no_memory};
 
 use pm_types::{NoMemory, OpenFault};
 use std::alloc::{AllocError, AllocFailed};
@@ -54,29 +55,29 @@ pub enum ShipFault {
     },
     /// Memory ran out.
     #[error("no memory")]
-    Memory,
+    Memory(NoMemory),
 }
 
 impl From<NoMemory> for ShipFault {
-    ghost from_gives = { λ _ e. e ≡ Memory };
+    ghost from_gives = { λ refused e. e ≡ Memory refused };
 
-    fn from(_e: NoMemory) -> ShipFault {
-        ShipFault::Memory
+    fn from(refused: NoMemory) -> ShipFault {
+        ShipFault::Memory(refused)
     }
 }
 
 impl From<AllocError> for ShipFault {
-    ghost from_gives = { λ _ e. e ≡ Memory };
+    ghost from_gives = { λ _ e. e ≡ Memory no_memory };
 
-    fn from(_e: AllocError) -> ShipFault {
-        ShipFault::Memory
+    fn from(refused: AllocError) -> ShipFault {
+        ShipFault::Memory(NoMemory::from(refused))
     }
 }
 
 impl<T: Drop> From<AllocFailed<T>> for ShipFault {
-    ghost from_gives = { λ _ e. e ≡ Memory };
+    ghost from_gives = { λ _ e. e ≡ Memory no_memory };
 
-    fn from(_e: AllocFailed<T>) -> ShipFault {
-        ShipFault::Memory
+    fn from(refused: AllocFailed<T>) -> ShipFault {
+        ShipFault::Memory(NoMemory::from(refused))
     }
 }

@@ -2,7 +2,7 @@
 ghost use Rattle.std.specs.Prelude.{◌≡◌, ℕ, ◌==◌, Some, None, IfOk, OnOk, if◌then◌else◌};
 ghost use Rattle.std.specs.Ordering.{nat_cmp};
 ghost use Rattle.std.specs.BTreeMap as tree;
-ghost use Rattle.pm_writer.specs.Planned.{IsIndex, first_of};
+ghost use Rattle.pm_save.specs.Writer.Planned.{IsIndex, first_of};
 
 use pm_image::KeptPage;
 use pm_types::NoMemory;

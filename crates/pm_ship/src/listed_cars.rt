@@ -4,7 +4,7 @@ ghost use Rattle.pm_ship.specs.Cars.{cars_kept};
 
 use crate::index::index_of;
 use pm_image::Settled;
-use pm_progress::{CarPage, Frozen, spell};
+use pm_save::progress::{CarPage, Frozen, spell};
 use pm_types::{NoMemory, Slot};
 use std::alloc::Global;
 use std::collections::BTreeMap;
@@ -21,7 +21,7 @@ pub struct ListedCars {
 impl Model for ListedCars {
     ghost use Rattle.std.specs.Prelude.{List};
     ghost use Rattle.pm_image.specs.declared.settled.KeptPage.{KeptPage};
-    ghost use Rattle.pm_writer.specs.Planned.{IsIndex};
+    ghost use Rattle.pm_save.specs.Writer.Planned.{IsIndex};
     ghost use Rattle.pm_ship.specs.Cars.{AreFoundAlone};
 
     ghost Value = { List KeptPage };

@@ -2,8 +2,8 @@
 ghost use Rattle.std.specs.Prelude.{◌≡◌, ◌<◌, None, IfOk, IfErr};
 ghost use Rattle.pm_image.specs.Graphs.{images_of};
 ghost use Rattle.pm_copies.specs.Accepted.{Differ};
-ghost use Rattle.pm_writer.specs.Planned.{IsIndex};
-ghost use Rattle.pm_writer.specs.Shown.{writing};
+ghost use Rattle.pm_save.specs.Writer.Planned.{IsIndex};
+ghost use Rattle.pm_save.specs.Writer.Shown.{writing};
 ghost use Rattle.pm_shadow.specs.Pages.{state, disk_of};
 ghost use Rattle.pm_saving.specs.Tied.{IsTied};
 ghost use Rattle.pm_ship.specs.Begun.{BeginsOffered, MayBeOffered, idle};
@@ -17,10 +17,10 @@ use crate::store::StoreRead;
 use crate::{ListedCars, ShipFault, Shipped};
 use pm_disk::Disk;
 use pm_law_saving::a_listed_copy_begins_beside_the_settled_one;
-use pm_progress::SaveFault;
+use pm_save::progress::SaveFault;
+use pm_save::writer::Writer;
 use pm_shadow::Pages;
 use pm_types::NoMemory;
-use pm_writer::Writer;
 use std::alloc::Global;
 
 /// A writer in which the copy of what was read is in progress beside that of the standby, and nothing of it was written;
@@ -59,7 +59,7 @@ fn of_saving(fault: SaveFault, before: u64, after: u64) -> ShipFault
 {
     match fault {
         SaveFault::Disk => ShipFault::OtherDisk { before, after },
-        SaveFault::Memory => ShipFault::Memory,
+        SaveFault::Memory(refused) => ShipFault::Memory(refused),
     }
 }
 
@@ -84,8 +84,10 @@ pub(crate) fn write_copy<E: Disk>(
     ensures fault { IfErr result IsWritingFault }
     ensures leaves { LeavesWritten (offered first) to.old to.new result }
 {
-    let Ok((mut writer, cars)) = begin(alloc, first, standby) else {
-        return Err(ShipFault::Memory);
+    let begun = begin(alloc, first, standby);
+    let (mut writer, cars) = match begun {
+        Ok((writer, cars)) => (writer, cars),
+        Err(refused) => return Err(ShipFault::Memory(refused)),
     };
     let written = writer.left();
     let before = to.faults();

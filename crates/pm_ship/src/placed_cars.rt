@@ -2,14 +2,14 @@
 ghost use Rattle.std.specs.Prelude.{◌≡◌, ◌<◌, ◌^◌, length, IfOk};
 ghost use Rattle.pm_image.specs.Graphs.{images_of};
 ghost use Rattle.pm_saving.specs.Beginning.{IsPlacedAs};
-ghost use Rattle.pm_progress.specs.Seen.{place_seen};
-ghost use Rattle.pm_progress.specs.Kept.{IsWithin};
-ghost use Rattle.pm_writer.specs.Planned.{IsIndex, IsPlanned};
+ghost use Rattle.pm_save.specs.Progress.Seen.{place_seen};
+ghost use Rattle.pm_save.specs.Progress.Kept.{IsWithin};
+ghost use Rattle.pm_save.specs.Writer.Planned.{IsIndex, IsPlanned};
 ghost use Rattle.pm_ship.specs.Listing.{with_trains};
 
+use pm_graphs::settled::PackedPage;
 use pm_image::{CarImage, KeptPage};
-use pm_progress::{Place, PlacedCar};
-use pm_settled::PackedPage;
+use pm_save::progress::{Place, PlacedCar};
 use pm_types::NoMemory;
 use std::alloc::Global;
 use std::collections::BTreeMap;

@@ -5,8 +5,8 @@ ghost use Rattle.pm_ship.specs.SameLists.{HaveSameLists};
 
 use crate::standby::Standby;
 use crate::store::StoreRead;
+use pm_graphs::settled::PackedPage;
 use pm_image::KeptPage;
-use pm_settled::PackedPage;
 use pm_types::{Addr, Name};
 
 /// Whether the two cars have one number and the same slots.

@@ -2,7 +2,7 @@
 ghost use Rattle.std.specs.Prelude.{◌≡◌, false, IfOk, IfErr};
 ghost use Rattle.pm_shadow.specs.Pages.{state, disk_of};
 ghost use Rattle.pm_graphs.specs.Reading.{Looked};
-ghost use Rattle.pm_progress.specs.Answers.{TellsOn};
+ghost use Rattle.pm_save.specs.Progress.Answers.{TellsOn};
 ghost use Rattle.pm_ship.specs.Begun.{MayBeOffered};
 ghost use Rattle.pm_ship.specs.SameLists.{Stands};
 ghost use Rattle.pm_ship.specs.Stores.{IsReady, IsStill, offered};
@@ -56,7 +56,7 @@ pub(crate) fn of_first(fault: OpenFault) -> ShipFault
 {
     match fault {
         OpenFault::Disk { before, after } => ShipFault::Disk { before, after },
-        OpenFault::Memory => ShipFault::Memory,
+        OpenFault::Memory(refused) => ShipFault::Memory(refused),
         refusal => ShipFault::From(refusal),
     }
 }
@@ -67,7 +67,7 @@ pub(crate) fn of_standby(fault: OpenFault) -> ShipFault
 {
     match fault {
         OpenFault::Disk { before, after } => ShipFault::OtherDisk { before, after },
-        OpenFault::Memory => ShipFault::Memory,
+        OpenFault::Memory(refused) => ShipFault::Memory(refused),
         refusal => ShipFault::To(refusal),
     }
 }

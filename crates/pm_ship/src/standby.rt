@@ -13,7 +13,7 @@ ghost use Rattle.pm_ship.specs.Stores.{IsKnownFrom, IsPackedFrom, IsReadOf, IsRe
 use crate::index::index_of;
 use crate::store::{StoreRead, read_store};
 use pm_disk::Disk;
-use pm_settled::PackedPages;
+use pm_graphs::settled::PackedPages;
 use pm_shadow::Pages;
 use pm_types::{Addr, Name, NoMemory, OpenFault};
 use std::alloc::Global;
@@ -122,8 +122,8 @@ pub(crate) fn read_standby<E: Disk>(
     ensures made { E.made (disk_of pages.new) ≡ E.made (disk_of pages.old) }
 {
     let (read, packed) = read_store(alloc, pages)?;
-    let Ok(standby) = take_standby(alloc, pages, read, packed) else {
-        return Err(OpenFault::Memory);
-    };
-    Ok(standby)
+    match take_standby(alloc, pages, read, packed) {
+        Ok(standby) => Ok(standby),
+        Err(refused) => Err(OpenFault::Memory(refused)),
+    }
 }

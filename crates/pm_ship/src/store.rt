@@ -10,9 +10,9 @@ ghost use Rattle.pm_ship.specs.Stores.{IsReadOf, IsTakenFrom};
 
 use crate::entries::part_entries;
 use pm_disk::Disk;
+use pm_graphs::settled::{PackedPage, PackedPages};
 use pm_graphs::{Chain, ReadCars, flatten, read_graph, with_cars};
 use pm_image::Settled;
-use pm_settled::{PackedPage, PackedPages};
 use pm_shadow::Pages;
 use pm_types::{Addr, Name, NoMemory, OpenFault};
 use std::alloc::Global;
@@ -132,8 +132,8 @@ pub(crate) fn read_store<D: Disk>(
     let epoch = pages.header().epoch;
     let next = pages.header().next;
     let (chain, cars) = read_pages(alloc, pages)?;
-    let Ok(taken) = take_read(alloc, chain, cars, epoch, next) else {
-        return Err(OpenFault::Memory);
-    };
-    Ok(taken)
+    match take_read(alloc, chain, cars, epoch, next) {
+        Ok(taken) => Ok(taken),
+        Err(refused) => Err(OpenFault::Memory(refused)),
+    }
 }

@@ -3,8 +3,7 @@ ghost use Rattle.std.specs.FinMap as map;
 ghost use Rattle.pm_snap.specs.Kept.{noted, Notes, KeepsNotes};
 
 use crate::Keep;
-use pm_numbered::Numbered;
-use pm_types::NoMemory;
+use pm_types::{NoMemory, Numbered};
 use std::alloc::Global;
 use std::collections::BTreeMap;
 

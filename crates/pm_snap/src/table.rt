@@ -1,4 +1,4 @@
-ghost use Rattle.std.specs.Prelude.{◌≡◌, ◌<◌, ◌≤◌, true, Some, None, IsSome, IsNone, IfOk, IfSome, IfErr, IsOk, OnOk, OnErr};
+ghost use Rattle.std.specs.Prelude.{◌≡◌, ℕ, ◌<◌, ◌≤◌, true, is_some, Some, None, IsSome, IsNone, IfOk, IfSome, IfErr, IsOk, OnOk, OnErr};
 ghost use Rattle.std.specs.Borrow.{sem};
 ghost use Rattle.std.specs.FinMap as map;
 ghost use Rattle.std.specs.FinSet as set;
@@ -10,8 +10,7 @@ ghost use Rattle.pm_snap.specs.Lending.{lends_value};
 use crate::Keep;
 use crate::freed::Freed;
 use crate::notes::{note, save};
-use pm_numbered::Numbered;
-use pm_types::NoMemory;
+use pm_types::{NoMemory, Numbered};
 use std::alloc::Global;
 use std::collections::BTreeMap;
 use std::marker::Model;
@@ -50,10 +49,12 @@ impl<T> Model for Table<T> {
 }
 
 // The next key once `key` is used: `next` itself where that is another one, and else the least key above it
-// that is not used. `None` where there is none.
+// that is not used. `None` where all keys above it are used.
 fn next_after<T>(values: &Numbered<T>, next: u64, key: u64) -> Option<u64>
     requires { map.get values.now next ≡ None }
-    ensures { IfSome result (IsNext values.now next key) }
+    ensures found { IfSome result (IsNext values.now next key) }
+    ensures none { IsNone result → (above : ℕ) → next < above → above ≤ u64.MAX
+        → is_some (map.get values.now above) ≡ true }
 {
     if key != next {
         return Some(next);
@@ -167,10 +168,12 @@ impl<T: Keep + Drop> Table<T> {
         ensures given_back { IfErr result (λ back. back.0 ≡ value) }
     {
         let Some(after) = next_after(&self.values, self.next, key) else {
-            return Err((value, NoMemory));
+            // The keys below `next` were all given once, and those above it are all used.
+            let given = (self.next - 1) + (u64::MAX - self.next);
+            return Err((value, NoMemory::uncountable(given)));
         };
         let Some(used) = self.used.checked_add(1) else {
-            return Err((value, NoMemory));
+            return Err((value, NoMemory::uncountable(self.used as u64)));
         };
         if let Err(fault) = self.freed.reserve(used) {
             return Err((value, fault));

@@ -12,7 +12,7 @@ use Rattle.pm_view.specs.Barrier.{pushed, told}
 use Rattle.pm_view.specs.Reading.{cars_of}
 use Rattle.pm_space.specs.declared.links.Links.{Links}
 use Rattle.pm_space.specs.Linked.{Linked, set_of, queue_of, sets_of, queues_of, AreHoused}
-use Rattle.pm_base.proofs.Mapped.{get-mapped}
+use Rattle.pm_types.proofs.Mapped.{get-mapped}
 
 among_there : (car : ℕ) (o : Option (List ℕ)) → IsSomeAnd o (λ cars. IsTrue (is_among car cars)) → is_among car (unwrap_or o []) ≡ true
 among_there car None there = absurd there

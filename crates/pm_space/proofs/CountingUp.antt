@@ -4,7 +4,7 @@ use Rattle.std.specs.List.{sum_by, list_any}
 use Rattle.std.proofs.lemmas.List.{get_or-map}
 use Rattle.std.proofs.lemmas.List.Folds.{list_any_at}
 use Rattle.std.proofs.lemmas.Bool.{eq-eqb}
-use Rattle.pm_base.specs.Counts.{greatest_count, capped}
+use Rattle.pm_types.specs.Counts.{greatest_count, capped}
 use Rattle.pm_trains.specs.Trains.{Train, cars_at, train_of}
 use Rattle.pm_trains.specs.Sound.{Rise}
 use Rattle.pm_trains.specs.Changes.{StandsIn}

@@ -2,8 +2,8 @@
 use Rattle.std.proofs.Common.{◌≡◌, ℕ, ap, ◌∙◌, Option, None}
 use Rattle.std.specs.Ordering.{nat_cmp}
 use Rattle.std.specs.FinMap.{empty}
-use Rattle.pm_base.specs.Mapped.{mapped}
-use Rattle.pm_base.proofs.Mapped.{mapped-empty}
+use Rattle.pm_types.specs.Mapped.{mapped}
+use Rattle.pm_types.proofs.Mapped.{mapped-empty}
 use Rattle.pm_types.specs.declared.address.Addr.{Addr}
 use Rattle.pm_trains.specs.Trains.{Trains, first_trains}
 use Rattle.pm_roots.specs.Bindings.{Bindings}

@@ -4,7 +4,7 @@ use Rattle.std.specs.Ordering.{nat_cmp}
 use Rattle.std.specs.Cmp.{nat_cmp_total}
 use Rattle.std.specs.Option.{unwrap_or}
 use Rattle.std.specs.FinMap.{get, insert, remove, empty, nat_cmp-IsAntisymmetric}
-use Rattle.pm_base.proofs.Mapped.{mapped-insert}
+use Rattle.pm_types.proofs.Mapped.{mapped-insert}
 use Rattle.pm_types.specs.declared.source.Change.{Change}
 use Rattle.pm_types.specs.declared.source.RefSource.{RefSource}
 use Rattle.pm_view.specs.Effective.{with_source}

@@ -5,7 +5,7 @@ use Rattle.pm_types.specs.declared.source.RefSource.{RefSource}
 use Rattle.pm_types.specs.declared.object.Slot.{Slot}
 use Rattle.pm_types.specs.declared.object.Slot.TheVariants.{Live, Moved}
 use Rattle.pm_cars.specs.Cars.{look_of}
-use Rattle.pm_law_rows.proofs.Spread.{stands_kept}
+use Rattle.pm_law_commands.proofs.RowLemmas.Spread.{stands_kept}
 use Rattle.pm_view.specs.View.{SpaceView}
 use Rattle.pm_view.specs.Reading.{slot_at, stored, resolve, followed, is_aside, SourceStands}
 use Rattle.pm_view.specs.Seen.{seen, IsLive, Leads}

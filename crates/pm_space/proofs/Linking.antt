@@ -6,10 +6,10 @@ use Rattle.std.specs.Option.{option_map}
 use Rattle.std.specs.FinMap.{FinMap, get, insert, remove, get-remove, same_map, nat_cmp-IsAntisymmetric}
 use Rattle.std.proofs.lemmas.Bool.Decides.{nat_tests}
 use Rattle.std.proofs.lemmas.Bool.{cases_Bool, cond-true, cond-false, eqb-true, eq-eqb}
-use Rattle.pm_base.specs.Mapped.{mapped}
-use Rattle.pm_base.proofs.Mapped.{get-mapped, mapped-insert}
+use Rattle.pm_types.specs.Mapped.{mapped}
+use Rattle.pm_types.proofs.Mapped.{get-mapped, mapped-insert}
 use Rattle.pm_types.specs.declared.source.Change.{Change}
-use Rattle.pm_law_rows.proofs.News.{at_insert}
+use Rattle.pm_law_commands.proofs.RowLemmas.News.{at_insert}
 use Rattle.pm_view.specs.Barrier.{pushed}
 use Rattle.pm_space.specs.declared.links.Links.{Links}
 use Rattle.pm_space.specs.Linked.{Linked, set_of, queue_of, sets_of, queues_of, HasRoomOf, HasRoom}

@@ -7,8 +7,8 @@ use Rattle.std.specs.FinMap.{FinMap, empty, get, insert, remove, nat_cmp-IsAntis
 use Rattle.std.specs.FinSet as set
 use Rattle.std.proofs.lemmas.Bool.Decides.{nat_tests}
 use Rattle.std.proofs.lemmas.Bool.{cases_Bool, cond-true, cond-false, eq-eqb}
-use Rattle.pm_base.specs.Mapped.{mapped}
-use Rattle.pm_base.proofs.Mapped.{get-mapped, mapped-insert}
+use Rattle.pm_types.specs.Mapped.{mapped}
+use Rattle.pm_types.proofs.Mapped.{get-mapped, mapped-insert}
 use Rattle.pm_cars.specs.Cars.{new_car}
 use Rattle.pm_trains.specs.Trains.{Train, Trains, appended, rotated, youngest, cars_at, train_of}
 use Rattle.pm_trains.specs.Changes.{cars_with_open}
@@ -16,7 +16,7 @@ use Rattle.pm_trains.proofs.Cars.{home_appended}
 use Rattle.pm_snap.specs.Snapped.{Snapped, with_value, without, is_ready, mark, IsLowestUnused}
 use Rattle.pm_snap.proofs.Shown.{none_is_not_some}
 use Rattle.pm_snap.proofs.KeySets.{contains_insert}
-use Rattle.pm_law_rows.proofs.News.{at_insert}
+use Rattle.pm_law_commands.proofs.RowLemmas.News.{at_insert}
 use Rattle.pm_view.specs.View.{Cars, Sets, Queues, SpaceView}
 use Rattle.pm_view.specs.Rows.{with_car, IsVacant}
 use Rattle.pm_space.specs.declared.held.Held.{Held}

@@ -7,8 +7,8 @@ use Rattle.pm_cars.specs.Cars.{Car, Fits, used, new_car}
 use Rattle.pm_snap.specs.Snapped.{Snapped}
 use Rattle.pm_view.specs.View.{SpaceView}
 use Rattle.pm_view.specs.Rows.{has_room, with_car}
-use Rattle.pm_law_rows.proofs.Born.{new_counts}
-use Rattle.pm_law_rows.proofs.News.{at_insert}
+use Rattle.pm_law_commands.proofs.RowLemmas.Born.{new_counts}
+use Rattle.pm_law_commands.proofs.RowLemmas.News.{at_insert}
 use Rattle.pm_space.specs.declared.held.Held.{Held}
 use Rattle.pm_space.specs.Shown as shown
 use Rattle.pm_space.specs.Places.{FitsIn}

@@ -6,12 +6,12 @@ use Rattle.std.specs.FinMap.{FinMap, get, insert, nat_cmp-IsAntisymmetric}
 use Rattle.std.specs.FinSet as set
 use Rattle.std.specs.FinSet.{FinSet}
 use Rattle.std.proofs.lemmas.Bool.{cond-true, eqb-true, eq-eqb}
-use Rattle.pm_base.proofs.Mapped.{mapped-insert}
+use Rattle.pm_types.proofs.Mapped.{mapped-insert}
 use Rattle.pm_cars.specs.Cars.{CarAndSpare}
 use Rattle.pm_types.specs.declared.no_memory.NoMemory.{NoMemory}
 use Rattle.pm_snap.specs.Snapped.{Snapped, with_value, without, mark}
 use Rattle.pm_snap.proofs.KeySets.{contains_insert}
-use Rattle.pm_law_rows.proofs.News.{at_insert}
+use Rattle.pm_law_commands.proofs.RowLemmas.News.{at_insert}
 use Rattle.pm_space.specs.declared.held.Held.{Held}
 use Rattle.pm_space.specs.Shown.{car_of, cars_of, HasBirthRoom, KeepsReady}
 use Rattle.pm_space.proofs.HeldCars.{get_car}

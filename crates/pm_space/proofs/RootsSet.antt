@@ -2,8 +2,8 @@
 use Rattle.std.proofs.Common.{◌≡◌, ℕ, List, Option, Some, None, refl, sym, ◌∙◌}
 use Rattle.std.specs.Option.{option_map}
 use Rattle.std.specs.FinMap.{get, same_map}
-use Rattle.pm_base.specs.Mapped.{mapped}
-use Rattle.pm_base.proofs.Mapped.{get-mapped}
+use Rattle.pm_types.specs.Mapped.{mapped}
+use Rattle.pm_types.proofs.Mapped.{get-mapped}
 use Rattle.pm_types.specs.declared.address.Addr.{Addr}
 use Rattle.pm_types.specs.Orders.{name_cmp}
 use Rattle.pm_types.proofs.Orders.{names_total, names_antisymmetric}

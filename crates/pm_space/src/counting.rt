@@ -4,7 +4,7 @@ ghost use Rattle.pm_trains.specs.Trains.{train_of, cars_at};
 ghost use Rattle.pm_view.specs.Counts.{standing_in, standing, old};
 ghost use Rattle.pm_space.specs.Counted.{AreAllHoused};
 ghost use Rattle.pm_space.specs.Shown.{view};
-ghost use Rattle.pm_base.specs.Counts.{capped};
+ghost use Rattle.pm_types.specs.Counts.{capped};
 
 use crate::barrier::is_aside;
 use crate::parts::Parts;

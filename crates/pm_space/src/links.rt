@@ -5,9 +5,8 @@ ghost use Rattle.pm_view.specs.Effective.{with_source};
 ghost use Rattle.pm_space.specs.Linked.{sets_of, queues_of, HasRoom, UsesRoom, Tells, waiting, took_front, with_front, without_front, without_source};
 
 use pm_delta::Queue;
-use pm_numbered::Numbered;
 use pm_remset::Remset;
-use pm_types::{Change, NoMemory, RefSource};
+use pm_types::{Change, NoMemory, Numbered, RefSource};
 use std::alloc::Global;
 use std::marker::Model;
 

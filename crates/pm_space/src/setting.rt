@@ -1,5 +1,5 @@
 ghost use Rattle.std.specs.Prelude.{◌≡◌, IfSome, IsSome, OnOk, OnErr};
-ghost use Rattle.pm_base.specs.Mapped.{mapped};
+ghost use Rattle.pm_types.specs.Mapped.{mapped};
 ghost use Rattle.pm_cars.specs.Cars.{with_field};
 ghost use Rattle.pm_roots.specs.Bindings.{address_at};
 ghost use Rattle.pm_view.specs.Rows.{readdressed, with_object, with_stored, HasValue};

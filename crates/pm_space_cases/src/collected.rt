@@ -1,10 +1,9 @@
 //! Commands that are drawn, with the collector's events between them, beside the plain slow program, which collects
 //! nothing.
 
-ghost use Rattle.std.specs.Prelude.{◌≡◌, ◌<◌, true};
+ghost use Rattle.std.specs.Prelude.{◌<◌, true};
 ghost use Rattle.pm_types.specs.declared.limits.TheConstants.{CLIENTS};
 ghost use Rattle.pm_place.specs.Choosers.{IsChooser};
-ghost use Rattle.pm_view.specs.Commands.{is_act};
 
 use crate::beside::{Beside, ask, new_beside, push_drawn, tell, tell_drawn};
 use crate::drawn::{name, next_draw};

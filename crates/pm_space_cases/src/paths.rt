@@ -1,9 +1,9 @@
 //! Paths that are found in a space, and others that are none.
 
 use pm_case_text::{Fault, push_filled, push_text, push_words, refuse};
-use pm_paths::{Path, PathStep, check_path, find_path, path_text};
 use pm_space::Space;
 use pm_types::{Id, Name};
+use pm_walk::paths::{Path, PathStep, check_path, find_path, path_text};
 use std::alloc::Global;
 
 // How many changes a path of so many steps has: one of each index, one of each identity, six of the whole, and one more

@@ -2,7 +2,7 @@
 use Rattle.std.proofs.Common.{◌≡◌, ◌⊎◌, inl, inr, ℕ, List, [], Option, Some, refl, subst, arith}
 use Rattle.std.proofs.Math.Logic.{∥∥₁_elim}
 use Rattle.std.proofs.Props.{props}
-use Rattle.pm_base.specs.Counts.{Rose, ShowsRise}
+use Rattle.pm_types.specs.Counts.{Rose, ShowsRise}
 use Rattle.pm_types.specs.declared.entry.Entry.{Entry}
 use Rattle.pm_disk.specs.declared.disk.Disk as disk
 use Rattle.pm_io.specs.declared.source.Source as source
@@ -11,21 +11,21 @@ use Rattle.pm_script.proofs.BadLaws.{no_fault}
 use Rattle.pm_dump.specs.Dump.{Dump as Dumped}
 use Rattle.pm_words.specs.declared.command.Command.{Command}
 use Rattle.pm_words.specs.declared.command.Command.TheVariants.{Init, Run, RunThreads, Inspect, Dump, Restore, Why, Make, Trial}
-use Rattle.pm_runs.specs.ends.declared.ended.Detail.{Detail}
-use Rattle.pm_runs.specs.ends.declared.ended.Detail.TheVariants.{Fine, Usage, Script, Dump as BadDump, Reading, Writing, Device, NotEmpty, Refused, Standby, Ahead, Foreign, OtherDevice, Memory}
-use Rattle.pm_runs.specs.ends.declared.ended.Alone.{Alone as Ended}
-use Rattle.pm_runs.specs.ends.Ends.{ShowsReading, ShowsWriting, ShowsDevice, status_of}
-use Rattle.pm_runs.specs.ends.Stages.{IsPast, the_words}
-use Rattle.pm_runs.specs.ends.Journals.{IsScriptEnd}
-use Rattle.pm_runs.specs.ends.Disks.{IsRefusedFor}
+use Rattle.pm_runs.specs.declared.ends.ended.Detail.{Detail}
+use Rattle.pm_runs.specs.declared.ends.ended.Detail.TheVariants.{Fine, Usage, Script, Dump as BadDump, Reading, Writing, Device, NotEmpty, Refused, Standby, Ahead, Foreign, OtherDevice, Memory}
+use Rattle.pm_runs.specs.declared.ends.ended.Alone.{Alone as Ended}
+use Rattle.pm_runs.specs.Ends.Ends.{ShowsReading, ShowsWriting, ShowsDevice, status_of}
+use Rattle.pm_runs.specs.Ends.Stages.{IsPast, the_words}
+use Rattle.pm_runs.specs.Ends.Journals.{IsScriptEnd}
+use Rattle.pm_runs.specs.Ends.Disks.{IsRefusedFor}
 use Rattle.pm_top.specs.Stores.{LeavesMade, LeavesRestored}
 use Rattle.pm_top.specs.Dumps.{HoldsDump, RefusesBytes}
 use Rattle.pm_runs.specs.declared.writes.Writes.TheVariants.{Replies}
-use Rattle.pm_runs.specs.ends.Causes.{ShowsCauses}
+use Rattle.pm_runs.specs.Ends.Causes.{ShowsCauses}
 use Rattle.pm_top.specs.Commands.{EndsTelling, EndsMaking, EndsRestoring, EndsTrying, Does}
 use Rattle.pm_runs.specs.Runs.{RunsStore}
 use Rattle.pm_top.specs.Needs.{HasNeeds, HoldsScript, HoldsStore, NothingFails}
-use Rattle.pm_runs.proofs.ends.Opened.{never_shut}
+use Rattle.pm_runs.proofs.EndsLemmas.Opened.{never_shut}
 use Rattle.pm_top.proofs.Restored.{no_dump_fault}
 
 abbrev pub IsComplete : Detail → Type 0
@@ -64,7 +64,7 @@ may_once (Ahead to from) = hlevel props
 may_once (Foreign number) = hlevel props
 may_once (OtherDevice before after) = hlevel props
 may_once (Refused fault) = hlevel props
-may_once (Memory opened) = hlevel props
+may_once (Memory opened _) = hlevel props
 
 module _ {D : Type 0} (d : disk.Ghosts D) where
   make_ends : (start end : D) (detail : Detail) → LeavesMade d start end detail → d.contents start ≡ Some [] → MayEnd detail
@@ -84,7 +84,7 @@ module _ {D : Type 0} (d : disk.Ghosts D) where
   make_ends start end (Foreign number) makes empty = makes
   make_ends start end (OtherDevice before after) makes empty = makes
   make_ends start end (Refused fault) makes empty = makes
-  make_ends start end (Memory opened) makes empty = tt
+  make_ends start end (Memory opened _) makes empty = tt
 
 run_ends : (told read : Option (List ℕ)) (store : HoldsStore told) (script : HoldsScript read) (detail : Detail) (journal : List Entry)
     → IsPast the_words detail → IsScriptEnd script.bytes detail → IsRefusedFor store.bytes detail → MayEnd detail
@@ -101,7 +101,7 @@ run_ends told read store script (Ahead to from) journal past bad refused = absur
 run_ends told read store script (Foreign number) journal past bad refused = absurd (omega (arith, past))
 run_ends told read store script (OtherDevice before after) journal past bad refused = absurd (omega (arith, past))
 run_ends told read store script (Refused fault) journal past bad refused = never_shut store.bytes store.number store.copy fault store.stands refused
-run_ends told read store script (Memory opened) journal past bad refused = tt
+run_ends told read store script (Memory opened _) journal past bad refused = tt
 
 telling_ends : (told : Option (List ℕ)) (store : HoldsStore told) (detail : Detail) → EndsTelling detail → IsRefusedFor store.bytes detail → MayEnd detail
 telling_ends told store Fine ends refused = tt
@@ -117,7 +117,7 @@ telling_ends told store (Ahead to from) ends refused = ends
 telling_ends told store (Foreign number) ends refused = ends
 telling_ends told store (OtherDevice before after) ends refused = ends
 telling_ends told store (Refused fault) ends refused = never_shut store.bytes store.number store.copy fault store.stands refused
-telling_ends told store (Memory opened) ends refused = tt
+telling_ends told store (Memory opened _) ends refused = tt
 
 make_script_ends : (detail : Detail) → EndsMaking detail → MayEnd detail
 make_script_ends Fine ends = tt
@@ -133,7 +133,7 @@ make_script_ends (Ahead to from) ends = ends
 make_script_ends (Foreign number) ends = ends
 make_script_ends (OtherDevice before after) ends = ends
 make_script_ends (Refused fault) ends = ends
-make_script_ends (Memory opened) ends = tt
+make_script_ends (Memory opened _) ends = tt
 
 module _ {D : Type 0} (d : disk.Ghosts D) where
   restore_ends : (read : Option (List ℕ)) (holds : HoldsDump read) (dump : Dumped) (start end : D) (detail : Detail) → EndsRestoring detail → RefusesBytes holds.bytes detail
@@ -151,7 +151,7 @@ module _ {D : Type 0} (d : disk.Ghosts D) where
   restore_ends read holds dump start end (Foreign number) ends refuses leaves empty = ends
   restore_ends read holds dump start end (OtherDevice before after) ends refuses leaves empty = ends
   restore_ends read holds dump start end (Refused fault) ends refuses leaves empty = ends
-  restore_ends read holds dump start end (Memory opened) ends refuses leaves empty = tt
+  restore_ends read holds dump start end (Memory opened _) ends refuses leaves empty = tt
 
 -- a trial ends as what tells of a store may
 trial_ends : (detail : Detail) → EndsTrying detail → EndsTelling detail
@@ -168,7 +168,7 @@ trial_ends (Ahead to from) ends = ends
 trial_ends (Foreign number) ends = ends
 trial_ends (OtherDevice before after) ends = ends
 trial_ends (Refused fault) ends = tt
-trial_ends (Memory opened) ends = tt
+trial_ends (Memory opened _) ends = tt
 
 -- where nothing failed, no end of those is left but two
 stands_done : (detail : Detail) (source_was source_now sink_was sink_now disk_was disk_now : ℕ) → MayEnd detail
@@ -187,7 +187,7 @@ stands_done (Ahead to from) a b c d e f may reading writing device source sink d
 stands_done (Foreign number) a b c d e f may reading writing device source sink disk = absurd may
 stands_done (OtherDevice before after) a b c d e f may reading writing device source sink disk = absurd may
 stands_done (Refused fault) a b c d e f may reading writing device source sink disk = absurd may
-stands_done (Memory opened) a b c d e f may reading writing device source sink disk = inr refl
+stands_done (Memory opened _) a b c d e f may reading writing device source sink disk = inr refl
 
 module _ {D S K : Type 0} (d : disk.Ghosts D) (s : source.Ghosts S) (k : sink.Ghosts K) where
   may_end : (command : Command) (disk : D) (source : S) (sink : K) (it : Ended D S K)

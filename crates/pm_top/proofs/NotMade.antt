@@ -7,10 +7,10 @@ use Rattle.pm_disk.specs.Disk.{IfTold, SameImages}
 use Rattle.pm_io.specs.declared.source.Source as source
 use Rattle.pm_io.specs.declared.sink.Sink as sink
 use Rattle.pm_shadow.specs.Init.{IsInitFault, IsInitFaultOf, UnlessFailed, KeepsBytes}
-use Rattle.pm_runs.specs.ends.declared.ended.Alone.{Alone as Ended}
-use Rattle.pm_runs.specs.ends.Ends.{not_made}
-use Rattle.pm_runs.specs.ends.Causes.{ShowsCauses}
-use Rattle.pm_runs.proofs.ends.Parts.{with_parts}
+use Rattle.pm_runs.specs.declared.ends.ended.Alone.{Alone as Ended}
+use Rattle.pm_runs.specs.Ends.Ends.{not_made}
+use Rattle.pm_runs.specs.Ends.Causes.{ShowsCauses}
+use Rattle.pm_runs.proofs.EndsLemmas.Parts.{with_parts}
 use Rattle.pm_top.specs.Stores.{LeavesMade}
 
 pub none_made : {D : Type 0} (d : disk.Ghosts D) (before after : ℕ) (start end : D) (fault : InitFault)
@@ -19,7 +19,7 @@ pub none_made : {D : Type 0} (d : disk.Ghosts D) (before after : ℕ) (start end
     → KeepsBytes (d.contents start) (d.contents end) (d.image start) (d.image end) → LeavesMade d start end (not_made fault)
 none_made d before after start end (NotEmpty n) fault cause still kept = (cause.0, fault, still.0, still.1)
 none_made d before after start end (Disk b a) fault cause still kept = kept
-none_made d before after start end Memory fault cause still kept = still
+none_made d before after start end (Memory _) fault cause still kept = still
 
 module _ {D S K : Type 0} (d : disk.Ghosts D) (s : source.Ghosts S) (k : sink.Ghosts K) where
   -- no store was made
@@ -28,4 +28,4 @@ module _ {D S K : Type 0} (d : disk.Ghosts D) (s : source.Ghosts S) (k : sink.Gh
       → ShowsCauses d s k disk source sink (with_parts it (not_made fault) None end source sink)
   init_causes disk end source sink it (NotEmpty bytes) cause reads = record { reading = refl; writing = refl; device = cause.1; rule = tt; opened = tt; reads = reads }
   init_causes disk end source sink it (Disk before after) cause reads = record { reading = refl; writing = tt; device = cause; rule = tt; opened = refl; reads = reads }
-  init_causes disk end source sink it Memory cause reads = record { reading = refl; writing = tt; device = cause; rule = tt; opened = refl; reads = reads }
+  init_causes disk end source sink it (Memory _) cause reads = record { reading = refl; writing = tt; device = cause; rule = tt; opened = refl; reads = reads }

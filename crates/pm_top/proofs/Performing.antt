@@ -1,5 +1,6 @@
 -- What each command does, where nothing was called, and where it writes one text.
 use Rattle.std.proofs.Common.{false, inl, ◌≡◌, ℕ, ◌<◌, List, [], None, refl, arith}
+use Rattle.pm_types.specs.Memory.{no_memory}
 use Rattle.pm_types.specs.declared.entry.Entry.{Entry}
 use Rattle.pm_disk.specs.declared.disk.Disk as disk
 use Rattle.pm_disk.specs.Disk.{SameImages}
@@ -9,58 +10,58 @@ use Rattle.pm_io.specs.declared.sink.Sink as sink
 use Rattle.pm_script.specs.declared.line.Line.{Line}
 use Rattle.pm_script.specs.Script.{IsScript}
 use Rattle.pm_make.specs.Made.{made_text}
-use Rattle.pm_tell.specs.Told.{Telling, Reports, Dumps, GivesPath}
+use Rattle.pm_inspect.specs.Tell.Told.{Telling, Reports, Dumps, GivesPath}
 use Rattle.pm_words.specs.declared.command.Command.{Command}
 use Rattle.pm_words.specs.declared.command.Command.TheVariants.{Init, Run, RunThreads, Inspect, Dump, Restore, Why, Make, Trial}
-use Rattle.pm_runs.specs.ends.declared.ended.Detail.{Detail}
-use Rattle.pm_runs.specs.ends.declared.ended.Detail.TheVariants.{Fine, Usage, Script, Dump as BadDump, Reading, Writing, Device, NotEmpty, Refused, Standby, Ahead, Foreign, OtherDevice, Memory}
-use Rattle.pm_runs.specs.ends.declared.ended.Alone.{Alone as Ended}
+use Rattle.pm_runs.specs.declared.ends.ended.Detail.{Detail}
+use Rattle.pm_runs.specs.declared.ends.ended.Detail.TheVariants.{Fine, Usage, Script, Dump as BadDump, Reading, Writing, Device, NotEmpty, Refused, Standby, Ahead, Foreign, OtherDevice, Memory}
+use Rattle.pm_runs.specs.declared.ends.ended.Alone.{Alone as Ended}
 use Rattle.pm_runs.specs.declared.writes.Writes.{Writes}
 use Rattle.pm_runs.specs.declared.writes.Writes.TheVariants.{Replies, Digest}
-use Rattle.pm_runs.specs.ends.Stages.{IsPast, unreached, the_words, the_store}
-use Rattle.pm_runs.specs.ends.Journals.{ReadsScript, ServesInOrder, ServesLines}
-use Rattle.pm_runs.specs.ends.Wrote.{WroteText}
-use Rattle.pm_runs.specs.ends.Causes.{ShowsCauses}
+use Rattle.pm_runs.specs.Ends.Stages.{IsPast, unreached, the_words, the_store}
+use Rattle.pm_runs.specs.Ends.Journals.{ReadsScript, ServesInOrder, ServesLines}
+use Rattle.pm_runs.specs.Ends.Wrote.{WroteText}
+use Rattle.pm_runs.specs.Ends.Causes.{ShowsCauses}
 use Rattle.pm_runs.specs.Runs.{RunsStore}
 use Rattle.pm_top.specs.Commands.{EndsTrying, TriesScript, TellsStore, Does}
-use Rattle.pm_runs.proofs.ends.Parts.{with_parts}
-use Rattle.pm_runs.proofs.ends.Opened.{uncalled_run}
+use Rattle.pm_runs.proofs.EndsLemmas.Parts.{with_parts}
+use Rattle.pm_runs.proofs.EndsLemmas.Opened.{uncalled_run}
 use Rattle.pm_runs.proofs.Stores.{store_unrun}
-use Rattle.pm_runs.proofs.ends.Scripts.{order_read, script_read, script_unknown, unordered, unserved}
+use Rattle.pm_runs.proofs.EndsLemmas.Scripts.{order_read, script_read, script_unknown, unordered, unserved}
 
 module _ {K : Type 0} (k : sink.Ghosts K) where
   -- no text was written
-  untouched_text : (sink : K) (text : List ℕ) → WroteText k sink sink text (Memory false)
+  untouched_text : (sink : K) (text : List ℕ) → WroteText k sink sink text (Memory false no_memory)
   untouched_text sink text = record { all = λ never. absurd never; all_finished = λ never. absurd never; part = λ never. absurd never; none = λ not. refl }
 
 -- no byte was read
-pub unread : (bytes : List ℕ) (journal : List Entry) → journal ≡ [] → ReadsScript bytes (Memory false) journal None
-unread bytes journal empty = unserved bytes (Memory false) journal empty (script_unknown bytes (Memory false) tt (λ fault. tt) (λ past. absurd (omega arith)))
+pub unread : (bytes : List ℕ) (journal : List Entry) → journal ≡ [] → ReadsScript bytes (Memory false no_memory) journal None
+unread bytes journal empty = unserved bytes (Memory false no_memory) journal empty (script_unknown bytes (Memory false no_memory) tt (λ fault. tt) (λ past. absurd (omega arith)))
 
 module _ {D S K : Type 0} (d : disk.Ghosts D) (k : sink.Ghosts K) where
   -- ---- nothing was called
 
   untouched_store : (writes : Writes) (disk : D) (source : S) (sink : K) (it : Ended D S K) → it.journal.items ≡ []
       → ((at : List ℕ) → d.since disk (d.moment disk) at → d.image disk at)
-      → RunsStore d k writes disk sink (with_parts it (Memory false) None disk source sink)
+      → RunsStore d k writes disk sink (with_parts it (Memory false no_memory) None disk source sink)
   untouched_store writes disk source sink it empty now =
-      store_unrun d k writes disk disk source sink it (Memory false) empty (λ past. absurd (omega arith))
-      (uncalled_run d disk (Memory false) now (λ past. absurd (omega arith)) (λ bytes. tt))
+      store_unrun d k writes disk disk source sink it (Memory false no_memory) empty (λ past. absurd (omega arith))
+      (uncalled_run d disk (Memory false no_memory) now (λ past. absurd (omega arith)) (λ bytes. tt))
 
   pub untouched_trial : (seed turns : ℕ) (disk : D) (source : S) (sink : K) (it : Ended D S K) → it.journal.items ≡ []
       → ((at : List ℕ) → d.since disk (d.moment disk) at → d.image disk at)
-      → TriesScript d k seed turns disk source sink (with_parts it (Memory false) None disk source sink)
+      → TriesScript d k seed turns disk source sink (with_parts it (Memory false no_memory) None disk source sink)
   untouched_trial seed turns disk source sink it empty now = record {
     ends = tt;
     script = unread (made_text seed turns) it.journal.items empty;
-    order = unordered (made_text seed turns) (Memory false) it.journal.items empty (λ past. absurd (omega (arith, past)));
+    order = unordered (made_text seed turns) (Memory false no_memory) it.journal.items empty (λ past. absurd (omega (arith, past)));
     store = untouched_store Digest disk source sink it empty now;
     source_stays = refl;
   }
 
   pub untouched_telling : (Says : Telling) (disk : D) (source : S) (sink : K) (it : Ended D S K) → it.journal.items ≡ []
       → ((at : List ℕ) → d.since disk (d.moment disk) at → d.image disk at)
-      → TellsStore d k Says disk source sink (with_parts it (Memory false) None disk source sink)
+      → TellsStore d k Says disk source sink (with_parts it (Memory false no_memory) None disk source sink)
   untouched_telling Says disk source sink it empty now = record {
     ends = tt;
     text = [];
@@ -105,12 +106,12 @@ module _ {D S K : Type 0} (d : disk.Ghosts D) (k : sink.Ghosts K) where
       by (Foreign number) past reached = absurd (omega (arith, past))
       by (OtherDevice before after) past reached = absurd (omega (arith, past))
       by (Refused fault) past reached = tt
-      by (Memory opened) past reached = tt
+      by (Memory opened _) past reached = tt
 
 module _ {D S K : Type 0} (d : disk.Ghosts D) (s : source.Ghosts S) (k : sink.Ghosts K) where
   pub untouched_does : (command : Command) (disk : D) (source : S) (sink : K) (it : Ended D S K) → it.journal.items ≡ []
       → ((at : List ℕ) → d.since disk (d.moment disk) at → d.image disk at) → SameImages (d.image disk) (d.image disk)
-      → Does d s k command disk source sink (with_parts it (Memory false) None disk source sink)
+      → Does d s k command disk source sink (with_parts it (Memory false no_memory) None disk source sink)
   untouched_does Init disk source sink it empty now same = record {
     makes = (refl, same);
     leaves = λ bytes told some. started d.moment d.since disk (d.image disk) now;
@@ -123,7 +124,7 @@ module _ {D S K : Type 0} (d : disk.Ghosts D) (s : source.Ghosts S) (k : sink.Gh
     ends = omega arith;
     read = λ past. absurd (omega (arith, past));
     script = λ bytes told. unread bytes it.journal.items empty;
-    order = λ bytes told. unordered bytes (Memory false) it.journal.items empty (λ past. absurd (omega (arith, past)));
+    order = λ bytes told. unordered bytes (Memory false no_memory) it.journal.items empty (λ past. absurd (omega (arith, past)));
     store = untouched_store d k Replies disk source sink it empty now;
     saved = tt;
   }
@@ -163,5 +164,5 @@ module _ {D S K : Type 0} (d : disk.Ghosts D) (s : source.Ghosts S) (k : sink.Gh
   untouched_does (Trial seed turns) disk source sink it empty now same = untouched_trial d k seed turns disk source sink it empty now
 
   -- nothing was called
-  pub memory_causes : (disk : D) (source : S) (sink : K) (it : Ended D S K) → ShowsCauses d s k disk source sink (with_parts it (Memory false) None disk source sink)
+  pub memory_causes : (disk : D) (source : S) (sink : K) (it : Ended D S K) → ShowsCauses d s k disk source sink (with_parts it (Memory false no_memory) None disk source sink)
   memory_causes disk source sink it = record { reading = refl; writing = tt; device = refl; rule = tt; opened = refl; reads = refl }

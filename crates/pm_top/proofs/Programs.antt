@@ -2,9 +2,9 @@
 use Rattle.std.proofs.Common.{ℕ, arith, List, [], ◌++◌, length, Option, Some, sym, ap, ◌∙◌}
 use Rattle.std.proofs.lemmas.List.{append-nil}
 use Rattle.std.proofs.Math.Seq.{take-length}
-use Rattle.pm_base.specs.Counts.{Rose}
+use Rattle.pm_types.specs.Counts.{Rose}
 use Rattle.pm_io.specs.declared.sink.Sink as sink
-use Rattle.pm_output.specs.Writing.{PutsAll, PutsPart}
+use Rattle.pm_serial.specs.Output.Writing.{PutsAll, PutsPart}
 use Rattle.pm_top.specs.Program.{Tells}
 
 module _ {E : Type 0} (e : sink.Ghosts E) where

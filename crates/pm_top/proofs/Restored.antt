@@ -1,5 +1,5 @@
 -- How restoring a dump ends, and how it leaves the disk, from its parts.
-use Rattle.std.proofs.Common.{◌≡◌, ◌⊎◌, inl, inr, ℕ, ◌<◌, ◌≤◌, List, [], length, Option, Some, None, refl, sym, ap, subst, ◌∙◌, arith}
+use Rattle.std.proofs.Common.{◌≡◌, inl, inr, ℕ, ◌<◌, ◌≤◌, List, [], length, Option, Some, None, refl, sym, ap, subst, ◌∙◌, arith}
 use Rattle.std.specs.Prelude.{option_map}
 use Rattle.pm_types.specs.declared.limits.TheConstants.{SOURCE_BYTES}
 use Rattle.pm_types.specs.declared.fault.InitFault.{InitFault}
@@ -14,62 +14,32 @@ use Rattle.pm_model.specs.World.{empty_copy}
 use Rattle.pm_image.specs.Blank.{blank_store}
 use Rattle.pm_image.specs.Stands.{StandsForCopy}
 use Rattle.pm_image.proofs.BlankLaws.{blank_stands}
-use Rattle.pm_shadow.specs.Init.{IsInitFault}
 use Rattle.pm_shadow.specs.Pages.{disk_of}
 use Rattle.pm_shadow.specs.declared.pages.Pages.{Pages}
-use Rattle.pm_progress.specs.declared.fault.SaveFault.{SaveFault}
-use Rattle.pm_progress.specs.declared.fault.SaveFault.TheVariants as save_fault
-use Rattle.pm_progress.specs.Answers.{IfMemory, IsFaultOf}
-use Rattle.pm_script.specs.declared.fault.ScriptFault.{ScriptFault}
-use Rattle.pm_script.specs.declared.fault.ScriptFault.TheVariants.{Line as BadLine, TooManyLines, TooLong, Memory as ScriptMemory}
+use Rattle.pm_save.specs.declared.progress.fault.SaveFault.TheVariants as save_fault
 use Rattle.pm_dump.specs.declared.fault.DumpFault.{DumpFault}
 use Rattle.pm_dump.specs.declared.fault.DumpFault.TheVariants as dump_fault
 use Rattle.pm_dump.specs.Dump.{Dump}
 use Rattle.pm_dump.specs.Spelled.{Spells}
 use Rattle.pm_dump.specs.Sound.{IsSoundDump}
 use Rattle.pm_dump.specs.Answers.{IsDumpFault}
-use Rattle.pm_dump.proofs.DumpLaws.{not_both, one_fault}
-use Rattle.pm_restore.specs.Restored.{IsRestored, LeavesEither, LeavesEmpty}
-use Rattle.pm_runs.specs.ends.declared.ended.Detail.{Detail}
-use Rattle.pm_runs.specs.ends.declared.ended.Detail.TheVariants.{Fine, Usage, Script, Dump as BadDump, Reading, Writing, Device, NotEmpty, Refused, Standby, Ahead, Foreign, OtherDevice, Memory}
-use Rattle.pm_runs.specs.ends.declared.ended.Alone.{Alone as Ended}
-use Rattle.pm_runs.specs.ends.Ends.{IsOfScript, ShowsDevice, ShowsReading, no_dump, not_made, not_settled}
+use Rattle.pm_dump.proofs.DumpLaws.{not_both}
+use Rattle.pm_restore.specs.Restored.{IsRestored, LeavesEither}
+use Rattle.pm_runs.specs.declared.ends.ended.Detail.{Detail}
+use Rattle.pm_runs.specs.declared.ends.ended.Detail.TheVariants.{Fine, Usage, Script, Dump as BadDump, Reading, Writing, Device, NotEmpty, Refused, Standby, Ahead, Foreign, OtherDevice, Memory}
+use Rattle.pm_runs.specs.declared.ends.ended.Alone.{Alone as Ended}
+use Rattle.pm_runs.specs.Ends.Ends.{not_made}
 use Rattle.pm_top.specs.Stores.{LeavesMade, LeavesRestored, LeavesSettled}
 use Rattle.pm_top.specs.Dumps.{EndsSettling, EndsUnrestored, HasDump, IsDumpEnd, IsReadWhole, RefusesBytes}
 use Rattle.pm_top.specs.Commands.{EndsRestoring, RestoresStore}
-use Rattle.pm_runs.specs.ends.Causes.{ShowsCauses}
-use Rattle.pm_runs.proofs.ends.Parts.{with_parts}
+use Rattle.pm_runs.proofs.EndsLemmas.Parts.{with_parts}
 
 -- ---- what is read
 
 -- a dump has no fault
 pub no_dump_fault : (bytes : List ℕ) (dump : Dump) (fault : DumpFault) → Spells bytes dump → IsSoundDump dump → IsDumpFault fault bytes → ⊥
 no_dump_fault bytes dump (dump_fault.Line number cause) spelled sound is = not_both bytes dump number cause spelled sound is
-no_dump_fault bytes dump dump_fault.Memory spelled sound is = is
-
--- bytes have one fault at most
-pub one_dump_fault : (bytes : List ℕ) (one other : DumpFault) → IsDumpFault one bytes → IsDumpFault other bytes → one ≡ other
-one_dump_fault bytes (dump_fault.Line n c) (dump_fault.Line m b) is too = let same = one_fault bytes n m c b is too in λ i. dump_fault.Line (same.0 i) (same.1 i)
-one_dump_fault bytes (dump_fault.Line n c) dump_fault.Memory is too = absurd too
-one_dump_fault bytes dump_fault.Memory other is too = absurd is
-
--- bytes that are not read as a dump
-pub refused_bytes : (bytes : List ℕ) (fault : DumpFault) → length bytes ≤ SOURCE_BYTES → (fault ≡ dump_fault.Memory) ⊎ IsDumpFault fault bytes → RefusesBytes bytes (no_dump fault)
-refused_bytes bytes (dump_fault.Line number cause) short (inl never) = absurd (cc never)
-refused_bytes bytes (dump_fault.Line number cause) short (inr is) = record {
-  refused = is;
-  told = λ fault few too. one_dump_fault bytes (dump_fault.Line number cause) fault is too;
-  long = λ long. absurd (omega (arith, long, short));
-}
-refused_bytes bytes dump_fault.Memory short is = record { refused = tt; told = λ fault few too. tt; long = λ long. tt }
-
-pub ends_no_dump : (fault : DumpFault) → EndsUnrestored (no_dump fault)
-ends_no_dump (dump_fault.Line number cause) = tt
-ends_no_dump dump_fault.Memory = refl
-
-pub reading_no_dump : (fault : DumpFault) (before after : ℕ) → after ≡ before → ShowsReading (no_dump fault) before after
-reading_no_dump (dump_fault.Line number cause) before after same = same
-reading_no_dump dump_fault.Memory before after same = same
+no_dump_fault bytes dump (dump_fault.Memory _) spelled sound is = is
 
 -- a dump was read, so its bytes are not refused
 pub taken_bytes : (bytes : List ℕ) (dump : Dump) (detail : Detail) → EndsSettling detail → length bytes ≤ SOURCE_BYTES → Spells bytes dump → IsSoundDump dump → RefusesBytes bytes detail
@@ -93,38 +63,14 @@ taken_bytes bytes dump detail ends short spelled sound = record {
     by (Foreign number) ends = tt
     by (OtherDevice before after) ends = tt
     by (Refused fault) ends = tt
-    by (Memory opened) ends = tt
+    by (Memory opened _) ends = tt
 
 -- ---- settling
-
-pub ends_settled : (fault : SaveFault) (before after : ℕ) → EndsSettling (not_settled fault before after)
-ends_settled save_fault.Disk before after = refl
-ends_settled save_fault.Memory before after = refl
-
-pub device_settled : (fault : SaveFault) (before after : ℕ) → IsFaultOf before after fault → ShowsDevice (not_settled fault before after) before after
-device_settled save_fault.Disk before after rose = (refl, refl, rose)
-device_settled save_fault.Memory before after same = same
-
-pub ends_not_made : (fault : InitFault) → EndsSettling (not_made fault)
-ends_not_made (init_fault.NotEmpty n) = tt
-ends_not_made (init_fault.Disk before after) = refl
-ends_not_made init_fault.Memory = refl
-
-pub device_not_made : (before after : ℕ) (fault : InitFault) → IsInitFault before after fault → ShowsDevice (not_made fault) before after
-device_not_made before after (init_fault.NotEmpty n) cause = cause.1
-device_not_made before after (init_fault.Disk b a) cause = cause
-device_not_made before after init_fault.Memory cause = cause
 
 module _ {D : Type 0} (d : disk.Ghosts D) where
   -- it was settled
   pub leaves_settled : (dump : Dump) (before after : Pages D d) → LeavesEither dump before after → IsRestored dump before after → LeavesSettled d dump (disk_of before) (disk_of after) Fine
   leaves_settled dump before after leaves restored was told = (leaves was told, restored.laid was told, restored.stands was told)
-
-  -- it was not
-  pub leaves_unsettled : (dump : Dump) (before after : Pages D d) (fault : SaveFault) (b a : ℕ) → LeavesEither dump before after → IfMemory (LeavesEmpty before after) fault
-      → LeavesSettled d dump (disk_of before) (disk_of after) (not_settled fault b a)
-  leaves_unsettled dump before after save_fault.Disk b a leaves empty = leaves
-  leaves_unsettled dump before after save_fault.Memory b a leaves empty = empty
 
   -- what is told of a store that was just made
   pub blank_told : (was now : Option (List ℕ)) → now ≡ option_map (λ (bytes : List ℕ). blank_store) was → IfTold now (λ bytes. bytes ≡ blank_store)
@@ -153,13 +99,13 @@ module _ {D : Type 0} (d : disk.Ghosts D) where
   then_settled dump start made end (Foreign number) ends calls store settles = absurd settles
   then_settled dump start made end (OtherDevice before after) ends calls store settles = absurd settles
   then_settled dump start made end (Refused fault) ends calls store settles = absurd ends
-  then_settled dump start made end (Memory opened) ends calls store settles = inr (record { made = made; calls = calls; store = store; settles = settles })
+  then_settled dump start made end (Memory opened _) ends calls store settles = inr (record { made = made; calls = calls; store = store; settles = settles })
 
   -- none was made
   pub none_restored : (dump : Dump) (start end : D) (fault : InitFault) → LeavesMade d start end (not_made fault) → LeavesRestored d dump start end (not_made fault)
   none_restored dump start end (init_fault.NotEmpty n) leaves = leaves
   none_restored dump start end (init_fault.Disk b a) leaves = inl leaves
-  none_restored dump start end init_fault.Memory leaves = inl leaves
+  none_restored dump start end (init_fault.Memory _) leaves = inl leaves
 
   -- the disk was not called
   pub uncalled_restored : (dump : Dump) (start : D) (detail : Detail) → EndsUnrestored detail → SameImages (d.image start) (d.image start) → LeavesRestored d dump start start detail
@@ -176,7 +122,7 @@ module _ {D : Type 0} (d : disk.Ghosts D) where
   uncalled_restored dump start (Foreign number) ends same = absurd ends
   uncalled_restored dump start (OtherDevice before after) ends same = absurd ends
   uncalled_restored dump start (Refused fault) ends same = refl
-  uncalled_restored dump start (Memory opened) ends same = inl (refl, same)
+  uncalled_restored dump start (Memory opened _) ends same = inl (refl, same)
 
 -- ---- the ends of the command
 
@@ -194,7 +140,7 @@ ends_restored (Ahead to from) ends = absurd ends
 ends_restored (Foreign number) ends = absurd ends
 ends_restored (OtherDevice before after) ends = absurd ends
 ends_restored (Refused fault) ends = ends
-ends_restored (Memory opened) ends = tt
+ends_restored (Memory opened _) ends = tt
 
 pub ends_unrestored : (detail : Detail) → EndsUnrestored detail → EndsRestoring detail
 ends_unrestored Fine ends = tt
@@ -210,7 +156,7 @@ ends_unrestored (Ahead to from) ends = absurd ends
 ends_unrestored (Foreign number) ends = absurd ends
 ends_unrestored (OtherDevice before after) ends = absurd ends
 ends_unrestored (Refused fault) ends = ends
-ends_unrestored (Memory opened) ends = tt
+ends_unrestored (Memory opened _) ends = tt
 
 -- no dump was read
 pub none_read : (detail : Detail) → EndsUnrestored detail → HasDump detail → ⊥
@@ -227,52 +173,9 @@ none_read (Ahead to from) ends has = ends
 none_read (Foreign number) ends has = ends
 none_read (OtherDevice before after) ends has = ends
 none_read (Refused fault) ends has = has
-none_read (Memory opened) ends has = has
+none_read (Memory opened _) ends has = has
 
 module _ {D S K : Type 0} (d : disk.Ghosts D) (s : source.Ghosts S) (k : sink.Ghosts K) where
-  -- the disk was called
-  pub causes_restored : (disk end : D) (source left : S) (sink : K) (it : Ended D S K) (detail : Detail) → EndsSettling detail → s.count left ≡ s.count source
-      → ShowsDevice detail (d.count disk) (d.count end) → (d.made end).past ≡ (d.made disk).past
-      → ShowsCauses d s k disk source sink (with_parts it detail None end left sink)
-  causes_restored disk end source left sink it Fine ends read device past = record { reading = read; writing = refl; device = device; rule = tt; opened = tt; reads = past }
-  causes_restored disk end source left sink it Usage ends read device past = absurd ends
-  causes_restored disk end source left sink it (Script fault) ends read device past = absurd ends
-  causes_restored disk end source left sink it (BadDump fault) ends read device past = absurd ends
-  causes_restored disk end source left sink it (Reading before after) ends read device past = absurd ends
-  causes_restored disk end source left sink it (Writing before after) ends read device past = absurd ends
-  causes_restored disk end source left sink it (Device before after opened) ends read device past = record { reading = read; writing = tt; device = device; rule = tt; opened = ends; reads = past }
-  causes_restored disk end source left sink it (NotEmpty n) ends read device past = record { reading = read; writing = refl; device = device; rule = tt; opened = tt; reads = past }
-  causes_restored disk end source left sink it (Standby fault) ends read device past = absurd ends
-  causes_restored disk end source left sink it (Ahead to from) ends read device past = absurd ends
-  causes_restored disk end source left sink it (Foreign number) ends read device past = absurd ends
-  causes_restored disk end source left sink it (OtherDevice before after) ends read device past = absurd ends
-  causes_restored disk end source left sink it (Refused fault) ends read device past = absurd ends
-  causes_restored disk end source left sink it (Memory opened) ends read device past = record { reading = read; writing = tt; device = device; rule = tt; opened = ends; reads = past }
-
-  -- the source alone was called
-  pub causes_unrestored : (disk : D) (source left : S) (sink : K) (it : Ended D S K) (detail : Detail) → EndsUnrestored detail → ShowsReading detail (s.count source) (s.count left)
-      → ShowsCauses d s k disk source sink (with_parts it detail None disk left sink)
-  causes_unrestored disk source left sink it Fine ends shown = absurd ends
-  causes_unrestored disk source left sink it Usage ends shown = absurd ends
-  causes_unrestored disk source left sink it (Script fault) ends shown = record { reading = shown; writing = refl; device = refl; rule = of_script fault ends; opened = tt; reads = refl }
-    where
-      of_script : (fault : ScriptFault) → fault ≡ TooLong → IsOfScript fault
-      of_script (BadLine number cause) is = tt
-      of_script TooManyLines is = tt
-      of_script TooLong is = tt
-      of_script ScriptMemory is = absurd (cc is)
-  causes_unrestored disk source left sink it (BadDump fault) ends shown = record { reading = shown; writing = refl; device = refl; rule = ends; opened = tt; reads = refl }
-  causes_unrestored disk source left sink it (Reading before after) ends shown = record { reading = shown; writing = refl; device = refl; rule = tt; opened = tt; reads = refl }
-  causes_unrestored disk source left sink it (Writing before after) ends shown = absurd ends
-  causes_unrestored disk source left sink it (Device before after opened) ends shown = absurd ends
-  causes_unrestored disk source left sink it (NotEmpty n) ends shown = absurd ends
-  causes_unrestored disk source left sink it (Standby fault) ends shown = absurd ends
-  causes_unrestored disk source left sink it (Ahead to from) ends shown = absurd ends
-  causes_unrestored disk source left sink it (Foreign number) ends shown = absurd ends
-  causes_unrestored disk source left sink it (OtherDevice before after) ends shown = absurd ends
-  causes_unrestored disk source left sink it (Refused fault) ends shown = absurd ends
-  causes_unrestored disk source left sink it (Memory opened) ends shown = record { reading = shown; writing = tt; device = refl; rule = tt; opened = ends; reads = refl }
-
   -- a dump was read
   pub restores_read : (dump : Dump) (disk end : D) (source left : S) (sink : K) (it : Ended D S K) (detail : Detail) → it.journal.items ≡ [] → EndsSettling detail → IsSoundDump dump
       → ((bytes : List ℕ) → s.left source ≡ Some bytes → s.left left ≡ Some []) → ((bytes : List ℕ) → s.left source ≡ Some bytes → Spells bytes dump)

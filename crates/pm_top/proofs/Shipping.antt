@@ -1,7 +1,8 @@
 -- What a ship leaves, and that it is done with what it needs.
 use Rattle.std.proofs.Common.{◌≡◌, ◌⊎◌, inl, inr, ℕ, List, [], None, Result, Ok, Err, refl, sym, ap, subst, ◌∙◌, arith}
 use Rattle.std.specs.Prelude.{MatchResult, IfErr}
-use Rattle.pm_base.specs.Counts.{Rose}
+use Rattle.pm_types.specs.Memory.{no_memory}
+use Rattle.pm_types.specs.Counts.{Rose}
 use Rattle.pm_types.specs.declared.fault.OpenFault.{OpenFault}
 use Rattle.pm_disk.specs.declared.disk.Disk as disk
 use Rattle.pm_disk.proofs.RunLemmas.{started}
@@ -14,14 +15,14 @@ use Rattle.pm_ship.specs.declared.fault.ShipFault.{ShipFault}
 use Rattle.pm_ship.specs.declared.fault.ShipFault.TheVariants as fault
 use Rattle.pm_ship.specs.Offers.{AreSame, offer_in}
 use Rattle.pm_ship.specs.Disks.{IsFaultBetween, ShipsDisks, StandsFor, number_in}
-use Rattle.pm_runs.specs.ends.declared.ended.Detail.{Detail}
-use Rattle.pm_runs.specs.ends.declared.ended.Detail.TheVariants.{Fine, Usage, Script, Dump as BadDump, Reading, Writing, Device, NotEmpty, Refused, Standby, Ahead, Foreign, OtherDevice, Memory}
-use Rattle.pm_runs.specs.ends.declared.ended.Alone.{Alone}
-use Rattle.pm_runs.specs.ends.declared.ended.Ended.{Ended}
-use Rattle.pm_runs.specs.ends.Alone.{alone}
-use Rattle.pm_runs.specs.ends.Ends.{ShowsDevice, ShowsOther, ShowsWriting, not_shipped, shipped_line}
-use Rattle.pm_runs.specs.ends.Wrote.{IsWriting, WroteText}
-use Rattle.pm_runs.specs.ends.Causes.{ShowsCauses}
+use Rattle.pm_runs.specs.declared.ends.ended.Detail.{Detail}
+use Rattle.pm_runs.specs.declared.ends.ended.Detail.TheVariants.{Fine, Usage, Script, Dump as BadDump, Reading, Writing, Device, NotEmpty, Refused, Standby, Ahead, Foreign, OtherDevice, Memory}
+use Rattle.pm_runs.specs.declared.ends.ended.Alone.{Alone}
+use Rattle.pm_runs.specs.declared.ends.ended.Ended.{Ended}
+use Rattle.pm_runs.specs.Ends.Alone.{alone}
+use Rattle.pm_runs.specs.Ends.Ends.{ShowsDevice, ShowsOther, ShowsWriting, not_shipped, shipped_line}
+use Rattle.pm_runs.specs.Ends.Wrote.{IsWriting, WroteText}
+use Rattle.pm_runs.specs.Ends.Causes.{ShowsCauses}
 use Rattle.pm_top.specs.Needs.{NothingFails}
 use Rattle.pm_top.specs.Ships.{MayShip, ShipsStore}
 use Rattle.pm_top.proofs.Complete.{IsComplete, rises}
@@ -59,7 +60,7 @@ module _ {D E S K : Type 0} (d : disk.Ghosts D) (e : disk.Ghosts E) (k : sink.Gh
 module _ {D E : Type 0} (d : disk.Ghosts D) (e : disk.Ghosts E) where
   -- memory ran out before
   pub none_shipped : (disk : D) (other : E) → ((image : List ℕ) → d.since disk (d.moment disk) image → d.image disk image) → ((image : List ℕ) → e.since other (e.moment other) image → e.image other image)
-      → ShipsDisks d e disk other (record { disk = disk; other = other; shipped = Err fault.Memory })
+      → ShipsDisks d e disk other (record { disk = disk; other = other; shipped = Err (fault.Memory no_memory) })
   none_shipped disk other here there = record {
     shipped = λ bytes was now one two three. tt;
     fault = λ bytes was one two. tt;
@@ -92,7 +93,7 @@ writing_done (Standby fault) was now writing shows stands = absurd writing
 writing_done (Ahead to from) was now writing shows stands = absurd writing
 writing_done (Foreign number) was now writing shows stands = absurd writing
 writing_done (OtherDevice before after) was now writing shows stands = absurd writing
-writing_done (Memory opened) was now writing shows stands = absurd writing
+writing_done (Memory opened _) was now writing shows stands = absurd writing
 
 module _ {D E S K : Type 0} (d : disk.Ghosts D) (e : disk.Ghosts E) (s : source.Ghosts S) (k : sink.Ghosts K) (disk : D) (other : E) (source : S) (sink : K) (ended : Ended D E S K) (causes : ShowsCauses d s k disk source sink (alone ended))
     (shows : ShowsOther ended.detail (e.count other) (e.count ended.other)) (may : MayShip d e disk other) (none : NothingFails d s k disk source sink (alone ended)) (stands : ¬ (Rose (e.count other) (e.count ended.other))) where
@@ -115,7 +116,7 @@ module _ {D E S K : Type 0} (d : disk.Ghosts D) (e : disk.Ghosts E) (s : source.
   why_not (fault.OtherDisk before after) ends is =
       let device = subst (λ (t : Detail). ShowsOther t (e.count other) (e.count ended.other)) ends shows in
       absurd (stands (rises before after (e.count other) (e.count ended.other) device))
-  why_not fault.Memory ends is = subst IsComplete (sym ends) (inr refl)
+  why_not (fault.Memory _) ends is = subst IsComplete (sym ends) (inr refl)
 
   ship_ended : (result : Result Shipped ShipFault) → ShipEnds ended.detail result → IfErr result (IsFaultBetween may.bytes may.was) → IsComplete ended.detail
   ship_ended (Ok shipped) ends is = writing_done ended.detail (k.count sink) (k.count ended.sink) ends causes.writing none.sink_stands

@@ -5,7 +5,7 @@ use Rattle.pm_disk.specs.Disk.{LeavesOnly}
 use Rattle.pm_disk.specs.Made.{with_sync}
 use Rattle.pm_io.specs.declared.source.Source as source
 use Rattle.pm_io.specs.declared.sink.Sink as sink
-use Rattle.pm_tell.specs.Told.{Telling, IsTold, IsToldOfSome, Reports, Dumps, GivesPath}
+use Rattle.pm_inspect.specs.Tell.Told.{Telling, IsTold, IsToldOfSome, Reports, Dumps, GivesPath}
 use Rattle.pm_make.specs.Made.{made_text}
 use Rattle.pm_dump.specs.Dump.{Dump as Dumped}
 use Rattle.pm_dump.specs.Sound.{IsSoundDump}
@@ -13,16 +13,15 @@ use Rattle.pm_script.specs.declared.fault.ScriptFault.TheVariants.{TooLong}
 use Rattle.pm_types.specs.declared.limits.TheConstants.{MOST_TURNS}
 use Rattle.pm_words.specs.declared.command.Command.{Command}
 use Rattle.pm_words.specs.declared.command.Command.TheVariants.{Init, Run, RunThreads, Inspect, Dump, Restore, Why, Make, Trial}
-use Rattle.pm_runs.specs.ends.declared.ended.Detail.{Detail}
-use Rattle.pm_runs.specs.ends.declared.ended.Detail.TheVariants.{Fine, Script, Dump as BadDump, Reading, Writing, Device}
-use Rattle.pm_runs.specs.ends.declared.ended.Detail.TheVariants.{NotEmpty, Refused, Memory}
-use Rattle.pm_runs.specs.ends.declared.ended.Alone.{Alone as Ended}
+use Rattle.pm_runs.specs.declared.ends.ended.Detail.{Detail}
+use Rattle.pm_runs.specs.declared.ends.ended.Detail.TheVariants.{Fine, Script, Dump as BadDump, Reading, Writing, Device, NotEmpty, Refused, Memory}
+use Rattle.pm_runs.specs.declared.ends.ended.Alone.{Alone as Ended}
 use Rattle.pm_runs.specs.declared.writes.Writes.TheVariants.{Digest}
-use Rattle.pm_runs.specs.ends.Journals.{KeepsOrder, ReadsScript}
-use Rattle.pm_runs.specs.ends.Disks.{IsRefusedFor}
+use Rattle.pm_runs.specs.Ends.Journals.{KeepsOrder, ReadsScript}
+use Rattle.pm_runs.specs.Ends.Disks.{IsRefusedFor}
 use Rattle.pm_top.specs.Stores.{LeavesMade, LeavesRestored}
 use Rattle.pm_top.specs.Dumps.{HasDump, ReadsDump}
-use Rattle.pm_runs.specs.ends.Wrote.{IsWriting, WroteText}
+use Rattle.pm_runs.specs.Ends.Wrote.{IsWriting, WroteText}
 use Rattle.pm_runs.specs.Runs.{RunsStore, RunsScript, RunsTogether}
 
 -- All is as it was.
@@ -41,7 +40,7 @@ EndsTelling Fine = Unit {0}
 EndsTelling (Writing before after) = Unit {0}
 EndsTelling (Device before after opened) = Unit {0}
 EndsTelling (Refused fault) = Unit {0}
-EndsTelling (Memory opened) = Unit {0}
+EndsTelling (Memory opened _) = Unit {0}
 EndsTelling detail = ⊥
 
 -- how `restore FILE` may end
@@ -52,14 +51,14 @@ EndsRestoring (BadDump fault) = Unit {0}
 EndsRestoring (Reading before after) = Unit {0}
 EndsRestoring (Device before after opened) = Unit {0}
 EndsRestoring (NotEmpty bytes) = Unit {0}
-EndsRestoring (Memory opened) = Unit {0}
+EndsRestoring (Memory opened _) = Unit {0}
 EndsRestoring detail = ⊥
 
 -- how `make SEED N` may end
 abbrev pub EndsMaking : Detail → Type 0
 EndsMaking Fine = Unit {0}
 EndsMaking (Writing before after) = Unit {0}
-EndsMaking (Memory opened) = Unit {0}
+EndsMaking (Memory opened _) = Unit {0}
 EndsMaking detail = ⊥
 
 -- how `trial FILE SEED N` may end
@@ -68,7 +67,7 @@ EndsTrying Fine = Unit {0}
 EndsTrying (Writing before after) = Unit {0}
 EndsTrying (Device before after opened) = Unit {0}
 EndsTrying (Refused fault) = Unit {0}
-EndsTrying (Memory opened) = Unit {0}
+EndsTrying (Memory opened _) = Unit {0}
 EndsTrying detail = ⊥
 
 -- no more turns are made than that

@@ -7,9 +7,9 @@ use Rattle.pm_dump.specs.Dump.{Dump}
 use Rattle.pm_dump.specs.Spelled.{Spells}
 use Rattle.pm_dump.specs.Sound.{IsSoundDump}
 use Rattle.pm_dump.specs.Answers.{IsDumpFault}
-use Rattle.pm_runs.specs.ends.declared.ended.Detail.{Detail}
-use Rattle.pm_runs.specs.ends.declared.ended.Detail.TheVariants.{Fine, Script, Dump as BadDump, Reading, Device, NotEmpty, Memory}
-use Rattle.pm_runs.specs.ends.Ends.{IsOfDump}
+use Rattle.pm_runs.specs.declared.ends.ended.Detail.{Detail}
+use Rattle.pm_runs.specs.declared.ends.ended.Detail.TheVariants.{Fine, Script, Dump as BadDump, Reading, Device, NotEmpty, Memory}
+use Rattle.pm_runs.specs.Ends.Ends.{IsOfDump}
 
 -- a dump was read, and the disk was called
 abbrev pub HasDump : Detail → Type 0
@@ -33,14 +33,14 @@ IsDumpEnd bytes detail = Unit {0}
 abbrev pub EndsForDump : DumpFault → Detail → Type 0
 EndsForDump fault (BadDump told) = told ≡ fault
 EndsForDump fault (Reading before after) = Unit {0}
-EndsForDump fault (Memory opened) = Unit {0}
+EndsForDump fault (Memory opened _) = Unit {0}
 EndsForDump fault detail = ⊥
 
 -- So are bytes that are too many.
 abbrev pub EndsTooLong : Detail → Type 0
 EndsTooLong (Script fault) = fault ≡ TooLong
 EndsTooLong (Reading before after) = Unit {0}
-EndsTooLong (Memory opened) = Unit {0}
+EndsTooLong (Memory opened _) = Unit {0}
 EndsTooLong detail = ⊥
 
 -- how reading a dump may stop the program
@@ -48,7 +48,7 @@ abbrev pub EndsUnrestored : Detail → Type 0
 EndsUnrestored (Script fault) = fault ≡ TooLong
 EndsUnrestored (BadDump fault) = IsOfDump fault
 EndsUnrestored (Reading before after) = Unit {0}
-EndsUnrestored (Memory opened) = opened ≡ false
+EndsUnrestored (Memory opened _) = opened ≡ false
 EndsUnrestored detail = ⊥
 
 -- how settling a dump may end, and making a store for it
@@ -56,7 +56,7 @@ abbrev pub EndsSettling : Detail → Type 0
 EndsSettling Fine = Unit {0}
 EndsSettling (Device before after opened) = opened ≡ false
 EndsSettling (NotEmpty bytes) = Unit {0}
-EndsSettling (Memory opened) = opened ≡ false
+EndsSettling (Memory opened _) = opened ≡ false
 EndsSettling detail = ⊥
 
 -- What is said of bytes: they are refused for no fault but the one that they have, and where they have one they are refused.

@@ -1,6 +1,6 @@
 -- What a command needs. Where it has that, and nothing fails, it is done, or memory ran out.
 use Rattle.std.specs.Prelude.{◌≡◌, ℕ, List, [], Option, Some}
-use Rattle.pm_base.specs.Counts.{Rose}
+use Rattle.pm_types.specs.Counts.{Rose}
 use Rattle.pm_disk.specs.declared.disk.Disk as disk
 use Rattle.pm_io.specs.declared.source.Source as source
 use Rattle.pm_io.specs.declared.sink.Sink as sink
@@ -10,7 +10,7 @@ use Rattle.pm_script.specs.declared.line.Line.{Line}
 use Rattle.pm_script.specs.Script.{IsScript}
 use Rattle.pm_words.specs.declared.command.Command.{Command}
 use Rattle.pm_words.specs.declared.command.Command.TheVariants.{Init, Run, RunThreads, Inspect, Dump, Restore, Why, Make, Trial}
-use Rattle.pm_runs.specs.ends.declared.ended.Alone.{Alone as Ended}
+use Rattle.pm_runs.specs.declared.ends.ended.Alone.{Alone as Ended}
 use Rattle.pm_top.specs.Dumps.{HoldsDump}
 
 -- the source tells that it holds a script

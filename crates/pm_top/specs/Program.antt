@@ -1,18 +1,19 @@
 -- What the whole program does, down to its status and to standard error.
 use Rattle.std.specs.Prelude.{false, ◌≡◌, ◌⊎◌, ℕ, List}
-use Rattle.pm_base.specs.Counts.{Rose}
+use Rattle.pm_types.specs.Memory.{no_memory}
+use Rattle.pm_types.specs.Counts.{Rose}
 use Rattle.pm_disk.specs.declared.disk.Disk as disk
 use Rattle.pm_io.specs.declared.source.Source as source
 use Rattle.pm_io.specs.declared.sink.Sink as sink
-use Rattle.pm_output.specs.Writing.{PutsAll, PutsPart}
+use Rattle.pm_serial.specs.Output.Writing.{PutsAll, PutsPart}
 use Rattle.pm_words.specs.declared.command.Command.{Command}
 use Rattle.pm_words.specs.Words.{AreShip, SpellsAlone, SpellsNothing}
-use Rattle.pm_runs.specs.ends.declared.ended.Detail.{Detail}
-use Rattle.pm_runs.specs.ends.declared.ended.Detail.TheVariants.{Usage, Memory}
-use Rattle.pm_runs.specs.ends.declared.ended.Ended.{Ended}
-use Rattle.pm_runs.specs.ends.Alone.{alone}
-use Rattle.pm_runs.specs.ends.Ends.{ShowsOther, status_of, detail_line}
-use Rattle.pm_runs.specs.ends.Causes.{ShowsCauses}
+use Rattle.pm_runs.specs.declared.ends.ended.Detail.{Detail}
+use Rattle.pm_runs.specs.declared.ends.ended.Detail.TheVariants.{Usage, Memory}
+use Rattle.pm_runs.specs.declared.ends.ended.Ended.{Ended}
+use Rattle.pm_runs.specs.Ends.Alone.{alone}
+use Rattle.pm_runs.specs.Ends.Ends.{ShowsOther, status_of, detail_line}
+use Rattle.pm_runs.specs.Ends.Causes.{ShowsCauses}
 use Rattle.pm_top.specs.Commands.{IsUntouched, Does}
 use Rattle.pm_top.specs.Needs.{HasNeeds, NothingFails}
 use Rattle.pm_top.specs.Ships.{MayShip, ShipsStore}
@@ -35,7 +36,7 @@ module _ {D E S K : Type 0} (d : disk.Ghosts D) (e : disk.Ghosts E) (s : source.
   pub record Performs (words : List (List ℕ)) (disk : D) (other : E) (source : S) (sink : K) (ended : Ended D E S K) : Type 0 where
     pub is_status : ended.status ≡ status_of ended.detail
     pub usage : ended.detail ≡ Usage → SpellsNothing words
-    pub refused : SpellsNothing words → (ended.detail ≡ Usage) ⊎ (ended.detail ≡ Memory false)
+    pub refused : SpellsNothing words → (ended.detail ≡ Usage) ⊎ (ended.detail ≡ Memory false no_memory)
     pub untouched : SpellsNothing words → IsUntouched disk source sink (alone ended) × (ended.other ≡ other)
     pub causes : ShowsCauses d s k disk source sink (alone ended)
     pub other_causes : ShowsOther ended.detail (e.count other) (e.count ended.other)

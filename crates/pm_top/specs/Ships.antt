@@ -5,9 +5,9 @@ use Rattle.pm_io.specs.declared.sink.Sink as sink
 use Rattle.pm_ship.specs.declared.disks.ShipEnd.{ShipEnd}
 use Rattle.pm_ship.specs.Disks.{FindsBoth, ShipsDisks, number_in}
 use Rattle.pm_ship.specs.Offers.{AreSame, offer_in}
-use Rattle.pm_runs.specs.ends.declared.ended.Ended.{Ended}
-use Rattle.pm_runs.specs.ends.Ends.{not_shipped, shipped_line}
-use Rattle.pm_runs.specs.ends.Wrote.{IsWriting, WroteText}
+use Rattle.pm_runs.specs.declared.ends.ended.Ended.{Ended}
+use Rattle.pm_runs.specs.Ends.Ends.{not_shipped, shipped_line}
+use Rattle.pm_runs.specs.Ends.Wrote.{IsWriting, WroteText}
 
 module _ {D E S K : Type 0} (d : disk.Ghosts D) (e : disk.Ghosts E) (k : sink.Ghosts K) where
   -- What `ship FILE OTHER` does: the first store is shipped to the other, and what was shipped is told in a line.

@@ -9,8 +9,9 @@ use Rattle.pm_image.specs.Blank.{blank_store}
 use Rattle.pm_shadow.specs.Init.{KeepsBytes}
 use Rattle.pm_dump.specs.Dump.{Dump}
 use Rattle.pm_restore.specs.Restored.{copy_in_dump, restored_in}
-use Rattle.pm_runs.specs.ends.declared.ended.Detail.{Detail}
-use Rattle.pm_runs.specs.ends.declared.ended.Detail.TheVariants.{Fine, Device, NotEmpty, Memory}
+use Rattle.pm_runs.specs.declared.ends.ended.Detail.{Detail}
+use Rattle.pm_runs.specs.declared.ends.ended.Detail.TheVariants.{Fine, Device, NotEmpty, Memory}
+use Rattle.pm_types.specs.Memory.{no_memory}
 
 module _ {D : Type 0} (d : disk.Ghosts D) where
   -- How making a store leaves the disk, by how it ended.
@@ -25,7 +26,7 @@ module _ {D : Type 0} (d : disk.Ghosts D) where
       (0 < n) × ((bytes : List ℕ) → d.contents start ≡ Some bytes → n ≡ length bytes)
       × (d.contents end ≡ d.contents start) × SameImages (d.image start) (d.image end)
   -- nothing was written to a disk that is empty
-  LeavesMade start end (Memory opened) = (d.contents end ≡ d.contents start) × SameImages (d.image start) (d.image end)
+  LeavesMade start end (Memory opened _) = (d.contents end ≡ d.contents start) × SameImages (d.image start) (d.image end)
   -- the disk failed: where it told of some byte, nothing was written
   LeavesMade start end (Device before after opened) =
       KeepsBytes (d.contents start) (d.contents end) (d.image start) (d.image end)
@@ -40,7 +41,7 @@ module _ {D : Type 0} (d : disk.Ghosts D) where
       × ((left : List ℕ) → d.image end left → StandsForCopy left 1 (copy_in_dump dump)))
   LeavesSettled dump made end (Device before after opened) = IfTold (d.contents made) (λ was.
       LeavesOnly d.moment d.since made end (λ image. StandsForCopy image 0 empty_copy ⊎ StandsForCopy image 1 (copy_in_dump dump)))
-  LeavesSettled dump made end (Memory opened) = IfTold (d.contents made) (λ was.
+  LeavesSettled dump made end (Memory opened _) = IfTold (d.contents made) (λ was.
       LeavesOnly d.moment d.since made end (λ image. StandsForCopy image 0 empty_copy))
   LeavesSettled dump made end detail = ⊥
 
@@ -57,6 +58,6 @@ module _ {D : Type 0} (d : disk.Ghosts D) where
   LeavesRestored dump start end (NotEmpty n) = LeavesMade start end (NotEmpty n)
   LeavesRestored dump start end (Device before after opened) =
       LeavesMade start end (Device before after opened) ⊎ MakesAndSettles dump start end (Device before after opened)
-  LeavesRestored dump start end (Memory opened) =
-      LeavesMade start end (Memory opened) ⊎ MakesAndSettles dump start end (Memory opened)
+  LeavesRestored dump start end (Memory opened _) =
+      LeavesMade start end (Memory opened no_memory) ⊎ MakesAndSettles dump start end (Memory opened no_memory)
   LeavesRestored dump start end detail = end ≡ start

@@ -5,9 +5,9 @@ ghost use Rattle.pm_types.specs.declared.entry.Entry.{Entry};
 ghost use Rattle.pm_model.specs.World.{begin};
 ghost use Rattle.pm_model.specs.Journal.{after};
 ghost use Rattle.pm_model.specs.Closed.{IsClosed};
-ghost use Rattle.pm_runs.specs.ends.declared.ended.Detail.{Detail as End};
-ghost use Rattle.pm_runs.specs.ends.Stages.{behind, unreached};
-ghost use Rattle.pm_runs.specs.ends.Journals.{IsBegun};
+ghost use Rattle.pm_runs.specs.declared.ends.ended.Detail.{Detail as End};
+ghost use Rattle.pm_runs.specs.Ends.Stages.{behind, unreached};
+ghost use Rattle.pm_runs.specs.Ends.Journals.{IsBegun};
 
 /// A law of stages: what an end has behind comes before what it did not reach.
 pub fn ends_lie_between_stages()

@@ -3,8 +3,8 @@ ghost use Rattle.std.specs.Prelude.{◌≡◌, ◌≤◌, IfOk};
 ghost use Rattle.pm_place.specs.Choosers.{IsChooser};
 ghost use Rattle.pm_script.specs.Script.{IsScript};
 ghost use Rattle.pm_make.specs.Made.{made_text};
-ghost use Rattle.pm_runs.specs.ends.Ends.{status_of};
-ghost use Rattle.pm_runs.specs.ends.Causes.{ShowsCauses};
+ghost use Rattle.pm_runs.specs.Ends.Ends.{status_of};
+ghost use Rattle.pm_runs.specs.Ends.Causes.{ShowsCauses};
 ghost use Rattle.pm_top.specs.Commands.{MakesScript, TriesScript};
 
 use pm_disk::Disk;
@@ -41,7 +41,10 @@ pub(crate) fn make_script<D: Disk, S: Source, K: Sink>(
 {
     let detail = match make(alloc, seed, turns) {
         Ok(text) => write_text(&mut sink, text.as_slice()),
-        Err(_) => Detail::Memory { opened: false },
+        Err(refused) => Detail::Memory {
+            opened: false,
+            refused,
+        },
     };
     end_unopened(alloc, detail, disk, source, sink)
 }
@@ -64,6 +67,12 @@ pub(crate) fn try_script<D: Disk, F: Fn(&[u64]) -> usize + Drop, S: Source, K: S
 {
     match script(alloc, seed, turns) {
         Ok(lines) => run_lines(alloc, Writes::Digest, lines, disk, place, source, sink),
-        Err(_) => end_unopened(alloc, Detail::Memory { opened: false }, disk, source, sink),
+        Err(refused) => {
+            let detail = Detail::Memory {
+                opened: false,
+                refused,
+            };
+            end_unopened(alloc, detail, disk, source, sink)
+        }
     }
 }

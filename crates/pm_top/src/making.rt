@@ -1,7 +1,7 @@
 //! Making a store.
 ghost use Rattle.std.specs.Prelude.{◌≡◌};
-ghost use Rattle.pm_runs.specs.ends.Ends.{status_of, not_made};
-ghost use Rattle.pm_runs.specs.ends.Causes.{ShowsCauses};
+ghost use Rattle.pm_runs.specs.Ends.Ends.{status_of, not_made};
+ghost use Rattle.pm_runs.specs.Ends.Causes.{ShowsCauses};
 ghost use Rattle.pm_top.specs.Commands.{MakesStore};
 
 use pm_disk::Disk;
@@ -22,7 +22,10 @@ pub(crate) fn not_made(fault: InitFault) -> Detail
             after,
             opened: false,
         },
-        InitFault::Memory => Detail::Memory { opened: false },
+        InitFault::Memory(refused) => Detail::Memory {
+            opened: false,
+            refused,
+        },
     }
 }
 

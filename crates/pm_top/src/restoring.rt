@@ -10,19 +10,20 @@ ghost use Rattle.pm_dump.specs.Spelled.{Spells};
 ghost use Rattle.pm_dump.specs.Sound.{IsSoundDump};
 ghost use Rattle.pm_dump.specs.Answers.{Answers, IsDumpFault};
 ghost use Rattle.pm_restore.specs.Restored.{IsNewStore};
-ghost use Rattle.pm_runs.specs.ends.Ends.{ShowsDevice, ShowsReading, no_dump, not_settled, status_of};
+ghost use Rattle.pm_runs.specs.Ends.Ends.{ShowsDevice, ShowsReading, no_dump, not_settled, status_of};
 ghost use Rattle.pm_top.specs.Stores.{LeavesRestored, LeavesSettled};
 ghost use Rattle.pm_top.specs.Dumps.{EndsSettling, EndsUnrestored, IsReadWhole, RefusesBytes};
 ghost use Rattle.pm_top.specs.Commands.{RestoresStore};
-ghost use Rattle.pm_runs.specs.ends.Causes.{ShowsCauses};
+ghost use Rattle.pm_runs.specs.Ends.Causes.{ShowsCauses};
+ghost use Rattle.pm_types.specs.Memory.{no_memory};
 
 use crate::making::not_made;
 use pm_disk::Disk;
 use pm_dump::{Dump, DumpFault, read_dump};
 use pm_io::{ReadAll, Sink, Source, read_all};
-use pm_progress::SaveFault;
 use pm_restore::{a_made_store_is_new, settle_dump};
 use pm_runs::{Alone, Detail, end_unopened};
+use pm_save::progress::SaveFault;
 use pm_script::ScriptFault;
 use pm_shadow::Pages;
 use pm_types::SOURCE_BYTES;
@@ -33,7 +34,10 @@ fn no_dump(fault: DumpFault) -> Detail
     ensures { result ≡ no_dump fault }
 {
     match fault {
-        DumpFault::Memory => Detail::Memory { opened: false },
+        DumpFault::Memory(refused) => Detail::Memory {
+            opened: false,
+            refused,
+        },
         fault => Detail::Dump(fault),
     }
 }
@@ -48,7 +52,10 @@ fn not_settled(fault: SaveFault, before: u64, after: u64) -> Detail
             after,
             opened: false,
         },
-        SaveFault::Memory => Detail::Memory { opened: false },
+        SaveFault::Memory(refused) => Detail::Memory {
+            opened: false,
+            refused,
+        },
     }
 }
 
@@ -58,7 +65,7 @@ fn dump_in(alloc: Global, bytes: Vec<u8>) -> Result<Dump, DumpFault>
     ensures found { IfOk result (λ dump. Spells bytes.items dump) }
     ensures sound { IfOk result IsSoundDump }
     ensures only { (dump : Says) → Spells bytes.items dump → IsSoundDump dump → Answers result (Ok dump) }
-    ensures bad { IfErr result (λ fault. (fault ≡ dump_fault.Memory) ⊎ IsDumpFault fault bytes.items) }
+    ensures bad { IfErr result (λ fault. (fault ≡ dump_fault.Memory no_memory) ⊎ IsDumpFault fault bytes.items) }
     ensures told { (fault : Fault) → IsDumpFault fault bytes.items → Answers result (Err fault) }
 {
     read_dump(alloc, bytes.as_slice())
@@ -87,7 +94,10 @@ fn read_source<S: Source>(alloc: Global, source: &mut S) -> Result<Dump, Detail>
             Err(fault) => Err(no_dump(fault)),
         },
         Err(ReadAll::TooLong) => Err(Detail::Script(ScriptFault::TooLong)),
-        Err(ReadAll::Memory) => Err(Detail::Memory { opened: false }),
+        Err(ReadAll::Memory(refused)) => Err(Detail::Memory {
+            opened: false,
+            refused,
+        }),
         Err(ReadAll::Failed) => {
             let after = source.faults();
             Err(Detail::Reading { before, after })

@@ -1,7 +1,7 @@
 //! The program, down to its status and to standard error.
 ghost use Rattle.std.specs.Prelude.{map};
 ghost use Rattle.pm_place.specs.Choosers.{IsChooser};
-ghost use Rattle.pm_runs.specs.ends.Ends.{detail_line};
+ghost use Rattle.pm_runs.specs.Ends.Ends.{detail_line};
 ghost use Rattle.pm_top.specs.Program.{Tells, Performs};
 
 use crate::pmos;

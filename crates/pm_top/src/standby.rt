@@ -1,10 +1,10 @@
 //! A standby: the store of the other disk is brought to the last settled copy of that of the first.
 ghost use Rattle.std.specs.Prelude.{◌≡◌, MatchResult};
-ghost use Rattle.pm_runs.specs.ends.Alone.{alone};
-ghost use Rattle.pm_runs.specs.ends.Causes.{ShowsCauses};
-ghost use Rattle.pm_runs.specs.ends.Ends.{ShowsOther, ShowsWriting, not_shipped, shipped_line, status_of};
+ghost use Rattle.pm_runs.specs.Ends.Alone.{alone};
+ghost use Rattle.pm_runs.specs.Ends.Causes.{ShowsCauses};
+ghost use Rattle.pm_runs.specs.Ends.Ends.{ShowsOther, ShowsWriting, not_shipped, shipped_line, status_of};
 ghost use Rattle.pm_top.specs.Ships.{ShipsStore};
-ghost use Rattle.pm_runs.specs.ends.Wrote.{IsWriting, WroteText};
+ghost use Rattle.pm_runs.specs.Ends.Wrote.{IsWriting, WroteText};
 
 use pm_disk::Disk;
 use pm_io::{Sink, Source};
@@ -27,7 +27,10 @@ fn not_shipped(fault: ShipFault) -> Detail
             opened: false,
         },
         ShipFault::OtherDisk { before, after } => Detail::OtherDevice { before, after },
-        ShipFault::Memory => Detail::Memory { opened: false },
+        ShipFault::Memory(refused) => Detail::Memory {
+            opened: false,
+            refused,
+        },
     }
 }
 

@@ -1,13 +1,13 @@
 //! What is told of a store: its report, its dump, or a path in it.
 ghost use Rattle.std.specs.Prelude.{◌≡◌};
-ghost use Rattle.pm_runs.specs.ends.Ends.{status_of};
-ghost use Rattle.pm_runs.specs.ends.Causes.{ShowsCauses};
+ghost use Rattle.pm_runs.specs.Ends.Ends.{status_of};
+ghost use Rattle.pm_runs.specs.Ends.Causes.{ShowsCauses};
 ghost use Rattle.pm_top.specs.Commands.{TellsStore};
 
 use pm_disk::Disk;
+use pm_inspect::tell::{Teller, tell_store};
 use pm_io::{Sink, Source};
 use pm_runs::{Alone, end_unopened, not_opened, write_text};
-use pm_tell::{Teller, tell_store};
 use std::alloc::Global;
 
 /// Writes what is told of the store on the disk.

@@ -1,15 +1,16 @@
 //! All that the program does but for its shell.
 ghost use Rattle.std.specs.Prelude.{◌≡◌, ◌⊎◌, false, map};
-ghost use Rattle.pm_base.specs.Counts.{Rose};
+ghost use Rattle.pm_types.specs.Counts.{Rose};
 ghost use Rattle.pm_words.specs.declared.command.Command.{Command as One};
 ghost use Rattle.pm_words.specs.Words.{AreShip, SpellsAlone, SpellsNothing};
 ghost use Rattle.pm_place.specs.Choosers.{IsChooser};
-ghost use Rattle.pm_runs.specs.ends.Alone.{alone};
-ghost use Rattle.pm_runs.specs.ends.Ends.{ShowsOther, status_of};
-ghost use Rattle.pm_runs.specs.ends.Causes.{ShowsCauses};
+ghost use Rattle.pm_runs.specs.Ends.Alone.{alone};
+ghost use Rattle.pm_runs.specs.Ends.Ends.{ShowsOther, status_of};
+ghost use Rattle.pm_runs.specs.Ends.Causes.{ShowsCauses};
 ghost use Rattle.pm_top.specs.Commands.{IsUntouched, MayPerform, Does};
 ghost use Rattle.pm_top.specs.Needs.{HasNeeds, NothingFails};
 ghost use Rattle.pm_top.specs.Ships.{MayShip, ShipsStore};
+ghost use Rattle.pm_types.specs.Memory.{no_memory};
 
 use crate::made::{make_script, try_script};
 use crate::making::make_store;
@@ -17,10 +18,10 @@ use crate::restoring::restore_store;
 use crate::standby::ship_store;
 use crate::telling::write_told;
 use pm_disk::Disk;
+use pm_inspect::tell::{DumpText, ReportText, WhyText};
 use pm_io::{Sink, Source};
 use pm_place::Placement;
 use pm_runs::{Alone, Detail, Ended, end_unopened, images_since_now, run_source, run_together};
-use pm_tell::{DumpText, ReportText, WhyText};
 use pm_turns::Gate;
 use pm_words::{Asked, Command, read_words, words_spell_one_command};
 use std::alloc::Global;
@@ -135,7 +136,7 @@ pub fn pmos<
     // Words that ask for nothing are refused, and no others, and all is as it was.
     ensures usage { result.detail ≡ Detail.Usage → SpellsNothing (map (λ word. word.now) words.now) }
     ensures refused { SpellsNothing (map (λ word. word.now) words.now)
-        → (result.detail ≡ Detail.Usage) ⊎ (result.detail ≡ Detail.Memory false) }
+        → (result.detail ≡ Detail.Usage) ⊎ (result.detail ≡ Detail.Memory false no_memory) }
     ensures untouched { SpellsNothing (map (λ word. word.now) words.now)
         → IsUntouched disk source sink (alone result) × (result.other ≡ other) }
 
@@ -166,8 +167,12 @@ pub fn pmos<
         }
         Ok(Some(Asked::Ship)) => ship_store(alloc, disk, other, source, sink),
         Ok(None) => end_unopened(alloc, Detail::Usage, disk, source, sink).beside(other),
-        Err(_) => end_unopened(alloc, Detail::Memory { opened: false }, disk, source, sink).beside(
-            other,
-        ),
+        Err(refused) => {
+            let detail = Detail::Memory {
+                opened: false,
+                refused,
+            };
+            end_unopened(alloc, detail, disk, source, sink).beside(other)
+        }
     }
 }

@@ -1,11 +1,10 @@
 -- Trains whose numbers rise, and the search among them.
 use Rattle.std.proofs.Common.{◌≡◌, ℕ, ◌<◌, ◌≤◌, ◌==◌, true, false, List, [], ◌∷◌, length, get_or, zero, suc, None, MatchOption, Result, Ok, Err, refl, arith, ⊎_elim}
 use Rattle.std.proofs.lemmas.Bool.{cases_order}
-use Rattle.std.specs.Ordering.{nat_cmp}
+use Rattle.std.specs.Ordering.{nat_cmp, ordering_index}
 use Rattle.std.specs.List.Sorted.{IsBinarySearchResult, IsSearchInRange}
 use Rattle.std.specs.Result.{result_ok}
 use Rattle.std.specs.declared.cmp.Ordering.TheVariants.{Less, Equal, Greater}
-use Rattle.std.specs.Ordering.{ordering_index}
 use Rattle.std.proofs.lemmas.Bool.Decides.{nat_tests}
 use Rattle.pm_trains.specs.Trains.{Train, cars_at}
 use Rattle.pm_trains.specs.Sound.{Rise}

@@ -1,10 +1,9 @@
-ghost use Rattle.std.specs.Prelude.{◌≡◌, ◌+◌, ◌<◌, ◌++◌, ◌∷◌, [], length, drop, ℕ, OnOk, OnErr};
+ghost use Rattle.std.specs.Prelude.{◌≡◌, ◌+◌, ◌<◌, ◌++◌, ◌∷◌, [], length, drop, OnOk, OnErr};
 ghost use Rattle.std.specs.FinMap as map;
 ghost use Rattle.pm_trains.specs.Trains.{empty_train};
 ghost use Rattle.pm_trains.specs.Changes.{Notes};
 
-use pm_numbered::Numbered;
-use pm_types::NoMemory;
+use pm_types::{NoMemory, Numbered};
 use std::alloc::Global;
 use std::marker::Model;
 

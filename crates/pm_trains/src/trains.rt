@@ -5,8 +5,7 @@ ghost use Rattle.pm_trains.specs.Changes.{StandsIn, opened};
 
 use crate::line::Line;
 use crate::place::{drop_empty, place_of};
-use pm_numbered::Numbered;
-use pm_types::NoMemory;
+use pm_types::{NoMemory, Numbered};
 use std::alloc::Global;
 use std::collections::VecDeque;
 use std::marker::Model;

@@ -6,7 +6,7 @@ ghost use Rattle.pm_turns.specs.Rule.{IsIdle, Holds};
 use crate::rule::{AtHome, PutBack, Sharing, TakeOut, View};
 use crate::{Turn, Turned};
 use atomic_table::{Refused, Seat, Table};
-use std::alloc::{AllocFailed, Global};
+use std::alloc::Global;
 use std::snapshot::Snapshot;
 use std::sync::{Mutex, MutexGuard, Wait};
 
@@ -26,7 +26,7 @@ pub struct Home<B: Turned + Drop> {
     ghost one_slot: { table.shared.table_id.slots ≡ 1 },
 }
 
-// The value in a slot of its own. Where there is no memory it comes back.
+// The value in a slot of its own. Where there is no memory it comes back, and who gave it goes on without a table.
 fn one_slot<B: Drop>(alloc: Global, value: B) -> Result<Vec<Option<B>>, B>
     ensures slot { IfOk result (λ slots. slots.items ≡ Some value ∷ []) }
     ensures refused { IfErr result (λ back. back ≡ value) }
@@ -34,8 +34,10 @@ fn one_slot<B: Drop>(alloc: Global, value: B) -> Result<Vec<Option<B>>, B>
     let mut slots = Vec::new(alloc);
     match slots.push(Some(value)) {
         Ok(()) => Ok(slots),
-        Err(AllocFailed { value }) => {
-            let Some(value) = value else { unreachable!() };
+        Err(failed) => {
+            let Some(value) = failed.value else {
+                unreachable!()
+            };
             Err(value)
         }
     }

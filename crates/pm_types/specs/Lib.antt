@@ -1,6 +1,14 @@
+pub mod Counts
+pub mod Results
+pub mod Options
+pub mod Mapped
+pub mod Memory
 pub mod Names
 pub mod NameFaults
 pub mod Orders
 pub mod Fields
 pub mod Replies
 pub mod Registers
+pub mod Near
+pub mod NearLending
+pub mod Lending

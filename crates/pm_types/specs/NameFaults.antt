@@ -10,4 +10,4 @@ abbrev pub IsFirstFault : NameFault → List ℕ → Type 0
 IsFirstFault Empty bytes = bytes ≡ []
 IsFirstFault (TooLong len) bytes = (NAME_BYTES < length bytes) × (len ≡ length bytes)
 IsFirstFault (BadByte place) bytes = (length bytes ≤ NAME_BYTES) × (position (λ b. not (is_name_byte b)) bytes ≡ Some place)
-IsFirstFault Memory bytes = IsName bytes
+IsFirstFault (Memory _) bytes = IsName bytes

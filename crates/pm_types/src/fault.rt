@@ -1,5 +1,11 @@
 //! Why a store is not opened, why none is made, and why a store in use does not answer.
 
+ghost use Rattle.std.specs.Prelude.{◌≡◌};
+ghost use Rattle.pm_types.specs.declared.fault.OpenFault.TheVariants as open_fault;
+ghost use Rattle.pm_types.specs.declared.fault.InitFault.TheVariants as init_fault;
+ghost use Rattle.pm_types.specs.declared.fault.EngineFault.TheVariants as engine_fault;
+
+use crate::NoMemory;
 use thiserror::Error;
 
 /// Why bytes are not opened as a store. The first that applies is the one that is answered.
@@ -41,7 +47,7 @@ pub enum OpenFault {
     },
     /// Memory ran out.
     #[error("no memory")]
-    Memory,
+    Memory(NoMemory),
 }
 
 /// Why no store is made on a disk.
@@ -60,7 +66,7 @@ pub enum InitFault {
     },
     /// Memory ran out.
     #[error("no memory")]
-    Memory,
+    Memory(NoMemory),
 }
 
 /// Why a store that is in use does not answer.
@@ -68,7 +74,7 @@ pub enum InitFault {
 pub enum EngineFault {
     /// Memory ran out. Everything is as it was.
     #[error("no memory")]
-    Memory,
+    Memory(NoMemory),
     /// The disk failed: its count of failed calls rose. The store has to be opened again.
     #[error("disk fault")]
     Disk {
@@ -83,4 +89,28 @@ pub enum EngineFault {
         /// The count of failed calls now.
         count: u64,
     },
+}
+
+impl From<NoMemory> for OpenFault {
+    ghost from_gives = { λ refused fault. fault ≡ open_fault.Memory refused };
+
+    fn from(refused: NoMemory) -> OpenFault {
+        OpenFault::Memory(refused)
+    }
+}
+
+impl From<NoMemory> for InitFault {
+    ghost from_gives = { λ refused fault. fault ≡ init_fault.Memory refused };
+
+    fn from(refused: NoMemory) -> InitFault {
+        InitFault::Memory(refused)
+    }
+}
+
+impl From<NoMemory> for EngineFault {
+    ghost from_gives = { λ refused fault. fault ≡ engine_fault.Memory refused };
+
+    fn from(refused: NoMemory) -> EngineFault {
+        EngineFault::Memory(refused)
+    }
 }

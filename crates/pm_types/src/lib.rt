@@ -3,14 +3,18 @@
 
 mod address;
 mod bytes;
+mod caused;
 mod command;
 mod entry;
 mod event;
 mod fault;
+mod items;
 mod law;
 mod limits;
 mod name;
+mod near;
 mod no_memory;
+mod numbered;
 mod object;
 mod register;
 mod reply;
@@ -19,10 +23,12 @@ mod source;
 
 pub use address::Addr;
 pub use bytes::Bytes;
+pub use caused::Fault;
 pub use command::Cmd;
 pub use entry::Entry;
 pub use event::{Flushed, Step, Watch, WatchLine};
 pub use fault::{EngineFault, InitFault, OpenFault};
+pub use items::Items;
 pub use law::{
     addresses_are_ordered, limits_of_cars, limits_of_clients, limits_of_stores, names_are_ordered,
     places_are_ordered, sources_are_ordered,
@@ -33,7 +39,8 @@ pub use limits::{
     OLD_VERSION, PAGE_BYTES, REGISTERS, ROOTS, SCRIPT_LINES, SOURCE_BYTES, VERSION, WATCHES,
 };
 pub use name::{Name, NameFault};
-pub use no_memory::NoMemory;
+pub use no_memory::{MOST_COUNTED, NoMemory};
+pub use numbered::Numbered;
 pub use object::{Fields, Object, Slot};
 pub use register::Reg;
 pub use reply::Reply;

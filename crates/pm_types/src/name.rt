@@ -39,7 +39,7 @@ pub enum NameFault {
     /// The byte at this place, counted from 0, is the first that no name has.
     BadByte(u64),
     /// The bytes are a name, and memory ran out.
-    Memory,
+    Memory(NoMemory),
 }
 
 fn is_name_byte(byte: u8) -> bool
@@ -123,7 +123,7 @@ impl Name {
         check(bytes)?;
         match bytes.to_vec(alloc) {
             Ok(bytes) => Ok(Name { bytes }),
-            Err(_) => Err(NameFault::Memory),
+            Err(refused) => Err(NameFault::Memory(NoMemory::from(refused))),
         }
     }
 

@@ -20,7 +20,7 @@ fn said_of_line(cause: DumpCause) -> &'static str {
 fn push_fault(fault: DumpFault, out: &mut String) -> Result<(), Fault> {
     match fault {
         DumpFault::Line { number, cause } => push_filled(said_of_line(cause), &[number], out),
-        DumpFault::Memory => Err(refuse("no memory")),
+        DumpFault::Memory(_) => Err(refuse("no memory")),
     }
 }
 

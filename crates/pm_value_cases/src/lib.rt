@@ -3,6 +3,7 @@
 #![tactic(auto)]
 
 mod case;
+pub mod containers;
 mod dump_lines;
 mod dumps;
 mod parts;

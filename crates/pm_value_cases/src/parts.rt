@@ -5,8 +5,8 @@ ghost use Rattle.pm_types.specs.declared.limits.TheConstants.{CLIENTS};
 
 use crate::scripts::{in_turn, spelled};
 use pm_case_text::{Fault, push_filled, push_number, push_words, refuse, small};
-use pm_parts::{Parts, collects_asked, commands_asked, flushes_asked};
 use pm_script::Script;
+use pm_script::parted::{Parts, collects_asked, commands_asked, flushes_asked};
 use pm_types::{CLIENTS, Cmd};
 use std::alloc::Global;
 

@@ -12,7 +12,7 @@ fn read(alloc: Global, bytes: &[u8]) -> Result<Script, Fault> {
     }
     match read_script(alloc, bytes) {
         Ok(script) => Ok(script),
-        Err(ScriptFault::Memory) => Err(refuse("no memory")),
+        Err(ScriptFault::Memory(_)) => Err(refuse("no memory")),
         Err(_) => Err(refuse("no script")),
     }
 }

@@ -17,7 +17,7 @@ fn push_name_fault(fault: NameFault, out: &mut String) -> Result<(), Fault> {
         NameFault::Empty => push_words("no name: empty\n", out),
         NameFault::TooLong(length) => push_said("no name: too long,", length, out),
         NameFault::BadByte(place) => push_said("no name: bad byte at", place, out),
-        NameFault::Memory => Err(refuse("no memory")),
+        NameFault::Memory(_) => Err(refuse("no memory")),
     }
 }
 

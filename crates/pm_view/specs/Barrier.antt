@@ -1,9 +1,9 @@
 -- The write barrier: which cars hear of a source that stores another address, and what they hear.
 use Rattle.std.specs.Prelude.{ℕ, Bool, false, not, ◌&&◌, ◌==◌, if◌then◌else◌, List, [], ◌∷◌, ◌++◌, Option, Some, None}
 use Rattle.std.specs.FinMap.{get, insert}
-use Rattle.pm_model.specs.types.declared.address.Addr.{Addr}
-use Rattle.pm_model.specs.types.declared.source.RefSource.{RefSource}
-use Rattle.pm_model.specs.types.declared.source.Change.{Change}
+use Rattle.pm_types.specs.declared.address.Addr.{Addr}
+use Rattle.pm_types.specs.declared.source.RefSource.{RefSource}
+use Rattle.pm_types.specs.declared.source.Change.{Change}
 use Rattle.pm_view.specs.Sources.{outside}
 use Rattle.pm_view.specs.View.{Queues}
 

@@ -3,10 +3,10 @@ use Rattle.std.specs.Prelude.{ℕ, Bool, true, false, not, ◌==◌, ◌&&◌, i
 use Rattle.std.specs.Option.{unwrap_or}
 use Rattle.std.specs.List.{find, filter, list_any}
 use Rattle.std.specs.FinMap.{get, entries, empty}
-use Rattle.pm_model.specs.types.declared.address.Addr.{Addr}
-use Rattle.pm_model.specs.types.declared.source.RefSource.{RefSource}
-use Rattle.pm_model.specs.types.declared.source.RefSource.TheVariants.{Root, Handle, Field}
-use Rattle.pm_model.specs.types.declared.source.Change.{Change}
+use Rattle.pm_types.specs.declared.address.Addr.{Addr}
+use Rattle.pm_types.specs.declared.source.RefSource.{RefSource}
+use Rattle.pm_types.specs.declared.source.RefSource.TheVariants.{Root, Handle, Field}
+use Rattle.pm_types.specs.declared.source.Change.{Change}
 use Rattle.pm_trains.specs.Trains.{Train, is_among, youngest}
 use Rattle.pm_view.specs.Sources.{lies_in}
 use Rattle.pm_view.specs.View.{Sources, SpaceView}

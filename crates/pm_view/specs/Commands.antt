@@ -2,14 +2,14 @@
 use Rattle.std.specs.Prelude.{ℕ, ◌+◌, Bool, true, false, ◌||◌, nat_lt, nat_le, nat_eq, if◌then◌else◌, List, length, replicate, zero, suc, Option, Some, None, is_some}
 use Rattle.std.specs.List.{slice_get}
 use Rattle.std.specs.FinMap.{get, len}
-use Rattle.pm_model.specs.types.declared.limits.TheConstants.{FIELDS, OBJECT_BYTES, LAST_ID, ROOTS, REGISTERS}
-use Rattle.pm_model.specs.types.declared.address.Addr.{Addr}
-use Rattle.pm_model.specs.types.declared.object.Object.{Object}
-use Rattle.pm_model.specs.types.declared.source.RefSource.TheVariants.{Root, Handle, Field}
-use Rattle.pm_model.specs.types.declared.command.Cmd.{Cmd}
-use Rattle.pm_model.specs.types.declared.command.Cmd.TheVariants.{New, Load, Store, Clear, Show, Put, Copy, IdOf, Forget, Bind, Unbind, Find, Swap, Close, Save, Settle, Unsave, Watch}
-use Rattle.pm_model.specs.types.declared.reply.Reply.{Reply}
-use Rattle.pm_model.specs.types.declared.reply.Reply.TheVariants.{Done, Ident, Null, Shown, TooLarge, IdsSpent, NoHandle, NoField, OutOfRange, TooManyRoots, NoRoot, Idle, Held}
+use Rattle.pm_types.specs.declared.limits.TheConstants.{FIELDS, OBJECT_BYTES, LAST_ID, ROOTS, REGISTERS}
+use Rattle.pm_types.specs.declared.address.Addr.{Addr}
+use Rattle.pm_types.specs.declared.object.Object.{Object}
+use Rattle.pm_types.specs.declared.source.RefSource.TheVariants.{Root, Handle, Field}
+use Rattle.pm_types.specs.declared.command.Cmd.{Cmd}
+use Rattle.pm_types.specs.declared.command.Cmd.TheVariants.{New, Load, Store, Clear, Show, Put, Copy, IdOf, Forget, Bind, Unbind, Find, Swap, Close, Save, Settle, Unsave, Watch}
+use Rattle.pm_types.specs.declared.reply.Reply.{Reply}
+use Rattle.pm_types.specs.declared.reply.Reply.TheVariants.{Done, Ident, Null, Shown, TooLarge, IdsSpent, NoHandle, NoField, OutOfRange, TooManyRoots, NoRoot, Idle, Held}
 use Rattle.pm_roots.specs.Bindings.{IsFree}
 use Rattle.pm_view.specs.View.{SpaceView}
 use Rattle.pm_view.specs.Reading.{object_at, resolve}

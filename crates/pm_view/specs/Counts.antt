@@ -2,7 +2,7 @@
 use Rattle.std.specs.Prelude.{◌≡◌, ℕ, false, cond, ◌+◌, List, [], ◌∷◌, nat_le, Option, Some, None}
 use Rattle.std.specs.List.{sum_by}
 use Rattle.std.specs.FinMap.{get}
-use Rattle.pm_model.specs.types.declared.address.Addr.{Addr}
+use Rattle.pm_types.specs.declared.address.Addr.{Addr}
 use Rattle.pm_cars.specs.Cars.{Car, live_count}
 use Rattle.pm_trains.specs.Trains.{Train, train_of}
 use Rattle.pm_view.specs.View.{SpaceView}

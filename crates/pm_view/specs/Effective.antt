@@ -1,8 +1,8 @@
 -- Effective sets: what a car's remembered set is once its queued changes are applied.
 use Rattle.std.specs.Prelude.{ℕ, List, [], ◌∷◌, Option, Some, None}
 use Rattle.std.specs.FinMap.{get, insert, remove}
-use Rattle.pm_model.specs.types.declared.source.RefSource.{RefSource}
-use Rattle.pm_model.specs.types.declared.source.Change.{Change}
+use Rattle.pm_types.specs.declared.source.RefSource.{RefSource}
+use Rattle.pm_types.specs.declared.source.Change.{Change}
 use Rattle.pm_view.specs.View.{Sources, SpaceView}
 
 -- a remembered set where this source names the slot, or none

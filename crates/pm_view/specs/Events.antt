@@ -3,11 +3,11 @@ use Rattle.std.specs.Prelude.{◌≡◌, ℕ, Bool, true, false, ◌==◌, cond,
 use Rattle.std.specs.Option.{unwrap_or}
 use Rattle.std.specs.List.{find}
 use Rattle.std.specs.FinMap.{get, entries}
-use Rattle.pm_model.specs.types.declared.address.Addr.{Addr}
-use Rattle.pm_model.specs.types.declared.object.Slot.{Slot}
-use Rattle.pm_model.specs.types.declared.object.Slot.TheVariants.{Live, Moved}
-use Rattle.pm_model.specs.types.declared.source.RefSource.{RefSource}
-use Rattle.pm_model.specs.types.declared.source.Change.{Change}
+use Rattle.pm_types.specs.declared.address.Addr.{Addr}
+use Rattle.pm_types.specs.declared.object.Slot.{Slot}
+use Rattle.pm_types.specs.declared.object.Slot.TheVariants.{Live, Moved}
+use Rattle.pm_types.specs.declared.source.RefSource.{RefSource}
+use Rattle.pm_types.specs.declared.source.Change.{Change}
 use Rattle.pm_cars.specs.Cars.{Car}
 use Rattle.pm_cars.specs.Entries.{holds_object}
 use Rattle.pm_trains.specs.Trains.{train_of, first_car, is_among, oldest}

@@ -1,9 +1,9 @@
 -- The heap law: what holds of a space after every event.
 use Rattle.std.specs.Prelude.{◌≡◌, ℕ, ◌<◌, ◌≤◌, ◌≢◌, false, ◌==◌, List, length, Option, Some, None, IsSome, IsSomeAnd, is_some}
 use Rattle.std.specs.FinMap.{get, len}
-use Rattle.pm_model.specs.types.declared.limits.TheConstants.{CLIENTS, REGISTERS, FIELDS, OBJECT_BYTES, ROOTS, END_ID}
-use Rattle.pm_model.specs.types.declared.address.Addr.{Addr}
-use Rattle.pm_model.specs.types.declared.object.Object.{Object}
+use Rattle.pm_types.specs.declared.limits.TheConstants.{CLIENTS, REGISTERS, FIELDS, OBJECT_BYTES, ROOTS, END_ID}
+use Rattle.pm_types.specs.declared.address.Addr.{Addr}
+use Rattle.pm_types.specs.declared.object.Object.{Object}
 use Rattle.pm_trains.specs.Sound.{AreSoundTrains}
 use Rattle.pm_cars.specs.Cars.{Car, live_count, moved_count, IsSoundCar}
 use Rattle.pm_trains.specs.Trains.{Train, cars_at, train_of, first_car, oldest, youngest}

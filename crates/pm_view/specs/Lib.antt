@@ -16,9 +16,7 @@ pub mod Events
 pub mod Work
 pub mod Watches
 pub mod Stale
--- Passed on whole, so that who stands above need not list these crates.
-pub use Rattle.pm_model.specs as model
-pub use Rattle.pm_cars.specs as cars
-pub use Rattle.pm_trains.specs as trains
-pub use Rattle.pm_roots.specs as roots
-pub use Rattle.pm_handles.specs as handles
+pub mod Ranking
+pub mod Sinking
+pub mod Bounded
+pub mod Examples

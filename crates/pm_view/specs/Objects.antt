@@ -1,7 +1,7 @@
 -- What becomes of the objects that stand.
 use Rattle.std.specs.Prelude.{◌≡◌, ℕ, ◌+◌, false, nat_le, if◌then◌else◌, Some, None, IsSome}
 use Rattle.std.specs.FinMap.{get}
-use Rattle.pm_model.specs.types.declared.address.Addr.{Addr}
+use Rattle.pm_types.specs.declared.address.Addr.{Addr}
 use Rattle.pm_trains.specs.Trains.{train_of}
 use Rattle.pm_trains.specs.Trains as trains
 use Rattle.pm_view.specs.Sources.{same_address}

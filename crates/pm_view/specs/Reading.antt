@@ -3,13 +3,13 @@ use Rattle.std.specs.Prelude.{◌≡◌, ℕ, ◌<◌, Bool, false, not, ◌==�
 use Rattle.std.specs.List.{slice_get}
 use Rattle.std.specs.Option.{option_flatten, unwrap_or}
 use Rattle.std.specs.FinMap.{get}
-use Rattle.pm_model.specs.types.declared.limits.TheConstants.{CLIENTS, REGISTERS}
-use Rattle.pm_model.specs.types.declared.address.Addr.{Addr}
-use Rattle.pm_model.specs.types.declared.source.RefSource.{RefSource}
-use Rattle.pm_model.specs.types.declared.source.RefSource.TheVariants.{Root, Handle, Field}
-use Rattle.pm_model.specs.types.declared.object.Object.{Object}
-use Rattle.pm_model.specs.types.declared.object.Slot.{Slot}
-use Rattle.pm_model.specs.types.declared.object.Slot.TheVariants.{Live, Moved}
+use Rattle.pm_types.specs.declared.limits.TheConstants.{CLIENTS, REGISTERS}
+use Rattle.pm_types.specs.declared.address.Addr.{Addr}
+use Rattle.pm_types.specs.declared.source.RefSource.{RefSource}
+use Rattle.pm_types.specs.declared.source.RefSource.TheVariants.{Root, Handle, Field}
+use Rattle.pm_types.specs.declared.object.Object.{Object}
+use Rattle.pm_types.specs.declared.object.Slot.{Slot}
+use Rattle.pm_types.specs.declared.object.Slot.TheVariants.{Live, Moved}
 use Rattle.pm_cars.specs.Cars.{Car, object_of}
 use Rattle.pm_trains.specs.Trains.{Train, cars_at, is_among}
 use Rattle.pm_roots.specs.Bindings.{address_at}

@@ -1,8 +1,8 @@
 -- Which worlds a space stands for.
 use Rattle.std.specs.Prelude.{◌≡◌, ◌⊎◌, ℕ, ◌<◌, false, List, map, Option, Some, None, option_and_then}
 use Rattle.std.specs.FinMap.{get}
-use Rattle.pm_model.specs.types.declared.address.Addr.{Addr}
-use Rattle.pm_model.specs.types.declared.object.Object as stored
+use Rattle.pm_types.specs.declared.address.Addr.{Addr}
+use Rattle.pm_types.specs.declared.object.Object as stored
 use Rattle.pm_model.specs.Heap.{Object, Holds}
 use Rattle.pm_model.specs.World.{World, emptying, holding}
 use Rattle.pm_model.specs.Reachability.{IsReachable}

@@ -1,14 +1,14 @@
 -- The rows that commands and events are made of. Each says the whole space after it; what it does not name stays.
 use Rattle.std.specs.Prelude.{◌≡◌, ℕ, ◌+◌, ◌<◌, ◌≤◌, ◌==◌, ◌&&◌, Bool, false, cond, nat_le, if◌then◌else◌, List, [], length, Option, Some, None, IsSome, IsSomeAnd, option_and_then}
 use Rattle.std.specs.FinMap.{get, insert, remove, empty}
-use Rattle.pm_model.specs.base.Mapped.{mapped}
-use Rattle.pm_model.specs.types.declared.limits.TheConstants.{FIELDS, OBJECT_BYTES, CAR_BYTES, LAST_SLOT}
-use Rattle.pm_model.specs.types.declared.address.Addr.{Addr}
-use Rattle.pm_model.specs.types.declared.object.Object.{Object}
-use Rattle.pm_model.specs.types.declared.object.Slot.{Slot}
-use Rattle.pm_model.specs.types.declared.object.Slot.TheVariants.{Live}
-use Rattle.pm_model.specs.types.declared.source.RefSource.{RefSource}
-use Rattle.pm_model.specs.types.declared.source.RefSource.TheVariants.{Root, Handle, Field}
+use Rattle.pm_types.specs.Mapped.{mapped}
+use Rattle.pm_types.specs.declared.limits.TheConstants.{FIELDS, OBJECT_BYTES, CAR_BYTES, LAST_SLOT}
+use Rattle.pm_types.specs.declared.address.Addr.{Addr}
+use Rattle.pm_types.specs.declared.object.Object.{Object}
+use Rattle.pm_types.specs.declared.object.Slot.{Slot}
+use Rattle.pm_types.specs.declared.object.Slot.TheVariants.{Live}
+use Rattle.pm_types.specs.declared.source.RefSource.{RefSource}
+use Rattle.pm_types.specs.declared.source.RefSource.TheVariants.{Root, Handle, Field}
 use Rattle.pm_cars.specs.Cars.{Car, used, object_room, new_car, with_birth, with_slot, with_field, with_bytes}
 use Rattle.pm_trains.specs.Trains.{first_trains, youngest, tail, rotated, appended}
 use Rattle.pm_handles.specs.Handles.{with_register}

@@ -1,7 +1,7 @@
 -- The heap law of sources and remembered sets, over what is seen at each place, source and car.
 use Rattle.std.specs.Prelude.{◌≡◌, ℕ, Bool, true, false, not, ◌≢◌, Option, Some, None}
-use Rattle.pm_model.specs.types.declared.address.Addr.{Addr}
-use Rattle.pm_model.specs.types.declared.source.RefSource.{RefSource}
+use Rattle.pm_types.specs.declared.address.Addr.{Addr}
+use Rattle.pm_types.specs.declared.source.RefSource.{RefSource}
 use Rattle.pm_cars.specs.declared.look.Look.{Look}
 use Rattle.pm_cars.specs.declared.look.Look.TheVariants.{Live, Moved, Gone}
 use Rattle.pm_cars.specs.Cars.{look_of}

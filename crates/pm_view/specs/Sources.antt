@@ -1,8 +1,8 @@
 -- Places that store addresses, and the addresses that they store.
 use Rattle.std.specs.Prelude.{ℕ, Bool, false, cond, not, ◌&&◌, ◌==◌, Option, Some, None}
-use Rattle.pm_model.specs.types.declared.address.Addr.{Addr}
-use Rattle.pm_model.specs.types.declared.source.RefSource.{RefSource}
-use Rattle.pm_model.specs.types.declared.source.RefSource.TheVariants.{Root, Handle, Field}
+use Rattle.pm_types.specs.declared.address.Addr.{Addr}
+use Rattle.pm_types.specs.declared.source.RefSource.{RefSource}
+use Rattle.pm_types.specs.declared.source.RefSource.TheVariants.{Root, Handle, Field}
 
 -- whether two addresses are one
 abbrev pub same_address : Addr → Addr → Bool

@@ -2,7 +2,7 @@
 use Rattle.std.specs.Prelude.{◌≡◌, ℕ, true, Option, Some, None}
 use Rattle.std.specs.FinMap.{get}
 use Rattle.std.proofs.Props.{props}
-use Rattle.pm_model.specs.types.declared.source.RefSource.{RefSource}
+use Rattle.pm_types.specs.declared.source.RefSource.{RefSource}
 use Rattle.pm_view.specs.declared.phase.Phase.TheVariants.{Moving}
 use Rattle.pm_view.specs.View.{SpaceView}
 use Rattle.pm_view.specs.Reading.{slot_at}

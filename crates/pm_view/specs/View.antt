@@ -2,9 +2,9 @@
 use Rattle.std.specs.Prelude.{ℕ, List, Option}
 use Rattle.std.specs.Ordering.{nat_cmp}
 use Rattle.std.specs.FinMap.{FinMap}
-use Rattle.pm_model.specs.types.Orders.{place_cmp, source_cmp}
-use Rattle.pm_model.specs.types.declared.address.Addr.{Addr}
-use Rattle.pm_model.specs.types.declared.source.Change.{Change}
+use Rattle.pm_types.specs.Orders.{place_cmp, source_cmp}
+use Rattle.pm_types.specs.declared.address.Addr.{Addr}
+use Rattle.pm_types.specs.declared.source.Change.{Change}
 use Rattle.pm_cars.specs.Cars.{Car}
 use Rattle.pm_trains.specs.Trains.{Trains}
 use Rattle.pm_roots.specs.Bindings.{Bindings}

@@ -1,8 +1,8 @@
 -- What a watch notes when it is set, and what is told of it at the end.
 use Rattle.std.specs.Prelude.{ℕ, ◌+◌, ◌-◌, ◌*◌, min, List, [], ◌∷◌, length}
-use Rattle.pm_model.specs.base.Counts.{capped}
-use Rattle.pm_model.specs.types.declared.event.Watch.{Watch}
-use Rattle.pm_model.specs.types.declared.event.WatchLine.{WatchLine}
+use Rattle.pm_types.specs.Counts.{capped}
+use Rattle.pm_types.specs.declared.event.Watch.{Watch}
+use Rattle.pm_types.specs.declared.event.WatchLine.{WatchLine}
 use Rattle.pm_trains.specs.declared.trains.TheConstants.{BIRTHS}
 use Rattle.pm_trains.specs.Trains.{youngest}
 use Rattle.pm_view.specs.View.{SpaceView}

@@ -38,9 +38,6 @@ met_grows view old new to grows is = of (named_by view to) is
     of None is = tt
     of (Some id) is = grows.met id is
 
-pub grows_not : (walk : Walk) → Grows walk walk
-grows_not walk = record { found = λ place one is. is; met = λ id is. is }
-
 pub grows_twice : (old between new : Walk) → Grows old between → Grows between new → Grows old new
 grows_twice old between new first second = record {
   found = λ place one is. second.found place one (first.found place one is);

@@ -6,8 +6,8 @@ use Rattle.std.specs.Cmp.{nat_cmp_total}
 use Rattle.std.specs.Ordering.{nat_cmp}
 use Rattle.std.specs.FinMap.{get, entries, same_map, nat_cmp-IsAntisymmetric}
 use Rattle.std.proofs.lemmas.Option.{same_Some}
-use Rattle.pm_base.specs.Mapped.{mapped, mapped_entries}
-use Rattle.pm_base.proofs.Mapped.{get-mapped, entries-mapped}
+use Rattle.pm_types.specs.Mapped.{mapped, mapped_entries}
+use Rattle.pm_types.proofs.Mapped.{get-mapped, entries-mapped}
 use Rattle.pm_types.specs.Orders.{name_cmp}
 use Rattle.pm_types.proofs.Orders.{names_total, names_antisymmetric}
 use Rattle.pm_types.specs.declared.address.Addr.{Addr}
@@ -19,8 +19,8 @@ use Rattle.pm_view.specs.Reading.{object_at, stored, resolve, named_by}
 use Rattle.pm_view.specs.Law.{HeapLaw}
 use Rattle.pm_copies.specs.Listed.{copy_in}
 use Rattle.pm_dump.proofs.Copies.{in_entries}
-use Rattle.pm_law_walks.specs.Kept.{IsKeptAt}
-use Rattle.pm_law_walks.proofs.Walked.{names_led, root_kept, least}
+use Rattle.pm_law_copies.specs.Walks.Kept.{IsKeptAt}
+use Rattle.pm_law_copies.proofs.WalksLemmas.Walked.{names_led, root_kept, least}
 use Rattle.pm_walk.specs.declared.walk.Walk.{Walk}
 use Rattle.pm_walk.specs.Walked.{met_in, meant, meant_at, IsKept, IsSoundWalk, IsWholeWalk}
 use Rattle.pm_walk.proofs.Lists.{not_none, known}

@@ -4,3 +4,4 @@ pub mod Steps
 pub mod Heaps
 pub mod Texts
 pub mod Broad
+pub mod PathsLemmas

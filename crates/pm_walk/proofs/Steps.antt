@@ -9,7 +9,7 @@ use Rattle.std.specs.FinMap.{get, insert, empty, get-empty, entries, get-entries
 use Rattle.std.specs.BTreeMap as tree
 use Rattle.std.proofs.lemmas.Bool.Decides.{nat_tests}
 use Rattle.std.proofs.lemmas.Option.{same_Some, slice_get_within, slice_get-get_or}
-use Rattle.pm_base.proofs.Shown.{get_shown}
+use Rattle.pm_types.proofs.Shown.{get_shown}
 use Rattle.pm_types.specs.Orders.{name_cmp}
 use Rattle.pm_types.specs.declared.address.Addr.{Addr}
 use Rattle.pm_types.specs.declared.object.Object as kept
@@ -19,7 +19,7 @@ use Rattle.pm_view.specs.View.{SpaceView}
 use Rattle.pm_view.specs.Reading.{object_at, stored, resolve, named_by}
 use Rattle.pm_dump.proofs.Copies.{in_entries}
 use Rattle.pm_types.proofs.Orders.{names_total}
-use Rattle.pm_law_walks.specs.Kept.{IsKeptAt}
+use Rattle.pm_law_copies.specs.Walks.Kept.{IsKeptAt}
 use Rattle.pm_walk.specs.declared.walk.Found.{Found}
 use Rattle.pm_walk.specs.declared.walk.Walk.{Walk}
 use Rattle.pm_walk.specs.Walked.{met_in, IsKept, IsMet, LeadsTo, IsFieldAt, IsFoundAt, IsSoundWalk, Grows, IsBegun, IsDoneAt}
@@ -35,11 +35,6 @@ both_ok (Err e) f a b = tt
 -- the object to which an address leads
 pub named_is : (view : SpaceView) (to at : Addr) (o : Option kept.Object) (object : kept.Object) → at ≡ resolve view to → o ≡ object_at view.cars at → o ≡ Some object → named_by view to ≡ Some object.id
 named_is view to at o object is here some = ap (λ a. option_map (λ (x : kept.Object). x.id) (object_at view.cars a)) (sym is) ∙ ap (option_map (λ (x : kept.Object). x.id)) (sym here ∙ some)
-
--- it leads to none
-pub named_none : (view : SpaceView) (walk : Walk) (to at : Addr) (o : Option kept.Object) → at ≡ resolve view to → o ≡ object_at view.cars at → o ≡ None → IsMet view walk to
-named_none view walk to at o is here none =
-    subst (λ (n : Option ℕ). IfSome n (λ id. IsSome (get (met_in walk) id))) (sym (ap (λ a. option_map (λ (x : kept.Object). x.id) (object_at view.cars a)) (sym is) ∙ ap (option_map (λ (x : kept.Object). x.id)) (sym here ∙ none))) tt
 
 -- it was met
 pub named_met : (view : SpaceView) (walk : Walk) (to : Addr) (id : ℕ) → named_by view to ≡ Some id → is_some (tree.get nat_cmp walk.met id) ≡ true → IsMet view walk to
@@ -120,12 +115,6 @@ all_fields_met view old new place one object fields count grows found here are a
   where
     within : {n : ℕ} → n < length fields → n < count
     within {n} below = omega (arith, all, below)
-
--- an object that was found holds nothing where it does not stand
-pub nothing_done : (view : SpaceView) (walk : Walk) (place : ℕ) (one : Found) → slice_get walk.found.items place ≡ Some one → object_at view.cars one.at ≡ None → IsDoneAt view walk place
-nothing_done view walk place one found none other index to is holds =
-    let same : one ≡ other = same_Some one other (sym found ∙ is) in
-    absurd (not_none to (sym (ap (λ (o : Option kept.Object). option_flatten (option_and_then (λ (x : kept.Object). slice_get x.fields index) o)) none) ∙ ap (λ (f : Found). stored view (Field f.at index)) same ∙ holds))
 
 -- a field of an object that was found leads to it
 pub field_leads_to : (view : SpaceView) (found : List Found) (place index : ℕ) (to : Addr) → IsFieldAt view found place index (Some to) → LeadsTo view found (length found) (Some place) index (resolve view to)

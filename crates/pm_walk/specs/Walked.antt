@@ -10,7 +10,7 @@ use Rattle.pm_model.specs.Heap.{Object}
 use Rattle.pm_view.specs.View.{SpaceView}
 use Rattle.pm_view.specs.Reading.{object_at, stored, resolve, named_by}
 use Rattle.pm_view.specs.Represents.{meaning}
-use Rattle.pm_law_walks.specs.Kept.{IsKeptAt}
+use Rattle.pm_law_copies.specs.Walks.Kept.{IsKeptAt}
 use Rattle.pm_walk.specs.declared.walk.Found.{Found}
 use Rattle.pm_walk.specs.declared.walk.Walk.{Walk}
 

@@ -1,6 +1,7 @@
 //! Walks: what the names of a space reach, found from address to address, and the text of its dump.
 #![tactic(auto)]
 
+pub mod paths;
 mod text;
 mod walk;
 mod words;

@@ -13,7 +13,7 @@ ghost use Rattle.pm_walk.specs.Lines.{found_line, named_line};
 
 use crate::walk::{Walk, walk_space};
 use crate::words::{append, append_number, append_word};
-use pm_law_walks::a_copy_is_walked_by_addresses;
+use pm_law_copies::walks::a_copy_is_walked_by_addresses;
 use pm_space::{Parts, Space, object_at, resolve};
 use pm_types::{Addr, Id, Name, NoMemory, Object};
 use std::alloc::Global;

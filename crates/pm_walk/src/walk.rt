@@ -6,7 +6,7 @@ ghost use Rattle.pm_space.specs.Shown.{view};
 ghost use Rattle.pm_walk.specs.declared.walk.Found.{Found};
 ghost use Rattle.pm_walk.specs.Walked.{met_in, IsKept, LeadsTo, IsFieldAt, IsMet, IsSoundWalk, Grows, AreFoundBy, IsBegun, IsDoneAt, IsWholeWalk, IsPlaceOf, IsBroadWalk};
 
-use pm_law_walks::a_copy_is_walked_by_addresses;
+use pm_law_copies::walks::a_copy_is_walked_by_addresses;
 use pm_space::{Space, object_at, resolve};
 use pm_types::{Addr, Id, NoMemory};
 use std::alloc::Global;

@@ -1,4 +1,4 @@
-use clap::error::ErrorKind;
+use crate::memory::out_of_memory;
 use clap::{Arg, Command};
 use pm_types::NoMemory;
 use std::alloc::Global;
@@ -46,12 +46,9 @@ pub(crate) fn is_taken(alloc: Global, words: &[&str]) -> Result<bool, NoMemory> 
     let grammar = grammar(alloc)?;
     match grammar.try_get_matches_from(words) {
         Ok(_) => Ok(true),
-        Err(error) => {
-            if error.kind() == ErrorKind::OutOfMemory {
-                Err(NoMemory)
-            } else {
-                Ok(false)
-            }
-        }
+        Err(error) => match out_of_memory(error) {
+            Some(refused) => Err(refused),
+            None => Ok(false),
+        },
     }
 }

@@ -6,6 +6,7 @@ mod chosen;
 mod command;
 mod grammar;
 mod laws;
+mod memory;
 mod place;
 mod reader;
 mod words;

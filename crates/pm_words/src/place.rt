@@ -1,4 +1,4 @@
-ghost use Rattle.std.specs.Prelude.{◌≡◌, ◌∷◌, [], codes, map, IfSome, IfNone, true, false};
+ghost use Rattle.std.specs.Prelude.{◌≡◌, ◌∷◌, [], map, IfSome, IfNone, true, false};
 ghost use Rattle.pm_words.specs.declared.chosen.Chosen.{Chosen as Choice};
 ghost use Rattle.pm_words.specs.Words.{IsMode, IsPlace, HasPlace, HasNoPlace, Places};
 

@@ -5,7 +5,7 @@ use Rattle.pm_io.specs.declared.source.Source as source
 use Rattle.pm_io.specs.declared.sink.Sink as sink
 use Rattle.pm_words.specs.declared.chosen.Chosen.{Chosen}
 use Rattle.pm_words.specs.declared.chosen.Chosen.TheVariants.{First, Last, Middle}
-use Rattle.pm_ends.specs.declared.ended.Ended.{Ended}
+use Rattle.pm_runs.specs.declared.ends.ended.Ended.{Ended}
 use Rattle.pm_top.specs.Program.{Performs}
 
 -- the file's name: the second word, or nothing where there is none

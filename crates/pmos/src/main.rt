@@ -5,10 +5,13 @@
 ghost use Rattle.std.specs.Prelude.{◌≡◌, ◌<◌, length, map, drop, string_bytes, IfOk, OnErr};
 ghost use Rattle.std.specs.Process.{exit_status};
 ghost use Rattle.std.specs.Vec.Iter.{into_iter_items};
-ghost use Rattle.pm_ends.specs.Ends.{detail_line};
+ghost use Rattle.pm_runs.specs.Ends.Ends.{detail_line};
 ghost use Rattle.pm_top.specs.Program.{Tells, TellsEnd};
 ghost use Rattle.pmos.specs.Main.{IsOtherPath, path_in, place_in, PerformsFrom};
 
+mod memory;
+
+use crate::memory::out_of_memory;
 use pm_disk::Disk;
 use pm_file::FileDisk;
 use pm_io::{Sink, Source, StdSink, StdSource};
@@ -19,7 +22,7 @@ use pm_types::NoMemory;
 use pm_words::{Chosen, read_place};
 use std::alloc::{AllocError, Global};
 use std::env::{Args, Env};
-use std::io::{ErrorKind, Read, Write};
+use std::io::{Read, Write};
 use std::process::ExitCode;
 use std::sync::Wait;
 use std::thread::Threads;
@@ -38,12 +41,12 @@ fn behind_name(alloc: Global, mut all: Args) -> Result<Vec<String>, AllocError>
 }
 
 // The words of the command line. Those that are no text are no command line, as no words are.
-fn words<R: AllocGlobal + Env>(rt: &R) -> Result<Vec<String>, AllocError> {
+fn words<R: AllocGlobal + Env>(rt: &R) -> Result<Vec<String>, NoMemory> {
     match env::args(rt) {
-        Ok(all) => behind_name(rt.alloc(), all),
-        Err(error) => match error.kind() {
-            ErrorKind::OutOfMemory => Err(AllocError),
-            _ => Ok(Vec::new(rt.alloc())),
+        Ok(all) => Ok(behind_name(rt.alloc(), all)?),
+        Err(error) => match out_of_memory(error) {
+            Some(refused) => Err(refused),
+            None => Ok(Vec::new(rt.alloc())),
         },
     }
 }
@@ -180,8 +183,12 @@ fn end<R: AllocGlobal + Env + Threads + Wait + Sync, I: Read + Drop, O: Write + 
 {
     match run_all(rt, files, reader, writer, errors) {
         Ok(status) => status,
-        Err(_) => {
-            tell(errors, &Detail::Memory { opened: false });
+        Err(refused) => {
+            let detail = Detail::Memory {
+                opened: false,
+                refused,
+            };
+            tell(errors, &detail);
             7
         }
     }

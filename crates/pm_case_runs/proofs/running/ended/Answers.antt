@@ -1,6 +1,6 @@
 use denote.Param.Send.{sendable}
 use Rattle.pm_disk.proofs.Crossing.{disk_send}
-use Rattle.pm_fuse.proofs.Crossing.{fuse_send}
+use Rattle.pm_disk.proofs.FuseLemmas.Crossing.{fuse_send}
 use Rattle.pm_case_runs.proofs.running.ended.Goals as goal
 
 pub pmos-requires-send-D : goal.pmos-requires-send-D

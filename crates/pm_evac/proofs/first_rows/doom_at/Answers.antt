@@ -5,7 +5,7 @@ use Rattle.pm_view.specs.Collecting.{doomed}
 use Rattle.pm_view.specs.Events.{doom}
 use Rattle.pm_space.specs.Shown.{view}
 use Rattle.pm_evac.proofs.Chosen.{made}
-use Rattle.pm_relocate.proofs.Views.{is_counted}
+use Rattle.pm_evac.proofs.RelocateLemmas.Views.{is_counted}
 use Rattle.pm_evac.proofs.first_rows.doom_at.Goals as goal
 
 pub returns-clause-event : goal.returns-clause-event

@@ -1,12 +1,12 @@
 use Rattle.std.proofs.Common.{rules, refl, ap, ◌∙◌}
 use Rattle.pm_types.specs.declared.event.Step.TheVariants.{Selected}
 use Rattle.pm_view.specs.Events.{select}
-use Rattle.pm_law_phases.proofs.Comes.{comes_where}
-use Rattle.pm_law_phases.proofs.PhaseRows.{oldest_has}
+use Rattle.pm_law_collect.proofs.PhasesLemmas.Comes.{comes_where}
+use Rattle.pm_law_collect.proofs.PhasesLemmas.PhaseRows.{oldest_has}
 use Rattle.pm_space.specs.Shown.{view}
-use Rattle.pm_relocate.specs.Changed.{counted}
+use Rattle.pm_evac.specs.Relocate.Changed.{counted}
 use Rattle.pm_evac.proofs.Chosen.{made}
-use Rattle.pm_relocate.proofs.Views.{is_counted}
+use Rattle.pm_evac.proofs.RelocateLemmas.Views.{is_counted}
 use Rattle.pm_evac.proofs.first_rows.select_at.Goals as goal
 
 pub select_train-requires : goal.select_train-requires

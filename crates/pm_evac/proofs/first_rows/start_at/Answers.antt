@@ -6,7 +6,7 @@ use Rattle.pm_view.specs.Collecting.{started}
 use Rattle.pm_view.specs.Events.{start}
 use Rattle.pm_space.specs.Shown.{view}
 use Rattle.pm_evac.proofs.Chosen.{made}
-use Rattle.pm_relocate.proofs.Views.{is_counted}
+use Rattle.pm_evac.proofs.RelocateLemmas.Views.{is_counted}
 use Rattle.pm_evac.proofs.first_rows.start_at.Goals as goal
 
 pub note-requires-clause-some : goal.note-requires-clause-some

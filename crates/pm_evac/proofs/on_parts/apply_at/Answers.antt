@@ -2,9 +2,9 @@ use Rattle.std.proofs.Common.{rules, refl, ap, ◌∙◌}
 use Rattle.pm_types.specs.declared.event.Step.TheVariants.{Applied}
 use Rattle.pm_view.specs.Events.{apply}
 use Rattle.pm_space.specs.Shown.{view}
-use Rattle.pm_relocate.specs.Changed.{counted}
+use Rattle.pm_evac.specs.Relocate.Changed.{counted}
 use Rattle.pm_evac.proofs.Chosen.{made}
-use Rattle.pm_relocate.proofs.Views.{is_counted}
+use Rattle.pm_evac.proofs.RelocateLemmas.Views.{is_counted}
 use Rattle.pm_evac.proofs.on_parts.apply_at.Goals as goal
 
 pub returns : goal.returns

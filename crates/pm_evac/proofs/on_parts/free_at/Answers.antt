@@ -2,9 +2,9 @@ use Rattle.std.proofs.Common.{refl, true, sym, ap, ◌∙◌}
 use Rattle.std.specs.Option.{unwrap_or}
 use Rattle.pm_types.specs.declared.event.Step.TheVariants.{Freed}
 use Rattle.pm_view.specs.Events.{free}
-use Rattle.pm_law_phases.proofs.Comes.{comes_where}
+use Rattle.pm_law_collect.proofs.PhasesLemmas.Comes.{comes_where}
 use Rattle.pm_space.specs.Shown.{view}
-use Rattle.pm_relocate.specs.Changed.{freed}
+use Rattle.pm_evac.specs.Relocate.Changed.{freed}
 use Rattle.pm_evac.proofs.Chosen.{made}
 use Rattle.pm_evac.proofs.Lawful.{swept_home}
 use Rattle.pm_evac.proofs.on_parts.free_at.Goals as goal

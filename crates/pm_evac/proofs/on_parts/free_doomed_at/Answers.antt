@@ -4,11 +4,11 @@ use Rattle.pm_types.specs.declared.event.Step.TheVariants.{Freed}
 use Rattle.pm_trains.specs.Trains.{cars_at}
 use Rattle.pm_view.specs.Reading.{cars_of}
 use Rattle.pm_view.specs.Events.{free_doomed}
-use Rattle.pm_law_rows.proofs.OpenTrain.{first_home}
-use Rattle.pm_law_phases.proofs.Comes.{comes_where}
-use Rattle.pm_law_phases.proofs.Fronts.{first_cars}
+use Rattle.pm_law_commands.proofs.RowLemmas.OpenTrain.{first_home}
+use Rattle.pm_law_collect.proofs.PhasesLemmas.Comes.{comes_where}
+use Rattle.pm_law_collect.proofs.PhasesLemmas.Fronts.{first_cars}
 use Rattle.pm_space.specs.Shown.{view}
-use Rattle.pm_relocate.specs.Changed.{freed}
+use Rattle.pm_evac.specs.Relocate.Changed.{freed}
 use Rattle.pm_evac.proofs.Chosen.{made}
 use Rattle.pm_evac.proofs.Lawful.{car_stands}
 use Rattle.pm_evac.proofs.on_parts.free_doomed_at.Goals as goal

@@ -1,13 +1,13 @@
 use Rattle.std.proofs.Common.{rules, ap, ◌∙◌}
 use Rattle.pm_types.specs.declared.event.Step.TheVariants.{Moved}
 use Rattle.pm_view.specs.Events.{move_on}
-use Rattle.pm_law_phases.proofs.Comes.{comes_where}
+use Rattle.pm_law_collect.proofs.PhasesLemmas.Comes.{comes_where}
 use Rattle.pm_space.specs.Shown.{view}
 use Rattle.pm_space.proofs.OpenedCars.{lowest_vacant}
-use Rattle.pm_relocate.specs.Changed.{counted}
+use Rattle.pm_evac.specs.Relocate.Changed.{counted}
 use Rattle.pm_evac.proofs.Chosen.{made}
 use Rattle.pm_evac.proofs.MoveRows.{may_move_on}
-use Rattle.pm_relocate.proofs.Views.{is_counted}
+use Rattle.pm_evac.proofs.RelocateLemmas.Views.{is_counted}
 use Rattle.pm_evac.proofs.on_parts.move_on.Goals as goal
 
 pub relocate-requires : goal.relocate-requires

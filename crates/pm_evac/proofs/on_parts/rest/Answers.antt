@@ -3,7 +3,7 @@ use Rattle.pm_types.specs.declared.event.Step.TheVariants.{Nothing}
 use Rattle.pm_view.specs.Events.{nothing}
 use Rattle.pm_space.specs.Shown.{view}
 use Rattle.pm_evac.proofs.Chosen.{made}
-use Rattle.pm_relocate.proofs.Views.{is_counted}
+use Rattle.pm_evac.proofs.RelocateLemmas.Views.{is_counted}
 use Rattle.pm_evac.proofs.on_parts.rest.Goals as goal
 
 pub returns : goal.returns

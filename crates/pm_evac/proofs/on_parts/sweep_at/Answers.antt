@@ -1,12 +1,12 @@
 use Rattle.std.proofs.Common.{rules, ap, ◌∙◌}
 use Rattle.pm_types.specs.declared.event.Step.TheVariants.{Swept}
 use Rattle.pm_view.specs.Events.{sweep}
-use Rattle.pm_law_phases.proofs.Comes.{comes_where}
+use Rattle.pm_law_collect.proofs.PhasesLemmas.Comes.{comes_where}
 use Rattle.pm_space.specs.Shown.{view}
-use Rattle.pm_relocate.specs.Changed.{counted}
+use Rattle.pm_evac.specs.Relocate.Changed.{counted}
 use Rattle.pm_evac.proofs.Chosen.{made}
 use Rattle.pm_evac.proofs.Lawful.{lowest_lives}
-use Rattle.pm_relocate.proofs.Views.{is_counted}
+use Rattle.pm_evac.proofs.RelocateLemmas.Views.{is_counted}
 use Rattle.pm_evac.proofs.on_parts.sweep_at.Goals as goal
 
 pub sweep-requires-clause-live : goal.sweep-requires-clause-live

@@ -11,7 +11,7 @@ use Rattle.pm_graphs.proofs.Lists.{drop_here, first_all, second_all}
 use Rattle.pm_graphs.proofs.ChainLaws.{taken_more, entries_more, reads_done}
 use Rattle.pm_graphs.proofs.LookedLaws.{looked_then}
 use Rattle.pm_graphs.proofs.ReadLaws.{pages_on, pages_end, pages_done}
-use Rattle.pm_base.proofs.Fronts.{with_front}
+use Rattle.pm_types.proofs.Fronts.{with_front}
 use Rattle.pm_graphs.proofs.reading.read_cars.Goals as goal
 
 pub read_listed-requires-clause-pages : goal.read_listed-requires-clause-pages

@@ -4,7 +4,7 @@ use Rattle.std.specs.FinSet as set
 use Rattle.pm_image.specs.Graphs.{cars_from, entries_of}
 use Rattle.pm_shadow.specs.Pages.{state, disk_of}
 use Rattle.pm_graphs.specs.Reading.{Looked, store_of, IsCar, IsEntryThere, LeadsOn}
-use Rattle.pm_base.proofs.Fronts.{with_front}
+use Rattle.pm_types.proofs.Fronts.{with_front}
 use Rattle.pm_graphs.proofs.reading.read_cars.Given as goal
 
 abbrev pub invariant-loop-page : goal.invariant-loop-page

@@ -10,7 +10,7 @@ use Rattle.pm_shadow.specs.State.{State}
 use Rattle.pm_graphs.specs.Reading.{Fails, store_of, link_at, IsSound, root_count, page_numbers, MayFollow}
 use Rattle.pm_graphs.proofs.LookedLaws.{looked_then}
 use Rattle.pm_graphs.proofs.ChainLaws.{chain_on, chain_done, chain_ends, chain_long, never_long, next_there, roots_on, sound_on, begun_on, follow_more}
-use Rattle.pm_base.proofs.Fronts.{with_front}
+use Rattle.pm_types.proofs.Fronts.{with_front}
 use Rattle.pm_graphs.proofs.reading.read_chain.Goals as goal
 
 pub returns-in_err-read-clause-gives : goal.returns-in_err-read-clause-gives

@@ -4,7 +4,7 @@ use Rattle.pm_image.specs.declared.catalog.CatEntry.{CatEntry}
 use Rattle.pm_image.specs.Graphs.{catalog_from, catalog_of, most_pages, entries_of}
 use Rattle.pm_shadow.specs.Pages.{state, disk_of}
 use Rattle.pm_graphs.specs.Reading.{Looked, store_of, IsThere, IsSound, root_count, page_numbers, MayFollow}
-use Rattle.pm_base.proofs.Fronts.{with_front}
+use Rattle.pm_types.proofs.Fronts.{with_front}
 use Rattle.pm_graphs.proofs.reading.read_chain.Given as goal
 
 abbrev pub invariant-loop : goal.invariant-loop

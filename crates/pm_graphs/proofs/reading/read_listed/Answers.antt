@@ -12,7 +12,7 @@ use Rattle.pm_graphs.specs.Reading.{Fails, store_of, entry_car, car_list, with_c
 use Rattle.pm_graphs.proofs.Lists.{drop_here, all_both, all_listed}
 use Rattle.pm_graphs.proofs.LookedLaws.{looked_then}
 use Rattle.pm_graphs.proofs.ReadLaws.{cars_on, cars_end, page_done}
-use Rattle.pm_base.proofs.Fronts.{with_front}
+use Rattle.pm_types.proofs.Fronts.{with_front}
 use Rattle.pm_graphs.proofs.reading.read_listed.Goals as goal
 
 pub returns-in_err-car-clause-gives : goal.returns-in_err-car-clause-gives

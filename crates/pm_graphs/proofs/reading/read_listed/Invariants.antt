@@ -6,7 +6,7 @@ use Rattle.pm_image.specs.declared.catalog.CatEntry.{CatEntry}
 use Rattle.pm_image.specs.Graphs.{cars_from}
 use Rattle.pm_shadow.specs.Pages.{state, disk_of}
 use Rattle.pm_graphs.specs.Reading.{Looked, store_of, IsCar, LeadsOn}
-use Rattle.pm_base.proofs.Fronts.{with_front}
+use Rattle.pm_types.proofs.Fronts.{with_front}
 use Rattle.pm_graphs.proofs.reading.read_listed.Given as goal
 
 abbrev pub invariant-loop-entry : goal.invariant-loop-entry

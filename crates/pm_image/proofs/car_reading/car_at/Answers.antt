@@ -5,7 +5,7 @@ use Rattle.pm_types.specs.declared.object.Slot.{Slot}
 use Rattle.pm_layout.specs.Reading.{number_from}
 use Rattle.pm_image.specs.declared.car.CarImage.{CarImage}
 use Rattle.pm_image.specs.Steps.{rest_at}
-use Rattle.pm_base.specs.Results.{◌>>=◌}
+use Rattle.pm_types.specs.Results.{◌>>=◌}
 use Rattle.pm_image.specs.Answers.{Gives}
 use Rattle.pm_image.specs.CarPages.{records_at}
 use Rattle.pm_image.specs.CarAnswers.{a_car}

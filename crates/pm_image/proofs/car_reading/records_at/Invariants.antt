@@ -4,7 +4,7 @@ use Rattle.pm_types.specs.declared.limits.TheConstants.{PAGE_BYTES, CAR_HEAD_BYT
 use Rattle.pm_image.specs.CarPages.{records_at}
 use Rattle.pm_image.specs.CarAnswers.{a_car}
 use Rattle.pm_image.specs.Graphs.{with_identities}
-use Rattle.pm_base.proofs.Fronts.{with_front_of}
+use Rattle.pm_types.proofs.Fronts.{with_front_of}
 use Rattle.pm_image.proofs.car_reading.records_at.Given as goal
 
 abbrev pub invariant-loop : goal.invariant-loop

@@ -2,7 +2,7 @@ use Rattle.std.proofs.Common.{◌≡◌, ◌-◌, ◌≤◌}
 use Rattle.pm_types.specs.declared.limits.TheConstants.{PAGE_BYTES}
 use Rattle.pm_image.specs.CatalogPages.{meeting_all, entries_at}
 use Rattle.pm_image.specs.CatalogReading.{HasRoomForRoots}
-use Rattle.pm_base.proofs.Fronts.{with_front_of}
+use Rattle.pm_types.proofs.Fronts.{with_front_of}
 use Rattle.pm_image.proofs.catalog_reading.entries_at.Given as goal
 
 abbrev pub invariant-loop : goal.invariant-loop

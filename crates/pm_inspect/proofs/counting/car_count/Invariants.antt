@@ -1,7 +1,7 @@
 use Rattle.std.proofs.Common.{◌≡◌, take, length}
 use Rattle.std.specs.List.{sum_by}
 use Rattle.pm_trains.specs.Trains.{Train}
-use Rattle.pm_base.specs.Counts.{capped}
+use Rattle.pm_types.specs.Counts.{capped}
 use Rattle.pm_inspect.proofs.counting.car_count.Given as goal
 
 -- the cars of the trains so far

@@ -2,7 +2,7 @@ use Rattle.std.proofs.Common.{◌≡◌, take}
 use Rattle.std.specs.List.{sum_by}
 use Rattle.std.specs.FinMap.{get}
 use Rattle.pm_view.specs.Counts.{live_in}
-use Rattle.pm_base.specs.Counts.{capped}
+use Rattle.pm_types.specs.Counts.{capped}
 use Rattle.pm_space.specs.Shown.{view}
 use Rattle.pm_inspect.proofs.counting.live_in_cars.Given as goal
 

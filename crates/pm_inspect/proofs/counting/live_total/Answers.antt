@@ -2,7 +2,7 @@ use Rattle.std.proofs.Common.{◌≡◌, ℕ, ◌<◌, arith, sym, ap, ◌∙◌
 use Rattle.std.specs.List.{sum_by}
 use Rattle.std.proofs.lemmas.List.Sums.{sum_by_more}
 use Rattle.pm_trains.specs.Trains.{Train, empty_train}
-use Rattle.pm_base.specs.Counts.{capped}
+use Rattle.pm_types.specs.Counts.{capped}
 use Rattle.pm_space.specs.Shown.{view}
 use Rattle.pm_space.proofs.CountingUp.{capped_more}
 use Rattle.pm_inspect.specs.Report.{live_of_train}

@@ -1,5 +1,5 @@
 use Rattle.pm_view.specs.Events.{start, move_out}
-use Rattle.pm_law_phases.proofs.Comes.{comes_where}
+use Rattle.pm_law_collect.proofs.PhasesLemmas.Comes.{comes_where}
 use Rattle.pm_law_collect.proofs.Picks.{noted_way, noted_to, out_way, out_to}
 use Rattle.pm_law_collect.proofs.laws.there_is_a_train_to_pick.Goals as goal
 

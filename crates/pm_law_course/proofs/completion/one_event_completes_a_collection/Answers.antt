@@ -1,5 +1,5 @@
 use Rattle.pm_view.specs.Events.{select}
-use Rattle.pm_law_phases.proofs.Comes.{comes_where}
+use Rattle.pm_law_collect.proofs.PhasesLemmas.Comes.{comes_where}
 use Rattle.pm_law_course.proofs.Kept.{command_keeps}
 use Rattle.pm_law_course.proofs.Completing.{completed_then, ended_then, going_then, car_gone, train_gone}
 use Rattle.pm_law_course.proofs.completion.one_event_completes_a_collection.Goals as goal

@@ -1,6 +1,6 @@
 use Rattle.std.proofs.Common.{◌≡◌, ◌-◌, ◌+◌, ◌*◌}
 use Rattle.pm_layout.specs.Reading.{fields_at}
-use Rattle.pm_base.proofs.Fronts.{with_front}
+use Rattle.pm_types.proofs.Fronts.{with_front}
 use Rattle.pm_layout.proofs.reading.fields_at.Given as goal
 
 abbrev pub invariant-loop : goal.invariant-loop

@@ -1,5 +1,5 @@
 use Rattle.std.proofs.Common.{ap}
-use Rattle.pm_serving.specs.Serving.{Serving}
+use Rattle.pm_saving.specs.Serving.{Serving}
 use Rattle.pm_lock_cases.proofs.opened.open.Goals as goal
 
 pub returns-in-Ok-clause-fresh : goal.returns-in-Ok-clause-fresh

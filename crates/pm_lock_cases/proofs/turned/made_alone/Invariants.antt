@@ -1,6 +1,6 @@
 use Rattle.std.proofs.Common.{◌≡◌}
 use Rattle.pm_engine.specs.Shown.{chooser}
-use Rattle.pm_workers.specs.Shown.{engine_in}
+use Rattle.pm_lock.specs.Shown.{engine_in}
 use Rattle.pm_lock_cases.proofs.turned.made_alone.Given as goal
 
 abbrev pub invariant-loop-who : goal.invariant-loop-who

@@ -2,8 +2,8 @@ use Rattle.std.proofs.Common.{refl}
 use Rattle.pm_view.specs.Law.{HeapLaw}
 use Rattle.pm_space.specs.Shown.{view}
 use Rattle.pm_view.specs.Stale.{IsSole}
-use Rattle.pm_bound.specs.Bounded.{KeepsRank, KeepsSunk}
-use Rattle.pm_law_rank.proofs.Compared.{itself}
+use Rattle.pm_view.specs.Bounded.{KeepsRank, KeepsSunk}
+use Rattle.pm_law_bound.proofs.RankLemmas.Compared.{itself}
 use Rattle.pm_mutate.proofs.Carried.{refused_still, born_so, row_holds, adds_little, keeps_sunk}
 use Rattle.pm_mutate.proofs.ShownBytes.{shown_leaves, shown_short}
 use Rattle.pm_mutate.proofs.acting.act.Goals as goal

@@ -4,7 +4,7 @@ use Rattle.pm_view.specs.Commands.{register, row_put}
 use Rattle.pm_space.specs.Shown.{view}
 use Rattle.pm_space.proofs.OpenedCars.{lowest_vacant}
 use Rattle.pm_mutate.proofs.Carried.{as_row, of_row, of_row_of_car, of_row_of_root}
-use Rattle.pm_commands.proofs.Made.{made_as, made_still}
+use Rattle.pm_mutate.proofs.CommandsLemmas.Made.{made_as, made_still}
 use Rattle.pm_mutate.proofs.acting.run.Goals as goal
 
 pub returns-in-New : goal.returns-in-New

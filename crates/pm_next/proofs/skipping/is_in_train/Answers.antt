@@ -1,7 +1,7 @@
 use Rattle.std.proofs.Common.{refl, sym, ◌∙◌}
 use Rattle.pm_space.specs.Shown.{view}
 use Rattle.pm_space.proofs.Aside.{found_among}
-use Rattle.pm_ways.proofs.Links.{links_of}
+use Rattle.pm_next.proofs.WaysLemmas.Links.{links_of}
 use Rattle.pm_next.proofs.Beyond.{no_links}
 use Rattle.pm_next.proofs.skipping.is_in_train.Goals as goal
 

@@ -1,7 +1,7 @@
 use Rattle.std.proofs.Common.{sym, ap, ◌∙◌}
 use Rattle.pm_space.specs.Shown.{view}
 use Rattle.pm_space.proofs.Fronts.{waits, none_waits}
-use Rattle.pm_law_work.specs.Names.{names_gone, front_names_gone}
+use Rattle.pm_law_collect.specs.Work.Names.{names_gone, front_names_gone}
 use Rattle.pm_next.proofs.Fixes.{no_front_gone, front_gone}
 use Rattle.pm_next.proofs.sources.front_names_gone.Goals as goal
 

@@ -4,7 +4,7 @@ use Rattle.pm_view.specs.Law.{HeapLaw}
 use Rattle.pm_view.specs.Represents.{Represents}
 use Rattle.pm_view.specs.Work.{work, lowers}
 use Rattle.pm_view.specs.Events.{next_row, after, goal_of, ended_by}
-use Rattle.pm_bound.specs.Bounded.{KeepsRank, KeepsSunk}
+use Rattle.pm_view.specs.Bounded.{KeepsRank, KeepsSunk}
 use Rattle.pm_reclaim.proofs.Counting.{counted_law, counted_stands, counted_placed, placed_counted, counted_standing, counted_ended, counted_work, counted_keeps_rank, counted_keeps_sunk}
 use Rattle.pm_reclaim.proofs.Phases.{answers_by_phase, moves_on}
 use Rattle.pm_reclaim.proofs.on_space.an_event_that_was_made_keeps_all.Goals as goal

@@ -2,10 +2,10 @@ use Rattle.std.proofs.Common.{◌≡◌, ℕ, Some, refl, ap, ◌∙◌, ⊎_eli
 use Rattle.pm_types.specs.declared.address.Addr.{Addr}
 use Rattle.pm_types.specs.declared.source.RefSource.{RefSource}
 use Rattle.pm_view.specs.Events.{nothing, fix, move_anchor, move_out, move_on}
-use Rattle.pm_law_phases.proofs.Comes.{comes_where}
+use Rattle.pm_law_collect.proofs.PhasesLemmas.Comes.{comes_where}
 use Rattle.pm_space.specs.Shown.{view}
-use Rattle.pm_evac.specs.next.declared.row.Row.TheVariants.{Nothing, Fix}
-use Rattle.pm_evac.specs.next.Seen.{seen_row}
+use Rattle.pm_next.specs.declared.row.Row.TheVariants.{Nothing, Fix}
+use Rattle.pm_next.specs.Seen.{seen_row}
 use Rattle.pm_reclaim.proofs.Sole.{sole_after, none_stale}
 use Rattle.pm_reclaim.proofs.on_space.moved_once_made.Goals as goal
 

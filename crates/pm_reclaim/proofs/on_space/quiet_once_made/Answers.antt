@@ -1,7 +1,7 @@
 use Rattle.std.proofs.Common.{◌≡◌, ℕ, ap, ◌∙◌, ⊎_elim}
 use Rattle.pm_space.specs.Shown.{view}
-use Rattle.pm_evac.specs.next.declared.row.Row.TheVariants.{Nothing, Apply}
-use Rattle.pm_evac.specs.next.Seen.{seen_row}
+use Rattle.pm_next.specs.declared.row.Row.TheVariants.{Nothing, Apply}
+use Rattle.pm_next.specs.Seen.{seen_row}
 use Rattle.pm_reclaim.proofs.Quiet.{quiet_after_none, quiet_after_change}
 use Rattle.pm_reclaim.proofs.on_space.quiet_once_made.Goals as goal
 

@@ -5,7 +5,7 @@ use Rattle.pm_copies.specs.Opened.{listed_in}
 use Rattle.pm_copies.specs.Built.{Placed, MayBuild, IsBuiltOf, opening_cars}
 use Rattle.pm_space.specs.Shown.{view}
 use Rattle.pm_reopen.specs.Leading.{lead_cars}
-use Rattle.pm_rebuild.specs.Lists.{NamesDiffer}
+use Rattle.pm_reopen.specs.Rebuild.Lists.{NamesDiffer}
 use Rattle.pm_reopen.proofs.ListLaws.{cars_listed, roots_listed}
 use Rattle.pm_reopen.proofs.NameLaws.{ascend_differ}
 use Rattle.pm_reopen.proofs.listed.build_listed.Goals as goal

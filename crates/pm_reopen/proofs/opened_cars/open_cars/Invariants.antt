@@ -4,7 +4,7 @@ use Rattle.std.specs.Vec.Iter.{into_iter_items}
 use Rattle.pm_image.specs.Graphs.{images_of}
 use Rattle.pm_copies.specs.Accepted.{IsAcceptedCar}
 use Rattle.pm_copies.specs.Opened.{listed_in}
-use Rattle.pm_rebuild.specs.Lists.{placed_of}
+use Rattle.pm_reopen.specs.Rebuild.Lists.{placed_of}
 use Rattle.pm_reopen.specs.Listing.{listed_on}
 use Rattle.pm_reopen.proofs.opened_cars.open_cars.Given as goal
 

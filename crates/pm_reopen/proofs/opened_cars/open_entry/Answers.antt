@@ -4,9 +4,9 @@ use Rattle.pm_image.specs.declared.settled.KeptPage.{KeptPage}
 use Rattle.pm_image.specs.Graphs.{images_of}
 use Rattle.pm_copies.specs.Listed.{Listed}
 use Rattle.pm_copies.specs.Opened.{listed_in}
-use Rattle.pm_rebuild.specs.Lists.{placed_of}
+use Rattle.pm_reopen.specs.Rebuild.Lists.{placed_of}
 use Rattle.pm_reopen.specs.Listing.{listed_on}
-use Rattle.pm_rebuild.proofs.Ends.{none_long}
+use Rattle.pm_reopen.proofs.RebuildLemmas.Ends.{none_long}
 use Rattle.pm_reopen.proofs.ListLaws.{none_listed}
 use Rattle.pm_reopen.proofs.opened_cars.open_entry.Goals as goal
 

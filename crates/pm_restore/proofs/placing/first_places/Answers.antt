@@ -3,7 +3,7 @@ use Rattle.std.specs.Prelude.{slice_get}
 use Rattle.std.proofs.lemmas.List.{append-nil, drop_all}
 use Rattle.pm_types.specs.declared.limits.TheConstants.{CAR_HEAD_BYTES, PAGE_BYTES}
 use Rattle.pm_dump.specs.Lent.{object_shown}
-use Rattle.pm_packing.specs.Packing.{DumpEntry, object_room}
+use Rattle.pm_restore.specs.Packing.Packing.{DumpEntry, object_room}
 use Rattle.pm_restore.proofs.FirstLemmas.{first_places_are, firsts_full, firsts_room, later_firsts, sound_at}
 use Rattle.pm_restore.proofs.placing.first_places.Goals as goal
 use Rattle.pm_restore.proofs.placing.first_places.Goals.{then-used-room-le-PAGE_BYTES, else-used-room-le-PAGE_BYTES+in_ok-push}

@@ -1,5 +1,5 @@
 use Rattle.std.proofs.Common.{◌≤◌, ◌-◌, length}
-use Rattle.pm_packing.specs.Packing.{place_in}
+use Rattle.pm_restore.specs.Packing.Packing.{place_in}
 use Rattle.pm_restore.proofs.placing.place_of_id.Given as goal
 
 abbrev pub invariant-halves : goal.invariant-halves

@@ -3,7 +3,7 @@ use Rattle.pm_model.specs.Copying.{held_ids}
 use Rattle.std.specs.List.{AllByRecursion}
 use Rattle.pm_dump.specs.Sound.{IsListed}
 use Rattle.pm_law_copies.proofs.Lists.{all_at}
-use Rattle.pm_packing.specs.Packing.{DumpEntry}
+use Rattle.pm_restore.specs.Packing.Packing.{DumpEntry}
 use Rattle.pm_restore.proofs.PartLemmas.{held_listed}
 use Rattle.pm_restore.proofs.slots.slot_at.Goals as goal
 

@@ -1,6 +1,6 @@
 use Rattle.std.proofs.Common.{ℕ, ◌-◌, ◌≤◌, rules, List, [], ◌∷◌, ◌++◌, ap, sym, ◌∙◌}
 use Rattle.pm_types.specs.declared.object.Slot.{Slot}
-use Rattle.pm_packing.specs.Packing.{address_of}
+use Rattle.pm_restore.specs.Packing.Packing.{address_of}
 use Rattle.pm_restore.proofs.PartLemmas.{slots_more}
 use Rattle.pm_restore.proofs.slots.slots_between.Goals as goal
 

@@ -1,6 +1,6 @@
 use Rattle.std.proofs.Common.{◌≡◌}
 use Rattle.std.specs.Prelude.{slice_range}
-use Rattle.pm_packing.specs.Packing.{address_of, packed_slots}
+use Rattle.pm_restore.specs.Packing.Packing.{address_of, packed_slots}
 use Rattle.pm_restore.proofs.slots.slots_between.Given as goal
 
 abbrev pub invariant-loop-place : goal.invariant-loop-place

@@ -1,13 +1,13 @@
 use Rattle.std.proofs.Common.{◌∙◌, ap, sym, subst, List, Some}
 use Rattle.pm_types.specs.declared.entry.Entry.{Entry}
-use Rattle.pm_ends.specs.serial.events.Shown.{disk_in, serving}
-use Rattle.pm_ends.specs.serial.events.Causes.{why}
-use Rattle.pm_ends.specs.Ends.{ended_by, stop_in}
+use Rattle.pm_engine.specs.Shown.{disk_in, serving}
+use Rattle.pm_engine.specs.Events.Causes.{why}
+use Rattle.pm_runs.specs.Ends.Ends.{ended_by, stop_in}
 use Rattle.pm_runs.specs.Wrote.{AcknowledgesFor}
-use Rattle.pm_ends.specs.Journals.{ServesInOrder, ServesLines}
-use Rattle.pm_ends.specs.Causes.{ShowsCauses}
+use Rattle.pm_runs.specs.Ends.Journals.{ServesInOrder, ServesLines}
+use Rattle.pm_runs.specs.Ends.Causes.{ShowsCauses}
 use Rattle.pm_runs.specs.Engines.{RunsEngine}
-use Rattle.pm_ends.proofs.Parts.{at_end}
+use Rattle.pm_runs.proofs.EndsLemmas.Parts.{at_end}
 use Rattle.pm_runs.proofs.Ran.{acknowledged, engine_run, lines_served, order_served, causes_end}
 use Rattle.pm_runs.proofs.opening.run_engine.Goals as goal
 

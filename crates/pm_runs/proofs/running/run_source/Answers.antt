@@ -1,14 +1,14 @@
 use Rattle.std.proofs.Common.{◌∙◌, ap, sym, subst}
 use Rattle.pm_script.specs.Script.{IsScript}
 use Rattle.pm_runs.specs.declared.writes.Writes.TheVariants.{Replies}
-use Rattle.pm_ends.specs.Causes.{ShowsCauses}
+use Rattle.pm_runs.specs.Ends.Causes.{ShowsCauses}
 use Rattle.pm_runs.specs.Runs.{RunsScript}
-use Rattle.pm_ends.proofs.Parts.{at_end}
-use Rattle.pm_ends.proofs.Faults.{causes_read}
-use Rattle.pm_ends.proofs.Opened.{uncalled_run}
+use Rattle.pm_runs.proofs.EndsLemmas.Parts.{at_end}
+use Rattle.pm_runs.proofs.EndsLemmas.Faults.{causes_read}
+use Rattle.pm_runs.proofs.EndsLemmas.Opened.{uncalled_run}
 use Rattle.pm_runs.proofs.Stores.{store_unrun}
-use Rattle.pm_ends.proofs.Scripts.{order_read, script_read, unordered}
-use Rattle.pm_ends.proofs.Unread.{causes_unread, ends_unread, reads_unread, refused_unread, script_unread, store_unread}
+use Rattle.pm_runs.proofs.EndsLemmas.Scripts.{order_read, script_read, unordered}
+use Rattle.pm_runs.proofs.EndsLemmas.Unread.{causes_unread, ends_unread, reads_unread, refused_unread, script_unread, store_unread}
 use Rattle.pm_runs.proofs.running.run_source.Goals as goal
 
 pub returns-in-Ok-clause-runs : goal.returns-in-Ok-clause-runs

@@ -4,20 +4,20 @@ use Rattle.std.proofs.Math.Logic.{∥∥₁_map}
 use Rattle.pm_types.specs.declared.entry.Entry.{Entry}
 use Rattle.pm_disk.specs.Made.{Made}
 use Rattle.pm_copies.specs.Listed.{copy_in}
-use Rattle.pm_serving.specs.Images.{IsTold}
+use Rattle.pm_saving.specs.Images.{IsTold}
 use Rattle.pm_place.specs.Choosers.{IsChooser}
-use Rattle.pm_ends.specs.serial.events.Tally.{Tally}
-use Rattle.pm_ends.specs.serial.events.Shown.{disk_in, opened_disk, serving, tally_of}
-use Rattle.pm_threads.specs.Running.{LeavesSome}
+use Rattle.pm_engine.specs.declared.tally.Tally.{Tally}
+use Rattle.pm_engine.specs.Shown.{disk_in, opened_disk, serving, tally_of}
+use Rattle.pm_runs.specs.Threads.Running.{LeavesSome}
 use Rattle.pm_runs.specs.declared.writes.Writes.TheVariants.{Replies}
-use Rattle.pm_ends.specs.Ends.{not_opened}
-use Rattle.pm_ends.specs.Journals.{ServesLines}
-use Rattle.pm_ends.specs.Causes.{ShowsCauses}
+use Rattle.pm_runs.specs.Ends.Ends.{not_opened}
+use Rattle.pm_runs.specs.Ends.Journals.{ServesLines}
+use Rattle.pm_runs.specs.Ends.Causes.{ShowsCauses}
 use Rattle.pm_runs.specs.Runs.{RunsStore}
-use Rattle.pm_ends.proofs.Parts.{at_end}
+use Rattle.pm_runs.proofs.EndsLemmas.Parts.{at_end}
 use Rattle.pm_runs.proofs.Ran.{fresh_engine}
-use Rattle.pm_ends.proofs.Faults.{ends_open, undone_open, open_causes, causes_after}
-use Rattle.pm_ends.proofs.Opened.{opened_run, refused_run, refused_for, none_opened, tried_open}
+use Rattle.pm_runs.proofs.EndsLemmas.Faults.{ends_open, undone_open, open_causes, causes_after}
+use Rattle.pm_runs.proofs.EndsLemmas.Opened.{opened_run, refused_run, refused_for, none_opened, tried_open}
 use Rattle.pm_runs.proofs.Stores.{store_run, store_unrun, serves_none}
 use Rattle.pm_runs.proofs.together.open_and_run.Goals as goal
 

@@ -2,15 +2,15 @@ use Rattle.std.proofs.Common.{◌∙◌, ap, sym, subst, List, Some}
 use Rattle.std.proofs.Math.Logic.{∥∥₁_map₂}
 use Rattle.pm_types.specs.declared.entry.Entry.{Entry}
 use Rattle.std.specs.Prelude.{IfSome}
-use Rattle.pm_ends.specs.serial.events.Shown.{disk_in, serving, tally_of}
-use Rattle.pm_ends.specs.serial.events.Causes.{why}
+use Rattle.pm_engine.specs.Shown.{disk_in, serving, tally_of}
+use Rattle.pm_engine.specs.Events.Causes.{why}
 use Rattle.pm_runs.specs.declared.writes.Writes.TheVariants.{Replies}
-use Rattle.pm_threads.specs.Running.{LeavesSome}
-use Rattle.pm_ends.specs.Ends.{RanShort, ended_by}
-use Rattle.pm_ends.specs.Journals.{ServesLines}
-use Rattle.pm_ends.specs.Causes.{ShowsCauses}
+use Rattle.pm_runs.specs.Threads.Running.{LeavesSome}
+use Rattle.pm_runs.specs.Ends.Ends.{RanShort, ended_by}
+use Rattle.pm_runs.specs.Ends.Journals.{ServesLines}
+use Rattle.pm_runs.specs.Ends.Causes.{ShowsCauses}
 use Rattle.pm_runs.specs.Engines.{RunsEngine}
-use Rattle.pm_ends.proofs.Parts.{at_end}
+use Rattle.pm_runs.proofs.EndsLemmas.Parts.{at_end}
 use Rattle.pm_runs.proofs.Ran.{engine_run, clients_served, clients_short, causes_end}
 use Rattle.pm_runs.proofs.together.run_engine.Goals as goal
 

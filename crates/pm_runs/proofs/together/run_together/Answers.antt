@@ -2,17 +2,17 @@ use Rattle.std.proofs.Common.{◌∙◌, ap, subst, List}
 use Rattle.std.specs.Prelude.{IfSome}
 use Rattle.pm_script.specs.declared.line.Line.{Line}
 use Rattle.pm_script.proofs.ScriptLaws.{one_reading}
-use Rattle.pm_ends.specs.serial.events.Shown.{tally_of}
-use Rattle.pm_threads.specs.Running.{LeavesSome}
+use Rattle.pm_engine.specs.Shown.{tally_of}
+use Rattle.pm_runs.specs.Threads.Running.{LeavesSome}
 use Rattle.pm_runs.specs.declared.writes.Writes.TheVariants.{Replies}
-use Rattle.pm_ends.specs.Causes.{ShowsCauses}
+use Rattle.pm_runs.specs.Ends.Causes.{ShowsCauses}
 use Rattle.pm_runs.specs.Runs.{RunsTogether}
-use Rattle.pm_ends.proofs.Parts.{at_end}
-use Rattle.pm_ends.proofs.Faults.{causes_read}
-use Rattle.pm_ends.proofs.Opened.{uncalled_run}
+use Rattle.pm_runs.proofs.EndsLemmas.Parts.{at_end}
+use Rattle.pm_runs.proofs.EndsLemmas.Faults.{causes_read}
+use Rattle.pm_runs.proofs.EndsLemmas.Opened.{uncalled_run}
 use Rattle.pm_runs.proofs.Stores.{store_unrun}
-use Rattle.pm_ends.proofs.Scripts.{script_read}
-use Rattle.pm_ends.proofs.Unread.{causes_unread, ends_unread, reads_unread, refused_unread, script_unread, store_unread}
+use Rattle.pm_runs.proofs.EndsLemmas.Scripts.{script_read}
+use Rattle.pm_runs.proofs.EndsLemmas.Unread.{causes_unread, ends_unread, reads_unread, refused_unread, script_unread, store_unread}
 use Rattle.pm_runs.proofs.together.run_together.Goals as goal
 
 pub returns-in-Ok-clause-runs : goal.returns-in-Ok-clause-runs

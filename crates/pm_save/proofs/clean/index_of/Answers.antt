@@ -3,8 +3,8 @@ use Rattle.std.specs.Ordering.{nat_cmp}
 use Rattle.std.specs.BTreeMap as tree
 use Rattle.pm_image.specs.declared.car.CarImage.{CarImage}
 use Rattle.pm_image.specs.declared.settled.KeptPage.{KeptPage}
-use Rattle.pm_writer.specs.Planned.{first_of}
-use Rattle.pm_writer.proofs.PlaceLemmas.{index_more}
+use Rattle.pm_save.specs.Writer.Planned.{first_of}
+use Rattle.pm_save.proofs.WriterLemmas.PlaceLemmas.{index_more}
 use Rattle.pm_save.proofs.clean.index_of.Goals as goal
 
 pub loop-place-preserved : goal.loop-place-preserved

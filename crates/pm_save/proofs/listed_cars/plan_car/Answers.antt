@@ -4,10 +4,10 @@ use Rattle.std.proofs.lemmas.List.{append-nil}
 use Rattle.pm_space.proofs.HeldCars.{get_car}
 use Rattle.pm_space.specs.Shown.{view}
 use Rattle.pm_copies.specs.Listed.{Listed}
-use Rattle.pm_writer.specs.progress.declared.place.PlacedCar.{PlacedCar}
-use Rattle.pm_writer.specs.Planned.{IsPlanned}
+use Rattle.pm_save.specs.declared.progress.place.PlacedCar.{PlacedCar}
+use Rattle.pm_save.specs.Writer.Planned.{IsPlanned}
 use Rattle.pm_save.proofs.ListLemmas.{listed_there}
-use Rattle.pm_writer.proofs.PlanLemmas.{planned_behind}
+use Rattle.pm_save.proofs.WriterLemmas.PlanLemmas.{planned_behind}
 use Rattle.pm_save.proofs.listed_cars.plan_car.Goals as goal
 
 pub returns-in-None : goal.returns-in-None

@@ -2,7 +2,7 @@ use Rattle.std.proofs.Common.{List, ◌++◌, take}
 use Rattle.std.specs.List.{flat_map}
 use Rattle.pm_copies.specs.Listed.{Listed, listed_car}
 use Rattle.pm_space.specs.Shown.{view}
-use Rattle.pm_writer.specs.Planned.{IsPlanned}
+use Rattle.pm_save.specs.Writer.Planned.{IsPlanned}
 use Rattle.pm_save.proofs.listed_cars.plan_train.Given as goal
 
 -- the cars of the train so far

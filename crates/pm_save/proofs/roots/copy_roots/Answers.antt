@@ -5,7 +5,7 @@ use Rattle.std.proofs.lemmas.List.{take_all}
 use Rattle.pm_types.specs.Names.{IsName}
 use Rattle.pm_types.specs.declared.address.Addr.{Addr}
 use Rattle.pm_copies.specs.Opened.{unnumbered}
-use Rattle.pm_writer.proofs.PlanLemmas.{all_behind}
+use Rattle.pm_save.proofs.WriterLemmas.PlanLemmas.{all_behind}
 use Rattle.pm_save.proofs.RootLemmas.{roots_more}
 use Rattle.pm_save.proofs.roots.copy_roots.Goals as goal
 

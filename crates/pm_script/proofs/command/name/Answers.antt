@@ -5,4 +5,4 @@ use Rattle.pm_script.proofs.TakingLaws.{takes}
 use Rattle.pm_script.proofs.command.name.Goals as goal
 
 pub returns : goal.returns
-returns c = takes c.name_word.result name_of cause.Name (parts_in 32 c.args.words.now) c.in-Some.word.now (parts_in 32 c.in-Some.rest) c.in-Some.ensures c.name_word.ensures
+returns c = takes c.name_word.result name_of cause.Name (parts_in 32 c.args.words.now) c.in_ok-word.word.now (parts_in 32 c.next_word.new.words) c.in_ok-word.ensures c.name_word.ensures

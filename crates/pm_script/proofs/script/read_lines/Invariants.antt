@@ -1,5 +1,5 @@
 use Rattle.std.proofs.Common.{◌≡◌, ◌+◌, ◌≤◌, length}
-use Rattle.pm_base.proofs.Fronts.{with_front}
+use Rattle.pm_types.proofs.Fronts.{with_front}
 use Rattle.pm_types.specs.declared.limits.TheConstants.{SCRIPT_LINES}
 use Rattle.pm_script.specs.Lines.{parts_in}
 use Rattle.pm_script.specs.Reading.{lines_at}

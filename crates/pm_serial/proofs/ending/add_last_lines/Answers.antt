@@ -1,8 +1,8 @@
 use Rattle.std.proofs.Common.{◌≡◌, ℕ, List, ◌++◌, OnErr, OnOk, subst, ◌∙◌}
 use Rattle.pm_model.specs.Text.{tail}
-use Rattle.pm_events.specs.Shown.{serving, tally_in}
-use Rattle.pm_output.specs.Gathered.{gathered}
-use Rattle.pm_output.specs.Writing.{GoesOn, PutsPart}
+use Rattle.pm_engine.specs.Shown.{serving, tally_in}
+use Rattle.pm_serial.specs.Output.Gathered.{gathered}
+use Rattle.pm_serial.specs.Output.Writing.{GoesOn, PutsPart}
 use Rattle.pm_serial.specs.Writing.{tail_of}
 use Rattle.pm_serial.proofs.ending.add_last_lines.Goals as goal
 

@@ -1,8 +1,8 @@
 use Rattle.std.proofs.Common.{Some, ap, rules}
-use Rattle.pm_events.specs.Shown.{serving, tally_in}
-use Rattle.pm_output.specs.Gathered.{gathered}
+use Rattle.pm_engine.specs.Shown.{serving, tally_in}
+use Rattle.pm_serial.specs.Output.Gathered.{gathered}
 use Rattle.pm_serial.specs.Causes.{IsElsewhere}
-use Rattle.pm_events.specs.Causes.{why}
+use Rattle.pm_engine.specs.Events.Causes.{why}
 use Rattle.pm_serial.specs.Writing.{text_behind}
 use Rattle.pm_serial.proofs.Gathering.{ends_elsewhere, ends_well}
 use Rattle.pm_serial.proofs.ending.end.Goals as goal

@@ -1,8 +1,8 @@
 use Rattle.std.proofs.Common.{◌≡◌, ℕ, List, ◌++◌, Some, OnErr, OnOk, length, ap, sym, subst, ◌∙◌}
 use Rattle.std.proofs.lemmas.List.{append-nil}
-use Rattle.pm_events.specs.Shown.{Total, serving, tally_in}
-use Rattle.pm_output.specs.Gathered.{gathered}
-use Rattle.pm_output.specs.Writing.{PutsAll, PutsPart}
+use Rattle.pm_engine.specs.Shown.{Total, serving, tally_in}
+use Rattle.pm_serial.specs.Output.Gathered.{gathered}
+use Rattle.pm_serial.specs.Output.Writing.{PutsAll, PutsPart}
 use Rattle.pm_serial.specs.declared.behind.Behind.{Behind}
 use Rattle.pm_serial.specs.declared.behind.Behind.TheVariants.{Nothing, LastLines}
 use Rattle.pm_serial.specs.Writing.{tail_of, text_behind}

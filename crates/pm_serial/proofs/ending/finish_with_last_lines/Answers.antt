@@ -1,7 +1,7 @@
 use Rattle.std.proofs.Common.{◌≡◌, ℕ, List, ◌++◌, Some, Result, Ok, Err, OnErr, OnOk, length}
-use Rattle.pm_events.specs.Shown.{serving, tally_in}
-use Rattle.pm_output.specs.Gathered.{gathered}
-use Rattle.pm_output.specs.Writing.{PutsAll, PutsPart}
+use Rattle.pm_engine.specs.Shown.{serving, tally_in}
+use Rattle.pm_serial.specs.Output.Gathered.{gathered}
+use Rattle.pm_serial.specs.Output.Writing.{PutsAll, PutsPart}
 use Rattle.pm_serial.specs.Writing.{tail_of}
 use Rattle.pm_serial.proofs.Gathering.{all_then, finished_then, some_then}
 use Rattle.pm_serial.proofs.ending.finish_with_last_lines.Goals as goal

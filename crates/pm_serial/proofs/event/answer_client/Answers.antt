@@ -1,10 +1,10 @@
 use Rattle.std.proofs.Common.{[], ◌∷◌, Some, None, length, ap, refl, ◌∙◌}
-use Rattle.pm_serving.specs.Serving.{made_now}
-use Rattle.pm_events.specs.Shown.{serving}
-use Rattle.pm_output.specs.Gathered.{gathered}
+use Rattle.pm_saving.specs.Serving.{made_now}
+use Rattle.pm_engine.specs.Shown.{serving}
+use Rattle.pm_serial.specs.Output.Gathered.{gathered}
 use Rattle.pm_model.specs.Text.{reply_line}
-use Rattle.pm_events.specs.declared.stop.Stop.TheVariants.{Writing}
-use Rattle.pm_events.proofs.Answering.{answers_one, answers_nothing, answers_stopped}
+use Rattle.pm_engine.specs.declared.events.stop.Stop.TheVariants.{Writing}
+use Rattle.pm_engine.proofs.EventsLemmas.Answering.{answers_one, answers_nothing, answers_stopped}
 use Rattle.pm_types.specs.declared.entry.Entry.{Entry}
 use Rattle.pm_model.specs.Journal.{says_saved}
 use Rattle.pm_serial.proofs.Acknowledging.{keeps_entry, keeps_lost, keeps_still, tells_last}

@@ -1,8 +1,8 @@
 use Rattle.std.proofs.Common.{subst, sym}
-use Rattle.pm_events.specs.Shown.{serving}
-use Rattle.pm_events.specs.Events.{Adds, EngineGoesOn, IsShort, KeepsCounts}
+use Rattle.pm_engine.specs.Shown.{serving}
+use Rattle.pm_engine.specs.Events.Events.{Adds, EngineGoesOn, IsShort, KeepsCounts}
 use Rattle.pm_serial.proofs.Stopping.{stopped, unwritten, went_on}
-use Rattle.pm_events.specs.Causes.{why}
+use Rattle.pm_engine.specs.Events.Causes.{why}
 use Rattle.pm_serial.proofs.event.ask_engine.Goals as goal
 
 pub returns-clause-adds : goal.returns-clause-adds

@@ -1,11 +1,11 @@
 use Rattle.std.proofs.Common.{◌+◌, [], None, Some, refl, subst, sym, ◌∙◌}
 use Rattle.pm_place.specs.Choosers.{IsChooser}
-use Rattle.pm_events.specs.Shown.{disk_in, serving}
+use Rattle.pm_engine.specs.Shown.{disk_in, serving}
 use Rattle.pm_serial.specs.Stepping.{steps_made}
-use Rattle.pm_events.proofs.Answering.{answers_as, answers_none, answers_then}
+use Rattle.pm_engine.proofs.EventsLemmas.Answering.{answers_as, answers_none, answers_then}
 use Rattle.pm_serial.proofs.Answering.{steps_more, steps_none}
 use Rattle.pm_serial.proofs.Cutting.{is_cut}
-use Rattle.pm_events.proofs.Going.{goes_first, goes_then}
+use Rattle.pm_engine.proofs.EventsLemmas.Going.{goes_first, goes_then}
 use Rattle.pm_serial.proofs.event.make_events.Goals as goal
 
 pub loop-init : goal.loop-init

@@ -1,6 +1,6 @@
 use Rattle.std.proofs.Common.{◌≡◌, [], None}
-use Rattle.pm_events.specs.Shown.{serving}
-use Rattle.pm_events.specs.Events.{AnswersPart, EngineGoesOn}
+use Rattle.pm_engine.specs.Shown.{serving}
+use Rattle.pm_engine.specs.Events.Events.{AnswersPart, EngineGoesOn}
 use Rattle.pm_serial.specs.Stepping.{steps_made}
 use Rattle.pm_serial.proofs.event.make_events.Given as goal
 

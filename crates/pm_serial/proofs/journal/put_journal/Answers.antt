@@ -1,8 +1,8 @@
 use Rattle.std.proofs.Common.{◌+◌, [], Some, None, take, drop}
 use Rattle.pm_model.specs.Text.{reply_line, text}
-use Rattle.pm_output.specs.Gathered.{gathered}
-use Rattle.pm_events.specs.declared.stop.Stop.TheVariants.{Writing}
-use Rattle.pm_output.proofs.Gathering.{part_longer}
+use Rattle.pm_serial.specs.Output.Gathered.{gathered}
+use Rattle.pm_engine.specs.declared.events.stop.Stop.TheVariants.{Writing}
+use Rattle.pm_serial.proofs.OutputLemmas.Gathering.{part_longer}
 use Rattle.pm_serial.proofs.Gathering.{sink_line, sink_lost, sink_then}
 use Rattle.pm_serial.proofs.Journals.{text_next, text_rest}
 use Rattle.pm_serial.proofs.journal.put_journal.Goals as goal

@@ -1,5 +1,5 @@
 use Rattle.std.proofs.Common.{[], None, take}
-use Rattle.pm_output.specs.Gathered.{gathered}
+use Rattle.pm_serial.specs.Output.Gathered.{gathered}
 use Rattle.pm_serial.specs.Stepping.{SinkGoesOn}
 use Rattle.pm_serial.proofs.journal.put_journal.Given as goal
 

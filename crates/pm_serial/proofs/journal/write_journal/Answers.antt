@@ -1,10 +1,10 @@
 use Rattle.std.proofs.Common.{List, [], inr, refl, None, Some, ap, subst, Option}
 use Rattle.pm_types.specs.declared.entry.Entry.{Entry}
-use Rattle.pm_events.specs.Shown.{serving, tally_in}
-use Rattle.pm_output.specs.Gathered.{gathered}
-use Rattle.pm_events.specs.declared.stop.Stop.{Stop}
-use Rattle.pm_events.specs.declared.stop.Stop.TheVariants.{Writing}
-use Rattle.pm_events.specs.Causes.{why}
+use Rattle.pm_engine.specs.Shown.{serving, tally_in}
+use Rattle.pm_serial.specs.Output.Gathered.{gathered}
+use Rattle.pm_engine.specs.declared.events.stop.Stop.{Stop}
+use Rattle.pm_engine.specs.declared.events.stop.Stop.TheVariants.{Writing}
+use Rattle.pm_engine.specs.Events.Causes.{why}
 use Rattle.pm_serial.specs.Stepping.{SinkGoesOn}
 use Rattle.pm_serial.specs.Writing.{tail_of}
 use Rattle.pm_serial.proofs.Gathering.{sink_as, wrote_lost, wrote_run}

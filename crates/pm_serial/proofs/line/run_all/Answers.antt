@@ -5,19 +5,19 @@ use Rattle.pm_place.specs.Choosers.{IsChooser}
 use Rattle.pm_script.specs.Script.{first_of}
 use Rattle.pm_script.specs.Words.{IsFirst}
 use Rattle.pm_script.specs.declared.line.Line.{Line}
-use Rattle.pm_events.specs.Shown.{disk_in, room, serving}
-use Rattle.pm_output.specs.Gathered.{gathered}
-use Rattle.pm_parts.specs.Asked.{events_asked, request_of, requests_asked, steps_asked, steps_of}
-use Rattle.pm_events.specs.Events.{AnswersPart}
+use Rattle.pm_engine.specs.Shown.{disk_in, room, serving}
+use Rattle.pm_serial.specs.Output.Gathered.{gathered}
+use Rattle.pm_script.specs.Parted.Asked.{events_asked, request_of, requests_asked, steps_asked, steps_of}
+use Rattle.pm_engine.specs.Events.Events.{AnswersPart}
 use Rattle.pm_serial.specs.Stepping.{events_of}
 use Rattle.pm_serial.specs.Ordered.{TellsLines}
-use Rattle.pm_events.proofs.Answering.{answers_as, answers_cut, answers_none, answers_then}
+use Rattle.pm_engine.proofs.EventsLemmas.Answering.{answers_as, answers_cut, answers_none, answers_then}
 use Rattle.pm_serial.proofs.Answering.{asked_parted, events_push, has_room, requests_push, steps_push}
 use Rattle.pm_serial.proofs.Acknowledging.{keeps_still, keeps_then}
 use Rattle.pm_serial.proofs.Cutting.{stops_lines}
 use Rattle.pm_serial.proofs.Ordering.{tells_front, tells_line, tells_none}
 use Rattle.pm_serial.proofs.Gathering.{sink_still, sink_then}
-use Rattle.pm_events.proofs.Going.{goes_first, goes_then}
+use Rattle.pm_engine.proofs.EventsLemmas.Going.{goes_first, goes_then}
 use Rattle.pm_serial.proofs.line.run_all.Goals as goal
 
 -- the lines that are done, the next, and what is left

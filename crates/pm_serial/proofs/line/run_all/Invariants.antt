@@ -1,9 +1,9 @@
 use Rattle.std.proofs.Common.{◌≡◌, List, ◌++◌, None, length}
-use Rattle.pm_output.specs.Gathered.{gathered}
+use Rattle.pm_serial.specs.Output.Gathered.{gathered}
 use Rattle.pm_script.specs.declared.line.Line.{Line}
-use Rattle.pm_events.specs.Shown.{serving}
-use Rattle.pm_parts.specs.Asked.{events_asked, requests_asked, steps_asked}
-use Rattle.pm_events.specs.Events.{AnswersPart, EngineGoesOn}
+use Rattle.pm_engine.specs.Shown.{serving}
+use Rattle.pm_script.specs.Parted.Asked.{events_asked, requests_asked, steps_asked}
+use Rattle.pm_engine.specs.Events.Events.{AnswersPart, EngineGoesOn}
 use Rattle.pm_serial.specs.Stepping.{SinkGoesOn}
 use Rattle.pm_serial.specs.Acknowledged.{KeepsSaved}
 use Rattle.pm_serial.specs.Ordered.{TellsLines}

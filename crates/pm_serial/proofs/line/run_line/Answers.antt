@@ -1,9 +1,9 @@
 use Rattle.std.proofs.Common.{arith, refl, subst, sym}
 use Rattle.pm_script.specs.declared.line.Line.{Line}
 use Rattle.pm_script.specs.declared.line.Line.TheVariants.{Gc, Flush}
-use Rattle.pm_events.specs.Shown.{serving}
-use Rattle.pm_output.specs.Gathered.{gathered}
-use Rattle.pm_events.specs.Causes.{OnStop, why}
+use Rattle.pm_engine.specs.Shown.{serving}
+use Rattle.pm_serial.specs.Output.Gathered.{gathered}
+use Rattle.pm_engine.specs.Events.Causes.{OnStop, why}
 use Rattle.pm_serial.specs.Stepping.{StopsLine}
 use Rattle.pm_serial.specs.Ordered.{TellsLine}
 use Rattle.pm_serial.specs.declared.kind.Kind.TheVariants.{Collect}

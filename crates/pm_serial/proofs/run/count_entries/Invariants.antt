@@ -1,5 +1,5 @@
 use Rattle.std.proofs.Common.{◌≡◌, ◌≤◌, length, take}
-use Rattle.pm_parts.specs.Asked.{requests_asked}
+use Rattle.pm_script.specs.Parted.Asked.{requests_asked}
 use Rattle.pm_serial.proofs.run.count_entries.Given as goal
 
 -- the entries of the lines so far were counted

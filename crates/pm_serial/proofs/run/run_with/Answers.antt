@@ -1,53 +1,54 @@
 use Rattle.std.proofs.Common.{◌≡◌, inl, inr, List, ◌++◌, Some, ap, subst, sym, ◌∙◌}
 use Rattle.pm_place.specs.Choosers.{IsChooser}
 use Rattle.pm_model.specs.Text.{text}
-use Rattle.pm_serving.specs.Serving.{Before, Serving, world}
-use Rattle.pm_events.specs.Running.{IsFresh}
+use Rattle.pm_saving.specs.Serving.{Before, Serving, world}
+use Rattle.pm_engine.specs.Events.Running.{IsFresh}
 use Rattle.pm_serial.specs.Ordered.{course_of}
-use Rattle.pm_serving.specs.Images.{IsSettledCopy, IsTold}
-use Rattle.pm_events.specs.Shown.{disk_in, serving, tally_in}
-use Rattle.pm_output.specs.Gathered.{gathered}
-use Rattle.pm_events.specs.declared.stop.Stop.TheVariants.{Memory}
-use Rattle.pm_parts.specs.Asked.{events_asked, requests_asked, steps_asked}
-use Rattle.pm_events.specs.Causes.{why}
-use Rattle.pm_events.specs.Events.{AnswersPart}
+use Rattle.pm_saving.specs.Images.{IsSettledCopy, IsTold}
+use Rattle.pm_engine.specs.Shown.{disk_in, serving, tally_in}
+use Rattle.pm_serial.specs.Output.Gathered.{gathered}
+use Rattle.pm_engine.specs.declared.events.stop.Stop.TheVariants.{Memory}
+use Rattle.pm_script.specs.Parted.Asked.{events_asked, requests_asked, steps_asked}
+use Rattle.pm_engine.specs.Events.Causes.{why}
+use Rattle.pm_engine.specs.Events.Events.{AnswersPart}
 use Rattle.pm_serial.specs.Writing.{text_behind}
-use Rattle.pm_events.proofs.Answering.{answers_ended, answers_nothing}
+use Rattle.pm_engine.proofs.EventsLemmas.Answering.{answers_ended, answers_nothing}
 use Rattle.pm_serial.proofs.Answering.{answers_lines}
 use Rattle.pm_serial.proofs.Acknowledging.{acknowledges_none, acknowledges_run}
 use Rattle.pm_serial.proofs.Cutting.{on_stop, settle_cut, short_before, stopped_among, stopped_first}
 use Rattle.pm_serial.proofs.Ordering.{first_told, tells_run}
 use Rattle.pm_serial.proofs.Gathering.{wrote_none, wrote_run}
-use Rattle.pm_events.proofs.Going.{goes_ended, goes_short, goes_still, goes_then, runs}
+use Rattle.pm_engine.proofs.EventsLemmas.Going.{goes_ended, goes_short, goes_still, goes_then, runs}
 use Rattle.pm_serial.proofs.run.run_with.Goals as goal
+use Rattle.pm_types.specs.Memory.{no_memory}
 
-pub returns-in_default-clause-answers : goal.returns-in_default-clause-answers
-returns-in_default-clause-answers g c =
+pub returns-in-Err-clause-answers : goal.returns-in-Err-clause-answers
+returns-in-Err-clause-answers g c =
     let lines = c.args.lines.items in
     let old = serving c.args.engine.now in
     let new = serving c.take_room.new.engine in
     let room = c.take_room.ensures in
-    answers_lines lines old new (Some Memory) c.requires.fresh
-    (answers_nothing (requests_asked lines) (events_asked lines) (steps_asked lines) old new Memory (ap (λ (it : Serving). it.journal) room.serving))
+    answers_lines lines old new (Some (Memory no_memory)) c.requires.fresh
+    (answers_nothing (requests_asked lines) (events_asked lines) (steps_asked lines) old new (Memory no_memory) (ap (λ (it : Serving). it.journal) room.serving))
     (λ few. (course_of 0 0 lines, ap (λ (course : List Before). course ++ course_of 0 0 lines) (ap (λ (it : Serving). it.course) room.serving ∙ c.requires.fresh.course)))
     (λ done. absurd done)
     (λ few. stopped_first lines new (subst IsFresh (sym room.serving) c.requires.fresh))
     (λ is done more client parted made few. inl (ap (λ (it : Serving). it.events) room.serving ∙ c.requires.fresh.events))
 
-pub returns-in_default-clause-disk : goal.returns-in_default-clause-disk
-returns-in_default-clause-disk g c =
+pub returns-in-Err-clause-disk : goal.returns-in-Err-clause-disk
+returns-in-Err-clause-disk g c =
     let old = c.args.engine.now in
     let new = c.take_room.new.engine in
     let law = c.keep_their_images.ensures in
     let room = c.take_room.ensures in
     let still = goes_still old new room.start room.grows room.serving room.disk c.requires.fresh.stopped law.legal (law.settled c.requires.fresh.stopped) (g.met.D.Disk.only_now (disk_in old)) in
-    runs old new (Some Memory) c.requires.fresh (goes_short old new still)
+    runs old new (Some (Memory no_memory)) c.requires.fresh (goes_short old new still)
     (λ none told left here.
     subst (λ (it : Serving). IsSettledCopy (world it) left) (sym room.serving)
     (law.settled c.requires.fresh.stopped (subst (λ (d : g.row.D.Denot). IsTold (g.D.Disk.contents d)) room.start.disk told) left (subst (λ (d : g.row.D.Denot). g.D.Disk.image d left) room.disk here)))
 
-pub returns-in_default-clause-sink : goal.returns-in_default-clause-sink
-returns-in_default-clause-sink g c =
+pub returns-in-Err-clause-sink : goal.returns-in-Err-clause-sink
+returns-in-Err-clause-sink g c =
     let new = serving c.take_room.new.engine in
     wrote_none g.K.Sink.written g.K.Sink.finished g.K.Sink.count c.args.sink.now new.journal (text_behind c.args.behind (tally_in new))
     (ap text (ap (λ (it : Serving). it.journal) c.take_room.ensures.serving ∙ c.requires.fresh.journal))
@@ -94,9 +95,9 @@ returns-clause-sink g c =
     wrote_run g.K.Sink.written g.K.Sink.finished g.K.Sink.count c.args.sink.now c.run_all-ran.new.sink c.end.new.sink (gathered c.in-Ok.output) (gathered c.run_all-ran.new.output) (text_behind c.args.behind (tally_in new)) ready new.journal
     (why c.run_all-ran.result) (why c.end.result) c.in-Ok.ensures.empty (ap text (ap (λ (it : Serving). it.journal) c.take_room.ensures.serving ∙ c.requires.fresh.journal)) c.run_all-ran.ensures.sink c.end.ensures
 
-pub returns-in_default-clause-saved : goal.returns-in_default-clause-saved
-returns-in_default-clause-saved g c =
-    acknowledges_none g.K.Sink c.args.sink.now (serving c.take_room.new.engine).journal (Some Memory) (ap (λ (it : Serving). it.journal) c.take_room.ensures.serving ∙ c.requires.fresh.journal)
+pub returns-in-Err-clause-saved : goal.returns-in-Err-clause-saved
+returns-in-Err-clause-saved g c =
+    acknowledges_none g.K.Sink c.args.sink.now (serving c.take_room.new.engine).journal (Some (Memory no_memory)) (ap (λ (it : Serving). it.journal) c.take_room.ensures.serving ∙ c.requires.fresh.journal)
 
 pub returns-clause-saved : goal.returns-clause-saved
 returns-clause-saved g c =

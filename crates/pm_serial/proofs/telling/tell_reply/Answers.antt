@@ -1,9 +1,9 @@
 use Rattle.std.proofs.Common.{◌≡◌, true, false, ◌++◌, Result, Ok, Err, OnErr, ap, sym, ◌∙◌}
 use Rattle.pm_model.specs.Journal.{says_saved}
 use Rattle.pm_model.specs.Text.{reply_line}
-use Rattle.pm_output.specs.Gathered.{gathered}
-use Rattle.pm_output.specs.Writing.{PutsPart}
-use Rattle.pm_output.proofs.Gathering.{part_longer}
+use Rattle.pm_serial.specs.Output.Gathered.{gathered}
+use Rattle.pm_serial.specs.Output.Writing.{PutsPart}
+use Rattle.pm_serial.proofs.OutputLemmas.Gathering.{part_longer}
 use Rattle.pm_serial.proofs.Gathering.{some_then}
 use Rattle.pm_serial.proofs.Acknowledging.{goes_all, other_reply, told_all}
 use Rattle.pm_serial.proofs.telling.tell_reply.Goals as goal

@@ -1,5 +1,5 @@
 use Rattle.std.proofs.Common.{◌∙◌}
-use Rattle.pm_writer.proofs.PlaceLemmas.{index_more}
+use Rattle.pm_save.proofs.WriterLemmas.PlaceLemmas.{index_more}
 use Rattle.pm_ship.proofs.index.index_of.Goals as goal
 
 pub loop-place-preserved : goal.loop-place-preserved

@@ -1,5 +1,5 @@
 use Rattle.std.proofs.Common.{take}
-use Rattle.pm_writer.specs.Planned.{IsIndex}
+use Rattle.pm_save.specs.Writer.Planned.{IsIndex}
 use Rattle.pm_ship.proofs.index.index_of.Given as goal
 
 -- the places of the cars so far

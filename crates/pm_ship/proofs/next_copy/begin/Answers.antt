@@ -1,5 +1,5 @@
 use Rattle.std.proofs.Common.{map, refl}
-use Rattle.pm_law_layout.specs.Plans.{root_entry}
+use Rattle.pm_copies.specs.Plans.{root_entry}
 use Rattle.pm_ship.specs.Stores.{offered}
 use Rattle.pm_ship.proofs.BeginLemmas.{begins_offered, frozen_offered, planned_offered, within_offered}
 use Rattle.pm_ship.proofs.CarLemmas.{found_alone}

@@ -1,7 +1,7 @@
 use Rattle.std.proofs.Common.{Err, Some, refl, sym, ap, subst, ◌∙◌}
 use Rattle.pm_shadow.specs.Pages.{disk_of}
 use Rattle.pm_saving.specs.Paging.{left_of}
-use Rattle.pm_writer.specs.Shown.{writing}
+use Rattle.pm_save.specs.Writer.Shown.{writing}
 use Rattle.pm_ship.specs.declared.fault.ShipFault.{ShipFault}
 use Rattle.pm_ship.specs.Cars.{cars_kept}
 use Rattle.pm_ship.specs.Stores.{offered}
@@ -9,8 +9,8 @@ use Rattle.pm_ship.specs.Shipped.{LeavesWritten}
 use Rattle.pm_ship.proofs.WriteLemmas.{copy_laid, either_spared, none_written, part_written, whole_written}
 use Rattle.pm_ship.proofs.next_copy.write_copy.Goals as goal
 
-pub returns-in_default-clause-leaves : goal.returns-in_default-clause-leaves
-returns-in_default-clause-leaves g c =
+pub returns-in-Err-clause-leaves : goal.returns-in-Err-clause-leaves
+returns-in-Err-clause-leaves g c =
     none_written (offered c.args.first) c.args.to.now c.requires.tied.sound (λ left now. g.met.E.Disk.only_now (disk_of c.args.to.now) left now)
 
 pub settle_from-requires : goal.settle_from-requires
@@ -32,6 +32,6 @@ pub returns-clause-leaves : goal.returns-clause-leaves
 returns-clause-leaves g c =
     subst (λ (fault : ShipFault). LeavesWritten (offered c.args.first) c.args.to.now c.settle_from.new.pages (Err fault)) (sym c.of_saving.ensures)
     (part_written (offered c.args.first) c.args.to.now c.settle_from.new.pages (writing c.in-Ok.writer) (writing c.settle_from.new.self) (Some (cars_kept c.in-Ok.cars))
-    c.faults-before.result c.faults.result c.in-Err.fault c.faults-before.ensures c.faults.ensures
+    c.faults-before.result c.faults.result c.in-Err-settle_from.fault c.faults-before.ensures c.faults.ensures
     (either_spared (offered c.args.first) c.args.standby.settled c.in-Ok.cars (writing c.in-Ok.writer) c.in-Ok.ensures.begun c.args.to.now c.settle_from.new.pages c.settle_from.ensures.leaves)
-    c.in-Err.ensures.memory c.in-Err.ensures.tied_still c.settle_from.ensures.causes.told c.in-Err.ensures.causes.cause)
+    c.in-Err-settle_from.ensures.memory c.in-Err-settle_from.ensures.tied_still c.settle_from.ensures.causes.told c.in-Err-settle_from.ensures.causes.cause)

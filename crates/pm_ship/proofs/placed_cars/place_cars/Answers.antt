@@ -1,9 +1,9 @@
 use Rattle.std.proofs.Common.{List, [], ◌∷◌, ◌++◌, take, get_or, subst, sym, ap, refl, ◌∙◌}
 use Rattle.pm_image.specs.Graphs.{images_of}
 use Rattle.pm_copies.specs.Listed.{Listed}
-use Rattle.pm_progress.specs.declared.place.PlacedCar.{PlacedCar}
-use Rattle.pm_writer.specs.Planned.{IsPlanned}
-use Rattle.pm_writer.proofs.PlanLemmas.{planned_behind}
+use Rattle.pm_save.specs.declared.progress.place.PlacedCar.{PlacedCar}
+use Rattle.pm_save.specs.Writer.Planned.{IsPlanned}
+use Rattle.pm_save.proofs.WriterLemmas.PlanLemmas.{planned_behind}
 use Rattle.pm_ship.specs.Listing.{with_trains}
 use Rattle.pm_ship.proofs.ListLemmas.{trains_more}
 use Rattle.pm_ship.proofs.placed_cars.place_cars.Goals as goal

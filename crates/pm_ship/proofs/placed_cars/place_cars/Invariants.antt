@@ -1,6 +1,6 @@
 use Rattle.std.proofs.Common.{take}
 use Rattle.pm_image.specs.Graphs.{images_of}
-use Rattle.pm_writer.specs.Planned.{IsPlanned}
+use Rattle.pm_save.specs.Writer.Planned.{IsPlanned}
 use Rattle.pm_ship.specs.Listing.{with_trains}
 use Rattle.pm_ship.proofs.placed_cars.place_cars.Given as goal
 

@@ -1,7 +1,7 @@
 use Rattle.std.proofs.Common.{◌<◌, length, sym, ap, ◌∙◌, rules}
 use Rattle.pm_image.specs.declared.car.CarImage.{CarImage}
 use Rattle.pm_image.specs.declared.settled.KeptPage.{KeptPage}
-use Rattle.pm_writer.proofs.PlaceLemmas.{first_within, placed_clean, placed_dirty, placed_new}
+use Rattle.pm_save.proofs.WriterLemmas.PlaceLemmas.{first_within, placed_clean, placed_dirty, placed_new}
 use Rattle.pm_ship.proofs.placed_cars.place_of.Goals as goal
 
 pub offset_bounds-settled-place : goal.offset_bounds-settled-place

@@ -1,7 +1,7 @@
 use Rattle.std.proofs.Common.{◌<◌, arith, sym, ap, ◌∙◌, length, take, get_or, cond, nat_le}
 use Rattle.pm_trains.specs.Trains.{empty_train}
 use Rattle.pm_view.specs.Counts.{standing_in, standing_of, old_in}
-use Rattle.pm_base.specs.Counts.{capped}
+use Rattle.pm_types.specs.Counts.{capped}
 use Rattle.pm_space.specs.Shown.{view}
 use Rattle.pm_space.proofs.CountingUp.{capped_more, counted_if_old, old_more}
 use Rattle.pm_space.proofs.counting.old.Goals as goal

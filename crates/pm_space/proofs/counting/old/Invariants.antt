@@ -1,6 +1,6 @@
 use Rattle.std.proofs.Common.{◌≡◌, take}
 use Rattle.pm_view.specs.Counts.{old_in}
-use Rattle.pm_base.specs.Counts.{capped}
+use Rattle.pm_types.specs.Counts.{capped}
 use Rattle.pm_space.specs.Shown.{view}
 use Rattle.pm_space.proofs.counting.old.Given as goal
 

@@ -3,7 +3,7 @@ use Rattle.std.specs.List.{sum_by}
 use Rattle.std.proofs.lemmas.List.Sums.{sum_by_more}
 use Rattle.pm_trains.specs.Trains.{empty_train}
 use Rattle.pm_view.specs.Counts.{standing_in, standing_of}
-use Rattle.pm_base.specs.Counts.{capped}
+use Rattle.pm_types.specs.Counts.{capped}
 use Rattle.pm_space.specs.Shown.{view}
 use Rattle.pm_space.proofs.CountingUp.{capped_more, counted_there}
 use Rattle.pm_space.proofs.counting.standing.Goals as goal

@@ -1,7 +1,7 @@
 use Rattle.std.proofs.Common.{◌∙◌, true, false, sym}
 use Rattle.std.proofs.lemmas.Bool.{true≢false, false_from_ne_true}
 use Rattle.pm_view.specs.Rows.{has_room}
-use Rattle.pm_law_rows.proofs.Born.{room_fits}
+use Rattle.pm_law_commands.proofs.RowLemmas.Born.{room_fits}
 use Rattle.pm_space.proofs.Places.{room_where_fits, asked, asked_none, fits_there}
 use Rattle.pm_space.proofs.placing.if_fits.Goals as goal
 

@@ -1,5 +1,5 @@
 use Rattle.std.proofs.Common.{◌≡◌, sym, subst, Option, IfSome}
-use Rattle.pm_base.specs.Mapped.{mapped}
+use Rattle.pm_types.specs.Mapped.{mapped}
 use Rattle.pm_types.specs.declared.address.Addr.{Addr}
 use Rattle.pm_view.specs.Rows.{readdressed}
 use Rattle.pm_space.proofs.RootsSet.{readdressed_roots}

@@ -1,8 +1,8 @@
 use Rattle.pm_script.proofs.ScriptLaws.{lines_of_script}
 use Rattle.pm_make.specs.Made.{made_text}
-use Rattle.pm_runs.specs.ends.Causes.{ShowsCauses}
+use Rattle.pm_runs.specs.Ends.Causes.{ShowsCauses}
 use Rattle.pm_top.specs.Commands.{TriesScript}
-use Rattle.pm_runs.proofs.ends.Parts.{at_end}
+use Rattle.pm_runs.proofs.EndsLemmas.Parts.{at_end}
 use Rattle.pm_top.proofs.Performing.{tried, untouched_trial, memory_causes}
 use Rattle.pm_top.proofs.made.try_script.Goals as goal
 

@@ -3,10 +3,10 @@ use Rattle.pm_model.specs.World.{empty_copy}
 use Rattle.pm_image.specs.Blank.{blank_store}
 use Rattle.pm_image.specs.Stands.{StandsForCopy}
 use Rattle.pm_image.proofs.BlankLaws.{blank_stands}
-use Rattle.pm_runs.specs.ends.Causes.{ShowsCauses}
+use Rattle.pm_runs.specs.Ends.Causes.{ShowsCauses}
 use Rattle.pm_top.specs.Commands.{MakesStore}
 use Rattle.pm_top.proofs.NotMade.{init_causes, none_made}
-use Rattle.pm_runs.proofs.ends.Parts.{at_end}
+use Rattle.pm_runs.proofs.EndsLemmas.Parts.{at_end}
 use Rattle.pm_top.proofs.making.make_store.Goals as goal
 
 pub returns-in-Ok-clause-causes : goal.returns-in-Ok-clause-causes

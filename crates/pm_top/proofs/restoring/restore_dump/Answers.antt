@@ -2,7 +2,7 @@ use Rattle.std.proofs.Common.{subst, sym}
 use Rattle.pm_shadow.specs.Pages.{disk_of}
 use Rattle.pm_shadow.specs.State.{State}
 use Rattle.pm_restore.specs.Restored.{IsNewStore}
-use Rattle.pm_runs.specs.ends.declared.ended.Detail.{Detail}
+use Rattle.pm_runs.specs.declared.ends.ended.Detail.{Detail}
 use Rattle.pm_top.specs.Stores.{LeavesRestored}
 use Rattle.pm_top.proofs.NotMade.{none_made}
 use Rattle.pm_top.proofs.Restored.{blank_told, none_restored, store_made, then_settled}

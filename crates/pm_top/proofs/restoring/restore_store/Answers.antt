@@ -1,5 +1,5 @@
 use Rattle.pm_top.specs.Commands.{RestoresStore}
-use Rattle.pm_runs.proofs.ends.Parts.{at_end}
+use Rattle.pm_runs.proofs.EndsLemmas.Parts.{at_end}
 use Rattle.pm_top.proofs.Restored.{restores_read, restores_unread}
 use Rattle.pm_top.proofs.restoring.restore_store.Goals as goal
 

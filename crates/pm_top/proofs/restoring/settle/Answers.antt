@@ -1,6 +1,6 @@
 use Rattle.std.proofs.Common.{subst, sym}
 use Rattle.pm_shadow.specs.Pages.{disk_of}
-use Rattle.pm_runs.specs.ends.declared.ended.Detail.TheVariants.{Fine}
+use Rattle.pm_runs.specs.declared.ends.ended.Detail.TheVariants.{Fine}
 use Rattle.pm_top.specs.Stores.{LeavesSettled}
 use Rattle.pm_top.proofs.Restored.{leaves_settled}
 use Rattle.pm_top.proofs.restoring.settle.Goals as goal

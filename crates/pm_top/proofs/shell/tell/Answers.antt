@@ -1,7 +1,7 @@
 use Rattle.std.proofs.Common.{◌∙◌, ◌++◌, ap, sym, subst, List, ℕ, Some}
 use Rattle.pm_io.specs.Streams.{AppendsPart}
-use Rattle.pm_runs.specs.ends.declared.ended.Detail.{Detail}
-use Rattle.pm_runs.specs.ends.Ends.{detail_line}
+use Rattle.pm_runs.specs.declared.ends.ended.Detail.{Detail}
+use Rattle.pm_runs.specs.Ends.Ends.{detail_line}
 use Rattle.pm_top.specs.Program.{Tells}
 use Rattle.pm_top.proofs.Programs.{told_none, told_all, told_part}
 use Rattle.pm_top.proofs.shell.tell.Goals as goal

@@ -4,16 +4,17 @@ use Rattle.pm_words.specs.declared.asked.Asked.{Asked}
 use Rattle.pm_words.specs.declared.asked.Asked.TheVariants.{Alone, Ship}
 use Rattle.pm_words.specs.declared.command.Command.{Command}
 use Rattle.pm_words.specs.Words.{Spells, SpellsNothing}
-use Rattle.pm_runs.specs.ends.declared.ended.Alone.{Alone as OneEnd}
-use Rattle.pm_runs.specs.ends.declared.ended.Detail.TheVariants.{Memory}
-use Rattle.pm_runs.specs.ends.Ends.{status_of}
+use Rattle.pm_runs.specs.declared.ends.ended.Alone.{Alone as OneEnd}
+use Rattle.pm_runs.specs.declared.ends.ended.Detail.TheVariants.{Memory}
+use Rattle.pm_runs.specs.Ends.Ends.{status_of}
 use Rattle.pm_top.specs.Commands.{Does}
-use Rattle.pm_runs.specs.ends.Causes.{ShowsCauses}
+use Rattle.pm_runs.specs.Ends.Causes.{ShowsCauses}
 use Rattle.pm_top.proofs.Complete.{complete}
-use Rattle.pm_runs.proofs.ends.Parts.{at_end}
+use Rattle.pm_runs.proofs.EndsLemmas.Parts.{at_end}
 use Rattle.pm_top.proofs.Performing.{untouched_does}
 use Rattle.pm_top.proofs.Shipping.{none_shipped, ship_done, ship_left}
 use Rattle.pm_top.proofs.top.pmos.Goals as goal
+use Rattle.pm_types.specs.Memory.{no_memory}
 
 pub returns-in-Ok-Some-Alone-clause-does : goal.returns-in-Ok-Some-Alone-clause-does
 returns-in-Ok-Some-Alone-clause-does g c command spells =
@@ -84,6 +85,6 @@ returns-in-Err-clause-does g c command spells =
 pub returns-in-Err-clause-ships : goal.returns-in-Err-clause-ships
 returns-in-Err-clause-ships g c are =
     let e = c.end_unopened-in-Err.ensures in
-    ship_left g.D.Disk g.E.Disk g.K.Sink c.args.disk c.args.other c.args.source c.args.sink c.args.sink _ (Memory false)
+    ship_left g.D.Disk g.E.Disk g.K.Sink c.args.disk c.args.other c.args.source c.args.sink c.args.sink _ (Memory false no_memory)
     (none_shipped g.D.Disk g.E.Disk c.args.disk c.args.other c.images_since_now.ensures c.images_since_now-2.ensures) refl refl
     c.beside-in-Err.result c.end_unopened-in-Err.result c.beside-in-Err.ensures.alone e.detail e.journal e.tally e.disk e.source e.sink c.beside-in-Err.ensures.other

@@ -3,7 +3,7 @@ use Rattle.std.specs.List.{flat_map, AllByRecursion}
 use Rattle.std.specs.Option.{IsSome}
 use Rattle.std.specs.Cmp.{nat_cmp_total}
 use Rattle.std.specs.FinMap.{nat_cmp-IsAntisymmetric}
-use Rattle.pm_base.proofs.Shown.{entries_shown}
+use Rattle.pm_types.proofs.Shown.{entries_shown}
 use Rattle.pm_types.specs.declared.address.Addr.{Addr}
 use Rattle.pm_view.specs.Reading.{object_at}
 use Rattle.pm_space.specs.Shown.{view}

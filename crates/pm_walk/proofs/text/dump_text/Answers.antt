@@ -1,6 +1,6 @@
 use Rattle.std.proofs.Common.{◌≡◌, ap, sym, ◌∙◌}
 use Rattle.std.specs.FinMap.{entries}
-use Rattle.pm_base.specs.Mapped.{mapped_entries}
+use Rattle.pm_types.specs.Mapped.{mapped_entries}
 use Rattle.pm_dump.specs.Dump.{Dump, dump_of, dump_text_of}
 use Rattle.pm_copies.specs.Listed.{copy_in}
 use Rattle.pm_space.specs.Shown.{view}

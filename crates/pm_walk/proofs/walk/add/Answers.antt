@@ -1,6 +1,6 @@
 use Rattle.std.specs.Cmp.{nat_cmp_total}
 use Rattle.std.specs.FinMap.{nat_cmp-IsAntisymmetric}
-use Rattle.pm_base.proofs.Shown.{insert_shown}
+use Rattle.pm_types.proofs.Shown.{insert_shown}
 use Rattle.pm_walk.proofs.walk.add.Goals as goal
 
 pub returns-clause-met : goal.returns-clause-met

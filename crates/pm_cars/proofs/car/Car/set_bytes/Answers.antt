@@ -4,8 +4,7 @@ use Rattle.pm_types.specs.declared.object.Slot.TheVariants.{Live}
 use Rattle.pm_cars.specs.Cars.{CarAndSpare, HasBytes, object_at, with_slot, with_bytes, object_room}
 use Rattle.pm_cars.specs.Entries.{Entry, with_content, numbers, IsAscending}
 use Rattle.pm_cars.proofs.Listed.{numbers_with}
-use Rattle.pm_cars.proofs.Kept.{stocked, has_kept, from_seen, to_seen, kept_edit, seen_edit, room_with_bytes}
-use Rattle.pm_cars.proofs.Kept.{nowhere}
+use Rattle.pm_cars.proofs.Kept.{stocked, has_kept, from_seen, to_seen, kept_edit, seen_edit, room_with_bytes, nowhere}
 use Rattle.pm_cars.proofs.car.Car.set_bytes.Goals as goal
 
 pub exchange-object-requires-clause-live : goal.exchange-object-requires-clause-live

@@ -1,15 +1,16 @@
 use Rattle.std.proofs.Common.{◌≡◌, ℕ, true, false, Some, Result, Err, OnErr, sym, ap, subst, ◌∙◌}
+use Rattle.pm_types.specs.Memory.{no_memory}
 use Rattle.pm_types.specs.declared.reply.Reply.{Reply}
 use Rattle.pm_types.specs.declared.fault.EngineFault.TheVariants.{Memory}
 use Rattle.pm_model.specs.Frames.{is_settle}
-use Rattle.pm_works.specs.save_below.SaveFault.{SaveFault}
-use Rattle.pm_works.specs.save_below.Answers.{IfMemory, IsFaultOf, OnMemory}
-use Rattle.pm_works.specs.Working.{IsFaultFor, IsLeft, IsShort, LastsSo, disk_at, saving_in, view_in}
+use Rattle.pm_save.specs.declared.progress.fault.SaveFault.{SaveFault}
+use Rattle.pm_save.specs.Progress.Answers.{IfMemory, IsFaultOf, OnMemory}
+use Rattle.pm_engine.specs.Works.Working.{IsFaultFor, IsLeft, IsShort, LastsSo, disk_at, saving_in, view_in}
 use Rattle.pm_engine.proofs.engine.Engine.ask.Goals as goal
 use Rattle.pm_engine.proofs.Asking.{ask_serves, ask_sound, fail_sound, rest_sound, stored}
 use Rattle.pm_engine.proofs.Counts.{counted_risen, counted_still}
 use Rattle.pm_engine.proofs.Crashing.{leaves_answered, leaves_failed, progress_of, settled_alone}
-use Rattle.pm_works.specs.law_work.Raises.{raises}
+use Rattle.pm_law_collect.specs.Work.Raises.{raises}
 use Rattle.pm_engine.proofs.Answering.{Told, room_of, still_works, work_of}
 use Rattle.pm_engine.proofs.Acting.{space_of}
 use Rattle.pm_law_bound.proofs.Many.{kept_still}
@@ -42,8 +43,8 @@ invariant_of-self g c =
       counted = counted_still self.opening.count (g.D.Disk.count (disk_at self.works)) (g.D.Disk.count (disk_at new)) self.counted c.in-Ok.ensures.causes.cause;
     }
 
-pub invariant_of-self-in-Err-Memory : goal.invariant_of-self-in-Err-Memory
-invariant_of-self-in-Err-Memory g c =
+pub invariant_of-self-in-Memory-1 : goal.invariant_of-self-in-Memory-1
+invariant_of-self-in-Memory-1 g c =
     let self = c.args.self.now in
     let new = c.answer.new.self in
     let so = subst (λ (fault : SaveFault). IfMemory (LastsSo self.works new) fault) c.in-Err-Memory.field-0-is c.in-Err-Memory.ensures.fails.memory in
@@ -119,7 +120,7 @@ returns-in-Err-Memory-clause-call g c =
       running = tt;
       reopen = tt;
       still = λ other. record { disk = (c.answer.ensures.other other).still.disk; none = tt };
-      leaves = λ none. settled_alone self.opening self.stopped self.works none self.sound new c.args.cmd (Err Memory) so.spares;
+      leaves = λ none. settled_alone self.opening self.stopped self.works none self.sound new c.args.cmd (Err (Memory no_memory)) so.spares;
       settled = tt;
       short = λ settles. subst (λ (fault : SaveFault). IfMemory (IsShort self.works new) fault) arm.field-0-is (subst (λ (result : Result Reply SaveFault). OnMemory result (IsShort self.works new)) arm.is (c.answer.ensures.settle settles).short);
       shown = tt;

@@ -1,13 +1,14 @@
 use Rattle.std.proofs.Common.{◌≡◌, true, false, Err, refl, sym, ◌∙◌, arith}
+use Rattle.pm_types.specs.Memory.{no_memory}
 use Rattle.pm_types.specs.declared.fault.EngineFault.TheVariants.{Memory}
-use Rattle.pm_works.specs.save_below.Settling.{settling_syncs, settling_writes}
+use Rattle.pm_save.specs.Writer.Settling.{settling_syncs, settling_writes}
 use Rattle.pm_law_bound.proofs.Many.{kept_still}
 use Rattle.pm_engine.specs.Shown.{disk_in, pages_in, serving}
-use Rattle.pm_works.specs.Working.{disk_at}
+use Rattle.pm_engine.specs.Works.Working.{disk_at}
 use Rattle.pm_engine.proofs.Asking.{stored}
 use Rattle.pm_engine.proofs.Crashing.{settled_alone}
 use Rattle.pm_engine.proofs.Going.{stays_same}
-use Rattle.pm_works.proofs.Kept.{lasts_so, none_made, pages_last}
+use Rattle.pm_engine.proofs.WorksLemmas.Kept.{lasts_so, none_made, pages_last}
 use Rattle.pm_engine.proofs.Telling.{client_reopens}
 use Rattle.pm_engine.proofs.engine.Engine.client.Goals as goal
 
@@ -35,7 +36,7 @@ returns-in-Err-clause-call g c =
       running = tt;
       reopen = tt;
       still = λ _. record { disk = refl; none = tt };
-      leaves = λ none. settled_alone self.opening self.stopped works none self.sound works c.args.cmd.now (Err Memory) so.spares;
+      leaves = λ none. settled_alone self.opening self.stopped works none self.sound works c.args.cmd.now (Err (Memory no_memory)) so.spares;
       settled = tt;
       short = λ settles. absurd (true_false (sym settles ∙ c.in-Err.ensures.short));
       shown = tt;

@@ -1,5 +1,5 @@
 use Rattle.std.proofs.Common.{ap, arith}
-use Rattle.pm_works.specs.Working.{disk_at}
+use Rattle.pm_engine.specs.Works.Working.{disk_at}
 use Rattle.pm_engine.proofs.engine.Engine.collect_running.Goals as goal
 use Rattle.pm_engine.proofs.Asking.{stored}
 use Rattle.pm_engine.proofs.Bounding.{bounds_tried}

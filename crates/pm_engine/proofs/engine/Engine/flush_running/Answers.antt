@@ -1,7 +1,7 @@
 use Rattle.std.proofs.Common.{ℕ, Some, ap, subst, arith}
-use Rattle.pm_works.specs.save_below.SaveFault.{SaveFault}
-use Rattle.pm_works.specs.save_below.Answers.{IfMemory, IsFaultOf}
-use Rattle.pm_works.specs.Working.{IsAsItWas, IsTiedIn, LastsIn, disk_at}
+use Rattle.pm_save.specs.declared.progress.fault.SaveFault.{SaveFault}
+use Rattle.pm_save.specs.Progress.Answers.{IfMemory, IsFaultOf}
+use Rattle.pm_engine.specs.Works.Working.{IsAsItWas, IsTiedIn, LastsIn, disk_at}
 use Rattle.pm_engine.proofs.engine.Engine.flush_running.Goals as goal
 use Rattle.pm_engine.proofs.Asking.{flush_failed, flush_kept, leaves_settled, rest_sound, stored}
 use Rattle.pm_engine.proofs.Bounding.{bounds_flushed, bounds_rested, flushed_view}
@@ -22,8 +22,8 @@ invariant_of-self g c =
       counted = counted_still self.opening.count (g.D.Disk.count (disk_at self.works)) (g.D.Disk.count (disk_at new)) self.counted c.in-Ok.ensures.causes.cause;
     }
 
-pub invariant_of-self-in-Err-Memory : goal.invariant_of-self-in-Err-Memory
-invariant_of-self-in-Err-Memory g c =
+pub invariant_of-self-in-Memory-1 : goal.invariant_of-self-in-Memory-1
+invariant_of-self-in-Memory-1 g c =
     let self = c.args.self.now in
     let new = c.flush.new.self in
     let tied = subst (λ (fault : SaveFault). IfMemory (IsTiedIn new) fault) c.in-Err-Memory.field-0-is c.in-Err-Memory.ensures.tied in

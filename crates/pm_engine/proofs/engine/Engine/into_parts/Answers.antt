@@ -2,7 +2,7 @@ use Rattle.std.proofs.Common.{◌∙◌, ap, List}
 use Rattle.pm_types.specs.declared.event.Watch.{Watch}
 use Rattle.pm_view.specs.Watches.{lines_from}
 use Rattle.pm_engine.proofs.engine.Engine.into_parts.Goals as goal
-use Rattle.pm_works.specs.Working.{view_in}
+use Rattle.pm_engine.specs.Works.Working.{view_in}
 use Rattle.pm_engine.proofs.Bounding.{told_honest}
 
 pub invariant_of-works : goal.invariant_of-works

@@ -7,10 +7,10 @@ use Rattle.std.proofs.Props.{props}
 use Rattle.pm_trains.specs.Trains.{is_among}
 use Rattle.pm_model.specs.Reachability.{IsReachable}
 use Rattle.pm_view.specs.Represents.{IsHeld}
-use Rattle.pm_works.specs.serving.Serving.{world}
-use Rattle.pm_works.proofs.law_course.Counting.{few_stand}
-use Rattle.pm_works.specs.Working.{view_in}
-use Rattle.pm_law_serving.proofs.Splitting.{splits_once}
+use Rattle.pm_saving.specs.Serving.{world}
+use Rattle.pm_law_course.proofs.Counting.{few_stand}
+use Rattle.pm_engine.specs.Works.Working.{view_in}
+use Rattle.pm_law_saving.proofs.ServingLemmas.Splitting.{splits_once}
 use Rattle.pm_engine.specs.Shown.{serving}
 use Rattle.pm_engine.proofs.engine.Engine.keep_their_images.Goals as goal
 use Rattle.pm_engine.proofs.Asking.{settled_now, splits_closed, splits_legal}

@@ -1,16 +1,16 @@
 use Rattle.std.proofs.Common.{None, ℕ, refl, sym, ap, subst, ◌∙◌, arith}
 use Rattle.std.specs.Prelude.{option_map}
 use Rattle.std.proofs.lemmas.Result.{err_from_is_err_and}
-use Rattle.pm_base.specs.Mapped.{mapped}
+use Rattle.pm_types.specs.Mapped.{mapped}
 use Rattle.pm_image.specs.Stands.{StandsForCopy}
 use Rattle.pm_shadow.specs.State.{State}
 use Rattle.pm_shadow.specs.Pages.{state, disk_of}
 use Rattle.pm_space.specs.Shown.{car_of, view}
 use Rattle.pm_copies.specs.Listed.{copy_in}
 use Rattle.pm_reopen.proofs.Refusals.{graph_refused, header_refused}
-use Rattle.pm_works.specs.declared.course.Course.TheVariants.{Nothing}
+use Rattle.pm_engine.specs.declared.works.course.Course.TheVariants.{Nothing}
 use Rattle.pm_engine.specs.declared.start.Start.{Start}
-use Rattle.pm_works.specs.declared.works.Works.{Works}
+use Rattle.pm_engine.specs.declared.works.works.Works.{Works}
 use Rattle.pm_engine.proofs.engine.Engine.open_store.Goals as goal
 use Rattle.pm_engine.proofs.Bounding.{bounds_begun}
 use Rattle.pm_engine.proofs.Begun.{stands, start_sound}

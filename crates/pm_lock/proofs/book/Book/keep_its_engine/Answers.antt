@@ -1,6 +1,6 @@
 use Rattle.std.specs.Coded.{Coded-set, coded_ℕ, coded_option}
 use Rattle.std.proofs.Math.Logic.{∥∥₁_map}
-use Rattle.pm_events.specs.engine.Shown.{disk_in, opened_count}
+use Rattle.pm_engine.specs.Shown.{disk_in, opened_count}
 use Rattle.pm_lock.proofs.Laws.{splits_cause, splits_once, within_once}
 use Rattle.pm_lock.proofs.book.Book.keep_its_engine.Goals as goal
 

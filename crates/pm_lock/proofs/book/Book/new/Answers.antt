@@ -1,10 +1,10 @@
 use Rattle.std.proofs.Common.{List, ◌≡◌, ◌∙◌, ap, arith, length, sym, subst}
 use Rattle.pm_script.specs.declared.line.Line.{Line}
-use Rattle.pm_parts.specs.Asked.{requests_asked}
-use Rattle.pm_parts.specs.Left.{lists_in}
-use Rattle.pm_events.specs.engine.Shown.{disk_in, serving}
-use Rattle.pm_events.specs.Running.{IsFresh}
-use Rattle.pm_events.proofs.Going.{goes_still}
+use Rattle.pm_script.specs.Parted.Asked.{requests_asked}
+use Rattle.pm_script.specs.Parted.Left.{lists_in}
+use Rattle.pm_engine.specs.Shown.{disk_in, serving}
+use Rattle.pm_engine.specs.Events.Running.{IsFresh}
+use Rattle.pm_engine.proofs.EventsLemmas.Going.{goes_still}
 use Rattle.pm_lock.proofs.Keeping.{script_begun}
 use Rattle.pm_lock.proofs.Engines.{book_begun}
 use Rattle.pm_lock.proofs.book.Book.new.Goals as goal

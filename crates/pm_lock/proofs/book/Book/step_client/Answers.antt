@@ -1,7 +1,7 @@
 use Rattle.std.proofs.Common.{arith}
-use Rattle.pm_parts.specs.Left.{lists_in}
-use Rattle.pm_parts.specs.Lists.{count_left, list_of}
-use Rattle.pm_events.specs.engine.Shown.{serving}
+use Rattle.pm_script.specs.Parted.Left.{lists_in}
+use Rattle.pm_script.specs.Parted.Lists.{count_left, list_of}
+use Rattle.pm_engine.specs.Shown.{serving}
 use Rattle.pm_lock.proofs.Engines.{book_answered, book_failed, left_client, one_left, popped_fewer, popped_next}
 use Rattle.pm_lock.proofs.Turning.{not_collector, not_flusher, steps_finished}
 use Rattle.pm_lock.proofs.book.Book.step_client.Goals as goal

@@ -1,6 +1,6 @@
 use Rattle.std.proofs.Common.{◌-◌, arith}
-use Rattle.pm_parts.specs.Left.{lists_in}
-use Rattle.pm_events.specs.engine.Shown.{serving}
+use Rattle.pm_script.specs.Parted.Left.{lists_in}
+use Rattle.pm_engine.specs.Shown.{serving}
 use Rattle.pm_lock.proofs.Engines.{book_collected, book_failed, left_collect}
 use Rattle.pm_lock.proofs.book.Book.step_collector.Goals as goal
 

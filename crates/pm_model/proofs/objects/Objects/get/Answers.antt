@@ -1,5 +1,5 @@
 use Rattle.std.specs.Cmp.{nat_cmp_total}
-use Rattle.pm_base.proofs.Shown.{gotten}
+use Rattle.pm_types.proofs.Shown.{gotten}
 use Rattle.pm_model.proofs.objects.Objects.get.Goals as goal
 
 pub returns : goal.returns

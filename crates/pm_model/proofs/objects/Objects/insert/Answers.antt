@@ -1,7 +1,7 @@
 use Rattle.std.proofs.Common.{ap, ◌∙◌}
 use Rattle.std.specs.Cmp.{nat_cmp_total}
 use Rattle.std.specs.FinMap.{insert, nat_cmp-IsAntisymmetric}
-use Rattle.pm_base.proofs.Shown.{insert_shown}
+use Rattle.pm_types.proofs.Shown.{insert_shown}
 use Rattle.pm_model.proofs.objects.Objects.insert.Goals as goal
 
 pub returns-clause-ok : goal.returns-clause-ok

@@ -1,7 +1,7 @@
 use Rattle.std.proofs.Common.{ap, sym, ◌∙◌}
 use Rattle.std.specs.Cmp.{nat_cmp_total}
 use Rattle.std.specs.FinMap.{entries, nat_cmp-IsAntisymmetric}
-use Rattle.pm_base.proofs.Shown.{entries_shown}
+use Rattle.pm_types.proofs.Shown.{entries_shown}
 use Rattle.pm_model.proofs.objects.Objects.iter.Goals as goal
 
 pub returns : goal.returns

@@ -1,7 +1,7 @@
 use Rattle.std.proofs.Common.{ap, ◌∙◌}
 use Rattle.std.specs.Cmp.{nat_cmp_total}
 use Rattle.std.specs.FinMap.{remove, nat_cmp-IsAntisymmetric}
-use Rattle.pm_base.proofs.Shown.{remove_shown}
+use Rattle.pm_types.proofs.Shown.{remove_shown}
 use Rattle.pm_model.proofs.objects.Objects.remove.Goals as goal
 
 pub returns : goal.returns

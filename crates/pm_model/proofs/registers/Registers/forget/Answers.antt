@@ -1,7 +1,7 @@
 use Rattle.std.proofs.Common.{ap, ◌∙◌}
 use Rattle.std.specs.FinMap.{remove}
 use Rattle.pm_types.proofs.Orders.{places_total, places_antisymmetric}
-use Rattle.pm_base.proofs.Shown.{remove_shown}
+use Rattle.pm_types.proofs.Shown.{remove_shown}
 use Rattle.pm_model.proofs.registers.Registers.forget.Goals as goal
 
 pub returns : goal.returns

@@ -1,7 +1,7 @@
 use Rattle.std.proofs.Common.{ap, ◌∙◌}
 use Rattle.std.specs.FinMap.{insert}
 use Rattle.pm_types.proofs.Orders.{places_total, places_antisymmetric}
-use Rattle.pm_base.proofs.Shown.{insert_shown}
+use Rattle.pm_types.proofs.Shown.{insert_shown}
 use Rattle.pm_model.proofs.registers.Registers.set.Goals as goal
 
 pub returns-clause-ok : goal.returns-clause-ok

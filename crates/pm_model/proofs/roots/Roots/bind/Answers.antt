@@ -1,7 +1,7 @@
 use Rattle.std.proofs.Common.{ap, ◌∙◌}
 use Rattle.std.specs.FinMap.{insert}
 use Rattle.pm_types.proofs.Orders.{names_total, names_antisymmetric}
-use Rattle.pm_base.proofs.Shown.{insert_shown}
+use Rattle.pm_types.proofs.Shown.{insert_shown}
 use Rattle.pm_model.proofs.roots.Roots.bind.Goals as goal
 
 pub returns-clause-ok : goal.returns-clause-ok

@@ -1,7 +1,7 @@
 use Rattle.std.proofs.Common.{◌≡◌, ap, sym, ◌∙◌, rules}
 use Rattle.std.specs.FinMap.{empty}
 use Rattle.pm_types.proofs.Orders.{names_total, names_antisymmetric}
-use Rattle.pm_base.proofs.Shown.{filled, all_filled}
+use Rattle.pm_types.proofs.Shown.{filled, all_filled}
 use Rattle.pm_model.proofs.roots.Roots.copy.Goals as goal
 
 pub returns : goal.returns

@@ -1,7 +1,7 @@
 use Rattle.std.proofs.Common.{◌≡◌}
 use Rattle.std.specs.FinMap.{empty}
 use Rattle.pm_types.proofs.Orders.{names_total}
-use Rattle.pm_base.proofs.Shown.{filled}
+use Rattle.pm_types.proofs.Shown.{filled}
 use Rattle.pm_model.proofs.roots.Roots.copy.Given as goal
 
 abbrev pub invariant-loop-name : goal.invariant-loop-name

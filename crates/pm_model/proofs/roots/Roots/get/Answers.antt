@@ -1,6 +1,6 @@
 use Rattle.std.proofs.Common.{◌∙◌}
 use Rattle.pm_types.proofs.Orders.{names_total}
-use Rattle.pm_base.proofs.Shown.{gotten}
+use Rattle.pm_types.proofs.Shown.{gotten}
 use Rattle.pm_model.proofs.roots.Roots.get.Goals as goal
 
 pub returns : goal.returns

@@ -2,7 +2,7 @@ use Rattle.std.proofs.Common.{◌≡◌, ◌∙◌, sym, ap, rules}
 use Rattle.std.specs.BTreeMap as tree
 use Rattle.std.specs.FinMap.{values}
 use Rattle.pm_types.proofs.Orders.{names_total, names_antisymmetric}
-use Rattle.pm_base.proofs.Shown.{values_shown}
+use Rattle.pm_types.proofs.Shown.{values_shown}
 use Rattle.pm_model.proofs.roots.Roots.ids.Goals as goal
 
 pub returns : goal.returns

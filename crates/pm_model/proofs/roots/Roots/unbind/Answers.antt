@@ -1,7 +1,7 @@
 use Rattle.std.proofs.Common.{ap, ◌∙◌}
 use Rattle.std.specs.FinMap.{remove}
 use Rattle.pm_types.proofs.Orders.{names_total, names_antisymmetric}
-use Rattle.pm_base.proofs.Shown.{remove_shown}
+use Rattle.pm_types.proofs.Shown.{remove_shown}
 use Rattle.pm_model.proofs.roots.Roots.unbind.Goals as goal
 
 pub returns : goal.returns

@@ -20,8 +20,8 @@ returns-then-found-slot-clause-ok c =
     (reading_ends c.args.slot c.args.out.now.items c.loop-found.out.items c.into_iter-found-iterator.result c.loop-found.found-iterator
     (front_past c.args.slot c.loop-found.found-iterator c.in-Some.field-0.now c.next.new.self c.in-Some.ensures.steps c.if-found-slot.true) c.loop-found.invariant)
 
-pub returns-then-is_err-clause-err : goal.returns-then-is_err-clause-err
-returns-then-is_err-clause-err c =
+pub returns-in-Err-clause-err : goal.returns-in-Err-clause-err
+returns-in-Err-clause-err c =
     let same : c.push.new.self.items ≡ c.loop-found.out.items = search rules in
     let long : c.len-before.result ≡ length c.args.out.now.items = search rules in
     c.truncate.ensures.items ∙ ap (take c.len-before.result) same

@@ -3,7 +3,7 @@ use Rattle.std.specs.Prelude.{length}
 use Rattle.std.specs.List.{AllByRecursion}
 use Rattle.pm_dump.specs.Dump.{Dump as Says}
 use Rattle.pm_dump.specs.Sound.{IsListed}
-use Rattle.pm_packing.specs.Packing.{packed_cars}
+use Rattle.pm_restore.specs.Packing.Packing.{packed_cars}
 use Rattle.pm_restore.proofs.BeginLemmas.{begins_dump, listed_shown, names_packed, names_sound, within_at}
 use Rattle.pm_restore.proofs.packed.PackedDump.begin.Goals as goal
 

@@ -1,6 +1,6 @@
 use Rattle.std.proofs.Common.{ℕ, List, length, ap, ◌∙◌}
 use Rattle.pm_dump.specs.Dump.{Dump as Says}
-use Rattle.pm_packing.specs.Packing.{packed_cars}
+use Rattle.pm_restore.specs.Packing.Packing.{packed_cars}
 use Rattle.pm_restore.proofs.PartLemmas.{cars_counted}
 use Rattle.pm_restore.proofs.packed.PackedDump.car_count.Goals as goal
 

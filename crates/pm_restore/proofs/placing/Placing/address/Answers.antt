@@ -4,7 +4,7 @@ use Rattle.std.proofs.lemmas.List.{get_or_read}
 use Rattle.std.proofs.lemmas.List.Sorted.{IsPartitionPoint-from_clause, IsPartitionedBy-leb}
 use Rattle.pm_dump.specs.Dump.{Dump}
 use Rattle.pm_dump.specs.Sound.{IsSoundDump}
-use Rattle.pm_packing.specs.Packing.{filled, place_among}
+use Rattle.pm_restore.specs.Packing.Packing.{filled, place_among}
 use Rattle.pm_restore.specs.Firsts.{firsts_of}
 use Rattle.pm_restore.proofs.FirstLemmas.{IsLastBegun, LiesAt, last_begun, never_fall, placed_at}
 use Rattle.pm_restore.proofs.placing.Placing.address.Goals as goal

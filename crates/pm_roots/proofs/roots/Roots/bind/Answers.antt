@@ -80,8 +80,8 @@ returns-then-len-ge-ROOTS-clause-bound_again c there =
     absurd (none_is_not_some absent there)
 
 -- memory ran out
-pub returns-in_default-clause-too_many : goal.returns-in_default-clause-too_many
-returns-in_default-clause-too_many c =
+pub returns-in-Err-added-clause-too_many : goal.returns-in-Err-added-clause-too_many
+returns-in-Err-added-clause-too_many c =
     let names = c.self.inside.names.items in
     let g = slab.get c.self.inside.addresses in
     let none = unowned names c.self.invariant.sorted _ c.deref.ensures.value _ _ c.in-Err.ensures.absent in
@@ -89,8 +89,8 @@ returns-in_default-clause-too_many c =
     let counted = counted_now names g c.self.invariant _ c.self.view_is in
     (λ is. absurd (memory_is_not_too_many is), λ h. absurd (let many = h.1 in omega (arith, counted, many)))
 
-pub returns-in_default-clause-bound_again : goal.returns-in_default-clause-bound_again
-returns-in_default-clause-bound_again c there =
+pub returns-in-Err-added-clause-bound_again : goal.returns-in-Err-added-clause-bound_again
+returns-in-Err-added-clause-bound_again c there =
     let names = c.self.inside.names.items in
     let g = slab.get c.self.inside.addresses in
     let none = unowned names c.self.invariant.sorted _ c.deref.ensures.value _ _ c.in-Err.ensures.absent in

@@ -1,7 +1,7 @@
 use Rattle.std.proofs.Common.{List, Option, ap, subst, sym}
 use Rattle.std.specs.Prelude.{ℕ, option_map}
 use Rattle.std.specs.List.{AllByRecursion}
-use Rattle.pm_base.specs.Mapped.{mapped}
+use Rattle.pm_types.specs.Mapped.{mapped}
 use Rattle.pm_types.specs.declared.address.Addr.{Addr}
 use Rattle.pm_space.specs.Shown.{car_of, view}
 use Rattle.pm_image.specs.declared.settled.KeptPage.{KeptPage}
@@ -9,12 +9,12 @@ use Rattle.pm_copies.specs.Listed.{listed}
 use Rattle.pm_view.specs.View.{Cars}
 use Rattle.pm_saving.specs.Beginning.{Begins, BeginsListed}
 use Rattle.pm_saving.specs.Tied.{IsTied}
-use Rattle.pm_writer.specs.progress.declared.place.PlacedCar.{PlacedCar}
-use Rattle.pm_writer.specs.progress.Kept.{IsWithin}
-use Rattle.pm_writer.specs.Planned.{IsPlanned}
+use Rattle.pm_save.specs.declared.progress.place.PlacedCar.{PlacedCar}
+use Rattle.pm_save.specs.Progress.Kept.{IsWithin}
+use Rattle.pm_save.specs.Writer.Planned.{IsPlanned}
 use Rattle.pm_save.specs.Shown.{saving}
-use Rattle.pm_writer.specs.Shown.{writing}
-use Rattle.pm_writer.proofs.progress.law_saving.Begun.{all_frozen}
+use Rattle.pm_save.specs.Writer.Shown.{writing}
+use Rattle.pm_law_saving.proofs.Begun.{all_frozen}
 use Rattle.pm_save.proofs.BeginLemmas.{accepted_roots, copy_then}
 use Rattle.pm_save.proofs.saver.Saver.begin.Goals as goal
 

@@ -1,12 +1,12 @@
 use Rattle.std.proofs.Common.{Option, ap, sym, subst}
 use Rattle.std.specs.Prelude.{option_map}
-use Rattle.pm_base.specs.Mapped.{mapped}
+use Rattle.pm_types.specs.Mapped.{mapped}
 use Rattle.pm_shadow.specs.Pages.{state, disk_of}
 use Rattle.pm_space.specs.Shown.{car_of}
 use Rattle.pm_view.specs.View.{Cars}
 use Rattle.pm_saving.specs.Tied.{IsTied}
 use Rattle.pm_save.specs.Shown.{frozen_of}
-use Rattle.pm_writer.specs.Shown.{writing}
+use Rattle.pm_save.specs.Writer.Shown.{writing}
 use Rattle.pm_save.proofs.saver.Saver.drop_copy.Goals as goal
 
 pub returns-clause-tied : goal.returns-clause-tied

@@ -3,11 +3,11 @@ use Rattle.std.specs.Prelude.{Option}
 use Rattle.pm_shadow.specs.Pages.{state, disk_of, current_kept}
 use Rattle.pm_view.specs.View.{Cars}
 use Rattle.pm_saving.specs.Tied.{IsTied}
-use Rattle.pm_writer.specs.progress.Answers.{UnlessDisk}
+use Rattle.pm_save.specs.Progress.Answers.{UnlessDisk}
 use Rattle.pm_save.specs.Shown.{frozen_of, saving}
-use Rattle.pm_writer.specs.Shown.{writing}
-use Rattle.pm_writer.proofs.FlushLemmas.{spares_by, spares_still}
-use Rattle.pm_writer.proofs.FrozenCars.{frozen_some, some_is, with_cars}
+use Rattle.pm_save.specs.Writer.Shown.{writing}
+use Rattle.pm_save.proofs.WriterLemmas.FlushLemmas.{spares_by, spares_still}
+use Rattle.pm_save.proofs.WriterLemmas.FrozenCars.{frozen_some, some_is, with_cars}
 use Rattle.pm_save.proofs.saver.Saver.flush_one.Goals as goal
 
 pub returns-in_default-clause-leaves : goal.returns-in_default-clause-leaves

@@ -1,13 +1,13 @@
 use Rattle.std.proofs.Common.{Option, ap, sym, subst}
 use Rattle.std.specs.Prelude.{option_map}
-use Rattle.pm_base.specs.Mapped.{mapped}
+use Rattle.pm_types.specs.Mapped.{mapped}
 use Rattle.pm_shadow.specs.Pages.{state, disk_of}
 use Rattle.pm_space.specs.Shown.{car_of}
 use Rattle.pm_view.specs.View.{Cars}
 use Rattle.pm_saving.specs.Tied.{IsTied}
 use Rattle.pm_save.specs.Shown.{frozen_of, saving}
-use Rattle.pm_writer.specs.Shown.{writing}
-use Rattle.pm_writer.proofs.FrozenCars.{with_cars}
+use Rattle.pm_save.specs.Writer.Shown.{writing}
+use Rattle.pm_save.proofs.WriterLemmas.FrozenCars.{with_cars}
 use Rattle.pm_save.proofs.saver.Saver.settle.Goals as goal
 
 pub settle_from-requires : goal.settle_from-requires

@@ -2,7 +2,7 @@ use Rattle.std.proofs.Common.{List, ◌<◌, length, get_or, sym, ap, subst, ◌
 use Rattle.std.specs.FinMap.{get}
 use Rattle.pm_image.specs.declared.settled.KeptPage.{KeptPage}
 use Rattle.pm_saving.specs.Progress.{slots_of}
-use Rattle.pm_writer.proofs.PlaceLemmas.{first_within}
+use Rattle.pm_save.proofs.WriterLemmas.PlaceLemmas.{first_within}
 use Rattle.pm_ship.specs.Cars.{cars_kept}
 use Rattle.pm_ship.proofs.CarLemmas.{slots_none, slots_there}
 use Rattle.pm_ship.proofs.listed_cars.ListedCars.slots_in.Goals as goal

@@ -43,7 +43,7 @@ invariant_of-self-2 g c =
     let room = c.use_freed.ensures.room in
     record {
       keys = kept_added m c.self.inside.used c.self.inside.freed c.self.inside.next c.self.invariant.keys c.insert.new.self c.use_freed.new.freed c.args.key c.in-Some.after c.args.value
-          c.in-Some-checked_add.used c.in-Some-checked_add.ensures.1 c.in-Some.ensures c.requires.from_one unused c.in_ok-insert.ensures.ok
+          c.in-Some-checked_add.used c.in-Some-checked_add.ensures.1 c.in-Some.ensures.found c.requires.from_one unused c.in_ok-insert.ensures.ok
           (c.use_freed.ensures.keys ∙ ap (λ s. set.remove s c.args.key) c.reserve.ensures.keys) (omega arith);
       zero_unnoted = zero_stays c.self.inside.kept c.note.new.kept c.args.key None c.in_default-note.ensures.ok c.requires.from_one c.self.invariant.zero_unnoted;
     }

@@ -1,6 +1,6 @@
 use Rattle.std.proofs.Common.{◌≡◌, refl, sym, ap, ◌∙◌, is_some, Some, rules, arith, true}
 use Rattle.std.specs.FinMap.{get}
-use Rattle.pm_numbered.proofs.Lent.{from_some}
+use Rattle.pm_types.proofs.Lent.{from_some}
 use Rattle.pm_snap.specs.Snapped.{with_value, is_ready}
 use Rattle.pm_snap.specs.Kept.{table_of}
 use Rattle.pm_snap.proofs.Tables.{written, unwritten, used_part, ready_part, used_from_one, zero_stays}

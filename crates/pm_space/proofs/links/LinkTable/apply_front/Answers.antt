@@ -1,5 +1,5 @@
 use Rattle.std.proofs.Common.{refl, ap, sym, subst, ◌∙◌, IsSome}
-use Rattle.pm_numbered.proofs.Lent.{found_in, written_in}
+use Rattle.pm_types.proofs.Lent.{found_in, written_in}
 use Rattle.pm_space.specs.declared.links.Links.{Links}
 use Rattle.pm_space.specs.Linked.{sets_of, queues_of, with_front, without_front}
 use Rattle.pm_space.proofs.Linking.{on_ok}

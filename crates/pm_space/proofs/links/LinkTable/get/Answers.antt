@@ -1,4 +1,4 @@
-use Rattle.pm_numbered.proofs.Lent.{found_in}
+use Rattle.pm_types.proofs.Lent.{found_in}
 use Rattle.pm_space.proofs.links.LinkTable.get.Goals as goal
 
 pub returns : goal.returns

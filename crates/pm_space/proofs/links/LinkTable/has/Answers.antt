@@ -1,6 +1,6 @@
 use Rattle.std.proofs.Common.{ap, refl, ◌∙◌}
 use Rattle.std.specs.Option.{is_some}
-use Rattle.pm_numbered.proofs.Lent.{found_in}
+use Rattle.pm_types.proofs.Lent.{found_in}
 use Rattle.pm_space.proofs.links.LinkTable.has.Goals as goal
 
 pub returns : goal.returns

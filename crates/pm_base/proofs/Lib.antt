@@ -1,4 +1,0 @@
-pub mod Results
-pub mod Fronts
-pub mod Mapped
-pub mod Shown

@@ -1,4 +1,0 @@
-pub mod Counts
-pub mod Results
-pub mod Options
-pub mod Mapped

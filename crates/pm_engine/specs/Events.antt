@@ -1,0 +1,3 @@
+pub mod Causes
+pub mod Events
+pub mod Running

@@ -1,0 +1,16 @@
+//! What an engine works with, and what its commands, its events of the collector and its flush events do to that: the space,
+//! the pages of its store on a disk, the saver between them, and the journal. What was opened is not known here.
+
+mod answer;
+mod collect;
+mod course;
+mod flush;
+mod save;
+mod settle;
+mod watch;
+mod works;
+
+pub use course::Course;
+pub use pm_reclaim::{WATCH_ROOM, tell_watches};
+pub use pm_save::{SaveFault, Saver};
+pub use works::Works;

@@ -1,0 +1,9 @@
+//! Laws of the work that is left of a collection: each event lowers it, and a command adds little to it.
+
+mod commands;
+mod events;
+mod stale;
+
+pub use commands::a_command_adds_little_work;
+pub use events::an_event_lowers_the_work_left;
+pub use stale::{a_command_leaves_the_slot_that_moved, only_the_slot_that_moved_last_is_named};

@@ -1,4 +1,0 @@
-pub mod Apart
-pub mod Entries
-pub mod Spelled
-pub mod Places

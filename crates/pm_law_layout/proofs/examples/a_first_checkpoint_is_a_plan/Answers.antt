@@ -1,5 +1,0 @@
-use Rattle.pm_law_layout.proofs.FirstPlan.{holds_first}
-use Rattle.pm_law_layout.proofs.examples.a_first_checkpoint_is_a_plan.Goals as goal
-
-pub returns : goal.returns
-returns c = holds_first

@@ -1,5 +1,0 @@
-use Rattle.pm_law_layout.proofs.Nothing.{holds_nothing}
-use Rattle.pm_law_layout.proofs.examples.a_new_store_holds_nothing.Goals as goal
-
-pub returns : goal.returns
-returns c = holds_nothing

@@ -1,6 +1,0 @@
-//! Laws of objects that move.
-#![tactic(auto)]
-
-mod laws;
-
-pub use laws::an_object_moves_to_one_place;

@@ -1,6 +1,0 @@
-//! Laws of the rank: what fits stays, and the rank never rises and falls with each collection.
-#![tactic(auto)]
-
-mod laws;
-
-pub use laws::{a_command_keeps_the_rank, an_event_keeps_the_rank, the_rank_is_bounded};

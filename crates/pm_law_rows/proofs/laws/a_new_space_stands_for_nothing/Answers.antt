@@ -1,8 +1,0 @@
-use Rattle.pm_law_rows.proofs.NewSpace.{new_keeps_law, new_stands}
-use Rattle.pm_law_rows.proofs.laws.a_new_space_stands_for_nothing.Goals as goal
-
-pub returns-clause-law : goal.returns-clause-law
-returns-clause-law c = new_keeps_law
-
-pub returns-clause-world : goal.returns-clause-world
-returns-clause-world c = new_stands

@@ -1,5 +1,0 @@
-use Rattle.pm_law_sunk.proofs.Lost.{lost_sunk}
-use Rattle.pm_law_sunk.proofs.laws.what_a_world_has_lost_is_sunk.Goals as goal
-
-pub returns : goal.returns
-returns c = lost_sunk

@@ -1,6 +1,0 @@
-//! Laws of sweeping: which objects end, and when a car goes.
-#![tactic(auto)]
-
-mod laws;
-
-pub use laws::a_sweep_ends_one_object;

@@ -1,6 +1,0 @@
-//! Laws of walks: that the addresses of a space lead through its copy.
-#![tactic(auto)]
-
-mod laws;
-
-pub use laws::a_copy_is_walked_by_addresses;

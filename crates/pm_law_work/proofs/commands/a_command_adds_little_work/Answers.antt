@@ -1,5 +1,0 @@
-use Rattle.pm_law_work.proofs.Adding.{command_adds}
-use Rattle.pm_law_work.proofs.commands.a_command_adds_little_work.Goals as goal
-
-pub returns : goal.returns
-returns c = λ view client cmd picks law few picked. command_adds view law client few cmd picks picked

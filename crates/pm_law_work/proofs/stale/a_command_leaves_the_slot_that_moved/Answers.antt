@@ -1,7 +1,0 @@
-use Rattle.pm_view.specs.Commands.{row}
-use Rattle.pm_law_work.proofs.StaleLooks.{sole_still}
-use Rattle.pm_law_work.proofs.StaleCommands.{command_keeps}
-use Rattle.pm_law_work.proofs.stale.a_command_leaves_the_slot_that_moved.Goals as goal
-
-pub returns : goal.returns
-returns c = λ view client cmd picks slot law few picked sole. sole_still view (row view client cmd picks).1 (command_keeps view law client cmd picks picked) slot sole

@@ -1,3 +1,0 @@
-pub mod Hashed
-mod Fills
-pub mod Lent

@@ -1,7 +1,0 @@
-//! Values at numbers.
-#![tactic(auto)]
-
-mod near;
-mod numbered;
-
-pub use numbered::Numbered;

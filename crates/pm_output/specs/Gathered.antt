@@ -1,7 +1,0 @@
--- What is gathered in a buffer.
-use Rattle.std.specs.Prelude.{ℕ, List, take}
-use Rattle.pm_output.specs.declared.output.Output.{Output}
-
--- the bytes that were added and did not go to the sink yet
-abbrev pub gathered : Output → List ℕ
-gathered it = take it.used it.bytes.items

@@ -1,6 +1,0 @@
-use Rattle.std.proofs.Common.{refl}
-use Rattle.pm_progress.proofs.CountLemmas.{one_more}
-use Rattle.pm_progress.proofs.cuts.Counter.put.Goals as goal
-
-pub returns : goal.returns
-returns c entry is met had = one_more met entry c.args.size c.make_room.new.self _ (c.in_ok-make_room.ensures.roomy met entry is had) is refl refl refl

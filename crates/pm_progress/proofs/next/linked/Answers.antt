@@ -1,4 +1,0 @@
-use Rattle.pm_progress.proofs.next.linked.Goals as goal
-
-pub returns-clause-next : goal.returns-clause-next
-returns-clause-next c = c.first_part.ensures

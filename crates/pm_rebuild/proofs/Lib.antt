@@ -1,6 +1,0 @@
-pub mod Ends
-mod TrainLaws
-mod LinkLaws
-mod NameLaws
-mod TellingLaws
-mod BuiltLaws

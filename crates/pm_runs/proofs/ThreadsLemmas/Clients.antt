@@ -1,0 +1,93 @@
+-- What was answered of each client's commands, where workers ask them in any order.
+use Rattle.std.proofs.Common.{◌≡◌, ◌⊎◌, inl, inr, ⊎_elim, ℕ, suc, zero, ◌+◌, ◌^◌, ◌<◌, ◌≤◌, List, [], ◌∷◌, ◌++◌, length, arith, Option, Some, refl, ap, sym, ◌∙◌}
+use Rattle.std.proofs.Math.Logic.{∥∥₁_map}
+use Rattle.std.proofs.Math.Nat.{min-eq_left}
+use Rattle.std.proofs.lemmas.List.{append-nil, append_cancel_left}
+use Rattle.std.proofs.lemmas.List.Sums.{sum_by-cons}
+use Rattle.pm_types.specs.Memory.{no_memory}
+use Rattle.pm_types.specs.Counts.{greatest_count}
+use Rattle.pm_types.specs.declared.command.Cmd.{Cmd}
+use Rattle.pm_types.specs.declared.entry.Entry.{Entry}
+use Rattle.pm_types.specs.declared.fault.EngineFault.TheVariants.{Memory as NoRoom}
+use Rattle.pm_model.specs.Journal.{commands_of, part}
+use Rattle.pm_script.specs.declared.line.Line.{Line}
+use Rattle.pm_script.specs.Parted.Asked.{events_asked, flushes_asked, requests_asked, steps_asked}
+use Rattle.pm_script.specs.Parted.Lists.{count_left, list_of}
+use Rattle.pm_saving.specs.Paging.{left_of}
+use Rattle.pm_saving.specs.Serving.{Serving}
+use Rattle.pm_engine.specs.declared.events.stop.Stop.{Stop}
+use Rattle.pm_engine.specs.declared.events.stop.Stop.TheVariants.{Memory}
+use Rattle.pm_engine.specs.Events.Causes.{IsDone}
+use Rattle.pm_lock.specs.Kept.{AwaitsClient, HasLeft}
+use Rattle.pm_lock.specs.Crew.Whole.{MakesAllOf}
+use Rattle.pm_runs.specs.Threads.Running.{AnswersClients, AwaitsCommand, LeavesSome}
+
+-- where no client has a command left there is none
+none_left : (lists : List (List Cmd)) → ((client : ℕ) → list_of lists client ≡ []) → count_left lists ≡ 0
+none_left [] empty = refl
+none_left (list ∷ lists) empty =
+    let rest = none_left lists (λ client. empty (suc client)) in
+    let all : count_left (list ∷ lists) ≡ length list + count_left lists = sum_by-cons (length {A = Cmd}) list lists in
+    let first : length list ≡ 0 = ap length (empty zero) in
+    omega (arith, all, rest, first)
+
+-- where all of a client's commands were answered none is left
+none_behind : (answered left whole : List Cmd) → answered ++ left ≡ whole → answered ≡ whole → left ≡ []
+none_behind answered left whole is all = append_cancel_left answered left [] (is ∙ sym all ∙ sym (append-nil answered))
+
+-- so few events are asked for that no count stands at its end
+few_enough : (n : ℕ) → n < 2 ^ 50 → n ≤ greatest_count
+few_enough n few = omega (arith, few)
+
+module _ (lines : List Line) (it : Serving) (lists : List (List Cmd)) (stop : Option Stop) (parts : (client : ℕ) → part client it.journal ++ list_of lists client ≡ commands_of client (requests_asked lines))
+    (answered : length it.journal + count_left lists ≡ length (requests_asked lines)) (few : events_asked lines < 2 ^ 50) (all : IsDone stop → MakesAllOf lines it)
+    (collects flushes : ℕ) (steps_left : it.steps + collects ≡ steps_asked lines) (events_left : it.events + flushes ≡ length it.journal + it.steps + flushes_asked lines)
+    (kept : stop ≡ Some (Memory no_memory) → ∥ HasLeft (Some (NoRoom no_memory)) it lists collects flushes ∥₁) where
+  long : IsDone stop → length it.journal ≡ length (requests_asked lines)
+  long done =
+      let none = none_left lists (λ client. none_behind (part client it.journal) (list_of lists client) (commands_of client (requests_asked lines)) (parts client) ((all done).serves client)) in
+      omega (arith, answered, none)
+
+  made : IsDone stop → it.events ≡ events_asked lines
+  made done =
+      let events = (all done).events in
+      let entries = long done in
+      omega (arith, events, entries)
+
+  few_steps : steps_asked lines ≤ greatest_count
+  few_steps = let within = few_enough (events_asked lines) few in omega (arith, within)
+
+  awaits : AwaitsClient it lists → AwaitsCommand lines it.journal (left_of it.saving.progress)
+  awaits await = record {
+    client = await.client;
+    cmd = await.cmd;
+    rest = await.rest;
+    next = ap (λ (list : List Cmd). part await.client it.journal ++ list) (sym await.next) ∙ parts await.client;
+    unfinished = await.unfinished;
+  }
+
+  leaves_some : HasLeft (Some (NoRoom no_memory)) it lists collects flushes → LeavesSome lines it.journal it.steps it.events (left_of it.saving.progress)
+  leaves_some left =
+      inr (⊎_elim (λ some. inl (omega (arith, some, steps_left)))
+      (λ other. inr (⊎_elim (λ some. inl (omega (arith, some, events_left))) (λ await. inr (awaits await)) other)) left)
+
+  pub answers_clients : AnswersClients lines it stop
+  answers_clients = record {
+    parts = λ client. (list_of lists client, parts client);
+    serves = λ done. (all done).serves;
+    long = long;
+    events = λ done. made done ∙ sym (min-eq_left (few_enough (events_asked lines) few));
+    steps = λ done. (all done).steps ∙ sym (min-eq_left few_steps);
+    short = λ is. ∥∥₁_map (kept is) leaves_some;
+  }
+
+-- nothing was answered
+pub answers_none_yet : (lines : List Line) (it : Serving) (stop : Stop) → it.journal ≡ [] → it.events ≡ 0 → AnswersClients lines it (Some stop)
+answers_none_yet lines it stop empty none = record {
+  parts = λ client. (commands_of client (requests_asked lines), ap (λ (j : List Entry). part client j ++ commands_of client (requests_asked lines)) empty);
+  serves = λ done. absurd done;
+  long = λ done. absurd done;
+  events = λ done. absurd done;
+  steps = λ done. absurd done;
+  short = λ is. ∣ inl none ∣₁;
+}

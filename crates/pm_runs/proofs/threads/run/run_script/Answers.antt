@@ -1,0 +1,108 @@
+use Rattle.std.proofs.Common.{List, Option, refl, ap, sym, subst, ◌∙◌}
+use Rattle.pm_types.specs.Memory.{no_memory}
+use Rattle.pm_types.specs.declared.fault.EngineFault.{EngineFault}
+use Rattle.pm_model.specs.Text.{text}
+use Rattle.pm_script.specs.declared.line.Line.{Line}
+use Rattle.pm_saving.specs.Serving.{Serving}
+use Rattle.pm_engine.specs.declared.engine.Engine.{Engine}
+use Rattle.pm_engine.specs.Shown.{KeepsStart, disk_in, opened_count, serving, tally_in}
+use Rattle.pm_engine.specs.declared.events.stop.Stop.TheVariants.{Memory}
+use Rattle.pm_engine.specs.Events.Causes.{CountsDisk, why}
+use Rattle.pm_engine.specs.Events.Events.{EngineGoesOn}
+use Rattle.pm_engine.specs.Events.Running.{RunsOnDisk}
+use Rattle.pm_serial.specs.Writing.{tail_of}
+use Rattle.pm_serial.proofs.Gathering.{wrote_none}
+use Rattle.pm_lock.specs.Kept.{HasCauseSince, HasLeft, stop_kept}
+use Rattle.pm_lock.specs.Shown.{collects_in, engine_in, fault_in, flushes_in, left_in, lines_in}
+use Rattle.pm_lock.specs.Crew.Whole.{MakesAllOf}
+use Rattle.pm_runs.specs.Threads.Running.{AnswersClients}
+use Rattle.pm_runs.proofs.ThreadsLemmas.Clients.{answers_clients, answers_none_yet}
+use Rattle.pm_runs.proofs.ThreadsLemmas.Ended.{counts_known, kept_memory, kept_none, past_known, runs_known, runs_none, start_known}
+use Rattle.pm_runs.proofs.threads.run.run_script.Goals as goal
+
+pub returns-in-Err-clause-answers : goal.returns-in-Err-clause-answers
+returns-in-Err-clause-answers g c = answers_none_yet c.args.script (serving c.args.engine) (Memory no_memory) c.requires.fresh.journal c.requires.fresh.events
+
+pub returns-in-Err-clause-disk : goal.returns-in-Err-clause-disk
+returns-in-Err-clause-disk g c =
+    let law = c.keep_their_images.ensures in
+    ∣ runs_none c.args.engine c.args.engine c.requires.fresh refl refl law.legal law.settled c.images_since_now.ensures ∣₁
+
+pub returns-in-Err-clause-sink : goal.returns-in-Err-clause-sink
+returns-in-Err-clause-sink g c =
+    let it = serving c.args.engine in
+    wrote_none g.K.Sink.written g.K.Sink.finished g.K.Sink.count c.args.sink.now it.journal (tail_of (tally_in it)) (ap text c.requires.fresh.journal)
+
+pub returns-in-Ok-new-clause-answers : goal.returns-in-Ok-new-clause-answers
+returns-in-Ok-new-clause-answers g c =
+    let book = c.run_all-book.result in
+    let it = serving (engine_in book) in
+    let stop = why c.end_book.result.0 in
+    let run = c.run_all-book.ensures in
+    let law = c.keep_its_script.ensures in
+    let made = answers_clients (lines_in book) it (left_in book) stop law.parts law.answered law.few
+    (λ done. subst (λ (lines : List Line). MakesAllOf lines it) (sym run.lines) (run.all (kept_none (fault_in book) stop c.end_book.ensures.first done)))
+    (collects_in book) (flushes_in book) law.steps law.events
+    (λ is. subst (λ (fault : Option EngineFault). ∥ HasLeft fault it (left_in book) (collects_in book) (flushes_in book) ∥₁) (kept_memory (fault_in book) stop c.end_book.ensures.first is) c.keep_its_engine.ensures.short) in
+    subst (λ (e : Engine g.row.D.Denot g.row.F.Denot g.D.Disk). AnswersClients c.args.script (serving e) stop) (sym c.end_book.ensures.engine)
+    (subst (λ (lines : List Line). AnswersClients lines it stop) (run.lines ∙ c.in-Ok-new.ensures.begins.lines_are) made)
+
+pub returns-in-Ok-new-clause-disk : goal.returns-in-Ok-new-clause-disk
+returns-in-Ok-new-clause-disk g c =
+    let book = c.run_all-book.result in
+    let new = engine_in book in
+    let fault = fault_in book in
+    let stop = why c.end_book.result.0 in
+    let kept = c.keep_its_engine.ensures in
+    let first = c.run_all-book.ensures.first ∙ c.in-Ok-new.ensures.begins.first in
+    let goes = subst (λ (e : Engine g.row.D.Denot g.row.F.Denot g.D.Disk). ∥ EngineGoesOn e new (stop_kept fault) ∥₁) first kept.goes in
+    subst (λ (e : Engine g.row.D.Denot g.row.F.Denot g.D.Disk). ∥ RunsOnDisk c.args.engine e stop ∥₁) (sym c.end_book.ensures.engine)
+    (runs_known c.args.engine new fault stop c.end_book.ensures.first goes c.requires.fresh (λ none. c.keep_its_script.ensures.settled (sym kept.stopped ∙ none)))
+
+pub returns-in-Ok-new-clause-cause : goal.returns-in-Ok-new-clause-cause
+returns-in-Ok-new-clause-cause g c =
+    let book = c.run_all-book.result in
+    let new = engine_in book in
+    let fault = fault_in book in
+    let stop = why c.end_book.result.0 in
+    let kept = c.keep_its_engine.ensures in
+    let count = g.D.Disk.count in
+    let first = c.run_all-book.ensures.first ∙ c.in-Ok-new.ensures.begins.first in
+    let goes = subst (λ (e : Engine g.row.D.Denot g.row.F.Denot g.D.Disk). ∥ EngineGoesOn e new (stop_kept fault) ∥₁) first kept.goes in
+    let cause = subst (λ (e : Engine g.row.D.Denot g.row.F.Denot g.D.Disk). HasCauseSince fault (opened_count e) (count (disk_in e)) (count (disk_in new))) first kept.cause in
+    subst (λ (e : Engine g.row.D.Denot g.row.F.Denot g.D.Disk). CountsDisk stop (count (disk_in c.args.engine)) (count (disk_in e))) (sym c.end_book.ensures.engine)
+    (counts_known c.args.engine new fault stop c.end_book.ensures.first goes (opened_count c.args.engine) cause)
+
+pub returns-in-Ok-new-clause-past : goal.returns-in-Ok-new-clause-past
+returns-in-Ok-new-clause-past g c =
+    let book = c.run_all-book.result in
+    let new = engine_in book in
+    let fault = fault_in book in
+    let first = c.run_all-book.ensures.first ∙ c.in-Ok-new.ensures.begins.first in
+    let goes = subst (λ (e : Engine g.row.D.Denot g.row.F.Denot g.D.Disk). ∥ EngineGoesOn e new (stop_kept fault) ∥₁) first c.keep_its_engine.ensures.goes in
+    ap (λ (e : Engine g.row.D.Denot g.row.F.Denot g.D.Disk). (g.D.Disk.made (disk_in e)).past) c.end_book.ensures.engine ∙ past_known c.args.engine new fault (why c.end_book.result.0) c.end_book.ensures.first goes
+
+pub returns-in-Ok-new-clause-start : goal.returns-in-Ok-new-clause-start
+returns-in-Ok-new-clause-start g c =
+    let book = c.run_all-book.result in
+    let new = engine_in book in
+    let fault = fault_in book in
+    let first = c.run_all-book.ensures.first ∙ c.in-Ok-new.ensures.begins.first in
+    let goes = subst (λ (e : Engine g.row.D.Denot g.row.F.Denot g.D.Disk). ∥ EngineGoesOn e new (stop_kept fault) ∥₁) first c.keep_its_engine.ensures.goes in
+    subst (λ (e : Engine g.row.D.Denot g.row.F.Denot g.D.Disk). ∥ KeepsStart c.args.engine e ∥₁) (sym c.end_book.ensures.engine) (start_known c.args.engine new fault (why c.end_book.result.0) c.end_book.ensures.first goes)
+
+pub returns-clause-answers : goal.returns-clause-answers
+returns-clause-answers g c =
+    answers_none_yet c.args.script (serving c.in-Err-new.engine) (Memory no_memory) (ap (λ (it : Serving). it.journal) c.in-Err-new.ensures.serving ∙ c.requires.fresh.journal)
+    (ap (λ (it : Serving). it.events) c.in-Err-new.ensures.serving ∙ c.requires.fresh.events)
+
+pub returns-clause-disk : goal.returns-clause-disk
+returns-clause-disk g c =
+    let law = c.keep_their_images.ensures in
+    let back = c.in-Err-new.ensures in
+    ∣ runs_none c.args.engine c.in-Err-new.engine c.requires.fresh back.serving back.disk law.legal law.settled c.images_since_now.ensures ∣₁
+
+pub returns-clause-sink : goal.returns-clause-sink
+returns-clause-sink g c =
+    let it = serving c.in-Err-new.engine in
+    wrote_none g.K.Sink.written g.K.Sink.finished g.K.Sink.count c.args.sink.now it.journal (tail_of (tally_in it)) (ap text (ap (λ (s : Serving). s.journal) c.in-Err-new.ensures.serving ∙ c.requires.fresh.journal))

@@ -1,0 +1,9 @@
+pub mod CountLemmas
+pub mod Slices
+pub mod Between
+pub mod Parts
+pub mod Placed
+pub mod NotedCar
+pub mod NotedPart
+pub mod TakeLemmas
+pub mod Keeping

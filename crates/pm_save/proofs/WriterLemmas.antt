@@ -1,0 +1,11 @@
+pub mod PlaceLemmas
+pub mod PlanLemmas
+pub mod BeginLemmas
+pub mod FrozenCars
+pub mod FlushLemmas
+pub mod DropLemmas
+pub mod LeftLemmas
+pub mod RunLemmas
+pub mod GateLemmas
+pub mod OnceLemmas
+pub mod SettleLemmas

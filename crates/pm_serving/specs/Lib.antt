@@ -1,4 +1,0 @@
-pub mod Serving
-pub mod Images
-pub mod Events
-pub mod Bounds

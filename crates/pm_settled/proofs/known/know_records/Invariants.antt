@@ -1,8 +1,0 @@
-use Rattle.std.proofs.Common.{take}
-use Rattle.std.specs.List.{AllByRecursion}
-use Rattle.pm_settled.specs.Packed.{IsRecord}
-use Rattle.pm_settled.proofs.known.know_records.Given as goal
-
--- the slots so far
-abbrev pub invariant-loop-number : goal.invariant-loop-number
-invariant-loop-number l = AllByRecursion IsRecord (take l.number-index l.slots)

@@ -1,8 +1,0 @@
-use Rattle.std.proofs.Common.{None}
-use Rattle.pm_layout.specs.Spelling.{HasCar, field}
-use Rattle.pm_settled.proofs.BehindLaws.{no_more}
-use Rattle.pm_settled.proofs.matching.behind_fields.Goals as goal
-
-pub returns-in_default-clause-behind : goal.returns-in_default-clause-behind
-returns-in_default-clause-behind c =
-    no_more field HasCar c.args.bytes.now c.loop-reference.rest.now c.args.fields.now c.loop-reference.reference-index None c.loop-reference-test.true c.loop-reference.invariant.behind c.in_default.ensures.behind

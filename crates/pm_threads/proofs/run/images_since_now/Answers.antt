@@ -1,5 +1,0 @@
-use Rattle.pm_serial.specs.events.Shown.{disk_in}
-use Rattle.pm_threads.proofs.run.images_since_now.Goals as goal
-
-pub returns : goal.returns
-returns g c = g.met.D.Disk.only_now (disk_in c.args.engine.now)

@@ -1,6 +1,0 @@
-//! The trains to which an object may go, and the one that the chooser picks.
-#![tactic(auto)]
-
-mod ways;
-
-pub use ways::{home, pick_way, ways_out};

@@ -1,8 +1,0 @@
-//! A whole run in threads: the workers take turns at a book, and what is left once they have ended is made by the caller.
-#![tactic(auto)]
-
-mod finish;
-mod run;
-
-pub use pm_lock::Book;
-pub use run::run_all;

@@ -1,9 +1,0 @@
--- What contracts see of a writer.
-use Rattle.std.specs.Prelude.{option_map}
-use Rattle.pm_saving.specs.Progress.{Saving}
-use Rattle.pm_progress.specs.Seen.{progress_seen}
-use Rattle.pm_writer.specs.declared.writer.Writer.{Writer}
-
--- the settled cars and the copy in progress
-abbrev pub writing : Writer → Saving
-writing it = record { settled = it.settled.items; progress = option_map (progress_seen it.settled.items) it.progress }
