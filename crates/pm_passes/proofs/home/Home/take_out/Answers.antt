@@ -1,0 +1,10 @@
+use Rattle.std.proofs.Common.{arith}
+use Rattle.pm_passes.proofs.Steps.{takes_out}
+use Rattle.pm_passes.proofs.home.Home.take_out.Goals as goal
+
+pub swap-requires : goal.swap-requires
+swap-requires g c = (
+  c.requires.seat,
+  omega (arith, c.args.self.now.two_words),
+  takes_out _ _ _ _ _ _ c.requires.idle,
+)
