@@ -1,0 +1,12 @@
+pub mod Carrying
+pub mod Reaches
+pub mod Copied
+pub mod Owned
+pub mod Moves
+pub mod Setting
+pub mod Unsetting
+pub mod Within
+pub mod Alone
+pub mod Mixed
+pub mod Escaped
+pub mod Then

@@ -1,0 +1,12 @@
+pub mod Parts
+pub mod Counted
+pub mod Named
+pub mod Sound
+pub mod Joining
+pub mod Changed
+pub mod Beside
+pub mod Paired
+pub mod Walks
+pub mod Turned
+pub mod Held
+pub mod Reaches

@@ -1,0 +1,10 @@
+use Rattle.std.proofs.Common.{sym, subst}
+use Rattle.pm_model.specs.World.{Registers}
+use Rattle.pm_nursery.specs.Young.{NurseryView, IsNursery}
+use Rattle.pm_nursery.proofs.Sound.{forgotten_sound}
+use Rattle.pm_nursery.proofs.nursery.Nursery.forget.Goals as goal
+
+pub invariant_of-self : goal.invariant_of-self
+invariant_of-self c =
+    let view : NurseryView = record { objects = c.self.inside.objects; registers = c.self.inside.registers } in
+    subst (λ (r : Registers). IsNursery (record { objects = c.self.inside.objects; registers = r })) (sym c.forget.ensures) (forgotten_sound view c.self.invariant c.args.client c.args.register)

@@ -1,0 +1,14 @@
+//! Young objects, at most 256 of them, and the registers that hold one: what lies outside the cars until it escapes.
+#![tactic(auto)]
+
+mod holding;
+mod limits;
+mod nursery;
+mod objects;
+mod touching;
+mod walk;
+mod young;
+
+pub use limits::YOUNG;
+pub use nursery::Nursery;
+pub use young::Young;
