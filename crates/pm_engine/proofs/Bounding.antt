@@ -1,10 +1,11 @@
 -- The watches of an engine keep their bounds through each of its calls.
-use Rattle.std.proofs.Common.{◌≡◌, ℕ, ◌<◌, ◌+◌, min, Bool, true, false, cond, List, [], ◌∷◌, ◌++◌, length, Option, None, Result, Ok, Err, IfOk, OnOk, OnErr, sym, ap, subst, ◌∙◌, append-nil, arith}
+use Rattle.std.proofs.Common.{◌≡◌, ℕ, ◌<◌, Bool, true, false, cond, List, [], ◌∷◌, ◌++◌, length, Option, None, Result, Ok, Err, IfOk, OnOk, OnErr, sym, ap, subst, ◌∙◌, append-nil, arith}
 use Rattle.std.specs.List.{AllByRecursion, AllByRecursion-prop}
 use Rattle.std.specs.Borrow.{Bor}
 use Rattle.std.specs.Fn.{Shared}
 use Rattle.std.proofs.Math.Logic.{∥∥₁_elim, ∥∥₁_map, ∥∥₁_prop}
 use Rattle.std.proofs.Props.{props}
+use Rattle.pm_types.specs.Counts.{raised}
 use Rattle.pm_types.specs.declared.command.Cmd.{Cmd}
 use Rattle.pm_types.specs.declared.command.Cmd.TheVariants.{Save, Settle, Unsave, Watch}
 use Rattle.pm_types.specs.declared.entry.Entry.{Entry}
@@ -18,11 +19,10 @@ use Rattle.pm_types.specs.declared.reply.Reply.TheVariants.{TooManyWatches, Watc
 use Rattle.pm_disk.specs.declared.disk.Disk.{Ghosts}
 use Rattle.pm_view.specs.View.{SpaceView}
 use Rattle.pm_view.specs.Law.{HeapLaw}
-use Rattle.pm_view.specs.Events.{next_row, after}
+use Rattle.pm_view.specs.Events.{next_row, after, completes}
 use Rattle.pm_view.specs.Watches.{lines_from, watch_in}
 use Rattle.pm_space.specs.declared.space.Space.{Space}
 use Rattle.pm_space.specs.Shown.{view}
-use Rattle.pm_law_course.specs.Course.{completes}
 use Rattle.pm_law_course.proofs.Completing.{completed_then}
 use Rattle.pm_evac.specs.Steps.{IsEvent, IsMade}
 use Rattle.pm_view.specs.Bounded.{CountsOne, KeepsBound, KeepsWatches, IsHonest}
@@ -43,8 +43,8 @@ made_counts : (old new : SpaceView) (step : Step) → old.completed < 1844674407
 made_counts old new step small event =
     by_row (completes old (next_row old)) (completed_then old (next_row old) event.picked event.number) (ap (λ (v : SpaceView). v.completed) event.after)
   where
-    by_row : (b : Bool) → (after old event.picked event.number (next_row old)).completed ≡ cond b (old.completed + 1) old.completed
-        → new.completed ≡ min (after old event.picked event.number (next_row old)).completed 18446744073709551615 → CountsOne old new
+    by_row : (b : Bool) → (after old event.picked event.number (next_row old)).completed ≡ cond b (raised old.completed) old.completed
+        → new.completed ≡ (after old event.picked event.number (next_row old)).completed → CountsOne old new
     by_row true rose is = (omega (arith, rose, is, small), omega (arith, rose, is, small))
     by_row false same is = (omega (arith, same, is, small), omega (arith, same, is, small))
 

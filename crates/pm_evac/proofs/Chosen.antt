@@ -10,7 +10,6 @@ use Rattle.pm_trains.specs.Trains.{is_among}
 use Rattle.pm_place.specs.Choosers.{IsPicked}
 use Rattle.pm_view.specs.View.{SpaceView}
 use Rattle.pm_view.specs.Events.{Row, start, move_out, next_row, after, ways_out, MayNote, MayPick, MayPlace}
-use Rattle.pm_evac.specs.Relocate.Changed.{counted}
 use Rattle.pm_evac.specs.Steps.{step_of, IsNoted, IsChosen, IsChosenEvent}
 
 -- an item of a list is among it
@@ -42,7 +41,7 @@ module _ {F : Type 0} (calls : Shared F (Bor (List ℕ) × Unit {0}) ℕ) (choos
   may_pick row is = tt
 
   -- this row came next and was made: the space after it is the row's, and the answer too
-  pub made : (w : SpaceView) (step : Step) (row : Row) (number : ℕ) → next_row v ≡ row → IsChosen calls choose v picked row → MayPlace v number row → w ≡ counted (after v picked number row) → step ≡ step_of v picked row
+  pub made : (w : SpaceView) (step : Step) (row : Row) (number : ℕ) → next_row v ≡ row → IsChosen calls choose v picked row → MayPlace v number row → w ≡ after v picked number row → step ≡ step_of v picked row
       → IsChosenEvent calls choose v w step
   made w step row number next chosen place seen answer = record {
     event = record {
@@ -50,7 +49,7 @@ module _ {F : Type 0} (calls : Shared F (Bor (List ℕ) × Unit {0}) ℕ) (choos
       number = number;
       may_pick = subst (MayPick v picked) (sym next) (may_pick row chosen);
       may_place = subst (MayPlace v number) (sym next) place;
-      after = seen ∙ ap (λ (r : Row). counted (after v picked number r)) (sym next);
+      after = seen ∙ ap (after v picked number) (sym next);
       answer = answer ∙ ap (step_of v picked) (sym next);
     };
     chosen = subst (IsChosen calls choose v picked) (sym next) chosen;

@@ -15,16 +15,15 @@ use Rattle.pm_model.specs.Reachability.{IsReachable}
 use Rattle.pm_view.specs.View.{SpaceView}
 use Rattle.pm_view.specs.Represents.{IsHeld, Represents}
 use Rattle.pm_view.specs.Reading.{cars_of}
-use Rattle.pm_view.specs.Events.{Row, nothing, select, apply, doom, start, fix, move_anchor, move_out, move_on, finish, sweep, free, free_doomed, next_row, after, ways_out, MayPick, MayPlace, moving_id, goal_of, ended_by}
+use Rattle.pm_view.specs.Events.{Row, nothing, select, apply, doom, start, fix, move_anchor, move_out, move_on, finish, sweep, free, free_doomed, next_row, after, ways_out, MayPick, MayPlace, moving_id, goal_of, ended_by, completes}
 use Rattle.pm_view.specs.Counts.{IsStanding, IsStandingAt, IsPlaced}
 use Rattle.pm_view.specs.Stale.{IsSole}
 use Rattle.pm_view.specs.Work.{work, lowers}
-use Rattle.pm_law_course.specs.Course.{completes}
 use Rattle.pm_view.specs.Bounded.{KeepsRank, KeepsSunk}
 use Rattle.pm_space.specs.declared.parts.Parts.{Parts}
 use Rattle.pm_space.specs.Quiet.{IsQuiet}
 use Rattle.pm_space.specs.Shown.{view, KeepsRest}
-use Rattle.pm_evac.specs.Relocate.Changed.{counted, identity}
+use Rattle.pm_evac.specs.Relocate.Changed.{identity}
 
 -- what an event answers, where a train is picked this one
 abbrev pub step_of : SpaceView → ℕ → Row → Step
@@ -48,7 +47,7 @@ pub record IsEvent (old new : SpaceView) (step : Step) : Type 0 where
   pub number : ℕ
   pub may_pick : MayPick old picked (next_row old)
   pub may_place : MayPlace old number (next_row old)
-  pub after : new ≡ counted (after old picked number (next_row old))
+  pub after : new ≡ after old picked number (next_row old)
   pub answer : step ≡ step_of old picked (next_row old)
 
 -- the event applies a change

@@ -48,8 +48,6 @@ pub(crate) fn select_at<F: Fn(&[u64]) -> usize + Drop>(
         (λ step. IsChosenEvent F.Fn parts.old.place (view parts.old) (view parts.new) step) }
 {
     select_train(parts, alloc, train)?;
-    // For the proof alone: the count is a number of 64 bits.
-    let _completed = parts.completed;
     Ok(Step::Selected { train })
 }
 
@@ -61,8 +59,6 @@ pub(crate) fn doom_at<F: Fn(&[u64]) -> usize + Drop>(parts: &mut Parts<F>, train
 {
     parts.guard.clear();
     parts.phase = Phase::Doomed(train);
-    // For the proof alone: the count is a number of 64 bits.
-    let _completed = parts.completed;
     Step::Doomed { train }
 }
 
@@ -104,8 +100,6 @@ pub(crate) fn start_at<F: Fn(&[u64]) -> usize + Drop>(
         (λ step. IsChosenEvent F.Fn parts.old.place (view parts.old) (view parts.new) step) }
 {
     there_is_a_train_to_pick();
-    // For the proof alone: the count is a number of 64 bits.
-    let _completed = parts.completed;
     let anchored = note(parts, alloc, at)?;
     parts.phase = Phase::Moving(car);
     Ok(Step::Started { car, anchored })

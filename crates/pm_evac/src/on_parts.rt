@@ -20,8 +20,6 @@ fn rest<F: Fn(&[u64]) -> usize + Drop>(parts: &Parts<F>) -> Step
     requires { next_row (view parts.now) ≡ nothing }
     ensures { IsChosenEvent F.Fn parts.now.place (view parts.now) (view parts.now) result }
 {
-    // For the proof alone: the count is a number of 64 bits.
-    let _completed = parts.completed;
     Step::Nothing
 }
 
@@ -35,8 +33,6 @@ pub fn apply_at<F: Fn(&[u64]) -> usize + Drop>(
         (λ step. IsChosenEvent F.Fn parts.old.place (view parts.old) (view parts.new) step) }
 {
     apply(parts, car)?;
-    // For the proof alone: the count is a number of 64 bits.
-    let _completed = parts.completed;
     Ok(Step::Applied { car })
 }
 
@@ -54,8 +50,6 @@ pub fn fix_at<F: Fn(&[u64]) -> usize + Drop>(
         (λ step. IsChosenEvent F.Fn parts.old.place (view parts.old) (view parts.new) step) }
 {
     fix(parts, car, source, to)?;
-    // For the proof alone: the count is a number of 64 bits.
-    let _completed = parts.completed;
     Ok(Step::Fixed { car })
 }
 
@@ -76,8 +70,6 @@ fn move_anchor<F: Fn(&[u64]) -> usize + Drop>(
     let _number = parts.cars.vacant();
     let id = relocate(parts, alloc, at, train)?;
     parts.guard.clear();
-    // For the proof alone: the count is a number of 64 bits.
-    let _completed = parts.completed;
     Ok(Step::Moved { id, train })
 }
 
@@ -99,8 +91,6 @@ fn move_out<F: Fn(&[u64]) -> usize + Drop>(
     let _number = parts.cars.vacant();
     let train = pick_way(parts, alloc, at)?;
     let id = relocate(parts, alloc, at, train)?;
-    // For the proof alone: the count is a number of 64 bits.
-    let _completed = parts.completed;
     Ok(Step::Moved { id, train })
 }
 
@@ -120,8 +110,6 @@ fn move_on<F: Fn(&[u64]) -> usize + Drop>(
     // For the proof alone: the number that a new car would get is one that no car has.
     let _number = parts.cars.vacant();
     let id = relocate(parts, alloc, at, train)?;
-    // For the proof alone: the count is a number of 64 bits.
-    let _completed = parts.completed;
     Ok(Step::Moved { id, train })
 }
 
@@ -132,8 +120,6 @@ pub fn finish_at<F: Fn(&[u64]) -> usize + Drop>(parts: &mut Parts<F>, car: u64) 
     ensures rest { KeepsRest parts.old parts.new }
 {
     finish(parts, car);
-    // For the proof alone: the count is a number of 64 bits.
-    let _completed = parts.completed;
     Step::Finished { car }
 }
 
@@ -150,8 +136,6 @@ fn sweep_at<F: Fn(&[u64]) -> usize + Drop>(
         (λ step. IsChosenEvent F.Fn parts.old.place (view parts.old) (view parts.new) step) }
 {
     let id = sweep(parts, alloc, at)?;
-    // For the proof alone: the count is a number of 64 bits.
-    let _completed = parts.completed;
     Ok(Step::Swept { id })
 }
 

@@ -1,8 +1,9 @@
 -- With which events the count of completed collections rises, and what the phase is then.
-use Rattle.std.proofs.Common.{◌≡◌, ◌⊎◌, ⊎_elim, ℕ, ◌+◌, ◌==◌, if◌then◌else◌, Bool, true, false, cond, refl, ap, sym, subst, ◌∙◌, List, [], ◌∷◌, length, drop, Some, None, arith}
+use Rattle.std.proofs.Common.{◌≡◌, ◌⊎◌, ⊎_elim, ℕ, ◌==◌, if◌then◌else◌, Bool, true, false, cond, refl, ap, sym, subst, ◌∙◌, List, [], ◌∷◌, length, drop, Some, None, arith}
 use Rattle.std.specs.Option.{unwrap_or, option_and_then}
 use Rattle.std.specs.FinMap.{get, remove}
 use Rattle.std.proofs.lemmas.Bool.{eqb-true, eq-eqb, cond-true, true≢false}
+use Rattle.pm_types.specs.Counts.{raised}
 use Rattle.pm_trains.specs.Trains.{cars_at, without_first, left_standing}
 use Rattle.pm_trains.proofs.Numbers.{rise_changed}
 use Rattle.pm_trains.proofs.Found.{cars_removed}
@@ -13,13 +14,12 @@ use Rattle.pm_view.specs.Reading.{cars_of}
 use Rattle.pm_view.specs.Law.{IsPhaseOf, IsOldest, HeapLaw}
 use Rattle.pm_view.specs.Candidates.{queue_of}
 use Rattle.pm_view.specs.Collecting.{without_car, completing}
-use Rattle.pm_view.specs.Events.{Row, nothing, select, apply, doom, start, fix, move_anchor, move_out, move_on, finish, sweep, free, free_doomed, has_change, changed_car, next_row, after}
+use Rattle.pm_view.specs.Events.{Row, nothing, select, apply, doom, start, fix, move_anchor, move_out, move_on, finish, sweep, free, free_doomed, has_change, changed_car, next_row, after, completes}
 use Rattle.pm_law_collect.proofs.PhasesLemmas.Comes.{IsChanged, IsFirstDoomed, comes_where}
-use Rattle.pm_law_course.specs.Course.{completes}
 use Rattle.pm_law_course.proofs.Kept.{applied_keeps, fixed_keeps, moved_keeps, swept_keeps}
 use Rattle.pm_law_collect.proofs.PhasesLemmas.Fronts.{at_remove, first_cars}
 
-pub completed_then : (view : SpaceView) (row : Row) (picked number : ℕ) → (after view picked number row).completed ≡ cond (completes view row) (view.completed + 1) view.completed
+pub completed_then : (view : SpaceView) (row : Row) (picked number : ℕ) → (after view picked number row).completed ≡ cond (completes view row) (raised view.completed) view.completed
 completed_then view nothing picked number = refl
 completed_then view (select train) picked number = refl
 completed_then view (apply car) picked number = (applied_keeps view car).completed
@@ -34,7 +34,7 @@ completed_then view (sweep a) picked number = (swept_keeps view a).completed
 completed_then view (free car) picked number = refl
 completed_then view (free_doomed train car) picked number = by_last (length (cars_of view.trains.trains train) == 1)
   where
-    by_last : (b : Bool) → (if b then completing (without_car view train car) else without_car view train car).completed ≡ cond b (view.completed + 1) view.completed
+    by_last : (b : Bool) → (if b then completing (without_car view train car) else without_car view train car).completed ≡ cond b (raised view.completed) view.completed
     by_last true = refl
     by_last false = refl
 

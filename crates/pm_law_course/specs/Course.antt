@@ -1,18 +1,11 @@
 -- What the laws of a collection's course speak of.
-use Rattle.std.specs.Prelude.{◌≡◌, ℕ, ◌+◌, Bool, true, false, ◌==◌, List, length, Option, Some, None}
+use Rattle.std.specs.Prelude.{◌≡◌, ℕ, ◌+◌, Bool, true, false, ◌==◌, List, Option, Some, None}
 use Rattle.pm_trains.specs.Trains.{Train, train_of, youngest}
 use Rattle.pm_view.specs.declared.phase.Phase.{Phase}
 use Rattle.pm_view.specs.declared.phase.Phase.TheVariants.{Idle, Draining, Moving, Sweeping, Doomed}
 use Rattle.pm_view.specs.View.{SpaceView}
-use Rattle.pm_view.specs.Reading.{cars_of}
 use Rattle.pm_view.specs.Counts.{IsPlaced}
-use Rattle.pm_view.specs.Events.{Row, select, start, free, free_doomed}
-
--- the event completes a collection: the car that was swept goes, or the last car of a train that is doomed
-abbrev pub completes : SpaceView → Row → Bool
-completes view (free car) = true
-completes view (free_doomed train car) = length (cars_of view.trains.trains train) == 1
-completes view row = false
+use Rattle.pm_view.specs.Events.{Row, select, start}
 
 -- the event opens a new train: it selects the one that is open
 abbrev pub opens : SpaceView → Row → Bool

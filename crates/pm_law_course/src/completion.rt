@@ -1,22 +1,23 @@
 //! When a collection begins and ends. The function's contract is the law, and the function does nothing.
 
-ghost use Rattle.std.specs.Prelude.{◌≡◌, ◌≢◌, ℕ, ◌+◌, true, false, cond, None};
+ghost use Rattle.std.specs.Prelude.{◌≡◌, ◌≢◌, ℕ, true, false, cond, None};
 ghost use Rattle.std.specs.FinMap.{get};
+ghost use Rattle.pm_types.specs.Counts.{raised};
 ghost use Rattle.pm_types.specs.declared.command.Cmd.{Cmd};
 ghost use Rattle.pm_trains.specs.Trains.{cars_at};
 ghost use Rattle.pm_view.specs.View.{SpaceView};
 ghost use Rattle.pm_view.specs.Law.{HeapLaw};
 ghost use Rattle.pm_view.specs.declared.phase.Phase.TheVariants.{Idle};
-ghost use Rattle.pm_view.specs.Events.{Row, nothing, select, free, free_doomed, next_row, after};
+ghost use Rattle.pm_view.specs.Events.{Row, nothing, select, free, free_doomed, next_row, after, completes};
 ghost use Rattle.pm_view.specs.Commands.{row, Picks};
-ghost use Rattle.pm_law_course.specs.Course.{completes};
 
 /// A law of completion: the number of completed collections rises by one with the event that completes one, which is
 /// the going of the car that was swept, or of the last car of a doomed train, and with no other event and no command.
+/// At the greatest number of 64 bits it stands still.
 /// A collection is in progress from the event that selects a train to the one that completes it.
 pub fn one_event_completes_a_collection()
     ensures counted { (view : SpaceView) (row : Row) (picked number : ℕ)
-        → (after view picked number row).completed ≡ cond (completes view row) (view.completed + 1) view.completed }
+        → (after view picked number row).completed ≡ cond (completes view row) (raised view.completed) view.completed }
     ensures ended { (view : SpaceView) (row : Row) (picked number : ℕ) → completes view row ≡ true
         → (after view picked number row).phase ≡ Idle }
     ensures going { (view : SpaceView) (row : Row) (picked number : ℕ) → next_row view ≡ row → row ≢ nothing

@@ -1,5 +1,5 @@
 pub mod WatchLines
 pub mod Quiet
 pub mod Sole
-pub mod Counting
+pub mod Making
 pub mod Phases

@@ -6,9 +6,8 @@ use Rattle.pm_types.specs.declared.event.Step.TheVariants.{Nothing}
 use Rattle.pm_trains.specs.Trains.{oldest}
 use Rattle.pm_view.specs.declared.phase.Phase.TheVariants.{Idle}
 use Rattle.pm_view.specs.View.{SpaceView}
-use Rattle.pm_view.specs.Events.{Row, nothing, select, free, free_doomed, next_row, row_in, idle_row}
-use Rattle.pm_view.specs.Work.{work, lowers}
-use Rattle.pm_law_course.specs.Course.{completes}
+use Rattle.pm_view.specs.Events.{Row, nothing, select, free, free_doomed, next_row, row_in, idle_row, completes}
+use Rattle.pm_view.specs.Work.{lowers}
 use Rattle.pm_evac.specs.Steps.{step_of, IsSelected, is_completing, HasNoCar, AnswersByPhase, LowersWork, MovesOn}
 
 -- the row by its answer

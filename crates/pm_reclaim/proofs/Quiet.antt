@@ -17,9 +17,8 @@ use Rattle.pm_view.specs.View.{SpaceView}
 use Rattle.pm_view.specs.Reading.{cars_of}
 use Rattle.pm_view.specs.Candidates.{queue_of}
 use Rattle.pm_view.specs.Collecting.{applied_front, applied_in}
-use Rattle.pm_view.specs.Events.{Row, nothing, apply, after, has_change, changed_car, to_note, draining_row, row_in, next_row}
+use Rattle.pm_view.specs.Events.{nothing, apply, after, has_change, changed_car, to_note, draining_row, row_in, next_row}
 use Rattle.pm_space.specs.Quiet.{IsQuiet}
-use Rattle.pm_evac.specs.Relocate.Changed.{counted}
 use Rattle.pm_evac.specs.Steps.{IsEvent}
 
 -- ---- lists
@@ -53,7 +52,7 @@ others_wait view car changes x waits none =
       | false ↦ λ apart. none
     ] refl
 
-front_quiet : (view : SpaceView) (car count : ℕ) (q : List Change) → queue_of view car ≡ q → has_change q ≡ true → IsQuiet view count → IsQuiet (counted (applied_front view car q)) count
+front_quiet : (view : SpaceView) (car count : ℕ) (q : List Change) → queue_of view car ≡ q → has_change q ≡ true → IsQuiet view count → IsQuiet (applied_front view car q) count
 front_quiet view car count [] is waits quiet = absurd (true≢false (sym waits))
 front_quiet view car count (change ∷ changes) is waits quiet = λ train at.
     none_too (λ c. has_change (queue_of view c)) (λ c. has_change (unwrap_or (get (insert view.queues car changes) c) [])) (take count (cars_of view.trains.trains train))
@@ -66,22 +65,22 @@ drained_front view train car count None (Some a) None is = cc is
 drained_front view train car count (Some c) (Some a) None is = cc is
 
 -- where the front change of a car goes into its set, the front in which none waits stays
-pub applied_quiet : (view : SpaceView) (car count : ℕ) → next_row view ≡ apply car → IsQuiet view count → IsQuiet (counted (applied_in view car)) count
+pub applied_quiet : (view : SpaceView) (car count : ℕ) → next_row view ≡ apply car → IsQuiet view count → IsQuiet (applied_in view car) count
 applied_quiet view car count row quiet train at =
     let was = same_phase (queue_of view car) at in
     let here : row_in view (Draining train) ≡ apply car = ap (row_in view) (sym was) ∙ row in
     let found = drained_front view train car count (first_car view.trains.trains train) (to_note view train) (changed_car view train) here in
     front_quiet view car count (queue_of view car) refl (passes (λ c. has_change (queue_of view c)) (cars_of view.trains.trains train) car found) quiet train at
   where
-    same_phase : (q : List Change) → (counted (applied_front view car q)).phase ≡ Draining train → view.phase ≡ Draining train
+    same_phase : (q : List Change) → (applied_front view car q).phase ≡ Draining train → view.phase ≡ Draining train
     same_phase [] is = is
     same_phase (change ∷ changes) is = is
 
 pub quiet_after_change : (old new : SpaceView) (step : Step) (car count : ℕ) → next_row old ≡ apply car → IsQuiet old count → IsEvent old new step → IsQuiet new count
 quiet_after_change old new step car count row quiet event =
-    subst (λ (v : SpaceView). IsQuiet v count) (sym (event.after ∙ ap (λ (r : Row). counted (after old event.picked event.number r)) row)) (applied_quiet old car count row quiet)
+    subst (λ (v : SpaceView). IsQuiet v count) (sym (event.after ∙ ap (after old event.picked event.number) row)) (applied_quiet old car count row quiet)
 
 -- and where no event comes
 pub quiet_after_none : (old new : SpaceView) (step : Step) (count : ℕ) → next_row old ≡ nothing → IsQuiet old count → IsEvent old new step → IsQuiet new count
 quiet_after_none old new step count row quiet event =
-    subst (λ (v : SpaceView). IsQuiet v count) (sym (event.after ∙ ap (λ (r : Row). counted (after old event.picked event.number r)) row)) quiet
+    subst (λ (v : SpaceView). IsQuiet v count) (sym (event.after ∙ ap (after old event.picked event.number) row)) quiet

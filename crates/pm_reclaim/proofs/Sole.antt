@@ -12,20 +12,14 @@ use Rattle.pm_view.specs.Stale.{IsSole, NamesOnly}
 use Rattle.pm_law_collect.proofs.PhasesLemmas.Comes.{IsEmptied}
 use Rattle.pm_law_collect.proofs.MovesLemmas.MoveRows.{remembered_live}
 use Rattle.pm_law_collect.proofs.WorkLemmas.StaleLooks.{stands_here}
-use Rattle.pm_evac.specs.Relocate.Changed.{counted}
 use Rattle.pm_evac.specs.Steps.{IsEvent}
-
--- nothing is said of how many collections are completed
-counted_sole : (view : SpaceView) (slot : Option ℕ) → IsSole view slot → IsSole (counted view) slot
-counted_sole view None sole = tt
-counted_sole view (Some slot) sole = sole
 
 -- what the row that came next leaves
 pub sole_after : (old new : SpaceView) (step : Step) (row : Row) (slot : Option ℕ) → next_row old ≡ row → ((picked number : ℕ) → MayPick old picked row → MayPlace old number row → IsSole (after old picked number row) slot) → IsEvent old new step
     → IsSole new slot
 sole_after old new step row slot next leaves event =
-    subst (λ (v : SpaceView). IsSole v slot) (sym (event.after ∙ ap (λ (r : Row). counted (after old event.picked event.number r)) next))
-    (counted_sole (after old event.picked event.number row) slot (leaves event.picked event.number (subst (MayPick old event.picked) next event.may_pick) (subst (MayPlace old event.number) next event.may_place)))
+    subst (λ (v : SpaceView). IsSole v slot) (sym (event.after ∙ ap (after old event.picked event.number) next))
+    (leaves event.picked event.number (subst (MayPick old event.picked) next event.may_pick) (subst (MayPlace old event.number) next event.may_place))
 
 -- where no source is to be fixed none names a slot whose object moved away, so it may be said of any slot
 pub none_stale : (v : SpaceView) (car slot : ℕ) → HeapLaw v → IsEmptied v car None → NamesOnly v slot

@@ -2,6 +2,7 @@
 use Rattle.std.specs.Prelude.{ℕ, ◌+◌, ◌==◌, if◌then◌else◌, List, [], ◌∷◌, ◌++◌, length, Option, Some, None, map, option_map}
 use Rattle.std.specs.Option.{unwrap_or}
 use Rattle.std.specs.FinMap.{get, insert, remove, empty}
+use Rattle.pm_types.specs.Counts.{raised}
 use Rattle.pm_types.specs.declared.address.Addr.{Addr}
 use Rattle.pm_types.specs.declared.object.Object.{Object}
 use Rattle.pm_types.specs.declared.object.Slot.TheVariants.{Moved}
@@ -135,9 +136,9 @@ without_car view train car =
       trains = record view.trains { trains = without_first train view.trains.trains };
     }
 
--- a collection is completed
+-- a collection is completed, which is counted; the count stands still at the greatest number of 64 bits
 abbrev pub completing : SpaceView → SpaceView
-completing view = record view { phase = phases.Idle; completed = view.completed + 1 }
+completing view = record view { phase = phases.Idle; completed = raised view.completed }
 
 -- a car of a doomed train goes, and the collection is completed where it was the train's last
 abbrev pub freed_of_train : SpaceView → ℕ → ℕ → SpaceView

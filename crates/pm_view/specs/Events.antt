@@ -1,5 +1,5 @@
 -- Which event of the collector comes next, and the whole space after it.
-use Rattle.std.specs.Prelude.{◌≡◌, ℕ, Bool, true, false, ◌==◌, cond, List, [], ◌∷◌, Option, Some, None, IsTrue, option_map, option_and_then}
+use Rattle.std.specs.Prelude.{◌≡◌, ℕ, Bool, true, false, ◌==◌, cond, List, [], ◌∷◌, length, Option, Some, None, IsTrue, option_map, option_and_then}
 use Rattle.std.specs.Option.{unwrap_or}
 use Rattle.std.specs.List.{find}
 use Rattle.std.specs.FinMap.{get, entries}
@@ -201,6 +201,12 @@ abbrev pub ended_by : SpaceView → Row → ℕ → Bool
 ended_by now (doom train) car = is_aside now car
 ended_by now (finish from) car = is_aside now car
 ended_by now row car = false
+
+-- the event completes a collection: the car that was swept goes, or the last car of a train that is doomed
+abbrev pub completes : SpaceView → Row → Bool
+completes view (free car) = true
+completes view (free_doomed train car) = length (cars_of view.trains.trains train) == 1
+completes view row = false
 
 -- the event clears an anchor
 abbrev pub clears : Row → Bool

@@ -1,5 +1,5 @@
 -- What is seen of the parts of a space after an event.
-use Rattle.std.proofs.Common.{◌≡◌, ℕ, ◌<◌, refl, ◌∙◌, arith, List, [], ◌∷◌, Some, Result, Ok, Err, OnOk}
+use Rattle.std.proofs.Common.{◌≡◌, ℕ, refl, ◌∙◌, List, [], ◌∷◌, Some, Result, Ok, Err, OnOk}
 use Rattle.std.specs.Ordering.{nat_cmp}
 use Rattle.std.specs.Cmp.{nat_cmp_total}
 use Rattle.std.specs.FinMap.{remove, nat_cmp-IsAntisymmetric}
@@ -15,11 +15,9 @@ use Rattle.pm_view.specs.Barrier.{entered, told}
 use Rattle.pm_view.specs.Rows.{with_stored}
 use Rattle.pm_view.specs.Collecting.{applied_front, fixed, without_car}
 use Rattle.pm_space.specs.declared.held.Held.{Held}
-use Rattle.pm_types.specs.Counts.{capped}
 use Rattle.pm_space.specs.Linked.{Linked, sets_of, queues_of, with_front, without_front, without_source}
 use Rattle.pm_space.specs.Linked as linked
 use Rattle.pm_space.specs.Shown.{car_of, cars_of}
-use Rattle.pm_evac.specs.Relocate.Changed.{counted}
 
 -- a remembered set took the front change, and the queue lost it
 applied_is : (v : SpaceView) (car : ℕ) (changes : List Change) → record v { sets = with_front v.sets car changes; queues = without_front v.queues car changes } ≡ applied_front v car changes
@@ -48,13 +46,6 @@ sets_without links car = mapped-remove nat_cmp linked.set_of nat_cmp_total nat_c
 
 pub queues_without : (links : Linked) (car : ℕ) → queues_of (remove links car) ≡ remove (queues_of links) car
 queues_without links car = mapped-remove nat_cmp linked.queue_of nat_cmp_total nat_cmp-IsAntisymmetric links car
-
--- the count of completed collections, which is a number of 64 bits
-pub is_counted : (v : SpaceView) → v.completed < 18446744073709551616 → v ≡ counted v
-is_counted v small = λ i. record v { completed = same i }
-  where
-    same : v.completed ≡ capped v.completed
-    same = omega (arith, small)
 
 -- what follows from what holds where a call ended well
 pub on_both : {A E P Q R : Type 0} (r : Result A E) → (P → Q → R) → OnOk r P → OnOk r Q → OnOk r R

@@ -2,18 +2,13 @@
 use Rattle.std.specs.Prelude.{ℕ, Bool, if◌then◌else◌}
 use Rattle.std.specs.Option.{unwrap_or}
 use Rattle.pm_types.specs.declared.address.Addr.{Addr}
-use Rattle.pm_types.specs.Counts.{capped}
 use Rattle.pm_view.specs.View.{SpaceView}
 use Rattle.pm_view.specs.Reading.{id_at}
 use Rattle.pm_view.specs.Collecting.{without_car, completing}
 
--- a space whose count of completed collections stands still at the greatest number of 64 bits
-abbrev pub counted : SpaceView → SpaceView
-counted view = record view { completed = capped view.completed }
-
--- a car of a train goes, and where it completes the collection that is counted
+-- a car of a train goes, and with it the collection is completed or not
 abbrev pub freed : SpaceView → ℕ → ℕ → Bool → SpaceView
-freed view train car completes = counted (if completes then completing (without_car view train car) else without_car view train car)
+freed view train car completes = if completes then completing (without_car view train car) else without_car view train car
 
 -- the identity of the object at an address
 abbrev pub identity : SpaceView → Addr → ℕ

@@ -41,10 +41,9 @@ pub fn free<F>(parts: &mut Parts<F>, train: u64, car: u64, completes: bool) -> R
     ensures rest { KeepsRest parts.old parts.new }
 {
     take_out(parts, train, car)?;
-    let count = parts.completed;
     if completes {
         parts.phase = Phase::Idle;
-        parts.completed = count.saturating_add(1);
+        parts.completed = parts.completed.saturating_add(1);
     }
     Ok(())
 }

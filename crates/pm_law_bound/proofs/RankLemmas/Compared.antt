@@ -28,9 +28,23 @@ pub record HoldsNoMore (view now : SpaceView) : Type 0 where
   pub young : youngest view.trains.trains ≤ youngest now.trains.trains
   pub held : (n : ℕ) → n ≤ youngest view.trains.trains → old now n + taking now n ≤ old view n + taking view n
 
+-- What fits stays, and the rank has not risen; where something is done it has fallen, unless it was 0.
+pub record Compares (view now : SpaceView) (Done : Type 0) : Type 0 where
+  pub fits : (n m : ℕ) → Fits view n m → Fits now n m
+  pub no_more : (n m : ℕ) → Fits view n m → rank now n m ≤ rank view n m
+  pub falls : (n m : ℕ) → Fits view n m → Done → (rank view n m ≡ 0) ⊎ (rank now n m < rank view n m)
+
+-- where a collection more is counted that is what is done
+pub kept : (view now : SpaceView) → Compares view now (view.completed < now.completed) → KeepsRank view now
+kept view now is = record { fits = is.fits; no_more = is.no_more; falls = is.falls }
+
+-- a space that stays as it is, where nothing is done
+pub unchanged : (view : SpaceView) (Done : Type 0) → (Done → ⊥) → Compares view view Done
+unchanged view Done none = record { fits = λ n m fits. fits; no_more = λ n m fits. omega arith; falls = λ n m fits done. absurd (none done) }
+
 -- a space that stays as it is
 pub itself : (view : SpaceView) → KeepsRank view view
-itself view = record { fits = λ n m fits. fits; no_more = λ n m fits. omega arith; falls = λ n m fits rose. absurd (omega (arith, rose)) }
+itself view = kept view view (unchanged view (view.completed < view.completed) (λ rose. omega (arith, rose)))
 
 -- the object of this identity stands at an address, in a train up to this one
 abbrev pub IsUpTo : SpaceView → ℕ → ℕ → Addr → Type 0
@@ -109,14 +123,6 @@ module _ (view now : SpaceView) (law : HeapLaw view) (then : HeapLaw now) where
     fits_stay : (n m : ℕ) → Fits view n m → Fits now n m
     fits_stay n m fits = record { given = omega (arith, fits.given, less.young); few = omega (arith, fits.few, less.held n fits.given) }
 
-    -- it falls by so much, or is none before and after; and by one at least where a collection was completed
-    keeps_by : (e : ℕ) → (view.completed < now.completed → 1 ≤ e) → ((n m : ℕ) → n < at.head.number → rank now n m ≡ 0) → ((n m : ℕ) → Fits view n m → at.head.number ≤ n → rank now n m + e ≤ rank view n m) → KeepsRank view now
-    keeps_by e done over each = record {
-      fits = fits_stay;
-      no_more = λ n m fits. ⊎_elim (λ low. let none = over n m low in omega (arith, none)) (λ up. let most = each n m fits up in omega (arith, most)) (cases_lt n at.head.number);
-      falls = λ n m fits rose. ⊎_elim (λ low. inl (rank_over view law at n m low)) (λ up. let most = each n m fits up in let some = done rose in inr (omega (arith, most, some))) (cases_lt n at.head.number);
-    }
-
     -- the first train has so many objects fewer where the trains up to it have
     pub content_falls : (like : IsLike view.trains.trains now.trains.trains at) (e : ℕ) → old now at.head.number + e + taking now at.head.number ≤ old view at.head.number + taking view at.head.number
         → content now like.first.head + e ≤ content view at.head
@@ -129,50 +135,61 @@ module _ (view now : SpaceView) (law : HeapLaw view) (then : HeapLaw now) where
     content_no_more : (like : IsLike view.trains.trains now.trains.trains at) → content now like.first.head ≤ content view at.head
     content_no_more like = let held = less.held at.head.number (first_given view law at) in let falls = content_falls like 0 (omega (arith, held)) in omega (arith, falls)
 
-    -- the same train is the first: its way is shorter by so much, or it has fewer objects
-    pub keeps_like : (like : IsLike view.trains.trains now.trains.trains at) (e : ℕ) → (view.completed < now.completed → 1 ≤ e)
-        → (way now like.first.head now.anchor + e ≤ way view at.head view.anchor) ⊎ ((e ≤ 1) × (content now like.first.head + 1 ≤ content view at.head)) → KeepsRank view now
-    keeps_like like e done which =
-        keeps_by e done (λ n m over. rank_over now then like.first n m (omega (arith, like.number, over)))
-        (λ n m fits low.
-        let low_then : like.first.head.number ≤ n = omega (arith, like.number, low) in
-        let few = content_few now then like.first n m (fits_stay n m fits) low_then in
-        let value = values.lower m e (length (up_to n like.first.rest)) (content now like.first.head) (way now like.first.head now.anchor) (length (up_to n at.rest)) (content view at.head) (way view at.head view.anchor)
-        (like.few n fits.given) (content_no_more like) (omega (arith, few, way_few now then like.first)) which in
-        omega (arith, value, rank_up view law at n m low, rank_up now then like.first n m low_then))
+    -- ---- where something is done, as a collection is completed
 
-    -- the first train goes
-    pub keeps_trains : now.trains.trains ≡ at.rest → KeepsRank view now
-    keeps_trains gone =
-        keeps_by 1 (λ rose. omega arith) (λ n m over. ap (rank_of now m) (ap (up_to n) gone ∙ none_up_to at.head.number n at.rest (rise view law at).1 (omega (arith, over))))
-        (λ n m fits low.
-        let most = rank_most now then n m (fits_stay n m fits) in
-        let as_many : length (up_to n now.trains.trains) * ((m + 2) * (m + 2)) ≡ length (up_to n at.rest) * ((m + 2) * (m + 2)) = ap (λ ts. length (up_to n ts) * ((m + 2) * (m + 2))) gone in
-        let far = way_some view law at in
-        let some : length (up_to n at.rest) * ((m + 2) * (m + 2)) + 1 ≤ value m (length (up_to n at.rest)) (content view at.head) (way view at.head view.anchor) = omega (arith, far) in
-        omega (arith, most, as_many, some, rank_up view law at n m low))
+    module _ (Done : Type 0) where
+      -- it falls by so much, or is none before and after; and by one at least where something is done
+      keeps_by : (e : ℕ) → (Done → 1 ≤ e) → ((n m : ℕ) → n < at.head.number → rank now n m ≡ 0) → ((n m : ℕ) → Fits view n m → at.head.number ≤ n → rank now n m + e ≤ rank view n m) → Compares view now Done
+      keeps_by e done over each = record {
+        fits = fits_stay;
+        no_more = λ n m fits. ⊎_elim (λ low. let none = over n m low in omega (arith, none)) (λ up. let most = each n m fits up in omega (arith, most)) (cases_lt n at.head.number);
+        falls = λ n m fits so. ⊎_elim (λ low. inl (rank_over view law at n m low)) (λ up. let most = each n m fits up in let some = done so in inr (omega (arith, most, some))) (cases_lt n at.head.number);
+      }
 
-    -- the anchor stays: its car is nearer by so much, and where none stands a car that went goes no more
-    pub keeps_anchor : (like : IsLike view.trains.trains now.trains.trains at) (e : ℕ) → (view.completed < now.completed → 1 ≤ e) → now.anchor ≡ view.anchor → cond (is_emptying now.phase) 1 0 + e ≤ cond (is_emptying view.phase) 1 0
-        → ((a : Addr) (to : ℕ) → view.anchor ≡ Some (a, to) → place_of a.car like.first.head.cars + e ≤ place_of a.car at.head.cars) → KeepsRank view now
-    keeps_anchor like e done anchor going nearer = keeps_like like e done (inl (by_anchor view.anchor refl))
-      where
-        by_anchor : (o : Option (Addr × ℕ)) → view.anchor ≡ o → way now like.first.head now.anchor + e ≤ way view at.head o
-        by_anchor None is =
-            let one : way now like.first.head now.anchor ≡ content now like.first.head + cond (is_emptying now.phase) 1 0 = ap (way now like.first.head) (anchor ∙ is) in
-            omega (arith, content_no_more like, one, going)
-        by_anchor (Some a) is =
-            let one : way now like.first.head now.anchor ≡ place_of a.0.car like.first.head.cars = ap (way now like.first.head) (anchor ∙ is) in
-            omega (arith, nearer a.0 a.1 is, one)
+      -- the same train is the first: its way is shorter by so much, or it has fewer objects
+      pub keeps_like : (like : IsLike view.trains.trains now.trains.trains at) (e : ℕ) → (Done → 1 ≤ e)
+          → (way now like.first.head now.anchor + e ≤ way view at.head view.anchor) ⊎ ((e ≤ 1) × (content now like.first.head + 1 ≤ content view at.head)) → Compares view now Done
+      keeps_like like e done which =
+          keeps_by e done (λ n m over. rank_over now then like.first n m (omega (arith, like.number, over)))
+          (λ n m fits low.
+          let low_then : like.first.head.number ≤ n = omega (arith, like.number, low) in
+          let few = content_few now then like.first n m (fits_stay n m fits) low_then in
+          let value = values.lower m e (length (up_to n like.first.rest)) (content now like.first.head) (way now like.first.head now.anchor) (length (up_to n at.rest)) (content view at.head) (way view at.head view.anchor)
+          (like.few n fits.given) (content_no_more like) (omega (arith, few, way_few now then like.first)) which in
+          omega (arith, value, rank_up view law at n m low, rank_up now then like.first n m low_then))
 
-    -- no train goes, no car of the first train changes its place, and the anchor stays
-    pub keeps_calm : Grows view.trains.trains now.trains.trains at → now.anchor ≡ view.anchor → cond (is_emptying now.phase) 1 0 ≤ cond (is_emptying view.phase) 1 0 → now.completed ≡ view.completed → KeepsRank view now
-    keeps_calm grows anchor going same =
-        keeps_anchor grows.like 0 (λ rose. absurd (omega (arith, same, rose))) anchor (omega (arith, going))
-        (λ a to stands. let place = (grows.place a.car (anchor_among view law at a to stands)).1 in omega (arith, place))
+      -- the first train goes
+      pub keeps_trains : now.trains.trains ≡ at.rest → Compares view now Done
+      keeps_trains gone =
+          keeps_by 1 (λ so. omega arith) (λ n m over. ap (rank_of now m) (ap (up_to n) gone ∙ none_up_to at.head.number n at.rest (rise view law at).1 (omega (arith, over))))
+          (λ n m fits low.
+          let most = rank_most now then n m (fits_stay n m fits) in
+          let as_many : length (up_to n now.trains.trains) * ((m + 2) * (m + 2)) ≡ length (up_to n at.rest) * ((m + 2) * (m + 2)) = ap (λ ts. length (up_to n ts) * ((m + 2) * (m + 2))) gone in
+          let far = way_some view law at in
+          let some : length (up_to n at.rest) * ((m + 2) * (m + 2)) + 1 ≤ value m (length (up_to n at.rest)) (content view at.head) (way view at.head view.anchor) = omega (arith, far) in
+          omega (arith, most, as_many, some, rank_up view law at n m low))
 
-    -- so it is where the course is kept
-    pub keeps_course : Grows view.trains.trains now.trains.trains at → KeepsCourse view now → KeepsRank view now
-    keeps_course grows keeps =
-        let one : ◌≡◌ {A = ℕ} (cond (is_emptying now.phase) 1 0) (cond (is_emptying view.phase) 1 0) = ap (λ p. cond {A = ℕ} (is_emptying p) 1 0) keeps.phase in
-        keeps_calm grows keeps.anchor (omega (arith, one)) keeps.completed
+      -- the anchor stays: its car is nearer by so much, and where none stands a car that went goes no more
+      pub keeps_anchor : (like : IsLike view.trains.trains now.trains.trains at) (e : ℕ) → (Done → 1 ≤ e) → now.anchor ≡ view.anchor → cond (is_emptying now.phase) 1 0 + e ≤ cond (is_emptying view.phase) 1 0
+          → ((a : Addr) (to : ℕ) → view.anchor ≡ Some (a, to) → place_of a.car like.first.head.cars + e ≤ place_of a.car at.head.cars) → Compares view now Done
+      keeps_anchor like e done anchor going nearer = keeps_like like e done (inl (by_anchor view.anchor refl))
+        where
+          by_anchor : (o : Option (Addr × ℕ)) → view.anchor ≡ o → way now like.first.head now.anchor + e ≤ way view at.head o
+          by_anchor None is =
+              let one : way now like.first.head now.anchor ≡ content now like.first.head + cond (is_emptying now.phase) 1 0 = ap (way now like.first.head) (anchor ∙ is) in
+              omega (arith, content_no_more like, one, going)
+          by_anchor (Some a) is =
+              let one : way now like.first.head now.anchor ≡ place_of a.0.car like.first.head.cars = ap (way now like.first.head) (anchor ∙ is) in
+              omega (arith, nearer a.0 a.1 is, one)
+
+      -- no train goes, no car of the first train changes its place, the anchor stays, and nothing is done
+      pub keeps_calm : (Done → ⊥) → Grows view.trains.trains now.trains.trains at → now.anchor ≡ view.anchor → cond (is_emptying now.phase) 1 0 ≤ cond (is_emptying view.phase) 1 0 → Compares view now Done
+      keeps_calm none grows anchor going =
+          keeps_anchor grows.like 0 (λ so. absurd (none so)) anchor (omega (arith, going))
+          (λ a to stands. let place = (grows.place a.car (anchor_among view law at a to stands)).1 in omega (arith, place))
+
+      -- so it is where the course is kept
+      pub keeps_course : (Done → ⊥) → Grows view.trains.trains now.trains.trains at → KeepsCourse view now → Compares view now Done
+      keeps_course none grows keeps =
+          let one : ◌≡◌ {A = ℕ} (cond (is_emptying now.phase) 1 0) (cond (is_emptying view.phase) 1 0) = ap (λ p. cond {A = ℕ} (is_emptying p) 1 0) keeps.phase in
+          keeps_calm none grows keeps.anchor (omega (arith, one))

@@ -3,6 +3,7 @@ use Rattle.std.proofs.Common.{◌≡◌, ◌≤◌, ◌<◌, ◌+◌, ℕ, ◌==
 use Rattle.std.specs.Option.{option_map, unwrap_or}
 use Rattle.std.proofs.lemmas.Bool.{eqb-true, true≢false, cases_Bool, cases_lt, false_from_ne_true, cond-true, cond-false}
 use Rattle.std.proofs.lemmas.Bool.Decides.{nat_tests}
+use Rattle.pm_types.specs.Counts.{raised}
 use Rattle.pm_types.specs.declared.limits.TheConstants.{CLIENTS}
 use Rattle.pm_types.specs.declared.address.Addr.{Addr}
 use Rattle.pm_types.specs.declared.object.Object.{Object}
@@ -25,7 +26,7 @@ use Rattle.pm_view.specs.Rows.{tail_for, put_in, born, with_open_train, birthpla
 use Rattle.pm_view.specs.Candidates.{queue_of}
 use Rattle.pm_view.specs.Collecting.{anchored, applied_front, applied_in, fixed, moved_some, moved, swept_some, swept, without_car, completing}
 use Rattle.pm_view.specs.Commands.{fresh, row_new, row, Picks, ArePicked}
-use Rattle.pm_view.specs.Events.{Row, nothing, select, apply, doom, start, fix, move_anchor, move_out, move_on, finish, sweep, free, free_doomed, next_row, after, home, anchor_in, MayPick, MayPlace, moving_id, goal_of}
+use Rattle.pm_view.specs.Events.{Row, nothing, select, apply, doom, start, fix, move_anchor, move_out, move_on, finish, sweep, free, free_doomed, next_row, after, home, anchor_in, MayPick, MayPlace, moving_id, goal_of, completes}
 use Rattle.pm_law_commands.proofs.RowLemmas.OpenTrain.{first_home}
 use Rattle.pm_law_commands.proofs.RowLemmas.SameSource.{same_address-true}
 use Rattle.pm_law_commands.proofs.EveryRow.{new_holds}
@@ -44,13 +45,14 @@ use Rattle.pm_law_course.specs.Course.{opens}
 use Rattle.pm_law_course.proofs.Bearing.{car_stands, new_answers}
 use Rattle.pm_law_course.proofs.Kept.{KeepsCourse, applied_keeps, fixed_keeps, moved_keeps, swept_keeps, command_keeps}
 use Rattle.pm_law_course.proofs.Opening.{opened_then, open_same}
+use Rattle.pm_law_course.proofs.Completing.{completed_then}
 use Rattle.pm_law_course.proofs.CountLemmas.Trains.{home_up_to}
-use Rattle.pm_view.specs.Ranking.{taking, content, way, place_of, is_emptying}
+use Rattle.pm_view.specs.Ranking.{Fits, taking, content, way, place_of, is_emptying, rank}
 use Rattle.pm_view.specs.Bounded.{KeepsRank}
 use Rattle.pm_law_bound.proofs.RankLemmas.Values.{held, one_born}
 use Rattle.pm_law_bound.proofs.RankLemmas.Trains.{some_is, IsHead, IsLike, Grows, grows_same, grows_appended, grows_rotated, oldest_first, first_least, head_cars, freed, lighter_like}
 use Rattle.pm_law_bound.proofs.RankLemmas.Bounds.{no_sum, spared_still, first_train, first_given, anchor_home, anchor_among, place_few, content_some}
-use Rattle.pm_law_bound.proofs.RankLemmas.Compared.{HoldsNoMore, IsUpTo, Turned, itself, no_older, one_older, one_leaves, holds, content_falls, keeps_like, keeps_trains, keeps_anchor, keeps_calm, keeps_course}
+use Rattle.pm_law_bound.proofs.RankLemmas.Compared.{HoldsNoMore, Compares, IsUpTo, Turned, kept, unchanged, itself, no_older, one_older, one_leaves, holds, content_falls, keeps_like, keeps_trains, keeps_anchor, keeps_calm, keeps_course}
 
 module _ (view : SpaceView) (law : HeapLaw view) where
   abbrev at : IsHead view.trains.trains
@@ -135,20 +137,23 @@ module _ (view : SpaceView) (law : HeapLaw view) where
     command_rank (New reg count bytes) regs picked =
         let now = (row_new view client reg count bytes picks.car).1 in
         let law_then = row_keeps view law client (New reg count bytes) picks c regs picked in
+        let keeps = command_keeps view client (New reg count bytes) picks in
         ⊎_elim
         (λ made.
         let less = added now law_then view.next (birthplace (spent view) picks.car (fresh view count bytes)) (new_adds view law client reg count picks.car bytes picked.car made) in
-        keeps_course view now law law_then less at (new_trains reg count bytes) (command_keeps view client (New reg count bytes) picks))
+        kept view now (keeps_course view now law law_then less at (view.completed < now.completed) (λ rose. omega (arith, rose, keeps.completed)) (new_trains reg count bytes) keeps))
         (λ same. subst (KeepsRank view) (sym same) (itself view))
         (new_answers view client reg count picks.car bytes)
     command_rank cmd regs picked =
         let now = (row view client cmd picks).1 in
         let law_then = row_keeps view law client cmd picks c regs picked in
-        let kept = row_keeps_objects view client cmd picks refl in
-        let stays = stays_same view now kept.aside kept.ids (λ e. ap (λ (s : Trains). train_of s.trains e) kept.trains) in
+        let keeps = command_keeps view client cmd picks in
+        let objects = row_keeps_objects view client cmd picks refl in
+        let stays = stays_same view now objects.aside objects.ids (λ e. ap (λ (s : Trains). train_of s.trains e) objects.trains) in
         let none = λ (n : ℕ). no_older view now law law_then None 0 stays.back (λ q is. absurd (none_some q is)) n (λ q is low. absurd (none_some q is)) in
-        let turned : Turned view now law law_then 0 = inr (ap (λ (s : Trains). youngest s.trains) kept.trains, omega (arith, ap (λ (s : Trains). s.births) kept.trains), omega arith) in
-        keeps_course view now law law_then (holds view now law law_then 0 turned (λ n. (omega (arith, none n), λ low. none n))) at (same_trains now kept.trains) (command_keeps view client cmd picks)
+        let turned : Turned view now law law_then 0 = inr (ap (λ (s : Trains). youngest s.trains) objects.trains, omega (arith, ap (λ (s : Trains). s.births) objects.trains), omega arith) in
+        let less = holds view now law law_then 0 turned (λ n. (omega (arith, none n), λ low. none n)) in
+        kept view now (keeps_course view now law law_then less at (view.completed < now.completed) (λ rose. omega (arith, rose, keeps.completed)) (same_trains now objects.trains) keeps)
 
   -- ---- events
 
@@ -174,9 +179,9 @@ module _ (view : SpaceView) (law : HeapLaw view) where
   swept_front car (inr at) = record { train = at.0; old = (subst (λ p. IsPhaseOf p view.trains.trains view.anchor) at.1.doomed law.phase).0; first = at.1.first }
 
   -- it goes, and its train with it or not
-  car_goes : (now : SpaceView) → HeapLaw now → HoldsNoMore view now → (car : ℕ) (swept : IsSwept view car) (e : ℕ) → e ≤ 1 → now.trains.trains ≡ without_first (swept_front car swept).train view.trains.trains → now.anchor ≡ view.anchor
-      → ((length (cars_of view.trains.trains (swept_front car swept).train) == 1) ≡ false → (cond (is_emptying now.phase) 1 0 + e ≤ cond (is_emptying view.phase) 1 0) × (view.completed < now.completed → 1 ≤ e)) → KeepsRank view now
-  car_goes now law_then less car swept e small trains anchor going =
+  car_goes : (Done : Type 0) (now : SpaceView) → HeapLaw now → HoldsNoMore view now → (car : ℕ) (swept : IsSwept view car) (e : ℕ) → e ≤ 1 → now.trains.trains ≡ without_first (swept_front car swept).train view.trains.trains → now.anchor ≡ view.anchor
+      → ((length (cars_of view.trains.trains (swept_front car swept).train) == 1) ≡ false → (cond (is_emptying now.phase) 1 0 + e ≤ cond (is_emptying view.phase) 1 0) × (Done → 1 ≤ e)) → Compares view now Done
+  car_goes Done now law_then less car swept e small trains anchor going =
       let of = swept_front car swept in
       let same = first_old of.train of.old.0 in
       let first = first_cars (cars_at view.trains.trains T) car (ap (first_car view.trains.trains) same ∙ of.first) in
@@ -184,17 +189,21 @@ module _ (view : SpaceView) (law : HeapLaw view) where
       let other : (T == youngest view.trains.trains) ≡ false = ap (λ n. n == youngest view.trains.trains) same ∙ of.old.1 in
       let left = trains ∙ ap (λ n. without_first n view.trains.trains) (sym same) ∙ freed view.trains.trains at law.built.trains.filled other car first.0 cars in
       ⊎_elim
-      (λ (none : (length first.0 == 0) ≡ true). keeps_trains view now law law_then less at (left ∙ cond-true _ _ _ none))
+      (λ (none : (length first.0 == 0) ≡ true). keeps_trains view now law law_then less at Done (left ∙ cond-true _ _ _ none))
       (λ (some : (length first.0 == 0) ≡ false).
       let long : length (cars_of view.trains.trains of.train) ≡ length (car ∷ first.0) = ap (λ n. length (cars_of view.trains.trains n)) (sym same) ∙ ap (λ o. length (unwrap_or o [])) first.1 in
       let both = going (grind (arith, nat_tests, long, some)) in
-      keeps_anchor view now law law_then less at (lighter_like view.trains.trains at law.built.trains.filled other car first.0 cars now.trains.trains (left ∙ cond-false _ _ _ some)) e both.1 anchor both.0 (λ a to stands.
+      keeps_anchor view now law law_then less at Done (lighter_like view.trains.trains at law.built.trains.filled other car first.0 cars now.trains.trains (left ∙ cond-false _ _ _ some)) e both.1 anchor both.0 (λ a to stands.
       let apart = false_from_ne_true (car == a.car) (λ one. true≢false (sym (swept_aside view car swept) ∙ ap (is_aside view) (eqb-true car a.car one) ∙ (law.anchor a to stands).kept)) in
       let nearer : place_of a.car at.head.cars ≡ place_of a.car first.0 + 1 = ap (place_of a.car) cars ∙ cond-false _ _ _ apart in
       omega (arith, nearer, small)))
       (cases_Bool (length first.0 == 0))
 
-  module _ (picked number : ℕ) where
+  module _ (picked number : ℕ) (Done : Type 0) where
+    -- what comes with a completed collection alone is not done by an event that completes none
+    never : (Done → false ≡ true) → Done → ⊥
+    never only done = true≢false (sym (only done))
+
     no_leaving : (id : ℕ) → None ≡ Some id → Leaves id picked
     no_leaving id is = absurd (none_some id is)
 
@@ -226,37 +235,37 @@ module _ (view : SpaceView) (law : HeapLaw view) where
           (omega (arith, older), λ low. older))
 
       -- it leaves the anchor and lets no train go, or keeps the course
-      calm : Grown now → now.anchor ≡ view.anchor → cond (is_emptying now.phase) 1 0 ≤ cond (is_emptying view.phase) 1 0 → now.completed ≡ view.completed → KeepsRank view now
-      calm = keeps_calm view now law law_then less at
+      calm : (Done → ⊥) → Grown now → now.anchor ≡ view.anchor → cond (is_emptying now.phase) 1 0 ≤ cond (is_emptying view.phase) 1 0 → Compares view now Done
+      calm = keeps_calm view now law law_then less at Done
 
-      course : Grown now → KeepsCourse view now → KeepsRank view now
-      course = keeps_course view now law law_then less at
+      course : (Done → ⊥) → Grown now → KeepsCourse view now → Compares view now Done
+      course = keeps_course view now law law_then less at Done
 
-      lowers : (like : IsLike view.trains.trains now.trains.trains at) (e : ℕ) → (view.completed < now.completed → 1 ≤ e)
-          → (way now like.first.head now.anchor + e ≤ way view at.head view.anchor) ⊎ ((e ≤ 1) × (content now like.first.head + 1 ≤ content view at.head)) → KeepsRank view now
-      lowers = keeps_like view now law law_then less at
+      lowers : (like : IsLike view.trains.trains now.trains.trains at) (e : ℕ) → (Done → 1 ≤ e)
+          → (way now like.first.head now.anchor + e ≤ way view at.head view.anchor) ⊎ ((e ≤ 1) × (content now like.first.head + 1 ≤ content view at.head)) → Compares view now Done
+      lowers = keeps_like view now law law_then less at Done
 
       -- an object that goes to another train leaves the first one
-      moves : (id : ℕ) → moving_id view row ≡ Some id → T < goal_of picked row → Grown now → KeepsRank view now
+      moves : (id : ℕ) → moving_id view row ≡ Some id → T < goal_of picked row → Grown now → Compares view now Done
       moves id is over grows =
           let left = leaves id is in
           let fewer = one_leaves view now law law_then (moving_id view row) (goal_of picked row) back lands T id left.0 is (left.1 T (omega arith)) over in
           let held = held BIRTHS (youngest view.trains.trains) (youngest now.trains.trains) view.trains.births now.trains.births 0 T (old view T) (old now T + 1) (first_given view law at) turned (omega (arith, fewer)) (λ low. fewer) in
-          lowers grows.like 1 (λ rose. omega arith) (inr (omega arith, content_falls view now law law_then less at grows.like 1 held))
+          lowers grows.like 1 (λ done. omega arith) (inr (omega arith, content_falls view now law law_then less at grows.like 1 held))
 
       -- where it is found, and else none does
-      moves_out : T < goal_of picked row → Grown now → KeepsCourse view now → KeepsRank view now
-      moves_out over grows keeps = by_id (moving_id view row) refl
+      moves_out : (Done → ⊥) → T < goal_of picked row → Grown now → KeepsCourse view now → Compares view now Done
+      moves_out none over grows keeps = by_id (moving_id view row) refl
         where
-          by_id : (o : Option ℕ) → moving_id view row ≡ o → KeepsRank view now
-          by_id None is = course grows keeps
+          by_id : (o : Option ℕ) → moving_id view row ≡ o → Compares view now Done
+          by_id None is = course none grows keeps
           by_id (Some id) is = moves id is over grows
 
-    pub event_rank : (row : Row) → next_row view ≡ row → MayPick view picked row → MayPlace view number row → KeepsRank view (after view picked number row)
-    event_rank nothing next may vacant = itself view
-    event_rank (select train) next may vacant = calm (select train) next may vacant no_leaving (opened_trains (train == youngest view.trains.trains)) refl (omega arith) refl
-    event_rank (apply car) next may vacant = course (apply car) next may vacant no_leaving (same_trains (applied_in view car) (applied_trains car (queue_of view car))) (applied_keeps view car)
-    event_rank (doom train) next may vacant =
+    event_compares : (row : Row) → (Done → completes view row ≡ true) → next_row view ≡ row → MayPick view picked row → MayPlace view number row → Compares view (after view picked number row) Done
+    event_compares nothing only next may vacant = unchanged view Done (never only)
+    event_compares (select train) only next may vacant = calm (select train) next may vacant no_leaving (never only) (opened_trains (train == youngest view.trains.trains)) refl (omega arith)
+    event_compares (apply car) only next may vacant = course (apply car) next may vacant no_leaving (never only) (same_trains (applied_in view car) (applied_trains car (queue_of view car))) (applied_keeps view car)
+    event_compares (doom train) only next may vacant =
         let now = after view picked number (doom train) in
         let comes = comes_where view (doom train) next in
         let old = drained_oldest view train None law comes in
@@ -265,8 +274,8 @@ module _ (view : SpaceView) (law : HeapLaw view) where
         let cars : cars_of view.trains.trains train ≡ at.head.cars = ap (cars_of view.trains.trains) (sym same) ∙ ap (λ o. unwrap_or o []) (head_cars view law at) in
         let none : standing_of now at.head ≡ 0 = no_sum (standing_in now) at.head.cars (λ c among. cond-true _ _ _ (ap (is_among c) cars ∙ among)) in
         let takes : taking now T ≡ 0 = cond-false _ _ _ (ap (λ n. n == youngest view.trains.trains) same ∙ old.1) in
-        lowers (doom train) next may vacant no_leaving (same_trains view refl).like 1 (λ rose. omega arith) (inr (omega arith, omega (arith, some, none, takes)))
-    event_rank (start car a) next may vacant = lowers (start car a) next may vacant no_leaving (same_trains view refl).like 0 (λ rose. absurd (omega (arith, rose))) (inl (by_anchor view.anchor refl))
+        lowers (doom train) next may vacant no_leaving (same_trains view refl).like 1 (λ done. omega arith) (inr (omega arith, omega (arith, some, none, takes)))
+    event_compares (start car a) only next may vacant = lowers (start car a) next may vacant no_leaving (same_trains view refl).like 0 (λ done. absurd (never only done)) (inl (by_anchor view.anchor refl))
       where
         by_anchor : (o : Option (Addr × ℕ)) → view.anchor ≡ o → way (after view picked number (start car a)) at.head (anchored view.anchor a picked) + 0 ≤ way view at.head o
         by_anchor None is =
@@ -279,8 +288,8 @@ module _ (view : SpaceView) (law : HeapLaw view) where
         by_anchor (Some anchor) is =
             let far : way (after view picked number (start car a)) at.head (anchored view.anchor a picked) ≡ place_of anchor.0.car at.head.cars = ap (λ o. way (after view picked number (start car a)) at.head (anchored o a picked)) is in
             omega (arith, far)
-    event_rank (fix car x to) next may vacant = course (fix car x to) next may vacant no_leaving (same_trains (fixed view car x to) (fixed_trains car x to)) (fixed_keeps view car x to)
-    event_rank (move_anchor a to) next may vacant =
+    event_compares (fix car x to) only next may vacant = course (fix car x to) next may vacant no_leaving (never only) (same_trains (fixed view car x to) (fixed_trains car x to)) (fixed_keeps view car x to)
+    event_compares (move_anchor a to) only next may vacant =
         let comes = comes_where view (move_anchor a to) next in
         let stands = anchor_is comes.car view.anchor a to comes.anchor in
         let anchor = law.anchor a to stands in
@@ -289,32 +298,49 @@ module _ (view : SpaceView) (law : HeapLaw view) where
         let least = first_least view law at to anchor.stands in
         let over = ⊎_elim (λ (over : T < to). over) (λ (low : to ≤ T). absurd (anchor.leaves (sym anchor.old ∙ home ∙ ap Some (omega (arith, low, least))))) (cases_lt T to) in
         moves (move_anchor a to) next may vacant (λ id is. leaving a id to (record { kept = anchor.kept; here = is }) home least) object.0.id (ap (option_map (λ (o : Object). o.id)) object.1) over (moved_trains a to number)
-    event_rank (move_out a) next may vacant =
+    event_compares (move_out a) only next may vacant =
         let comes = comes_where view (move_out a) next in
         let out = out_to view a law comes picked may in
         let least = first_least view law at picked out.0 in
         let first : home view a.car ≡ T = ap (λ (a : Addr). home view a.car) comes.here ∙ home_is view comes.car law comes.emptied ∙ sym (first_old _ (front view comes.car law comes.emptied).old.0) in
         let apart : (picked == T) ≡ false = ap (λ n. picked == n) (sym first) ∙ out.1 in
         let leaves = emptied_leaves comes.car comes.emptied a (ap (λ (a : Addr). a.car) comes.here) picked least in
-        moves_out (move_out a) next may vacant leaves (grind (arith, nat_tests, least, apart)) (moved_trains a picked number) (moved_keeps view a picked number)
-    event_rank (move_on a train) next may vacant =
+        moves_out (move_out a) next may vacant leaves (never only) (grind (arith, nat_tests, least, apart)) (moved_trains a picked number) (moved_keeps view a picked number)
+    event_compares (move_on a train) only next may vacant =
         let comes = comes_where view (move_on a train) next in
         let same : train ≡ T = comes.home ∙ home_is view comes.car law comes.emptied ∙ sym (first_old _ (front view comes.car law comes.emptied).old.0) in
-        course (move_on a train) next may vacant (emptied_leaves comes.car comes.emptied a (ap (λ (a : Addr). a.car) comes.here) train (omega (arith, same))) (moved_trains a train number) (moved_keeps view a train number)
-    event_rank (finish car) next may vacant =
+        course (move_on a train) next may vacant (emptied_leaves comes.car comes.emptied a (ap (λ (a : Addr). a.car) comes.here) train (omega (arith, same))) (never only) (moved_trains a train number) (moved_keeps view a train number)
+    event_compares (finish car) only next may vacant =
         let going : ◌≡◌ {A = ℕ} (cond (is_emptying view.phase) 1 0) 1 = ap (λ p. cond {A = ℕ} (is_emptying p) 1 0) (comes_where view (finish car) next).emptied.moving in
-        calm (finish car) next may vacant no_leaving (same_trains (after view picked number (finish car)) refl) refl (omega (arith, going)) refl
-    event_rank (sweep a) next may vacant = course (sweep a) next may vacant no_leaving (same_trains (swept view a) (swept_trains a (object_at view.cars a))) (swept_keeps view a)
-    event_rank (free car) next may vacant =
+        calm (finish car) next may vacant no_leaving (never only) (same_trains (after view picked number (finish car)) refl) refl (omega (arith, going))
+    event_compares (sweep a) only next may vacant = course (sweep a) next may vacant no_leaving (never only) (same_trains (swept view a) (swept_trains a (object_at view.cars a))) (swept_keeps view a)
+    event_compares (free car) only next may vacant =
         let sweeping = (comes_where view (free car) next).sweeping in
         let of = swept_front car (inl sweeping) in
         let home : home view car ≡ of.train = ap (λ o. unwrap_or o 0) (first_home view.trains.trains of.train car law.built.trains.single of.first) in
         let going : ◌≡◌ {A = ℕ} (cond (is_emptying view.phase) 1 0) 1 = ap (λ p. cond {A = ℕ} (is_emptying p) 1 0) sweeping in
-        car_goes (after view picked number (free car)) (law_then (free car) next may vacant no_leaving) (less (free car) next may vacant no_leaving) car (inl sweeping) 1 (omega arith) (ap (λ n. without_first n view.trains.trains) home) refl
-        (λ others. (omega (arith, going), λ rose. omega arith))
-    event_rank (free_doomed train car) next may vacant =
+        car_goes Done (after view picked number (free car)) (law_then (free car) next may vacant no_leaving) (less (free car) next may vacant no_leaving) car (inl sweeping) 1 (omega arith) (ap (λ n. without_first n view.trains.trains) home) refl
+        (λ others. (omega (arith, going), λ done. omega arith))
+    event_compares (free_doomed train car) only next may vacant =
         by_last (length (cars_of view.trains.trains train) == 1) refl (law_then (free_doomed train car) next may vacant no_leaving) (less (free_doomed train car) next may vacant no_leaving)
       where
-        by_last : (b : Bool) → (length (cars_of view.trains.trains train) == 1) ≡ b → (let now = if b then completing (without_car view train car) else without_car view train car in HeapLaw now → HoldsNoMore view now → KeepsRank view now)
-        by_last true last law_then holds = car_goes _ law_then holds car (inr (train, (comes_where view (free_doomed train car) next).doomed)) 0 (omega arith) refl refl (λ others. absurd (true≢false (sym last ∙ others)))
-        by_last false last law_then holds = car_goes _ law_then holds car (inr (train, (comes_where view (free_doomed train car) next).doomed)) 0 (omega arith) refl refl (λ others. (omega arith, λ rose. absurd (omega (arith, rose))))
+        by_last : (b : Bool) → (length (cars_of view.trains.trains train) == 1) ≡ b → (let now = if b then completing (without_car view train car) else without_car view train car in HeapLaw now → HoldsNoMore view now → Compares view now Done)
+        by_last true last law_then holds = car_goes Done _ law_then holds car (inr (train, (comes_where view (free_doomed train car) next).doomed)) 0 (omega arith) refl refl (λ others. absurd (true≢false (sym last ∙ others)))
+        by_last false last law_then holds = car_goes Done _ law_then holds car (inr (train, (comes_where view (free_doomed train car) next).doomed)) 0 (omega arith) refl refl (λ others. (omega arith, λ done. absurd (true≢false (sym (only done) ∙ last))))
+
+-- an event raises the count with a completed collection alone
+rose_completes : (view : SpaceView) (picked number : ℕ) (row : Row) → view.completed < (after view picked number row).completed → completes view row ≡ true
+rose_completes view picked number row rose = by_case (completes view row) (completed_then view row picked number)
+  where
+    by_case : (b : Bool) → (after view picked number row).completed ≡ cond b (raised view.completed) view.completed → b ≡ true
+    by_case true is = refl
+    by_case false is = absurd (omega (arith, rose, is))
+
+pub event_rank : (view : SpaceView) → HeapLaw view → (picked number : ℕ) (row : Row) → next_row view ≡ row → MayPick view picked row → MayPlace view number row → KeepsRank view (after view picked number row)
+event_rank view law picked number row next may vacant =
+    let now = after view picked number row in
+    kept view now (event_compares view law picked number (view.completed < now.completed) row (rose_completes view picked number row) next may vacant)
+
+pub event_falls : (view : SpaceView) → HeapLaw view → (picked number : ℕ) (row : Row) → next_row view ≡ row → MayPick view picked row → MayPlace view number row → completes view row ≡ true → (n m : ℕ) → Fits view n m
+    → (rank view n m ≡ 0) ⊎ (rank (after view picked number row) n m < rank view n m)
+event_falls view law picked number row next may vacant completed n m fits = (event_compares view law picked number (completes view row ≡ true) row (λ is. is) next may vacant).falls n m fits completed

@@ -1,22 +1,26 @@
 //! Laws of the rank. Each function's contract is a law, and the function does nothing.
 
-ghost use Rattle.std.specs.Prelude.{◌≡◌, ◌<◌, ℕ, ◌+◌, ◌*◌, [], length};
+ghost use Rattle.std.specs.Prelude.{◌≡◌, ◌⊎◌, ◌<◌, ℕ, ◌+◌, ◌*◌, true, [], length};
 ghost use Rattle.pm_types.specs.declared.limits.TheConstants.{CLIENTS};
 ghost use Rattle.pm_types.specs.declared.command.Cmd.{Cmd};
 ghost use Rattle.pm_types.specs.Registers.{HasRegisters};
 ghost use Rattle.pm_view.specs.View.{SpaceView};
 ghost use Rattle.pm_view.specs.Law.{HeapLaw};
-ghost use Rattle.pm_view.specs.Events.{Row, next_row, after, MayPick, MayPlace};
+ghost use Rattle.pm_view.specs.Events.{Row, next_row, after, completes, MayPick, MayPlace};
 ghost use Rattle.pm_view.specs.Commands.{row, Picks, ArePicked};
 ghost use Rattle.pm_view.specs.Ranking.{Fits, up_to, rank};
 ghost use Rattle.pm_view.specs.Bounded.{KeepsRank};
 
 /// A law of events: whichever comes next, and whatever train is picked where one is, what fits stays, and the rank has
-/// not risen; where a collection was completed it has fallen, unless it was 0.
+/// not risen; where a collection was completed it has fallen, unless it was 0, also where the count stands still.
 pub fn an_event_keeps_the_rank()
-    ensures { (view : SpaceView) (row : Row) (picked number : ℕ) → HeapLaw view → next_row view ≡ row
+    ensures keeps { (view : SpaceView) (row : Row) (picked number : ℕ) → HeapLaw view → next_row view ≡ row
         → MayPick view picked row → MayPlace view number row
         → KeepsRank view (after view picked number row) }
+    ensures falls { (view : SpaceView) (row : Row) (picked number : ℕ) → HeapLaw view → next_row view ≡ row
+        → MayPick view picked row → MayPlace view number row
+        → completes view row ≡ true → (n m : ℕ) → Fits view n m
+        → (rank view n m ≡ 0) ⊎ (rank (after view picked number row) n m < rank view n m) }
 {}
 
 /// A law of commands: what fits stays, and the rank has not risen.

@@ -1,11 +1,12 @@
 -- A car that goes: the heap law is kept, and what the space stands for.
-use Rattle.std.proofs.Common.{◌≡◌, ◌≢◌, ℕ, ◌+◌, ◌≤◌, ◌==◌, ◌&&◌, ◌||◌, if◌then◌else◌, Bool, true, false, cond, not, refl, ap, sym, subst, ◌∙◌, List, [], ◌∷◌, length, Option, Some, None, is_some, arith}
+use Rattle.std.proofs.Common.{◌≡◌, ◌≢◌, ℕ, ◌≤◌, ◌==◌, ◌&&◌, ◌||◌, if◌then◌else◌, Bool, true, false, cond, not, refl, ap, sym, subst, ◌∙◌, List, [], ◌∷◌, length, Option, Some, None, is_some, arith}
 use Rattle.std.specs.Option.{option_map, option_and_then, unwrap_or}
 use Rattle.std.specs.List.{find, slice_get, sum_by}
 use Rattle.std.specs.FinMap.{get, entries, nat_cmp-IsAntisymmetric}
 use Rattle.std.specs.Cmp.{nat_cmp_total}
 use Rattle.std.proofs.lemmas.Bool.{eqb-true, eq-eqb, cond-true, cond-false, both_ways, true≢false, false_from_ne_true, not_from_false}
 use Rattle.std.proofs.lemmas.Bool.Decides.{nat_tests}
+use Rattle.pm_types.specs.Counts.{raised}
 use Rattle.pm_types.specs.declared.address.Addr.{Addr}
 use Rattle.pm_types.specs.declared.object.Object.{Object}
 use Rattle.pm_types.specs.declared.object.Slot.{Slot}
@@ -282,7 +283,7 @@ module _ (view : SpaceView) (car : ℕ) (law : HeapLaw view) (is : IsFreeing vie
   pub freed_goes : Goes view (completing (without_car view (home view car) car))
   freed_goes =
       let cars = first_cars (cars_at view.trains.trains front.train) car front.first in
-      subst (λ T. Goes view (completing (without_car view T car))) (sym at_home) (going_goes view front.train car cars.0 Idle (view.completed + 1) law (freeing cars.0 cars.1))
+      subst (λ T. Goes view (completing (without_car view T car))) (sym at_home) (going_goes view front.train car cars.0 Idle (raised view.completed) law (freeing cars.0 cars.1))
 
 -- ---- a car of a doomed train
 
@@ -348,7 +349,7 @@ module _ (view : SpaceView) (T car : ℕ) (law : HeapLaw view) (is : IsFreeingDo
         alone false d same = refl
 
     by_rest : (xs : List ℕ) → rest ≡ xs → Goes view (if length (car ∷ xs) == 1 then completing (without_car view T car) else without_car view T car)
-    by_rest [] none = going_goes view T car rest Idle (view.completed + 1) law (going_last none)
+    by_rest [] none = going_goes view T car rest Idle (raised view.completed) law (going_last none)
     by_rest (d ∷ more) some =
         subst (λ b. Goes view (if b then completing (without_car view T car) else without_car view T car)) (sym (two more))
         (going_goes view T car rest view.phase view.completed law (going_on d more some))

@@ -2,7 +2,7 @@
 use Rattle.std.proofs.Common.{◌≡◌, ⊎_elim, ℕ, ◌+◌, ◌≤◌, ◌==◌, if◌then◌else◌, Bool, true, false, cond, refl, ap, sym, subst, ◌∙◌, List, [], ◌∷◌, length, Option, Some, None, arith}
 use Rattle.std.specs.Option.{unwrap_or}
 use Rattle.std.specs.FinMap.{get}
-use Rattle.std.proofs.lemmas.Bool.{eqb-true, eq-eqb, cond-true}
+use Rattle.std.proofs.lemmas.Bool.{eqb-true, eq-eqb, cond-true, true≢false}
 use Rattle.std.proofs.lemmas.List.Sums.{sum_by-cons}
 use Rattle.pm_types.specs.declared.address.Addr.{Addr}
 use Rattle.pm_types.specs.declared.object.Object.{Object}
@@ -101,12 +101,12 @@ module _ (view : SpaceView) (T car : ℕ) (law : HeapLaw view) (is : IsFreeingDo
       let longer : length (car ∷ rest) ≡ length rest + 1 = omega arith in
       omega (arith, sums, head, now, was, longer)
 
-  by_rest : (b : Bool) → (if b then completing less else less).completed ≡ view.completed → work (if b then completing less else less) + 1 ≤ work view
-  by_rest true still = absurd (omega (arith, still))
-  by_rest false still = subst (λ p. work_in less p + 1 ≤ work_in view p) (sym is.doomed.doomed) train_less
+  by_rest : (b : Bool) → b ≡ false → work (if b then completing less else less) + 1 ≤ work view
+  by_rest true goes = absurd (true≢false goes)
+  by_rest false goes = subst (λ p. work_in less p + 1 ≤ work_in view p) (sym is.doomed.doomed) train_less
 
-  last_lowers : (freed_of_train view T car).completed ≡ view.completed → work (freed_of_train view T car) + 1 ≤ work view
-  last_lowers still = by_rest (length (cars_of view.trains.trains T) == 1) still
+  last_lowers : (length (cars_of view.trains.trains T) == 1) ≡ false → work (freed_of_train view T car) + 1 ≤ work view
+  last_lowers goes = by_rest (length (cars_of view.trains.trains T) == 1) goes
 
-pub freed_lowers : (view : SpaceView) (T car : ℕ) → HeapLaw view → IsFreeingDoomed view T car → (freed_of_train view T car).completed ≡ view.completed → work (freed_of_train view T car) + 1 ≤ work view
-freed_lowers view T car law is still = let cars = first_cars (cars_at view.trains.trains T) car is.doomed.first in last_lowers view T car law is cars.0 cars.1 still
+pub freed_lowers : (view : SpaceView) (T car : ℕ) → HeapLaw view → IsFreeingDoomed view T car → (length (cars_of view.trains.trains T) == 1) ≡ false → work (freed_of_train view T car) + 1 ≤ work view
+freed_lowers view T car law is goes = let cars = first_cars (cars_at view.trains.trains T) car is.doomed.first in last_lowers view T car law is cars.0 cars.1 goes

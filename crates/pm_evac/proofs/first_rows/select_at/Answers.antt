@@ -1,12 +1,10 @@
-use Rattle.std.proofs.Common.{rules, refl, ap, ◌∙◌}
+use Rattle.std.proofs.Common.{refl}
 use Rattle.pm_types.specs.declared.event.Step.TheVariants.{Selected}
 use Rattle.pm_view.specs.Events.{select}
 use Rattle.pm_law_collect.proofs.PhasesLemmas.Comes.{comes_where}
 use Rattle.pm_law_collect.proofs.PhasesLemmas.PhaseRows.{oldest_has}
 use Rattle.pm_space.specs.Shown.{view}
-use Rattle.pm_evac.specs.Relocate.Changed.{counted}
 use Rattle.pm_evac.proofs.Chosen.{made}
-use Rattle.pm_evac.proofs.RelocateLemmas.Views.{is_counted}
 use Rattle.pm_evac.proofs.first_rows.select_at.Goals as goal
 
 pub select_train-requires : goal.select_train-requires
@@ -18,7 +16,7 @@ pub returns : goal.returns
 returns g c =
     let w = view c.select_train.new.parts in record {
       row = record {
-        ok = made g.F.Fn c.args.parts.now.place (view c.args.parts.now) 0 w (Selected c.args.train) (select c.args.train) 0 c.requires.row tt tt (is_counted w (search rules) ∙ ap counted c.in_ok-select_train.ensures.ok) refl;
+        ok = made g.F.Fn c.args.parts.now.place (view c.args.parts.now) 0 w (Selected c.args.train) (select c.args.train) 0 c.requires.row tt tt c.in_ok-select_train.ensures.ok refl;
         err = tt;
         rest = c.in_ok-select_train.ensures.rest;
       };

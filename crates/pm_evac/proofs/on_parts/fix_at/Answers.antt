@@ -1,12 +1,10 @@
-use Rattle.std.proofs.Common.{rules, refl, ap, ◌∙◌}
+use Rattle.std.proofs.Common.{refl}
 use Rattle.pm_types.specs.declared.event.Step.TheVariants.{Fixed}
 use Rattle.pm_view.specs.Events.{fix}
 use Rattle.pm_law_collect.proofs.PhasesLemmas.Comes.{comes_where}
 use Rattle.pm_space.specs.Shown.{view}
-use Rattle.pm_evac.specs.Relocate.Changed.{counted}
 use Rattle.pm_evac.proofs.Chosen.{made}
 use Rattle.pm_evac.proofs.Lawful.{remembered_there, remembers, stale_held, emptied_kept}
-use Rattle.pm_evac.proofs.RelocateLemmas.Views.{is_counted}
 use Rattle.pm_evac.proofs.on_parts.fix_at.Goals as goal
 
 pub fix-requires-clause-there : goal.fix-requires-clause-there
@@ -26,7 +24,7 @@ pub returns : goal.returns
 returns g c =
     let w = view c.fix.new.parts in record {
       row = record {
-        ok = made g.F.Fn c.args.parts.now.place (view c.args.parts.now) 0 w (Fixed c.args.car) (fix c.args.car c.args.source c.args.to) 0 c.requires.row tt tt (is_counted w (search rules) ∙ ap counted c.in_ok-fix.ensures.ok) refl;
+        ok = made g.F.Fn c.args.parts.now.place (view c.args.parts.now) 0 w (Fixed c.args.car) (fix c.args.car c.args.source c.args.to) 0 c.requires.row tt tt c.in_ok-fix.ensures.ok refl;
         err = tt;
         rest = c.in_ok-fix.ensures.rest;
       };

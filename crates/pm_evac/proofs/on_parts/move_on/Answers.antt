@@ -1,13 +1,11 @@
-use Rattle.std.proofs.Common.{rules, ap, ◌∙◌}
+use Rattle.std.proofs.Common.{ap}
 use Rattle.pm_types.specs.declared.event.Step.TheVariants.{Moved}
 use Rattle.pm_view.specs.Events.{move_on}
 use Rattle.pm_law_collect.proofs.PhasesLemmas.Comes.{comes_where}
 use Rattle.pm_space.specs.Shown.{view}
 use Rattle.pm_space.proofs.OpenedCars.{lowest_vacant}
-use Rattle.pm_evac.specs.Relocate.Changed.{counted}
 use Rattle.pm_evac.proofs.Chosen.{made}
 use Rattle.pm_evac.proofs.MoveRows.{may_move_on}
-use Rattle.pm_evac.proofs.RelocateLemmas.Views.{is_counted}
 use Rattle.pm_evac.proofs.on_parts.move_on.Goals as goal
 
 pub relocate-requires : goal.relocate-requires
@@ -23,7 +21,7 @@ returns g c =
     let moved = c.in_ok-id.ensures.ok in record {
       row = record {
         ok = made g.F.Fn c.args.parts.now.place (view c.args.parts.now) 0 w (Moved c.in_ok-id.id c.args.train) (move_on c.args.at c.args.train) moved.number c.requires.row tt moved.vacant
-            (is_counted w (search rules) ∙ ap counted moved.after) (ap (λ id. Moved id c.args.train) c.in_ok-id.ensures.id);
+            moved.after (ap (λ id. Moved id c.args.train) c.in_ok-id.ensures.id);
         err = tt;
         rest = c.in_ok-id.ensures.rest;
       };

@@ -1,13 +1,11 @@
-use Rattle.std.proofs.Common.{rules, ap, ◌∙◌}
+use Rattle.std.proofs.Common.{ap}
 use Rattle.pm_types.specs.declared.event.Step.TheVariants.{Moved}
 use Rattle.pm_view.specs.Events.{move_out}
 use Rattle.pm_law_collect.proofs.PhasesLemmas.Comes.{comes_where}
 use Rattle.pm_space.specs.Shown.{view}
 use Rattle.pm_space.proofs.OpenedCars.{lowest_vacant}
-use Rattle.pm_evac.specs.Relocate.Changed.{counted}
 use Rattle.pm_evac.proofs.Chosen.{among_picked, made}
 use Rattle.pm_evac.proofs.MoveRows.{may_move_out}
-use Rattle.pm_evac.proofs.RelocateLemmas.Views.{is_counted}
 use Rattle.pm_evac.proofs.on_parts.move_out.Goals as goal
 
 pub pick_way-requires-clause-some : goal.pick_way-requires-clause-some
@@ -27,7 +25,7 @@ returns g c =
     let moved = c.in_ok-id.ensures.ok in record {
       row = record {
         ok = made g.F.Fn c.args.parts.now.place (view c.args.parts.now) c.in_ok-train.train w (Moved c.in_ok-id.id c.in_ok-train.train) (move_out c.args.at) moved.number c.requires.row c.in_ok-train.ensures moved.vacant
-            (is_counted w (search rules) ∙ ap counted moved.after) (ap (λ id. Moved id c.in_ok-train.train) c.in_ok-id.ensures.id);
+            moved.after (ap (λ id. Moved id c.in_ok-train.train) c.in_ok-id.ensures.id);
         err = tt;
         rest = c.in_ok-id.ensures.rest;
       };

@@ -3,7 +3,7 @@ use Rattle.pm_view.specs.Law.{HeapLaw}
 use Rattle.pm_view.specs.Stale.{IsSole}
 use Rattle.pm_space.specs.Quiet.{IsQuiet}
 use Rattle.pm_space.specs.Shown.{view}
-use Rattle.pm_reclaim.proofs.Counting.{holds_after, makes_found}
+use Rattle.pm_reclaim.proofs.Making.{holds_after, makes_found}
 use Rattle.pm_reclaim.proofs.on_space.make_next.Goals as goal
 
 pub invariant_of-space : goal.invariant_of-space
