@@ -89,6 +89,13 @@ IsPicking (start car a) = Unit {0}
 IsPicking (move_out a) = Unit {0}
 IsPicking row = ⊥
 
+-- The event may take memory. None comes, a train is doomed and a car begins to be swept without any.
+abbrev pub TakesMemory : Row → Type 0
+TakesMemory nothing = ⊥
+TakesMemory (doom train) = ⊥
+TakesMemory (finish car) = ⊥
+TakesMemory row = Unit {0}
+
 -- ---- what an event that was made keeps
 
 -- the space stands for each world for which it stood
@@ -169,9 +176,11 @@ module _ {F : Type 0} (calls : Shared F (Bor (List ℕ) × Unit {0}) ℕ) (choos
     pub progress : MovesOn old new step
 
 -- What a call says that makes the next event: it was made, with the chooser's pick, or after want of memory all that is
--- seen is as it was; in any case each world for which the space stood stays, the frozen cars, and the chooser.
+-- seen is as it was, and the event may take memory; in any case each world for which the space stood stays, the frozen
+-- cars, and the chooser.
 pub record MakesEvent {F : Type 0} (calls : Shared F (Bor (List ℕ) × Unit {0}) ℕ) (old new : Parts F) (result : Result Step NoMemory) : Type 0 where
   pub ok : IfOk result (λ step. IsMade calls old.place (view old) (view new) step)
   pub worlds : KeepsWorlds (view old) (view new)
   pub err : OnErr result (view new ≡ view old)
+  pub short : OnErr result (TakesMemory (next_row (view old)))
   pub rest : KeepsRest old new

@@ -1,10 +1,10 @@
-ghost use Rattle.std.specs.Prelude.{◌≡◌};
+ghost use Rattle.std.specs.Prelude.{◌≡◌, OnErr};
 ghost use Rattle.pm_place.specs.Choosers.{IsChooser};
 ghost use Rattle.pm_view.specs.Law.{HeapLaw};
 ghost use Rattle.pm_view.specs.Events.{nothing, apply, fix, move_anchor, move_out, move_on, finish, sweep, free, free_doomed, next_row};
 ghost use Rattle.pm_space.specs.Shown.{view, KeepsRest, MakesRow};
 ghost use Rattle.pm_next.specs.Seen.{seen_row};
-ghost use Rattle.pm_evac.specs.Steps.{IsChosenEvent, IsPicking};
+ghost use Rattle.pm_evac.specs.Steps.{IsChosenEvent, IsPicking, TakesMemory};
 
 use crate::first_rows::{doom_at, select_at, start_at};
 use crate::relocate::{apply, finish, fix, free, relocate, sweep};
@@ -174,7 +174,7 @@ pub fn free_doomed_at<F: Fn(&[u64]) -> usize + Drop>(
 }
 
 /// Makes the event that comes next, which is this row, on parts that keep the heap law. Where it picks a train the
-/// chooser picks it. After want of memory all is as it was.
+/// chooser picks it. Want of memory is answered only of an event that may take memory; after it all is as it was.
 pub fn make<F: Fn(&[u64]) -> usize + Drop>(
     parts: &mut Parts<F>,
     alloc: Global,
@@ -185,6 +185,7 @@ pub fn make<F: Fn(&[u64]) -> usize + Drop>(
     requires row { next_row (view parts.old) ≡ seen_row row }
     ensures row { MakesRow parts.old parts.new result
         (λ step. IsChosenEvent F.Fn parts.old.place (view parts.old) (view parts.new) step) }
+    ensures short { OnErr result (TakesMemory (next_row (view parts.old))) }
 {
     match row {
         Row::Nothing => Ok(rest(parts)),

@@ -23,4 +23,4 @@ pub returns : goal.returns
 returns g c =
     let all = c.an_event_that_was_made_keeps_all.ensures in
     let space = c.prepared_row.new.space in
-    makes_found g.F.Fn c.args.space.now.parts space.parts c.finish_at.new.parts c.prepared_row.ensures.parts space.kept (Ok c.finish_at.result) all.worlds all.places all.work all.rank all.sunk all.phase all.progress c.finish_at.ensures.event tt c.finish_at.ensures.rest
+    makes_found g.F.Fn c.args.space.now.parts space.parts c.finish_at.new.parts c.prepared_row.ensures.parts space.kept (Ok c.finish_at.result) all.worlds all.places all.work all.rank all.sunk all.phase all.progress c.finish_at.ensures.event tt tt c.finish_at.ensures.rest

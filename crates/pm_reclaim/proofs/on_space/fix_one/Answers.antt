@@ -1,10 +1,17 @@
 use Rattle.pm_view.specs.View.{SpaceView}
 use Rattle.pm_view.specs.Law.{HeapLaw}
+use Rattle.pm_view.specs.Events.{Row, fix, next_row}
 use Rattle.pm_view.specs.Stale.{IsSole}
 use Rattle.pm_space.specs.Quiet.{IsQuiet}
 use Rattle.pm_space.specs.Shown.{view}
-use Rattle.pm_reclaim.proofs.Making.{holds_after, makes_found}
+use Rattle.pm_evac.specs.Steps.{IsFix, TakesMemory}
+use Rattle.pm_reclaim.proofs.Making.{holds_after, found_takes, makes_found}
 use Rattle.pm_reclaim.proofs.on_space.fix_one.Goals as goal
+
+-- such an event may take memory
+takes_memory : (row : Row) → IsFix row → TakesMemory row
+takes_memory (fix car source to) is = tt
+takes_memory row is = absurd is
 
 pub invariant_of-space : goal.invariant_of-space
 invariant_of-space g c =
@@ -23,4 +30,5 @@ pub returns : goal.returns
 returns g c =
     let all = c.an_event_that_was_made_keeps_all.ensures in
     let space = c.prepared_row.new.space in
-    makes_found g.F.Fn c.args.space.now.parts space.parts c.fix_at.new.parts c.prepared_row.ensures.parts space.kept c.fix_at.result all.worlds all.places all.work all.rank all.sunk all.phase all.progress c.fix_at.ensures.row.ok c.fix_at.ensures.row.err c.fix_at.ensures.row.rest
+    makes_found g.F.Fn c.args.space.now.parts space.parts c.fix_at.new.parts c.prepared_row.ensures.parts space.kept c.fix_at.result all.worlds all.places all.work all.rank all.sunk all.phase all.progress c.fix_at.ensures.row.ok c.fix_at.ensures.row.err
+    (found_takes c.args.space.now.parts space.parts c.fix_at.result c.prepared_row.ensures.parts (takes_memory (next_row (view c.args.space.now.parts)) c.requires)) c.fix_at.ensures.row.rest

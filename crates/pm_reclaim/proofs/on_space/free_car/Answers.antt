@@ -1,10 +1,18 @@
 use Rattle.pm_view.specs.View.{SpaceView}
 use Rattle.pm_view.specs.Law.{HeapLaw}
+use Rattle.pm_view.specs.Events.{Row, free, free_doomed, next_row}
 use Rattle.pm_view.specs.Stale.{IsSole}
 use Rattle.pm_space.specs.Quiet.{IsQuiet}
 use Rattle.pm_space.specs.Shown.{view}
-use Rattle.pm_reclaim.proofs.Making.{holds_after, makes_found}
+use Rattle.pm_evac.specs.Steps.{IsFree, TakesMemory}
+use Rattle.pm_reclaim.proofs.Making.{holds_after, found_takes, makes_found}
 use Rattle.pm_reclaim.proofs.on_space.free_car.Goals as goal
+
+-- such an event may take memory
+takes_memory : (row : Row) → IsFree row → TakesMemory row
+takes_memory (free car) is = tt
+takes_memory (free_doomed train car) is = tt
+takes_memory row is = absurd is
 
 pub invariant_of-space : goal.invariant_of-space
 invariant_of-space g c =
@@ -23,7 +31,8 @@ pub returns-in-Free : goal.returns-in-Free
 returns-in-Free g c =
     let all = c.an_event_that_was_made_keeps_all.ensures in
     let space = c.prepared_row.new.space in
-    makes_found g.F.Fn c.args.space.now.parts space.parts c.free_at.new.parts c.prepared_row.ensures.parts space.kept c.free_at.result all.worlds all.places all.work all.rank all.sunk all.phase all.progress c.free_at.ensures.row.ok c.free_at.ensures.row.err c.free_at.ensures.row.rest
+    makes_found g.F.Fn c.args.space.now.parts space.parts c.free_at.new.parts c.prepared_row.ensures.parts space.kept c.free_at.result all.worlds all.places all.work all.rank all.sunk all.phase all.progress c.free_at.ensures.row.ok c.free_at.ensures.row.err
+    (found_takes c.args.space.now.parts space.parts c.free_at.result c.prepared_row.ensures.parts (takes_memory (next_row (view c.args.space.now.parts)) c.requires)) c.free_at.ensures.row.rest
 
 pub invariant_of-space-in-FreeDoomed : goal.invariant_of-space-in-FreeDoomed
 invariant_of-space-in-FreeDoomed g c =
@@ -42,4 +51,5 @@ pub returns-in-FreeDoomed : goal.returns-in-FreeDoomed
 returns-in-FreeDoomed g c =
     let all = c.an_event_that_was_made_keeps_all.ensures in
     let space = c.prepared_row.new.space in
-    makes_found g.F.Fn c.args.space.now.parts space.parts c.free_doomed_at.new.parts c.prepared_row.ensures.parts space.kept c.free_doomed_at.result all.worlds all.places all.work all.rank all.sunk all.phase all.progress c.free_doomed_at.ensures.row.ok c.free_doomed_at.ensures.row.err c.free_doomed_at.ensures.row.rest
+    makes_found g.F.Fn c.args.space.now.parts space.parts c.free_doomed_at.new.parts c.prepared_row.ensures.parts space.kept c.free_doomed_at.result all.worlds all.places all.work all.rank all.sunk all.phase all.progress c.free_doomed_at.ensures.row.ok c.free_doomed_at.ensures.row.err
+    (found_takes c.args.space.now.parts space.parts c.free_doomed_at.result c.prepared_row.ensures.parts (takes_memory (next_row (view c.args.space.now.parts)) c.requires)) c.free_doomed_at.ensures.row.rest

@@ -23,4 +23,4 @@ pub returns : goal.returns
 returns g c =
     let all = c.an_event_that_was_made_keeps_all.ensures in
     let space = c.prepared_row-row.new.space in
-    makes_found g.F.Fn c.args.space.now.parts space.parts c.make.new.parts c.prepared_row-row.ensures.parts space.kept c.make.result all.worlds all.places all.work all.rank all.sunk all.phase all.progress c.make.ensures.row.ok c.make.ensures.row.err c.make.ensures.row.rest
+    makes_found g.F.Fn c.args.space.now.parts space.parts c.make.new.parts c.prepared_row-row.ensures.parts space.kept c.make.result all.worlds all.places all.work all.rank all.sunk all.phase all.progress c.make.ensures.row.ok c.make.ensures.row.err c.make.ensures.short c.make.ensures.row.rest
