@@ -1,5 +1,5 @@
 -- What holds of an engine that was just opened.
-use Rattle.std.proofs.Common.{◌≡◌, ℕ, ◌≤◌, true, false, List, [], ◌∷◌, Option, Some, None, sym, ap, subst}
+use Rattle.std.proofs.Common.{◌≡◌, ℕ, ◌≤◌, true, false, List, [], ◌∷◌, Option, Some, None, sym, ap, subst, ◌∙◌}
 use Rattle.std.specs.List.{AllByRecursion}
 use Rattle.pm_disk.specs.declared.disk.Disk.{Ghosts}
 use Rattle.pm_disk.specs.Disk.{IfTold}
@@ -14,6 +14,7 @@ use Rattle.pm_shadow.specs.Images.{Holds}
 use Rattle.pm_shadow.specs.Pages.{current_kept, disk_of}
 use Rattle.pm_view.specs.View.{Cars}
 use Rattle.pm_copies.specs.Listed.{copy_in}
+use Rattle.pm_copies.specs.Opened.{IsFresh}
 use Rattle.pm_saving.specs.Progress.{Saving}
 use Rattle.pm_saving.specs.Tied.{HasCopy, IsOnPage, IsTied}
 use Rattle.pm_law_saving.proofs.Giving.{store_begins}
@@ -27,13 +28,29 @@ use Rattle.pm_law_saving.proofs.ServingLemmas.Images.{begins}
 use Rattle.pm_engine.specs.declared.start.Start.{Start}
 use Rattle.pm_engine.specs.declared.works.works.Works.{Works}
 use Rattle.pm_engine.specs.Works.Working.{contents_in, course_in, disk_at, frozen_in, saving_in, state_in, view_in}
+use Rattle.pm_engine.specs.History.{HasHistory}
 use Rattle.pm_engine.specs.Seen.{IsSound, disk_then, seen}
 use Rattle.pm_engine.proofs.Going.{settled_there}
+use Rattle.pm_engine.proofs.Past.{past_begun}
 
 -- each car stands on a page of the current copy
 on_pages : (s : State) (cars : List KeptPage) → s.known ≡ true → AllByRecursion (λ (kept : KeptPage). (2 ≤ kept.page) × (s.uses kept.page ≡ Current)) cars → AllByRecursion (IsOnPage s) cars
 on_pages s [] known all = tt
 on_pages s (kept ∷ cars) known all = (record { from_2 = all.0.0; keeps = ap (keeps_by s.known) all.0.1 }, on_pages s cars known all.1)
+
+-- where nothing was asked yet it is an engine that was just opened
+module _ {D : Type 0} {F : Type 0} {g : Ghosts D} (start : Start D F g) (works : Works D F g) (frozen : frozen_in works ≡ None) (journal : works.journal.items ≡ []) (course : course_in works ≡ []) (watches : works.watches.items ≡ []) (events : works.events ≡ 0)
+    (steps : works.steps ≡ 0) (space : start.space.value ≡ works.space) where
+  viewed : view start.space.value.parts ≡ view_in works
+  viewed = ap (λ space. view space.parts) space
+
+  pub just_begun : just_opened start.number (view start.space.value.parts) (saving_in works) ≡ seen start None works
+  just_begun =
+      (λ i. record { number = start.number; opened = view start.space.value.parts; view = viewed i; frozen = sym frozen i; saving = saving_in works; journal = sym journal i; course = sym course i; watches = sym watches i; events = sym events i; steps = sym steps i; stopped = None })
+
+  -- with nothing behind it
+  pub past_now : (next_id : ℕ) → IsFresh next_id (view_in works) → (saving_in works).progress ≡ None → ∥ HasHistory (seen start None works) ∥₁
+  past_now next_id fresh idle = past_begun (seen start None works) next_id (subst (IsFresh next_id) (sym viewed) fresh) idle just_begun
 
 module _ {D : Type 0} {F : Type 0} {g : Ghosts D} (start : Start D F g) (works : Works D F g) (s0 : State) (place : F) (cars : List KeptPage)
     (unknown : s0.known ≡ false) (knows : KnowsPages s0 (state_in works)) (makes : MakesSpace s0 (state_in works) works.space.parts place cars) (fine : (state_in works).failed ≡ false)
@@ -76,8 +93,7 @@ module _ {D : Type 0} {F : Type 0} {g : Ghosts D} (start : Start D F g) (works :
   start_sound frozen saved journal course watches events steps number space pages only_now only =
       let viewed = ap (λ space. view space.parts) space in
       let it : Serving = just_opened start.number (view_in works) (saving_in works) in
-      let same : it ≡ seen start None works =
-      (λ i. record { number = start.number; opened = sym viewed i; view = view_in works; frozen = sym frozen i; saving = saving_in works; journal = sym journal i; course = sym course i; watches = sym watches i; events = sym events i; steps = sym steps i; stopped = None }) in
+      let same : it ≡ seen start None works = (λ i. just_opened start.number (sym viewed i) (saving_in works)) ∙ just_begun start works frozen journal course watches events steps space in
       let served = subst IsServed same (begins_served start.number _ makes.entries s0.header.next (view_in works) (saving_in works) makes.accepted makes.opened (ap (λ (s : Saving). s.progress) saved)) in
       let stored : IsStored it (state_in works) (g.contents (disk_then start)) (contents_in works) = record {
         tied = subst (λ (f : Option Cars). IsTied (saving_in works) f (state_in works) (contents_in works)) frozen (tied frozen saved);

@@ -48,6 +48,10 @@ made_counts old new step small event =
     by_row true rose is = (omega (arith, rose, is, small), omega (arith, rose, is, small))
     by_row false same is = (omega (arith, same, is, small), omega (arith, same, is, small))
 
+-- what an event of the collector leaves
+pub made_keeps : {F : Type 0} (old new : SpaceView) (step : Step) (calls : Shared F (Bor (List ℕ) × Unit {0}) ℕ) (choose : F) → old.completed < 18446744073709551616 → IsMade calls choose old new step → KeepsWatches old new
+made_keeps old new step calls choose small made = record { rank = made.rank; sunk = made.sunk; counts = made_counts old new step small made.event }
+
 -- what a command leaves
 pub kept_of : {D F : Type 0} {g : Ghosts D} (client : ℕ) (cmd : Cmd) (old new : Works D F g) (reply : Reply) → Answers client cmd old new reply → KeepsWatches (view_in old) (view_in new)
 kept_of client Save old new reply is = kept_still (view_in old) (view_in new) (save_view client old new reply is)
@@ -88,8 +92,7 @@ module _ {D : Type 0} {F : Type 0} {g : Ghosts D} (start : Start D F g) (stopped
   pub bounds_tried : (calls : Shared F (Bor (List ℕ) × Unit {0}) ℕ) (r : Result Step NoMemory) → (view_in old).completed < 18446744073709551616 → IfOk r (IsMade calls (place_in old) (view_in old) (view_in new)) → OnOk r (CollectsOn old new)
       → OnErr r (IsLeft old new) → ∥ KeepsBounds (seen start stopped old) ∥₁ → ∥ KeepsBounds (seen start stopped new) ∥₁
   bounds_tried calls (Ok step) small made is left known =
-      ∥∥₁_map known (λ are. stay start stopped stopped old new is.journal is.watches
-      (record { rank = made.rank; sunk = made.sunk; counts = made_counts (view_in old) (view_in new) step small made.event }) are)
+      ∥∥₁_map known (λ are. stay start stopped stopped old new is.journal is.watches (made_keeps (view_in old) (view_in new) step calls (place_in old) small made) are)
   bounds_tried calls (Err e) small made is left known = bounds_kept start stopped stopped old new left.nothing.journal left.nothing.watches left.keeps.view known
 
   -- ---- commands

@@ -11,4 +11,6 @@ pub mod Telling
 pub mod Collected
 pub mod Acting
 pub mod Counts
+pub mod Histories
+pub mod Past
 pub mod EventsLemmas

@@ -10,13 +10,14 @@ use Rattle.pm_saving.specs.Events.{Serves}
 use Rattle.pm_engine.specs.declared.engine.Engine.{Engine}
 use Rattle.pm_engine.specs.declared.works.works.Works.{Works}
 use Rattle.pm_engine.specs.Works.Working.{Answers, Unsaves, disk_at}
+use Rattle.pm_engine.specs.History.{HasHistory}
 use Rattle.pm_engine.specs.Seen.{IsSound, seen}
 use Rattle.pm_engine.specs.Calls.{DropsPages, IsDropped, SettlesAs}
 use Rattle.pm_engine.proofs.Crashing.{settled_images, settled_number, settles_copy}
 
-module _ {D : Type 0} {F : Type 0} {g : Ghosts D} (old : Engine D F g) (new : Works D F g) (sound : ∥ IsSound old.opening old.stopped new ∥₁) (bounded : ∥ KeepsBounds (seen old.opening old.stopped new) ∥₁) (counted : old.opening.count ≤ g.count (disk_at new)) (none : old.stopped ≡ None) (client : ℕ) (cmd : Cmd) where
+module _ {D : Type 0} {F : Type 0} {g : Ghosts D} (old : Engine D F g) (new : Works D F g) (sound : ∥ IsSound old.opening old.stopped new ∥₁) (bounded : ∥ KeepsBounds (seen old.opening old.stopped new) ∥₁) (counted : old.opening.count ≤ g.count (disk_at new)) (past : ∥ HasHistory (seen old.opening old.stopped new) ∥₁) (none : old.stopped ≡ None) (client : ℕ) (cmd : Cmd) where
   pub settled_all : (reply : Reply) → Serves client cmd (seen old.opening old.stopped old.works) (seen old.opening old.stopped new) reply → Answers client cmd old.works new reply
-      → SettlesAs old (record { works = new; opening = old.opening; stopped = old.stopped; sound = sound; bounded = bounded; counted = counted }) reply
+      → SettlesAs old (record { works = new; opening = old.opening; stopped = old.stopped; sound = sound; bounded = bounded; counted = counted; past = past }) reply
   settled_all (Saved number) serves is =
       let start = old.opening in
       let serves0 = subst (λ (o : Option ℕ). Serves client cmd (seen start o old.works) (seen start o new) (Saved number)) none serves in
@@ -29,9 +30,9 @@ module _ {D : Type 0} {F : Type 0} {g : Ghosts D} (old : Engine D F g) (new : Wo
       }
   settled_all reply serves is = tt
 
-module _ {D : Type 0} {F : Type 0} {g : Ghosts D} (old : Engine D F g) (new : Works D F g) (sound : ∥ IsSound old.opening old.stopped new ∥₁) (bounded : ∥ KeepsBounds (seen old.opening old.stopped new) ∥₁) (counted : old.opening.count ≤ g.count (disk_at new)) (client : ℕ) where
+module _ {D : Type 0} {F : Type 0} {g : Ghosts D} (old : Engine D F g) (new : Works D F g) (sound : ∥ IsSound old.opening old.stopped new ∥₁) (bounded : ∥ KeepsBounds (seen old.opening old.stopped new) ∥₁) (counted : old.opening.count ≤ g.count (disk_at new)) (past : ∥ HasHistory (seen old.opening old.stopped new) ∥₁) (client : ℕ) where
   abbrev now : Engine D F g
-  now = record { works = new; opening = old.opening; stopped = old.stopped; sound = sound; bounded = bounded; counted = counted }
+  now = record { works = new; opening = old.opening; stopped = old.stopped; sound = sound; bounded = bounded; counted = counted; past = past }
 
   drops_pages : (reply : Reply) → Unsaves client old.works new reply → DropsPages old now reply
   drops_pages (Dropped number) is = record { pages = is.pages; disk = is.disk }

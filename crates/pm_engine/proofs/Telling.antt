@@ -166,6 +166,7 @@ module _ {D : Type 0} {F : Type 0} {g : Ghosts D} (it : Engine D F g) (count : â
     running = tt;
     reopen = refl;
     still = record { disk = refl; none = tt };
+    bound = kept_still (serving it).view (serving it).view refl;
     memory = tt;
     room = omega arith;
   }

@@ -229,6 +229,8 @@ module _ {D : Type 0} {F : Type 0} {g : Ghosts D} where
     pub reopen : IfErr result (StaysWhole old new)
     -- the disk is not called
     pub still : CallsNoDisk old new result
+    -- what fits stays, the rank has not risen, and sunk sets stay so, whatever is answered: each watch keeps its bound
+    pub bound : KeepsWatches (serving old).view (serving new).view
     -- after want of memory nothing has changed
     pub memory : IfErr result (IfMemory (serving new ≡ serving old))
     -- there is room for as many entries

@@ -1,4 +1,5 @@
 pub mod Works
+pub mod History
 pub mod Seen
 pub mod Shown
 pub mod Calls

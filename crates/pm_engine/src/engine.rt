@@ -2,6 +2,7 @@
 
 ghost use Rattle.std.specs.Prelude.{◌≤◌};
 ghost use Rattle.pm_saving.specs.Bounds.{KeepsBounds};
+ghost use Rattle.pm_engine.specs.History.{HasHistory};
 ghost use Rattle.pm_engine.specs.Works.Working.{disk_at};
 ghost use Rattle.pm_engine.specs.Seen.{IsSound, seen};
 
@@ -26,19 +27,25 @@ pub struct Engine<D: Disk, F> {
     ghost sound: { ∥ IsSound opening stopped works ∥₁ },
     ghost bounded: { ∥ KeepsBounds (seen opening stopped works) ∥₁ },
     ghost counted: { opening.count ≤ D.count (disk_at works) },
+    ghost past: { ∥ HasHistory (seen opening stopped works) ∥₁ },
 }
 
 impl<D: Disk, F: Drop> Engine<D, F> {
-    ghost use Rattle.std.specs.Prelude.{◌≡◌, ◌≤◌, ◌<◌, ℕ, List, length, nat_eq, None, OnOk, OnErr};
-    ghost use Rattle.std.specs.List.{AllByRecursion, IsDistinct};
+    ghost use Rattle.std.specs.Prelude.{◌≡◌, ◌≤◌, ◌<◌, ℕ, List, length, map, nat_eq, None, OnOk, OnErr};
+    ghost use Rattle.std.specs.List.{AllByRecursion, AllZip, IsDistinct};
+    ghost use Rattle.pm_types.specs.declared.event.Watch.{Watch as KeptWatch};
+    ghost use Rattle.pm_disk.specs.Disk.{IfTold};
     ghost use Rattle.pm_model.specs.Reachability.{IsReachable};
     ghost use Rattle.pm_view.specs.Represents.{IsHeld};
     ghost use Rattle.pm_model.specs.Closed.{IsClosed};
-    ghost use Rattle.pm_model.specs.Journal.{IsLegal};
+    ghost use Rattle.pm_model.specs.Journal.{IsLegal, watch_places};
     ghost use Rattle.pm_saving.specs.Serving.{IsServed, opening, world};
     ghost use Rattle.pm_saving.specs.Images.{IsSettledCopy, IsTold, KeepsImages};
-    ghost use Rattle.pm_view.specs.Bounded.{IsHonest};
+    ghost use Rattle.pm_view.specs.Bounded.{EndsLost, IsHonest};
     ghost use Rattle.pm_view.specs.Counts.{old, standing};
+    ghost use Rattle.pm_view.specs.Law.{HeapLaw};
+    ghost use Rattle.pm_copies.specs.Opened.{IsOpenedStore};
+    ghost use Rattle.pm_engine.specs.History.{HasHistory};
     ghost use Rattle.pm_view.specs.Watches.{lines_from};
     ghost use Rattle.pm_types.specs.Counts.{capped};
     ghost use Rattle.pm_space.specs.Shown.{view};
@@ -152,7 +159,9 @@ impl<D: Disk, F: Drop> Engine<D, F> {
     /// the world at the journal's end, and of each entry it is told what had been made before it. Different identities
     /// that the world's names and registers reach are no more than the objects that stand. Each watch keeps its bound:
     /// once as many collections were completed as it says, nothing that was lost when the watch was set is in any car.
-    /// The disk's count of failed calls is the one at the opening or more.
+    /// It came by calls from the space that the bytes were opened as, its watches stand at the places of the entries that
+    /// set them, and no more collections were completed than events of the collector were made. The disk's count of
+    /// failed calls is the one at the opening or more.
     pub fn keep_their_images(&self)
         ensures served { ∥ IsServed (serving self.now) ∥₁ }
         ensures closed { IsClosed (opening (serving self.now)) }
@@ -167,6 +176,16 @@ impl<D: Disk, F: Drop> Engine<D, F> {
             → AllByRecursion (IsReachable (world (serving self.now)).heap (IsHeld (world (serving self.now)))) ids
             → length ids ≤ standing (serving self.now).view }
         ensures bounds { ∥ KeepsBounds (serving self.now) ∥₁ }
+        ensures law { HeapLaw (serving self.now).view }
+        ensures history { ∥ HasHistory (serving self.now) ∥₁ }
+        ensures store { IfTold (D.contents (opened_disk self.now)) (λ bytes.
+            ∥ IsOpenedStore bytes (serving self.now).opened ∥₁) }
+        ensures positions { map (λ (watch : KeptWatch). watch.position) (serving self.now).watches
+            ≡ watch_places 0 (serving self.now).journal }
+        ensures few { (serving self.now).view.completed ≤ (serving self.now).steps }
+        ensures gone { AllZip (EndsLost (opening (serving self.now)) (serving self.now).journal (serving self.now).view)
+            (lines_from (serving self.now).view 1 (serving self.now).watches)
+            (watch_places 0 (serving self.now).journal) }
         ensures counted { opened_count self.now ≤ D.count (disk_in self.now) }
     {}
 }

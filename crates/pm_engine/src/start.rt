@@ -1,11 +1,16 @@
 //! What was opened.
 
+ghost use Rattle.pm_disk.specs.Disk.{IfTold};
+ghost use Rattle.pm_shadow.specs.Pages.{disk_of};
+ghost use Rattle.pm_space.specs.Shown.{view};
+ghost use Rattle.pm_copies.specs.Opened.{IsOpenedStore};
+
 use pm_disk::Disk;
 use pm_shadow::Pages;
 use pm_space::Space;
 use std::snapshot::Snapshot;
 
-/// What was opened. No call changes it.
+/// What was opened. No call changes it. Where the disk told its bytes, the space is what opening makes of them.
 #[derive(Drop)]
 pub(crate) struct Start<D: Disk, F> {
     /// The number of the copy.
@@ -16,4 +21,6 @@ pub(crate) struct Start<D: Disk, F> {
     pub(crate) pages: Snapshot<Pages<D>>,
     /// The disk's count of failed calls then.
     pub(crate) count: u64,
+    ghost store: { IfTold (D.contents (disk_of pages.value)) (λ bytes.
+        ∥ IsOpenedStore bytes (view space.value.parts) ∥₁) },
 }

@@ -1,20 +1,22 @@
 -- A watch begins with its bound.
-use Rattle.std.proofs.Common.{◌≡◌, inl, inr, ℕ, ◌+◌, ◌-◌, ◌*◌, ◌<◌, ◌≤◌, ◌⊎◌, nat_le, Bool, true, false, cond, refl, ap, sym, subst, List, [], ◌∷◌, length, arith}
+use Rattle.std.proofs.Common.{◌≡◌, inl, inr, ℕ, ◌+◌, ◌-◌, ◌*◌, ◌<◌, ◌≤◌, ◌==◌, ◌⊎◌, nat_le, Bool, true, false, cond, if◌then◌else◌, unwrap_or, Some, refl, ap, sym, subst, List, [], ◌∷◌, length, take, arith}
 use Rattle.std.specs.List.{sum_by}
 use Rattle.std.proofs.lemmas.Bool.{eq-eqb, cond-true}
 use Rattle.std.proofs.lemmas.List.{take_all}
 use Rattle.std.proofs.lemmas.List.Sums.{sum_by-cons}
+use Rattle.std.proofs.lemmas.Nat.{mul-le}
 use Rattle.std.proofs.Math.Nat.{mul-le-mul_right}
 use Rattle.pm_types.specs.declared.entry.Entry.{Entry}
 use Rattle.pm_trains.specs.declared.trains.TheConstants.{BIRTHS}
-use Rattle.pm_trains.specs.Trains.{Train, youngest}
+use Rattle.pm_trains.specs.Trains.{Train, cars_at, youngest}
 use Rattle.pm_model.specs.World.{World}
 use Rattle.pm_model.specs.Journal.{after}
 use Rattle.pm_view.specs.View.{SpaceView}
-use Rattle.pm_view.specs.Counts.{standing_of, standing, old_in, old}
+use Rattle.pm_view.specs.Reading.{cars_of}
+use Rattle.pm_view.specs.Counts.{standing_in, standing_of, standing, old_in, old}
 use Rattle.pm_view.specs.Law.{HeapLaw}
 use Rattle.pm_view.specs.Represents.{Represents}
-use Rattle.pm_view.specs.Watches.{watch_in}
+use Rattle.pm_view.specs.Watches.{objects_in, watch_in}
 use Rattle.pm_view.specs.Ranking.{Fits, taking, up_to, rank_of, rank}
 use Rattle.pm_view.specs.Sinking.{Sunk, IsLost}
 use Rattle.pm_view.specs.Bounded.{KeepsBound}
@@ -73,11 +75,38 @@ module _ (start : World) (journal : List Entry) (view : SpaceView) (law : HeapLa
           let bound = bound_noted view law (length journal) in
           inr (omega (arith, below, many, bound))
 
+  -- the world at the journal's end is that behind all of its entries
+  stood_then : Represents view (after start (take (length journal) journal))
+  stood_then = subst (λ entries. Represents view (after start entries)) (sym (take_all (length journal) journal (omega arith))) stands
+
   pub begins_bounded : KeepsBound start journal view (watch_in view (length journal))
   begins_bounded = record {
     noted = omega arith;
     since = omega arith;
+    set = record { view = view; lawful = law; stood = stood_then; is = refl };
     fits = begins_fitting;
     falls = begins_below;
     sunk = subst (λ entries. Sunk view (IsLost (after start entries)) last) (sym (take_all (length journal) journal (omega arith))) (lost_sunk view (after start journal) law stands);
   }
+
+-- the cars of one train have no more objects that stand than all
+cars_few : (view : SpaceView) (n : ℕ) (ts : List Train) → sum_by (standing_in view) (cars_of ts n) ≤ sum_by (standing_of view) ts
+cars_few view n [] = omega arith
+cars_few view n (t ∷ ts) = by_number (t.number == n) (cars_few view n ts)
+  where
+    by_number : (b : Bool) → sum_by (standing_in view) (cars_of ts n) ≤ sum_by (standing_of view) ts → sum_by (standing_in view) (unwrap_or (if b then Some t.cars else cars_at ts n) []) ≤ sum_by (standing_of view) (t ∷ ts)
+    by_number true rest = let all = sum_by-cons (standing_of view) t ts in omega (arith, all)
+    by_number false rest = let all = sum_by-cons (standing_of view) t ts in omega (arith, all, rest)
+
+-- A train stands, and as many objects stand or can be born in the open train as may be born in one: so no bound is less
+-- than that of one train of so many objects.
+pub bound_least : (view : SpaceView) (law : HeapLaw view) (position : ℕ) → 1052676 ≤ (watch_in view position).bound
+bound_least view law position =
+    let born = law.built.births in
+    let few = cars_few view (youngest view.trains.trains) view.trains.trains in
+    let noted = objects_noted view law position in
+    let many : 1026 ≤ objects_in view + 2 = omega (arith, born, few, noted) in
+    let square = mul-le 1026 1026 (objects_in view + 2) (objects_in view + 2) many many in
+    let all = mul-le 1 1052676 (length view.trains.trains) ((objects_in view + 2) * (objects_in view + 2)) law.built.trains.standing square in
+    let bound = bound_noted view law position in
+    omega (arith, all, bound)

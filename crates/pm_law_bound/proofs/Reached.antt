@@ -15,7 +15,7 @@ use Rattle.pm_view.specs.Law.{HeapLaw}
 use Rattle.pm_view.specs.Watches.{line_of}
 use Rattle.pm_view.specs.Ranking.{up_to}
 use Rattle.pm_view.specs.Sinking.{IsLost}
-use Rattle.pm_view.specs.Bounded.{KeepsBound, IsHonest}
+use Rattle.pm_view.specs.Bounded.{EndsLost, KeepsBound, IsHonest}
 use Rattle.pm_law_bound.proofs.RankLemmas.Bounds.{none_left}
 
 -- where no train is numbered up to this one
@@ -77,3 +77,6 @@ module _ (start : World) (journal : List Entry) (view : SpaceView) (watch : Watc
 
   pub line_honest : (number : ℕ) → IsHonest (line_of view number watch)
   line_honest number reached = let none = none_old reached in omega (arith, none)
+
+  pub ends_lost : (number : ℕ) → EndsLost start journal view (line_of view number watch) watch.position
+  ends_lost number reached a id lost here = lost_gone reached a id lost here

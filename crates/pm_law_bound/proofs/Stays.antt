@@ -7,6 +7,7 @@ use Rattle.pm_types.specs.declared.event.Watch.{Watch}
 use Rattle.pm_model.specs.World.{World}
 use Rattle.pm_model.specs.Journal.{after}
 use Rattle.pm_view.specs.View.{SpaceView}
+use Rattle.pm_view.specs.Represents.{Represents}
 use Rattle.pm_view.specs.Ranking.{rank}
 use Rattle.pm_view.specs.Sinking.{Sunk, IsLost}
 use Rattle.pm_view.specs.Bounded.{KeepsRank, KeepsSunk, CountsOne, KeepsBound}
@@ -24,6 +25,12 @@ module _ (start : World) (journal more : List Entry) (old new : SpaceView) (watc
   stays_bounded = record {
     noted = let long = length-append journal more in let was = is.noted in omega (arith, long, was);
     since = let was = is.since in let up = counts.0 in omega (arith, was, up);
+    set = record {
+      view = is.set.view;
+      lawful = is.set.lawful;
+      stood = subst (λ entries. Represents is.set.view (after start entries)) (sym (take-append-le watch.position journal more is.noted)) is.set.stood;
+      is = is.set.is;
+    };
     fits = ranks.fits watch.youngest watch.objects is.fits;
     falls = ⊎_elim (λ zero. inl (let no_more = ranks.no_more watch.youngest watch.objects is.fits in omega (arith, zero, no_more))) (λ less. below less (cases_lt old.completed new.completed)) is.falls;
     sunk =

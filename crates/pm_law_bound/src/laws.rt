@@ -1,10 +1,11 @@
 //! Laws of watches and their bounds. Each function's contract is a law, and the function does nothing.
 
-ghost use Rattle.std.specs.Prelude.{◌≡◌, ◌<◌, ◌≤◌, ℕ, ◌-◌, List, [], ◌∷◌, ◌++◌, length, take, Some, IsSome};
-ghost use Rattle.std.specs.List.{AllByRecursion};
+ghost use Rattle.std.specs.Prelude.{◌≡◌, ◌<◌, ◌≤◌, ℕ, ◌-◌, List, [], ◌∷◌, ◌++◌, length, map, take, Some, IsSome};
+ghost use Rattle.std.specs.List.{AllByRecursion, AllZip};
 ghost use Rattle.pm_types.specs.declared.address.Addr.{Addr};
 ghost use Rattle.pm_types.specs.declared.entry.Entry.{Entry};
 ghost use Rattle.pm_types.specs.declared.event.Watch.{Watch};
+ghost use Rattle.pm_types.specs.declared.event.WatchLine.{WatchLine};
 ghost use Rattle.pm_trains.specs.Trains.{cars_at};
 ghost use Rattle.pm_model.specs.World.{World};
 ghost use Rattle.pm_model.specs.Journal.{after};
@@ -15,14 +16,15 @@ ghost use Rattle.pm_view.specs.Reading.{id_at};
 ghost use Rattle.pm_view.specs.Counts.{old};
 ghost use Rattle.pm_view.specs.Watches.{line_of, lines_from, watch_in};
 ghost use Rattle.pm_view.specs.Sinking.{IsLost};
-ghost use Rattle.pm_view.specs.Bounded.{KeepsRank, KeepsSunk, CountsOne, KeepsBound, IsHonest};
+ghost use Rattle.pm_view.specs.Bounded.{KeepsRank, KeepsSunk, CountsOne, KeepsBound, EndsLost, IsHonest};
 
 /// A law of watches: one that is set in a space that stands for the world at the journal's end begins with its bound. Its
-/// lost set is what that world has lost.
+/// lost set is what that world has lost. No bound is less than that of one train of 1,024 objects.
 pub fn a_watch_begins_with_its_bound()
-    ensures { (start : World) (journal : List Entry) (view : SpaceView) → HeapLaw view
+    ensures begins { (start : World) (journal : List Entry) (view : SpaceView) → HeapLaw view
         → Represents view (after start journal)
         → KeepsBound start journal view (watch_in view (length journal)) }
+    ensures least { (view : SpaceView) → HeapLaw view → (position : ℕ) → 1052676 ≤ (watch_in view position).bound }
 {}
 
 /// A law of watches: one that keeps its bound keeps it where the journal grows and an event or a command keeps the rank
@@ -34,7 +36,7 @@ pub fn a_watch_keeps_its_bound()
 {}
 
 /// A law of all watches that are set: they keep their bounds where one does, and one more is set that begins with its
-/// own.
+/// own. No bound is less than that of one train of 1,024 objects, and each that is reached ends what was lost.
 pub fn watches_keep_their_bounds()
     ensures stay { (start : World) (journal more : List Entry) (old new : SpaceView) (watches : List Watch)
         → AllByRecursion (KeepsBound start journal old) watches
@@ -46,6 +48,13 @@ pub fn watches_keep_their_bounds()
     ensures honest { (start : World) (journal : List Entry) (view : SpaceView) (number : ℕ) (watches : List Watch)
         → HeapLaw view → AllByRecursion (KeepsBound start journal view) watches
         → AllByRecursion IsHonest (lines_from view number watches) }
+    ensures least { (start : World) (journal : List Entry) (view : SpaceView) (number : ℕ) (watches : List Watch)
+        → AllByRecursion (KeepsBound start journal view) watches
+        → AllByRecursion (λ (line : WatchLine). 1052676 ≤ line.bound) (lines_from view number watches) }
+    ensures gone { (start : World) (journal : List Entry) (view : SpaceView) (number : ℕ) (watches : List Watch)
+        → HeapLaw view → AllByRecursion (KeepsBound start journal view) watches
+        → AllZip (EndsLost start journal view) (lines_from view number watches)
+        (map (λ (watch : Watch). watch.position) watches) }
 {}
 
 /// A law of bounds: where as many collections were completed since a watch was set as its bound says, every train that

@@ -36,6 +36,7 @@ impl<D: Disk, F: Drop> Book<D, F> {
     ghost use Rattle.pm_script.specs.Parted.Asked.{events_asked, flushes_asked, requests_asked, steps_asked};
     ghost use Rattle.pm_script.specs.Parted.Lists.{count_left, list_of};
     ghost use Rattle.pm_script.specs.Script.{AreLines};
+    ghost use Rattle.pm_saving.specs.Bounds.{KeepsBounds};
     ghost use Rattle.pm_saving.specs.Serving.{opening, world};
     ghost use Rattle.pm_saving.specs.Images.{IsSettledCopy, IsTold};
     ghost use Rattle.pm_engine.specs.Shown.{KeepsStart, disk_in, opened_count, opened_disk, room, serving};
@@ -132,7 +133,7 @@ impl<D: Disk, F: Drop> Book<D, F> {
 
     /// A law of the book at any time, on its engine. It went on from the one of which the book was made as a run does; it
     /// is stopped exactly where a Disk is kept, whose count rose as told; there is room for the entry of each command that
-    /// is left; and where Memory is kept, something is left in which memory may run out.
+    /// is left; and where Memory is kept, something is left in which memory may run out. Each watch keeps its bound.
     pub fn keep_its_engine(&self)
         ensures goes { ∥ EngineGoesOn (first_in self.now) (engine_in self.now) (stop_kept (fault_in self.now)) ∥₁ }
         ensures stopped { (serving (engine_in self.now)).stopped ≡ stopped_by (fault_in self.now) }
@@ -141,5 +142,8 @@ impl<D: Disk, F: Drop> Book<D, F> {
         ensures room { count_left (left_in self.now) ≤ room (engine_in self.now) }
         ensures short { ∥ HasLeft (fault_in self.now) (serving (engine_in self.now)) (left_in self.now)
             (collects_in self.now) (flushes_in self.now) ∥₁ }
-    {}
+        ensures bounds { ∥ KeepsBounds (serving (engine_in self.now)) ∥₁ }
+    {
+        self.engine.keep_their_images();
+    }
 }

@@ -1,10 +1,11 @@
 -- Journals: what was asked and answered, in order.
-use Rattle.std.specs.Prelude.{◌≡◌, ℕ, Bool, true, false, List, [], ◌∷◌, ◌++◌, map, filter, nat_eq, if◌then◌else◌, Option}
+use Rattle.std.specs.Prelude.{◌≡◌, ℕ, ◌+◌, Bool, true, false, List, [], ◌∷◌, ◌++◌, map, filter, nat_eq, if◌then◌else◌, Option}
 use Rattle.pm_types.specs.declared.command.Cmd.{Cmd}
+use Rattle.pm_types.specs.declared.command.Cmd.TheVariants.{Watch}
 use Rattle.pm_types.specs.declared.entry.Entry.{Entry}
 use Rattle.pm_model.specs.declared.request.Request.{Request}
 use Rattle.pm_types.specs.declared.reply.Reply.{Reply}
-use Rattle.pm_types.specs.declared.reply.Reply.TheVariants.{Saved}
+use Rattle.pm_types.specs.declared.reply.Reply.TheVariants.{Saved, Watching}
 use Rattle.pm_model.specs.World.{World, Copy}
 use Rattle.pm_model.specs.Answer.{answer}
 
@@ -61,3 +62,13 @@ chain world journal = settled_in world ∷ settled_along world journal
 -- the copy that is in progress at the journal's end, if there is one
 abbrev pub progress : World → List Entry → Option (ℕ × Copy)
 progress world journal = (after world journal).saving
+
+-- a command that is answered so sets a watch
+abbrev pub sets_watch : Cmd → Reply → Bool
+sets_watch Watch (Watching number) = true
+sets_watch cmd reply = false
+
+-- the places of the entries that set a watch, where the first entry stands at this place
+abbrev pub watch_places : ℕ → List Entry → List ℕ
+watch_places place [] = []
+watch_places place (entry ∷ rest) = (if sets_watch entry.cmd entry.reply then place ∷ [] else []) ++ watch_places (place + 1) rest

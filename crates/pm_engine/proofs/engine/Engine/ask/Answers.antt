@@ -15,6 +15,7 @@ use Rattle.pm_engine.proofs.Answering.{Told, room_of, still_works, work_of}
 use Rattle.pm_engine.proofs.Acting.{space_of}
 use Rattle.pm_law_bound.proofs.Many.{kept_still}
 use Rattle.pm_engine.proofs.Bounding.{bounds_asked, bounds_rested, kept_of}
+use Rattle.pm_engine.proofs.Past.{past_asked, past_rested}
 use Rattle.pm_engine.proofs.Settled.{dropped_all, settled_all}
 use Rattle.pm_engine.proofs.Telling.{copies_of, idle_of, left_alone, nothing_served, short_of, shows_rise}
 
@@ -41,6 +42,8 @@ invariant_of-self g c =
       sound = ask_sound self.opening self.stopped self.works c.requires.running self.sound new c.args.client c.args.cmd c.in-Ok.reply told c.in-Ok.ensures.answers;
       bounded = bounds_asked self.opening self.stopped self.works new c.requires.running self.works.space.kept self.sound self.bounded c.args.client c.args.cmd c.in-Ok.reply c.in-Ok.ensures.answers;
       counted = counted_still self.opening.count (g.D.Disk.count (disk_at self.works)) (g.D.Disk.count (disk_at new)) self.counted c.in-Ok.ensures.causes.cause;
+      past = past_asked self.opening self.stopped self.works new c.args.client c.args.cmd c.in-Ok.reply
+          (ask_serves self.opening self.stopped self.works c.requires.running self.sound new c.args.client c.args.cmd c.in-Ok.reply told c.in-Ok.ensures.answers) c.in-Ok.ensures.answers self.past;
     }
 
 pub invariant_of-self-in-Memory-1 : goal.invariant_of-self-in-Memory-1
@@ -53,6 +56,7 @@ invariant_of-self-in-Memory-1 g c =
       sound = rest_sound self.opening self.stopped self.works c.requires.running self.sound new c.in-Err-Memory.ensures.fails.rests so.tied so.lasts c.answer.ensures.causes.told so.spares (g.met.D.Disk.counts_now (disk_at new));
       bounded = bounds_rested self.opening self.stopped self.stopped self.works new c.in-Err-Memory.ensures.fails.rests self.bounded;
       counted = counted_still self.opening.count (g.D.Disk.count (disk_at self.works)) (g.D.Disk.count (disk_at new)) self.counted stands;
+      past = past_rested self.opening self.stopped self.stopped self.works new c.in-Err-Memory.ensures.fails.rests self.past;
     }
 
 pub invariant_of-self-in-Err-Disk : goal.invariant_of-self-in-Err-Disk
@@ -66,6 +70,7 @@ invariant_of-self-in-Err-Disk g c =
       sound = fail_sound self.opening self.stopped self.works c.requires.running self.sound new c.faults-after.result c.in-Err-Disk.ensures.fails.rests (c.answer.ensures.settle fault.0).leaves.either begun.0 begun.1 c.answer.ensures.causes.told (g.met.D.Disk.counts_now (disk_at new));
       bounded = bounds_rested self.opening self.stopped (Some c.faults-after.result) self.works new c.in-Err-Disk.ensures.fails.rests self.bounded;
       counted = counted_risen self.opening.count (g.D.Disk.count (disk_at self.works)) (g.D.Disk.count (disk_at new)) self.counted rose;
+      past = past_rested self.opening self.stopped (Some c.faults-after.result) self.works new c.in-Err-Disk.ensures.fails.rests self.past;
     }
 
 pub returns-in-Ok-clause-call : goal.returns-in-Ok-clause-call
@@ -84,6 +89,7 @@ returns-in-Ok-clause-call g c =
     let sound = c.in-Ok.self-1-own.given.0 in
     let bounded = c.in-Ok.self-1-own.given.1.0 in
     let counted = c.in-Ok.self-1-own.given.1.1.0 in
+    let past = c.in-Ok.self-1-own.given.1.1.1.0 in
     let serves = ask_serves self.opening self.stopped self.works c.requires.running self.sound new c.args.client c.args.cmd c.in-Ok.reply told c.in-Ok.ensures.answers in
     record {
       serves = serves;
@@ -92,13 +98,13 @@ returns-in-Ok-clause-call g c =
       reopen = tt;
       still = λ other. record { disk = (c.answer.ensures.other other).still.disk; none = tt };
       leaves = λ none. leaves_answered self.opening self.stopped self.works none self.sound new c.args.cmd c.in-Ok.reply (g.met.D.Disk.only_now (disk_at self.works)) (λ other. (c.answer.ensures.other other).still) (λ settles. (c.answer.ensures.settle settles).leaves);
-      settled = settled_all self new sound bounded counted c.requires.running c.args.client c.args.cmd c.in-Ok.reply serves c.in-Ok.ensures.answers;
+      settled = settled_all self new sound bounded counted past c.requires.running c.args.client c.args.cmd c.in-Ok.reply serves c.in-Ok.ensures.answers;
       short = tt;
       shown = short_of c.args.client c.args.cmd self.works new c.in-Ok.reply c.in-Ok.ensures.answers;
       copies = λ other. copies_of self.opening self.stopped self.works new c.args.client c.args.cmd c.in-Ok.reply other c.in-Ok.ensures.answers;
       lasts = λ _. tt;
       idle = idle_of self.opening self.stopped self.works new c.args.cmd (λ other. (c.answer.ensures.other other).still) (λ settles. (c.answer.ensures.settle settles).leaves);
-      dropped = dropped_all self new sound bounded counted c.args.client c.args.cmd c.in-Ok.reply c.in-Ok.ensures.answers;
+      dropped = dropped_all self new sound bounded counted past c.args.client c.args.cmd c.in-Ok.reply c.in-Ok.ensures.answers;
       made = c.in-Ok.ensures.causes.made;
       past = c.in-Ok.ensures.causes.made.past;
       space = space_of c.args.client c.args.cmd self.works new c.in-Ok.reply c.in-Ok.ensures.answers;

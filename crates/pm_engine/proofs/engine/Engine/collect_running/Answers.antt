@@ -1,10 +1,12 @@
 use Rattle.std.proofs.Common.{ap, arith}
-use Rattle.pm_engine.specs.Works.Working.{disk_at}
+use Rattle.pm_law_bound.proofs.Many.{kept_still}
+use Rattle.pm_engine.specs.Works.Working.{disk_at, place_in, view_in}
 use Rattle.pm_engine.proofs.engine.Engine.collect_running.Goals as goal
 use Rattle.pm_engine.proofs.Asking.{stored}
-use Rattle.pm_engine.proofs.Bounding.{bounds_tried}
+use Rattle.pm_engine.proofs.Bounding.{bounds_tried, made_keeps}
 use Rattle.pm_engine.proofs.Collected.{collects, left_rests, same_disk, tried_sound}
 use Rattle.pm_engine.proofs.Counts.{counted_still}
+use Rattle.pm_engine.proofs.Past.{past_tried}
 use Rattle.pm_engine.proofs.Telling.{left_alone, nothing_served}
 
 pub collect-requires-clause-tied : goal.collect-requires-clause-tied
@@ -19,6 +21,7 @@ invariant_of-self g c =
           (g.met.D.Disk.counts_now (disk_at new)) (g.met.D.Disk.only_now (disk_at self.works));
       bounded = bounds_tried self.opening self.stopped self.works new g.F.Fn c.collect.result c.collect.ensures.counted c.collect.ensures.event c.collect.ensures.collects c.collect.ensures.err self.bounded;
       counted = counted_still self.opening.count (g.D.Disk.count (disk_at self.works)) (g.D.Disk.count (disk_at new)) self.counted (ap g.D.Disk.count (same_disk self.works new c.collect.ensures.pages));
+      past = past_tried self.opening self.stopped self.works new g.F.Fn c.collect.result c.collect.ensures.event c.collect.ensures.collects c.collect.ensures.err self.past;
     }
 
 pub returns-in-Ok-clause-call : goal.returns-in-Ok-clause-call
@@ -32,6 +35,7 @@ returns-in-Ok-clause-call g c =
       running = record { running = c.requires.running; count = ap g.D.Disk.count (same_disk self.works new c.collect.ensures.pages) };
       reopen = tt;
       still = record { disk = same_disk self.works new c.collect.ensures.pages; none = tt };
+      bound = made_keeps (view_in self.works) (view_in new) c.in-Ok.step g.F.Fn (place_in self.works) c.collect.ensures.counted c.in-Ok.ensures.event;
       memory = tt;
       room = let same = c.collect.ensures.room in omega (arith, same);
     }
@@ -48,6 +52,7 @@ returns-in-Err-clause-call g c =
       running = tt;
       reopen = tt;
       still = record { disk = disk; none = tt };
+      bound = kept_still (view_in self.works) (view_in new) c.in-Err.ensures.err.keeps.view;
       memory = left_alone self.opening self.stopped self.works new c.in-Err.ensures.err;
       room = let same = c.collect.ensures.room in omega (arith, same);
     }

@@ -7,6 +7,7 @@ use Rattle.pm_engine.proofs.Asking.{flush_failed, flush_kept, leaves_settled, re
 use Rattle.pm_engine.proofs.Bounding.{bounds_flushed, bounds_rested, flushed_view}
 use Rattle.pm_engine.proofs.Counts.{counted_risen, counted_still}
 use Rattle.pm_engine.proofs.Flushed.{flush_told}
+use Rattle.pm_engine.proofs.Past.{past_flushed, past_rested}
 use Rattle.pm_engine.proofs.Telling.{left_alone, nothing_served, shows_rise}
 
 pub flush-requires : goal.flush-requires
@@ -20,6 +21,7 @@ invariant_of-self g c =
       sound = flush_kept self.opening self.stopped self.works c.requires.running self.sound new c.in-Ok.flushed c.in-Ok.ensures.flushes c.in-Ok.ensures.tied c.in-Ok.ensures.lasts c.flush.ensures.causes.told c.flush.ensures.spares (g.met.D.Disk.counts_now (disk_at new));
       bounded = bounds_flushed self.opening self.stopped self.works new c.in-Ok.flushed c.in-Ok.ensures.flushes self.bounded;
       counted = counted_still self.opening.count (g.D.Disk.count (disk_at self.works)) (g.D.Disk.count (disk_at new)) self.counted c.in-Ok.ensures.causes.cause;
+      past = past_flushed self.opening self.stopped self.works new c.in-Ok.flushed (stored self.opening self.stopped self.works c.requires.running self.sound).tied c.in-Ok.ensures.flushes self.past;
     }
 
 pub invariant_of-self-in-Memory-1 : goal.invariant_of-self-in-Memory-1
@@ -33,6 +35,7 @@ invariant_of-self-in-Memory-1 g c =
       sound = rest_sound self.opening self.stopped self.works c.requires.running self.sound new c.in-Err-Memory.ensures.rests tied last c.flush.ensures.causes.told c.flush.ensures.spares (g.met.D.Disk.counts_now (disk_at new));
       bounded = bounds_rested self.opening self.stopped self.stopped self.works new c.in-Err-Memory.ensures.rests self.bounded;
       counted = counted_still self.opening.count (g.D.Disk.count (disk_at self.works)) (g.D.Disk.count (disk_at new)) self.counted stands;
+      past = past_rested self.opening self.stopped self.stopped self.works new c.in-Err-Memory.ensures.rests self.past;
     }
 
 pub invariant_of-self-in-Err-Disk : goal.invariant_of-self-in-Err-Disk
@@ -44,6 +47,7 @@ invariant_of-self-in-Err-Disk g c =
       sound = flush_failed self.opening self.stopped self.works c.requires.running self.sound new c.faults-after.result c.in-Err-Disk.ensures.rests c.flush.ensures.causes.told c.flush.ensures.spares (g.met.D.Disk.counts_now (disk_at new));
       bounded = bounds_rested self.opening self.stopped (Some c.faults-after.result) self.works new c.in-Err-Disk.ensures.rests self.bounded;
       counted = counted_risen self.opening.count (g.D.Disk.count (disk_at self.works)) (g.D.Disk.count (disk_at new)) self.counted rose;
+      past = past_rested self.opening self.stopped (Some c.faults-after.result) self.works new c.in-Err-Disk.ensures.rests self.past;
     }
 
 pub returns-in-Ok-clause-call : goal.returns-in-Ok-clause-call

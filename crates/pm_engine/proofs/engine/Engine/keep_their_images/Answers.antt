@@ -14,6 +14,7 @@ use Rattle.pm_law_saving.proofs.ServingLemmas.Splitting.{splits_once}
 use Rattle.pm_engine.specs.Shown.{serving}
 use Rattle.pm_engine.proofs.engine.Engine.keep_their_images.Goals as goal
 use Rattle.pm_engine.proofs.Asking.{settled_now, splits_closed, splits_legal}
+use Rattle.pm_engine.proofs.Past.{few_told, gone_told, positions_told}
 
 pub returns-clause-served : goal.returns-clause-served
 returns-clause-served g c = ∥∥₁_map c.args.self.now.sound (λ sound. sound.served)
@@ -57,6 +58,24 @@ returns-clause-standing g c = λ ids distinct reached.
 
 pub returns-clause-bounds : goal.returns-clause-bounds
 returns-clause-bounds g c = c.args.self.now.bounded
+
+pub returns-clause-law : goal.returns-clause-law
+returns-clause-law g c = c.args.self.now.works.space.kept
+
+pub returns-clause-history : goal.returns-clause-history
+returns-clause-history g c = c.args.self.now.past
+
+pub returns-clause-store : goal.returns-clause-store
+returns-clause-store g c = c.args.self.now.opening.store
+
+pub returns-clause-positions : goal.returns-clause-positions
+returns-clause-positions g c = positions_told (serving c.args.self.now) c.args.self.now.past
+
+pub returns-clause-few : goal.returns-clause-few
+returns-clause-few g c = few_told (serving c.args.self.now) c.args.self.now.past
+
+pub returns-clause-gone : goal.returns-clause-gone
+returns-clause-gone g c = gone_told c.args.self.now.opening c.args.self.now.stopped c.args.self.now.works c.args.self.now.past c.args.self.now.bounded
 
 pub returns-clause-counted : goal.returns-clause-counted
 returns-clause-counted g c = c.args.self.now.counted

@@ -7,13 +7,15 @@ use Rattle.pm_shadow.specs.State.{State}
 use Rattle.pm_shadow.specs.Pages.{state, disk_of}
 use Rattle.pm_space.specs.Shown.{car_of, view}
 use Rattle.pm_copies.specs.Listed.{copy_in}
+use Rattle.pm_copies.specs.Opened.{IsOpenedStore}
+use Rattle.pm_saving.specs.Progress.{Saving}
 use Rattle.pm_reopen.proofs.Refusals.{graph_refused, header_refused}
 use Rattle.pm_engine.specs.declared.works.course.Course.TheVariants.{Nothing}
 use Rattle.pm_engine.specs.declared.start.Start.{Start}
 use Rattle.pm_engine.specs.declared.works.works.Works.{Works}
 use Rattle.pm_engine.proofs.engine.Engine.open_store.Goals as goal
 use Rattle.pm_engine.proofs.Bounding.{bounds_begun}
-use Rattle.pm_engine.proofs.Begun.{stands, start_sound}
+use Rattle.pm_engine.proofs.Begun.{past_now, stands, start_sound}
 use Rattle.pm_engine.proofs.Counts.{counted_first}
 
 pub returns-in_err-pages-clause-fault : goal.returns-in_err-pages-clause-fault
@@ -21,12 +23,20 @@ returns-in_err-pages-clause-fault g c =
     let p = err_from_is_err_and c.from_residual.result c.from_residual.ensures.1 in
     rw (p.1, p.2) (λ bytes told. header_refused bytes c.in_err-pages.field-0.0.1 (c.in_err-pages.ensures.fault bytes told))
 
+-- what was opened: the space is what opening makes of the bytes
 pub invariant_of-result : goal.invariant_of-result
-invariant_of-result g c =
+invariant_of-result g c = record {
+  store = λ bytes told.
+      ∣ subst (λ space. IsOpenedStore bytes (view space.parts)) (sym c.of.ensures)
+      (c.in-Ok.ensures.opened bytes (sym (ap (λ pages. g.D.Disk.contents (disk_of pages)) c.of-in-Ok.ensures) ∙ told)).store ∣₁;
+}
+
+pub invariant_of-result-in-Ok : goal.invariant_of-result-in-Ok
+invariant_of-result-in-Ok g c =
     let first = c.in_ok-pages.pages in
     let last = c.open_space.new.pages in
     let works : Works g.row.D.Denot g.row.F.Denot g.D.Disk = record { pages = last; space = c.in-Ok.space; saver = c.new.result; journal = c.new-in-Ok.result; course = Nothing; watches = c.new-in-Ok-2.result; events = 0; steps = 0 } in
-    let start : Start g.row.D.Denot g.row.F.Denot g.D.Disk = record { number = c.header.result.now.epoch; space = c.of.result; pages = c.of-in-Ok.result; count = c.faults.result } in
+    let start : Start g.row.D.Denot g.row.F.Denot g.D.Disk = record { number = c.header.result.now.epoch; space = c.of.result; pages = c.of-in-Ok.result; count = c.faults.result; store = c.result-1.given.0 } in
     let attached_is = c.in_ok-pages.ensures.state in
     let unknown = ap (λ (s : State). s.known) attached_is in
     let knows = c.in-Ok.ensures.state in
@@ -40,6 +50,7 @@ invariant_of-result g c =
           (ap (option_map (mapped car_of)) makes.unfrozen.frozen) c.new.ensures c.new-in-Ok.ensures.items refl c.new-in-Ok-2.ensures refl refl (ap (λ h. h.epoch) c.header.ensures) c.of.ensures c.of-in-Ok.ensures (g.met.D.Disk.only_now disk)
           (λ bytes left told here. c.in_ok-pages.ensures.only bytes (sym c.in_ok-pages.ensures.told ∙ sym c.open_space.ensures.looks.told ∙ told) left (c.open_space.ensures.looks.images.no_more left here)) ∣₁;
       bounded = bounds_begun start None works c.new-in-Ok-2.ensures;
+      past = past_now start works (ap (option_map (mapped car_of)) makes.unfrozen.frozen) c.new-in-Ok.ensures.items refl c.new-in-Ok-2.ensures refl refl c.of.ensures (state first).header.next makes.opened.fresh (ap (λ (s : Saving). s.progress) c.new.ensures);
       counted = counted_first c.faults.result (g.D.Disk.count (disk_of last)) c.faults.ensures;
     }
 
@@ -48,7 +59,7 @@ returns-in-Ok-clause-stands g c =
     let first = c.in_ok-pages.pages in
     let last = c.open_space.new.pages in
     let works : Works g.row.D.Denot g.row.F.Denot g.D.Disk = record { pages = last; space = c.in-Ok.space; saver = c.new.result; journal = c.new-in-Ok.result; course = Nothing; watches = c.new-in-Ok-2.result; events = 0; steps = 0 } in
-    let start : Start g.row.D.Denot g.row.F.Denot g.D.Disk = record { number = c.header.result.now.epoch; space = c.of.result; pages = c.of-in-Ok.result; count = c.faults.result } in
+    let start : Start g.row.D.Denot g.row.F.Denot g.D.Disk = record { number = c.header.result.now.epoch; space = c.of.result; pages = c.of-in-Ok.result; count = c.faults.result; store = c.result-1.given.0 } in
     let attached_is = c.in_ok-pages.ensures.state in
     let unknown = ap (λ (s : State). s.known) attached_is in
     let knows = c.in-Ok.ensures.state in
