@@ -30,11 +30,13 @@ use Rattle.pm_law_bound.proofs.Many.{all_stay, all_with_one, all_honest, kept_st
 use Rattle.pm_law_saving.proofs.ServingLemmas.Splitting.{splits_once}
 use Rattle.pm_saving.specs.Serving.{IsServed, opening}
 use Rattle.pm_saving.specs.Bounds.{KeepsBounds}
-use Rattle.pm_engine.specs.declared.start.Start.{Start}
+use Rattle.pm_engine.specs.declared.works.start.Start.{Start}
 use Rattle.pm_engine.specs.declared.works.works.Works.{Works}
 use Rattle.pm_engine.specs.Works.Working.{Adds, Answers, CollectsOn, FlushesOn, IsLeft, Rests, SetsWatch, Watches, place_in, view_in, watches_in}
-use Rattle.pm_engine.specs.Seen.{IsSound, seen}
-use Rattle.pm_engine.proofs.Answering.{save_adds, save_view, settle_adds, settle_view, unsave_adds, unsave_view, watch_view}
+use Rattle.pm_engine.specs.Works.Seen.{seen}
+use Rattle.pm_engine.specs.Sound.{IsSound}
+use Rattle.pm_engine.proofs.Standing.{served_of}
+use Rattle.pm_engine.proofs.WorksLemmas.Answering.{save_adds, save_view, settle_adds, settle_view, unsave_adds, unsave_view, watch_view}
 
 -- ---- collections that were completed
 
@@ -124,7 +126,7 @@ module _ {D : Type 0} {F : Type 0} {g : Ghosts D} (start : Start D F g) (stopped
 
   pub bounds_asked : stopped ≡ None → HeapLaw (view_in old) → ∥ IsSound start stopped old ∥₁ → ∥ KeepsBounds (seen start stopped old) ∥₁ → (client : ℕ) (cmd : Cmd) (reply : Reply) → Answers client cmd old new reply → ∥ KeepsBounds (seen start stopped new) ∥₁
   bounds_asked none law sound known client cmd reply is =
-      ∥∥₁_elim (subst (λ (o : Option ℕ). ∥ IsSound start o old ∥₁) none sound) ∥∥₁_prop (λ held. ∥∥₁_map known (λ are. answers_on client cmd reply law held.served is are))
+      ∥∥₁_elim (subst (λ (o : Option ℕ). ∥ IsSound start o old ∥₁) none sound) ∥∥₁_prop (λ held. ∥∥₁_map known (λ are. answers_on client cmd reply law (served_of held) is are))
 
 -- ---- what begins, and what is told
 

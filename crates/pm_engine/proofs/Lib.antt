@@ -1,16 +1,8 @@
 pub mod WorksLemmas
-pub mod Going
-pub mod Answering
-pub mod Flushed
+pub mod Standing
 pub mod Bounding
-pub mod Asking
-pub mod Crashing
 pub mod Settled
-pub mod Begun
 pub mod Telling
-pub mod Collected
-pub mod Acting
-pub mod Counts
 pub mod Histories
 pub mod Past
 pub mod EventsLemmas

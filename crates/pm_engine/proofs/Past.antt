@@ -27,16 +27,16 @@ use Rattle.pm_saving.specs.Events.{Serves}
 use Rattle.pm_saving.specs.Serving.{Serving, just_opened, opening}
 use Rattle.pm_law_bound.proofs.Many.{all_end}
 use Rattle.pm_law_saving.proofs.ServingLemmas.Splitting.{splits_once}
-use Rattle.pm_engine.specs.declared.start.Start.{Start}
+use Rattle.pm_engine.specs.declared.works.start.Start.{Start}
 use Rattle.pm_engine.specs.declared.works.works.Works.{Works}
 use Rattle.pm_engine.specs.History.{Happens, HasHistory}
-use Rattle.pm_engine.specs.Seen.{seen}
+use Rattle.pm_engine.specs.Works.Seen.{seen}
 use Rattle.pm_engine.specs.Works.Working.{Answers, CollectsOn, FlushesOn, IsLeft, IsTiedIn, Rests, place_in, view_in, watches_in}
-use Rattle.pm_engine.proofs.Acting.{space_of}
-use Rattle.pm_engine.proofs.Collected.{collects, left_rests}
-use Rattle.pm_engine.proofs.Flushed.{flush_told}
+use Rattle.pm_engine.proofs.WorksLemmas.Acting.{space_of}
+use Rattle.pm_engine.proofs.WorksLemmas.Collected.{collects, left_rests}
+use Rattle.pm_engine.proofs.WorksLemmas.Flushed.{flush_told}
 use Rattle.pm_engine.proofs.Histories.{IsCounted, counted_now, goes_on, position_of}
-use Rattle.pm_engine.proofs.Telling.{nothing_served}
+use Rattle.pm_engine.proofs.WorksLemmas.Telling.{nothing_served}
 
 -- ---- through calls
 

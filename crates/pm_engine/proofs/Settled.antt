@@ -11,9 +11,11 @@ use Rattle.pm_engine.specs.declared.engine.Engine.{Engine}
 use Rattle.pm_engine.specs.declared.works.works.Works.{Works}
 use Rattle.pm_engine.specs.Works.Working.{Answers, Unsaves, disk_at}
 use Rattle.pm_engine.specs.History.{HasHistory}
-use Rattle.pm_engine.specs.Seen.{IsSound, seen}
+use Rattle.pm_engine.specs.Works.Seen.{seen}
+use Rattle.pm_engine.specs.Sound.{IsSound}
 use Rattle.pm_engine.specs.Calls.{DropsPages, IsDropped, SettlesAs}
-use Rattle.pm_engine.proofs.Crashing.{settled_images, settled_number, settles_copy}
+use Rattle.pm_engine.proofs.Standing.{safe}
+use Rattle.pm_engine.proofs.WorksLemmas.Crashing.{settled_images, settled_number, settles_copy}
 
 module _ {D : Type 0} {F : Type 0} {g : Ghosts D} (old : Engine D F g) (new : Works D F g) (sound : ∥ IsSound old.opening old.stopped new ∥₁) (bounded : ∥ KeepsBounds (seen old.opening old.stopped new) ∥₁) (counted : old.opening.count ≤ g.count (disk_at new)) (past : ∥ HasHistory (seen old.opening old.stopped new) ∥₁) (none : old.stopped ≡ None) (client : ℕ) (cmd : Cmd) where
   pub settled_all : (reply : Reply) → Serves client cmd (seen old.opening old.stopped old.works) (seen old.opening old.stopped new) reply → Answers client cmd old.works new reply
@@ -21,10 +23,10 @@ module _ {D : Type 0} {F : Type 0} {g : Ghosts D} (old : Engine D F g) (new : Wo
   settled_all (Saved number) serves is =
       let start = old.opening in
       let serves0 = subst (λ (o : Option ℕ). Serves client cmd (seen start o old.works) (seen start o new) (Saved number)) none serves in
-      let copy = settles_copy start old.stopped old.works none old.sound new client number cmd serves0 is in
+      let copy = settles_copy start old.stopped old.works none (safe old.sound) new client number cmd serves0 is in
       record {
-        number_is = settled_number start old.stopped old.works none old.sound new client number cmd serves0 copy;
-        now = settled_images start old.stopped old.works none old.sound new client number cmd serves0 copy;
+        number_is = settled_number start old.stopped old.works none (safe old.sound) new client number cmd serves0 copy;
+        now = settled_images start old.stopped old.works none (safe old.sound) new client number cmd serves0 copy;
         settles = copy.settles;
         made = copy.made;
       }

@@ -1,3 +1,13 @@
 pub mod Kept
 pub mod Headers
 pub mod Uncounted
+pub mod Going
+pub mod Answering
+pub mod Flushed
+pub mod Asking
+pub mod Crashing
+pub mod Begun
+pub mod Telling
+pub mod Collected
+pub mod Acting
+pub mod Counts

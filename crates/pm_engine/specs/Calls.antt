@@ -25,12 +25,13 @@ use Rattle.pm_saving.specs.Tied.{Settles}
 use Rattle.pm_saving.specs.Progress.{cars_or_none}
 use Rattle.pm_save.specs.Progress.Answers.{IsFlushed}
 use Rattle.pm_save.specs.Writer.Settling.{settling_syncs, settling_writes}
-use Rattle.pm_saving.specs.Serving.{Serving, world}
+use Rattle.pm_saving.specs.Serving.{world}
 use Rattle.pm_saving.specs.Events.{Collects, FailsAs, Flushes, Serves}
 use Rattle.pm_saving.specs.Images as images
-use Rattle.pm_saving.specs.Images.{IsCopyInProgress, IsTold}
+use Rattle.pm_saving.specs.Images.{IsTold}
 use Rattle.pm_engine.specs.declared.engine.Engine.{Engine}
 use Rattle.pm_engine.specs.Works.Acting.{ChangesSpace}
+use Rattle.pm_engine.specs.Works.Copies.{KeepsCopies, MayStand}
 use Rattle.pm_engine.specs.Shown.{chooser, disk_in, opened_disk, pages_in, room, serving}
 
 -- the fault is none of the disk
@@ -38,12 +39,6 @@ abbrev pub IsNoDisk : EngineFault → Type 0
 IsNoDisk (Memory _) = Unit {0}
 IsNoDisk (Disk before after) = ⊥
 IsNoDisk (Reopen count) = Unit {0}
-
--- the fault is one of the disk
-abbrev pub IsOfDisk : EngineFault → Type 0
-IsOfDisk (Memory _) = ⊥
-IsOfDisk (Disk before after) = Unit {0}
-IsOfDisk (Reopen count) = ⊥
 
 -- P holds where memory ran out
 abbrev pub IfMemory : Type 0 → EngineFault → Type 0
@@ -56,17 +51,6 @@ abbrev pub UnlessReopen : Type 0 → EngineFault → Type 0
 UnlessReopen P (Memory _) = P
 UnlessReopen P (Disk before after) = P
 UnlessReopen P (Reopen count) = Unit {0}
-
--- the copy in progress stays, with the cars that were frozen for it, and so do the settled cars
-pub record KeepsCopies (old new : Serving) : Type 0 where
-  pub saving : new.saving ≡ old.saving
-  pub frozen : new.frozen ≡ old.frozen
-
--- What may stand at a moment of a call: the copy that had settled; or, where `settle` was answered, or the disk failed in
--- it, the one that was in progress.
-abbrev pub MayStand : Cmd → Serving → Result Reply EngineFault → List ℕ → Type 0
-MayStand cmd it result image =
-    images.IsSettledCopy (world it) image ⊎ ((is_settle cmd ≡ true) × MatchResult result (λ _. Unit {0}) IsOfDisk × IsCopyInProgress (world it) image)
 
 module _ {D : Type 0} {F : Type 0} {g : Ghosts D} where
   -- no call had answered that the disk failed, and none failed in this one

@@ -1,6 +1,6 @@
 pub mod Works
+pub mod Sound
 pub mod History
-pub mod Seen
 pub mod Shown
 pub mod Calls
 pub mod Events

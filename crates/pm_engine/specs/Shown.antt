@@ -14,7 +14,7 @@ use Rattle.pm_engine.specs.declared.engine.Engine.{Engine}
 use Rattle.pm_engine.specs.declared.tally.Tally.{Tally}
 use Rattle.pm_engine.specs.Works.Course.{told_before}
 use Rattle.pm_engine.specs.Works.Working.{disk_at, place_in, room_in, state_in}
-use Rattle.pm_engine.specs.Seen.{disk_then, seen}
+use Rattle.pm_engine.specs.Works.Seen.{disk_then, seen}
 
 module _ {D : Type 0} {F : Type 0} {g : Ghosts D} where
   -- all but its disk

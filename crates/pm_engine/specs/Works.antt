@@ -1,3 +1,5 @@
 pub mod Course
 pub mod Working
 pub mod Acting
+pub mod Seen
+pub mod Copies

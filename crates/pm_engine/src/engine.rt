@@ -4,11 +4,11 @@ ghost use Rattle.std.specs.Prelude.{◌≤◌};
 ghost use Rattle.pm_saving.specs.Bounds.{KeepsBounds};
 ghost use Rattle.pm_engine.specs.History.{HasHistory};
 ghost use Rattle.pm_engine.specs.Works.Working.{disk_at};
-ghost use Rattle.pm_engine.specs.Seen.{IsSound, seen};
+ghost use Rattle.pm_engine.specs.Works.Seen.{seen};
+ghost use Rattle.pm_engine.specs.Sound.{IsSound};
 
 use crate::Tally;
-use crate::start::Start;
-use crate::works::{WATCH_ROOM, Works, tell_watches};
+use crate::works::{Start, WATCH_ROOM, Works, tell_watches};
 use arrayvec::ArrayVec;
 use pm_disk::Disk;
 use pm_space::Space;

@@ -8,7 +8,6 @@ mod engine;
 pub mod events;
 mod flush;
 mod open;
-mod start;
 mod tally;
 pub mod works;
 

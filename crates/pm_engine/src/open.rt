@@ -1,16 +1,11 @@
 //! How an engine begins.
 
 use crate::Engine;
-use crate::start::Start;
-use crate::works::{Course, Saver, Works};
-use arrayvec::ArrayVec;
+use crate::works::begin_works;
 use pm_disk::Disk;
 use pm_place::Placement;
-use pm_reopen::open_space;
-use pm_shadow::Pages;
 use pm_types::OpenFault;
 use std::alloc::Global;
-use std::snapshot::Snapshot;
 
 impl<D: Disk, F: Drop> Engine<D, F> {
     ghost use Rattle.std.specs.Prelude.{◌≡◌, ℕ, List, None, IfOk, IfErr, MatchResult};
@@ -59,28 +54,11 @@ impl<D: Disk, F: Drop> Engine<D, F> {
         ensures fault { IfErr result (λ e. IfTold (D.contents disk) (λ bytes. IsRefusal bytes e.1)) }
         ensures cause { IfErr result (λ e. IsOpenFault (D.count disk) (D.count e.0) e.1) }
     {
-        let mut pages = Pages::attach(alloc, disk)?;
-        match open_space(alloc, &mut pages, place) {
-            Ok((space, settled)) => Ok(Engine {
-                opening: Start {
-                    number: pages.header().epoch,
-                    space: Snapshot::of(&space),
-                    pages: Snapshot::of(&pages),
-                    count: pages.faults(),
-                },
-                works: Works {
-                    pages,
-                    space,
-                    saver: Saver::new(settled),
-                    journal: Vec::new(alloc),
-                    course: Course::Nothing,
-                    watches: ArrayVec::new(),
-                    events: 0,
-                    steps: 0,
-                },
-                stopped: None,
-            }),
-            Err(fault) => Err((pages.into_disk(), fault)),
-        }
+        let (opening, works) = begin_works(alloc, disk, place)?;
+        Ok(Engine {
+            works,
+            opening,
+            stopped: None,
+        })
     }
 }

@@ -52,16 +52,20 @@ numbered_copy frozen progress = (progress.number, copy_of (cars_or_none frozen) 
 abbrev pub in_progress : Serving → Option (ℕ × Copy)
 in_progress it = option_map (numbered_copy it.frozen) it.saving.progress
 
--- What holds of an engine at every moment: in the world that was opened whatever is named is an object, the journal is
--- legal from it, the space stands for the world at the journal's end, the copy in progress is that of this world, so many
--- watches are set in it, and the course tells of each entry what had been made before it.
-pub record IsServed (it : Serving) : Type 0 where
+-- What an engine keeps of its journal and its copies at every moment, whatever its space is: in the world that was opened
+-- whatever is named is an object, the journal is legal from it, the copy in progress is that of the world at the journal's
+-- end, so many watches are set in it, and the course tells of each entry what had been made before it.
+pub record KeepsJournal (it : Serving) : Type 0 where
   pub closed : IsClosed (opening it)
   pub legal : IsLegal (opening it) it.journal
-  pub represents : Represents it.view (world it)
   pub saving : (world it).saving ≡ in_progress it
   pub watching : (world it).watches ≡ length it.watches
   pub told : length it.course ≡ length it.journal
+
+-- What holds of an engine whose space stands for the world at its journal's end.
+pub record IsServed (it : Serving) : Type 0 where
+  pub journal : KeepsJournal it
+  pub represents : Represents it.view (world it)
 
 -- the opening stays
 pub record KeepsOpening (old new : Serving) : Type 0 where

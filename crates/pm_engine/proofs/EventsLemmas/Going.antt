@@ -29,7 +29,8 @@ use Rattle.pm_saving.specs.Images.{IsCopyInProgress, IsLast, IsOfChain, IsOfRun,
 use Rattle.pm_saving.specs.Events.{Collects, FailsAs, Flushes, Serves, ServesNothing, StaysBegun}
 use Rattle.pm_engine.specs.declared.engine.Engine.{Engine}
 use Rattle.pm_engine.specs.Shown.{KeepsStart, disk_in, opened_disk, room, serving}
-use Rattle.pm_engine.specs.Calls.{IsOfDisk as IsDiskFault, IsRunning, LeavesCopies, LeavesCopy, MayRunOut, MayStand}
+use Rattle.pm_engine.specs.Works.Copies.{IsOfDisk as IsDiskFault, MayStand}
+use Rattle.pm_engine.specs.Calls.{IsRunning, LeavesCopies, LeavesCopy, MayRunOut}
 use Rattle.pm_engine.specs.declared.events.stop.Stop.{Stop}
 use Rattle.pm_engine.specs.declared.events.stop.Stop.TheVariants.{Memory, Writing, Device}
 use Rattle.pm_engine.specs.Events.Causes.{CountsDisk, stop_of}

@@ -69,8 +69,9 @@ fn act_and_copy_reply<F: Drop>(
 impl<D: Disk, F: Drop> Works<D, F> {
     ghost use Rattle.pm_engine.specs.Works.Working.{Adds, Acts, IsLeft, IsTiedIn, KeepsStore, place_in};
 
-    /// Puts an entry at the journal's end, which has room for it.
-    pub(crate) fn append(&mut self, client: u32, cmd: Cmd, reply: Reply)
+    /// Puts an entry at the journal's end, which has room for it: that of a command that was answered, here or elsewhere.
+    /// Space, saver and pages stay.
+    pub fn append(&mut self, client: u32, cmd: Cmd, reply: Reply)
         requires room { vec_len self.old.journal < vec_capacity self.old.journal }
         ensures adds { Adds client cmd reply self.old self.new }
         ensures store { KeepsStore self.old self.new }

@@ -4,7 +4,7 @@ use Rattle.std.specs.List.{Contains}
 use Rattle.std.specs.Option.{IsSome, is_some}
 use Rattle.pm_disk.specs.Disk.{LeavesOnly}
 use Rattle.pm_model.specs.World.{World, Copy}
-use Rattle.pm_model.specs.Journal.{after, chain, settled_in}
+use Rattle.pm_model.specs.Journal.{chain, settled_in}
 use Rattle.pm_image.specs.Stands.{StandsForCopy}
 use Rattle.pm_saving.specs.Serving.{Serving, opening, world}
 use Rattle.pm_saving.specs.Images.{IsCopyInProgress, IsLast, IsOfChain, IsOfRun, IsSettledCopy, IsTold, KeepsImages}

@@ -101,10 +101,12 @@ pub begins_served : (number : ℕ) (list : List Listed) (catalog : List CatEntry
 begins_served number list catalog next view saving ok opened none =
     let same : copy_in view ≡ copy_listed list catalog next = saves_again list catalog next view ok opened in
     record {
-      closed = subst (λ copy. IsClosed (begin number copy)) (sym same) (begin_closed number (copy_listed list catalog next) (copied_closed (heap_of (images list)) (roots_of (images list) catalog) next (graph_closed list catalog next ok)));
-      legal = tt;
+      journal = record {
+        closed = subst (λ copy. IsClosed (begin number copy)) (sym same) (begin_closed number (copy_listed list catalog next) (copied_closed (heap_of (images list)) (roots_of (images list) catalog) next (graph_closed list catalog next ok)));
+        legal = tt;
+        saving = sym (ap (λ progress. option_map (numbered_copy None) progress) none);
+        watching = refl;
+        told = refl;
+      };
       represents = subst (λ copy. Represents view (begin number copy)) (sym same) (stands list catalog next view ok opened number);
-      saving = sym (ap (λ progress. option_map (numbered_copy None) progress) none);
-      watching = refl;
-      told = refl;
     }

@@ -7,30 +7,30 @@ use Rattle.pm_save.specs.declared.progress.fault.SaveFault.{SaveFault}
 use Rattle.pm_save.specs.Progress.Answers.{IfMemory, IsFaultOf, OnMemory}
 use Rattle.pm_engine.specs.Works.Working.{IsFaultFor, IsLeft, IsShort, LastsSo, disk_at, saving_in, view_in}
 use Rattle.pm_engine.proofs.engine.Engine.ask.Goals as goal
-use Rattle.pm_engine.proofs.Asking.{ask_serves, ask_sound, fail_sound, rest_sound, stored}
-use Rattle.pm_engine.proofs.Counts.{counted_risen, counted_still}
-use Rattle.pm_engine.proofs.Crashing.{leaves_answered, leaves_failed, progress_of, settled_alone}
+use Rattle.pm_engine.proofs.Standing.{agrees, safe, sound_asked, sound_kept}
+use Rattle.pm_engine.proofs.WorksLemmas.Asking.{ask_serves, ask_sound, fail_sound, rest_sound, stored}
+use Rattle.pm_engine.proofs.WorksLemmas.Counts.{counted_risen, counted_still}
+use Rattle.pm_engine.proofs.WorksLemmas.Crashing.{leaves_answered, leaves_failed, progress_of, settled_alone}
 use Rattle.pm_law_collect.specs.Work.Raises.{raises}
-use Rattle.pm_engine.proofs.Answering.{Told, room_of, still_works, work_of}
-use Rattle.pm_engine.proofs.Acting.{space_of}
+use Rattle.pm_engine.proofs.WorksLemmas.Answering.{Told, room_of, still_works, work_of}
+use Rattle.pm_engine.proofs.WorksLemmas.Acting.{space_of}
 use Rattle.pm_law_bound.proofs.Many.{kept_still}
 use Rattle.pm_engine.proofs.Bounding.{bounds_asked, bounds_rested, kept_of}
 use Rattle.pm_engine.proofs.Past.{past_asked, past_rested}
 use Rattle.pm_engine.proofs.Settled.{dropped_all, settled_all}
-use Rattle.pm_engine.proofs.Telling.{copies_of, idle_of, left_alone, nothing_served, short_of, shows_rise}
+use Rattle.pm_engine.proofs.WorksLemmas.Telling.{copies_of, idle_of, left_alone, nothing_served, short_of, shows_rise}
 
 true_false : true ≡ false → ⊥
 true_false is = cc is
 
 pub answer-requires-clause-tied : goal.answer-requires-clause-tied
-answer-requires-clause-tied g c = (stored c.args.self.now.opening c.args.self.now.stopped c.args.self.now.works c.requires.running c.args.self.now.sound).tied
+answer-requires-clause-tied g c = (stored c.args.self.now.opening c.args.self.now.stopped c.args.self.now.works c.requires.running (safe c.args.self.now.sound)).tied
 
 pub invariant_of-self : goal.invariant_of-self
 invariant_of-self g c =
     let self = c.args.self.now in
     let new = c.answer.new.self in
     let told : Told c.args.cmd self.works new = record {
-      heap = self.works.space.kept;
       tied = c.in-Ok.ensures.tied;
       still = λ other. (c.answer.ensures.other other).still;
       leaves = λ settles. (c.answer.ensures.settle settles).leaves;
@@ -39,11 +39,12 @@ invariant_of-self g c =
       only_now = g.met.D.Disk.only_now (disk_at self.works);
     } in
     record {
-      sound = ask_sound self.opening self.stopped self.works c.requires.running self.sound new c.args.client c.args.cmd c.in-Ok.reply told c.in-Ok.ensures.answers;
+      sound = sound_asked self.opening self.stopped self.works new self.sound c.args.client c.args.cmd c.in-Ok.reply c.in-Ok.ensures.answers
+          (ask_sound self.opening self.stopped self.works c.requires.running (safe self.sound) new c.args.client c.args.cmd c.in-Ok.reply (agrees self.opening self.stopped self.works new self.sound c.args.client c.args.cmd c.in-Ok.reply c.in-Ok.ensures.answers) told c.in-Ok.ensures.answers);
       bounded = bounds_asked self.opening self.stopped self.works new c.requires.running self.works.space.kept self.sound self.bounded c.args.client c.args.cmd c.in-Ok.reply c.in-Ok.ensures.answers;
       counted = counted_still self.opening.count (g.D.Disk.count (disk_at self.works)) (g.D.Disk.count (disk_at new)) self.counted c.in-Ok.ensures.causes.cause;
       past = past_asked self.opening self.stopped self.works new c.args.client c.args.cmd c.in-Ok.reply
-          (ask_serves self.opening self.stopped self.works c.requires.running self.sound new c.args.client c.args.cmd c.in-Ok.reply told c.in-Ok.ensures.answers) c.in-Ok.ensures.answers self.past;
+          (ask_serves self.opening self.stopped self.works c.requires.running (safe self.sound) new c.args.client c.args.cmd c.in-Ok.reply (agrees self.opening self.stopped self.works new self.sound c.args.client c.args.cmd c.in-Ok.reply c.in-Ok.ensures.answers) told c.in-Ok.ensures.answers) c.in-Ok.ensures.answers self.past;
     }
 
 pub invariant_of-self-in-Memory-1 : goal.invariant_of-self-in-Memory-1
@@ -53,7 +54,8 @@ invariant_of-self-in-Memory-1 g c =
     let so = subst (λ (fault : SaveFault). IfMemory (LastsSo self.works new) fault) c.in-Err-Memory.field-0-is c.in-Err-Memory.ensures.fails.memory in
     let stands = subst (λ (fault : SaveFault). IsFaultOf (g.D.Disk.count (disk_at self.works)) (g.D.Disk.count (disk_at new)) fault) c.in-Err-Memory.field-0-is c.in-Err-Memory.ensures.causes.cause in
     record {
-      sound = rest_sound self.opening self.stopped self.works c.requires.running self.sound new c.in-Err-Memory.ensures.fails.rests so.tied so.lasts c.answer.ensures.causes.told so.spares (g.met.D.Disk.counts_now (disk_at new));
+      sound = sound_kept self.opening self.stopped self.works new self.sound self.stopped
+          (rest_sound self.opening self.stopped self.works c.requires.running (safe self.sound) new c.in-Err-Memory.ensures.fails.rests so.tied so.lasts c.answer.ensures.causes.told so.spares (g.met.D.Disk.counts_now (disk_at new))) c.in-Err-Memory.ensures.fails.rests.nothing.journal c.in-Err-Memory.ensures.fails.rests.view;
       bounded = bounds_rested self.opening self.stopped self.stopped self.works new c.in-Err-Memory.ensures.fails.rests self.bounded;
       counted = counted_still self.opening.count (g.D.Disk.count (disk_at self.works)) (g.D.Disk.count (disk_at new)) self.counted stands;
       past = past_rested self.opening self.stopped self.stopped self.works new c.in-Err-Memory.ensures.fails.rests self.past;
@@ -67,7 +69,8 @@ invariant_of-self-in-Err-Disk g c =
     let begun = progress_of (saving_in self.works).progress fault.1 in
     let rose = subst (λ (fault : SaveFault). IsFaultOf (g.D.Disk.count (disk_at self.works)) (g.D.Disk.count (disk_at new)) fault) c.in-Err-Disk.field-0-is c.in-Err-Disk.ensures.causes.cause in
     record {
-      sound = fail_sound self.opening self.stopped self.works c.requires.running self.sound new c.faults-after.result c.in-Err-Disk.ensures.fails.rests (c.answer.ensures.settle fault.0).leaves.either begun.0 begun.1 c.answer.ensures.causes.told (g.met.D.Disk.counts_now (disk_at new));
+      sound = sound_kept self.opening self.stopped self.works new self.sound (Some c.faults-after.result)
+          (fail_sound self.opening self.stopped self.works c.requires.running (safe self.sound) new c.faults-after.result c.in-Err-Disk.ensures.fails.rests (c.answer.ensures.settle fault.0).leaves.either begun.0 begun.1 c.answer.ensures.causes.told (g.met.D.Disk.counts_now (disk_at new))) c.in-Err-Disk.ensures.fails.rests.nothing.journal c.in-Err-Disk.ensures.fails.rests.view;
       bounded = bounds_rested self.opening self.stopped (Some c.faults-after.result) self.works new c.in-Err-Disk.ensures.fails.rests self.bounded;
       counted = counted_risen self.opening.count (g.D.Disk.count (disk_at self.works)) (g.D.Disk.count (disk_at new)) self.counted rose;
       past = past_rested self.opening self.stopped (Some c.faults-after.result) self.works new c.in-Err-Disk.ensures.fails.rests self.past;
@@ -78,7 +81,6 @@ returns-in-Ok-clause-call g c =
     let self = c.args.self.now in
     let new = c.answer.new.self in
     let told : Told c.args.cmd self.works new = record {
-      heap = self.works.space.kept;
       tied = c.in-Ok.ensures.tied;
       still = λ other. (c.answer.ensures.other other).still;
       leaves = λ settles. (c.answer.ensures.settle settles).leaves;
@@ -90,14 +92,14 @@ returns-in-Ok-clause-call g c =
     let bounded = c.in-Ok.self-1-own.given.1.0 in
     let counted = c.in-Ok.self-1-own.given.1.1.0 in
     let past = c.in-Ok.self-1-own.given.1.1.1.0 in
-    let serves = ask_serves self.opening self.stopped self.works c.requires.running self.sound new c.args.client c.args.cmd c.in-Ok.reply told c.in-Ok.ensures.answers in
+    let serves = ask_serves self.opening self.stopped self.works c.requires.running (safe self.sound) new c.args.client c.args.cmd c.in-Ok.reply (agrees self.opening self.stopped self.works new self.sound c.args.client c.args.cmd c.in-Ok.reply c.in-Ok.ensures.answers) told c.in-Ok.ensures.answers in
     record {
       serves = serves;
       fails = tt;
       running = record { running = c.requires.running; count = c.in-Ok.ensures.causes.cause };
       reopen = tt;
       still = λ other. record { disk = (c.answer.ensures.other other).still.disk; none = tt };
-      leaves = λ none. leaves_answered self.opening self.stopped self.works none self.sound new c.args.cmd c.in-Ok.reply (g.met.D.Disk.only_now (disk_at self.works)) (λ other. (c.answer.ensures.other other).still) (λ settles. (c.answer.ensures.settle settles).leaves);
+      leaves = λ none. leaves_answered self.opening self.stopped self.works none (safe self.sound) new c.args.cmd c.in-Ok.reply (g.met.D.Disk.only_now (disk_at self.works)) (λ other. (c.answer.ensures.other other).still) (λ settles. (c.answer.ensures.settle settles).leaves);
       settled = settled_all self new sound bounded counted past c.requires.running c.args.client c.args.cmd c.in-Ok.reply serves c.in-Ok.ensures.answers;
       short = tt;
       shown = short_of c.args.client c.args.cmd self.works new c.in-Ok.reply c.in-Ok.ensures.answers;
@@ -126,7 +128,7 @@ returns-in-Err-Memory-clause-call g c =
       running = tt;
       reopen = tt;
       still = λ other. record { disk = (c.answer.ensures.other other).still.disk; none = tt };
-      leaves = λ none. settled_alone self.opening self.stopped self.works none self.sound new c.args.cmd (Err (Memory no_memory)) so.spares;
+      leaves = λ none. settled_alone self.opening self.stopped self.works none (safe self.sound) new c.args.cmd (Err (Memory no_memory)) so.spares;
       settled = tt;
       short = λ settles. subst (λ (fault : SaveFault). IfMemory (IsShort self.works new) fault) arm.field-0-is (subst (λ (result : Result Reply SaveFault). OnMemory result (IsShort self.works new)) arm.is (c.answer.ensures.settle settles).short);
       shown = tt;
@@ -161,7 +163,7 @@ returns-in-Err-Disk-clause-call g c =
       running = tt;
       reopen = tt;
       still = λ other. absurd (true_false (sym fault.0 ∙ other));
-      leaves = λ none. leaves_failed self.opening self.stopped self.works none self.sound new c.args.cmd c.faults-before.result c.faults-after.result fault.0 begun.0 begun.1 (c.answer.ensures.settle fault.0).leaves;
+      leaves = λ none. leaves_failed self.opening self.stopped self.works none (safe self.sound) new c.args.cmd c.faults-before.result c.faults-after.result fault.0 begun.0 begun.1 (c.answer.ensures.settle fault.0).leaves;
       settled = tt;
       short = tt;
       shown = tt;

@@ -5,9 +5,10 @@ use Rattle.pm_save.specs.Writer.Settling.{settling_syncs, settling_writes}
 use Rattle.pm_law_bound.proofs.Many.{kept_still}
 use Rattle.pm_engine.specs.Shown.{disk_in, pages_in, serving}
 use Rattle.pm_engine.specs.Works.Working.{disk_at}
-use Rattle.pm_engine.proofs.Asking.{stored}
-use Rattle.pm_engine.proofs.Crashing.{settled_alone}
-use Rattle.pm_engine.proofs.Going.{stays_same}
+use Rattle.pm_engine.proofs.Standing.{safe}
+use Rattle.pm_engine.proofs.WorksLemmas.Asking.{stored}
+use Rattle.pm_engine.proofs.WorksLemmas.Crashing.{settled_alone}
+use Rattle.pm_law_saving.proofs.ServingLemmas.Kept.{stays_same}
 use Rattle.pm_engine.proofs.WorksLemmas.Kept.{lasts_so, none_made, pages_last}
 use Rattle.pm_engine.proofs.Telling.{client_reopens}
 use Rattle.pm_engine.proofs.engine.Engine.client.Goals as goal
@@ -23,7 +24,7 @@ pub returns-in-Err-clause-call : goal.returns-in-Err-clause-call
 returns-in-Err-clause-call g c =
     let self = c.args.self.now in
     let works = self.works in
-    let tied = (stored self.opening self.stopped works c.in-None.is self.sound).tied in
+    let tied = (stored self.opening self.stopped works c.in-None.is (safe self.sound)).tied in
     let so = lasts_so works works (g.met.D.Disk.only_now (disk_at works)) tied tied refl (pages_last works works refl) in
     record {
       serves = tt;
@@ -36,7 +37,7 @@ returns-in-Err-clause-call g c =
       running = tt;
       reopen = tt;
       still = λ _. record { disk = refl; none = tt };
-      leaves = λ none. settled_alone self.opening self.stopped works none self.sound works c.args.cmd.now (Err (Memory no_memory)) so.spares;
+      leaves = λ none. settled_alone self.opening self.stopped works none (safe self.sound) works c.args.cmd.now (Err (Memory no_memory)) so.spares;
       settled = tt;
       short = λ settles. absurd (true_false (sym settles ∙ c.in-Err.ensures.short));
       shown = tt;

@@ -13,29 +13,30 @@ use Rattle.pm_engine.specs.Works.Working.{view_in}
 use Rattle.pm_law_saving.proofs.ServingLemmas.Splitting.{splits_once}
 use Rattle.pm_engine.specs.Shown.{serving}
 use Rattle.pm_engine.proofs.engine.Engine.keep_their_images.Goals as goal
-use Rattle.pm_engine.proofs.Asking.{settled_now, splits_closed, splits_legal}
+use Rattle.pm_engine.proofs.Standing.{safe, served_of}
+use Rattle.pm_engine.proofs.WorksLemmas.Asking.{settled_now, splits_closed, splits_legal}
 use Rattle.pm_engine.proofs.Past.{few_told, gone_told, positions_told}
 
 pub returns-clause-served : goal.returns-clause-served
-returns-clause-served g c = ∥∥₁_map c.args.self.now.sound (λ sound. sound.served)
+returns-clause-served g c = ∥∥₁_map c.args.self.now.sound (λ sound. served_of sound)
 
 pub returns-clause-closed : goal.returns-clause-closed
-returns-clause-closed g c = splits_closed (serving c.args.self.now) (∥∥₁_map c.args.self.now.sound (λ sound. sound.served.closed))
+returns-clause-closed g c = splits_closed (serving c.args.self.now) (∥∥₁_map c.args.self.now.sound (λ sound. sound.safe.journal.closed))
 
 pub returns-clause-legal : goal.returns-clause-legal
-returns-clause-legal g c = splits_legal _ _ (∥∥₁_map c.args.self.now.sound (λ sound. sound.served.legal))
+returns-clause-legal g c = splits_legal _ _ (∥∥₁_map c.args.self.now.sound (λ sound. sound.safe.journal.legal))
 
 pub returns-clause-images : goal.returns-clause-images
-returns-clause-images g c = ∥∥₁_map c.args.self.now.sound (λ sound. sound.images)
+returns-clause-images g c = ∥∥₁_map c.args.self.now.sound (λ sound. sound.safe.images)
 
 pub returns-clause-watching : goal.returns-clause-watching
-returns-clause-watching g c = splits_once (Coded-set coded_ℕ _ _) (∥∥₁_map c.args.self.now.sound (λ sound. sound.served.watching))
+returns-clause-watching g c = splits_once (Coded-set coded_ℕ _ _) (∥∥₁_map c.args.self.now.sound (λ sound. sound.safe.journal.watching))
 
 pub returns-clause-told : goal.returns-clause-told
-returns-clause-told g c = splits_once (Coded-set coded_ℕ _ _) (∥∥₁_map c.args.self.now.sound (λ sound. sound.served.told))
+returns-clause-told g c = splits_once (Coded-set coded_ℕ _ _) (∥∥₁_map c.args.self.now.sound (λ sound. sound.safe.journal.told))
 
 pub returns-clause-settled : goal.returns-clause-settled
-returns-clause-settled g c = λ none. settled_now c.args.self.now.opening c.args.self.now.stopped c.args.self.now.works none c.args.self.now.sound
+returns-clause-settled g c = λ none. settled_now c.args.self.now.opening c.args.self.now.stopped c.args.self.now.works none (safe c.args.self.now.sound)
 
 at_most_once : (a b : ℕ) → IsProp (a ≤ b)
 at_most_once a b = hlevel props
@@ -54,7 +55,7 @@ returns-clause-standing g c = λ ids distinct reached.
     let it = c.args.self.now in
     let w = world (serving it) in
     splits_once (at_most_once _ _) (∥∥₁_map it.sound (λ sound. few_stand (view_in it.works) ids it.works.space.kept distinct (λ id among.
-    sound.served.represents.reached id (of_each (IsReachable w.heap (IsHeld w)) ids id reached among))))
+    sound.represents.reached id (of_each (IsReachable w.heap (IsHeld w)) ids id reached among))))
 
 pub returns-clause-bounds : goal.returns-clause-bounds
 returns-clause-bounds g c = c.args.self.now.bounded

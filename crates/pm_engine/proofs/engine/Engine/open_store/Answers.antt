@@ -1,78 +1,19 @@
-use Rattle.std.proofs.Common.{None, ℕ, refl, sym, ap, subst, ◌∙◌, arith}
-use Rattle.std.specs.Prelude.{option_map}
-use Rattle.std.proofs.lemmas.Result.{err_from_is_err_and}
-use Rattle.pm_types.specs.Mapped.{mapped}
-use Rattle.pm_image.specs.Stands.{StandsForCopy}
-use Rattle.pm_shadow.specs.State.{State}
-use Rattle.pm_shadow.specs.Pages.{state, disk_of}
-use Rattle.pm_space.specs.Shown.{car_of, view}
-use Rattle.pm_copies.specs.Listed.{copy_in}
-use Rattle.pm_copies.specs.Opened.{IsOpenedStore}
-use Rattle.pm_saving.specs.Progress.{Saving}
-use Rattle.pm_reopen.proofs.Refusals.{graph_refused, header_refused}
-use Rattle.pm_engine.specs.declared.works.course.Course.TheVariants.{Nothing}
-use Rattle.pm_engine.specs.declared.start.Start.{Start}
-use Rattle.pm_engine.specs.declared.works.works.Works.{Works}
+use Rattle.std.proofs.Common.{None, sym, ap, ◌∙◌}
+use Rattle.std.proofs.Math.Logic.{∥∥₁_elim, ∥∥₁_map, ∥∥₁_prop}
+use Rattle.pm_saving.specs.Serving.{Serving}
+use Rattle.pm_engine.specs.Works.Seen.{seen}
+use Rattle.pm_engine.specs.Works.Working.{disk_at}
 use Rattle.pm_engine.proofs.engine.Engine.open_store.Goals as goal
 use Rattle.pm_engine.proofs.Bounding.{bounds_begun}
-use Rattle.pm_engine.proofs.Begun.{past_now, stands, start_sound}
-use Rattle.pm_engine.proofs.Counts.{counted_first}
+use Rattle.pm_engine.proofs.Past.{past_begun}
+use Rattle.pm_engine.proofs.WorksLemmas.Counts.{counted_first}
 
-pub returns-in_err-pages-clause-fault : goal.returns-in_err-pages-clause-fault
-returns-in_err-pages-clause-fault g c =
-    let p = err_from_is_err_and c.from_residual.result c.from_residual.ensures.1 in
-    rw (p.1, p.2) (λ bytes told. header_refused bytes c.in_err-pages.field-0.0.1 (c.in_err-pages.ensures.fault bytes told))
-
--- what was opened: the space is what opening makes of the bytes
 pub invariant_of-result : goal.invariant_of-result
-invariant_of-result g c = record {
-  store = λ bytes told.
-      ∣ subst (λ space. IsOpenedStore bytes (view space.parts)) (sym c.of.ensures)
-      (c.in-Ok.ensures.opened bytes (sym (ap (λ pages. g.D.Disk.contents (disk_of pages)) c.of-in-Ok.ensures) ∙ told)).store ∣₁;
-}
-
-pub invariant_of-result-in-Ok : goal.invariant_of-result-in-Ok
-invariant_of-result-in-Ok g c =
-    let first = c.in_ok-pages.pages in
-    let last = c.open_space.new.pages in
-    let works : Works g.row.D.Denot g.row.F.Denot g.D.Disk = record { pages = last; space = c.in-Ok.space; saver = c.new.result; journal = c.new-in-Ok.result; course = Nothing; watches = c.new-in-Ok-2.result; events = 0; steps = 0 } in
-    let start : Start g.row.D.Denot g.row.F.Denot g.D.Disk = record { number = c.header.result.now.epoch; space = c.of.result; pages = c.of-in-Ok.result; count = c.faults.result; store = c.result-1.given.0 } in
-    let attached_is = c.in_ok-pages.ensures.state in
-    let unknown = ap (λ (s : State). s.known) attached_is in
-    let knows = c.in-Ok.ensures.state in
-    let makes = c.in-Ok.ensures.made_of in
-    let fine = ap (λ (s : State). s.failed) (knows.first unknown) ∙ ap (λ (s : State). s.failed) attached_is in
-    let disk = disk_of last in
-    let stay = g.met.D.Disk.contents_stay disk in
+invariant_of-result g c =
+    let begun = c.in_ok-opening in
     record {
-      sound = ∣ start_sound start works (state first) c.args.place c.in-Ok.settled unknown knows makes fine last.within c.in-Ok.ensures.opened stay
-          (λ bytes told. g.met.D.Disk.leaves_bytes disk (g.D.Disk.moment disk) bytes (g.met.D.Disk.counts_now disk (g.D.Disk.moment disk) bytes (omega arith) (stay bytes told)))
-          (ap (option_map (mapped car_of)) makes.unfrozen.frozen) c.new.ensures c.new-in-Ok.ensures.items refl c.new-in-Ok-2.ensures refl refl (ap (λ h. h.epoch) c.header.ensures) c.of.ensures c.of-in-Ok.ensures (g.met.D.Disk.only_now disk)
-          (λ bytes left told here. c.in_ok-pages.ensures.only bytes (sym c.in_ok-pages.ensures.told ∙ sym c.open_space.ensures.looks.told ∙ told) left (c.open_space.ensures.looks.images.no_more left here)) ∣₁;
-      bounded = bounds_begun start None works c.new-in-Ok-2.ensures;
-      past = past_now start works (ap (option_map (mapped car_of)) makes.unfrozen.frozen) c.new-in-Ok.ensures.items refl c.new-in-Ok-2.ensures refl refl c.of.ensures (state first).header.next makes.opened.fresh (ap (λ (s : Saving). s.progress) c.new.ensures);
-      counted = counted_first c.faults.result (g.D.Disk.count (disk_of last)) c.faults.ensures;
+      sound = ∥∥₁_elim begun.ensures.safe ∥∥₁_prop (λ it. ∥∥₁_map begun.ensures.represents (λ stands. record { safe = it; represents = stands }));
+      bounded = bounds_begun begun.opening None begun.works (ap (λ (it : Serving). it.watches) begun.ensures.begins);
+      counted = counted_first begun.opening.count (g.D.Disk.count (disk_at begun.works)) (begun.ensures.count.1 ∙ sym begun.ensures.count.0);
+      past = past_begun (seen begun.opening None begun.works) (seen begun.opening None begun.works).opened.next begun.ensures.fresh begun.ensures.idle (sym begun.ensures.begins);
     }
-
-pub returns-in-Ok-clause-stands : goal.returns-in-Ok-clause-stands
-returns-in-Ok-clause-stands g c =
-    let first = c.in_ok-pages.pages in
-    let last = c.open_space.new.pages in
-    let works : Works g.row.D.Denot g.row.F.Denot g.D.Disk = record { pages = last; space = c.in-Ok.space; saver = c.new.result; journal = c.new-in-Ok.result; course = Nothing; watches = c.new-in-Ok-2.result; events = 0; steps = 0 } in
-    let start : Start g.row.D.Denot g.row.F.Denot g.D.Disk = record { number = c.header.result.now.epoch; space = c.of.result; pages = c.of-in-Ok.result; count = c.faults.result; store = c.result-1.given.0 } in
-    let attached_is = c.in_ok-pages.ensures.state in
-    let unknown = ap (λ (s : State). s.known) attached_is in
-    let knows = c.in-Ok.ensures.state in
-    let fine = ap (λ (s : State). s.failed) (knows.first unknown) ∙ ap (λ (s : State). s.failed) attached_is in
-    let disk = disk_of last in
-    let stay = g.met.D.Disk.contents_stay disk in
-    λ bytes told.
-    subst (λ (n : ℕ). StandsForCopy bytes n (copy_in (view c.of.result.value.parts))) (sym (ap (λ h. h.epoch) c.header.ensures))
-    (subst (λ space. StandsForCopy bytes (state last).header.epoch (copy_in (view space.parts))) (sym c.of.ensures)
-    (stands start works (state first) c.args.place c.in-Ok.settled unknown knows c.in-Ok.ensures.made_of fine last.within c.in-Ok.ensures.opened stay
-    (λ bytes told. g.met.D.Disk.leaves_bytes disk (g.D.Disk.moment disk) bytes (g.met.D.Disk.counts_now disk (g.D.Disk.moment disk) bytes (omega arith) (stay bytes told)))
-    bytes (c.open_space.ensures.looks.told ∙ c.in_ok-pages.ensures.told ∙ told)))
-
-pub returns-in-Err-clause-fault : goal.returns-in-Err-clause-fault
-returns-in-Err-clause-fault g c = λ bytes told.
-    graph_refused bytes c.in-Err.fault ((c.in-Err.ensures.fault bytes (c.in_ok-pages.ensures.told ∙ told)).refused (c.in_ok-pages.ensures.found bytes told).count)

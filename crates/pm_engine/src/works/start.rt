@@ -12,15 +12,15 @@ use std::snapshot::Snapshot;
 
 /// What was opened. No call changes it. Where the disk told its bytes, the space is what opening makes of them.
 #[derive(Drop)]
-pub(crate) struct Start<D: Disk, F> {
+pub struct Start<D: Disk, F> {
     /// The number of the copy.
-    pub(crate) number: u32,
+    pub number: u32,
     /// The space as it was opened.
-    pub(crate) space: Snapshot<Space<F>>,
+    pub space: Snapshot<Space<F>>,
     /// The pages as they were then, with the disk.
-    pub(crate) pages: Snapshot<Pages<D>>,
+    pub pages: Snapshot<Pages<D>>,
     /// The disk's count of failed calls then.
-    pub(crate) count: u64,
+    pub count: u64,
     ghost store: { IfTold (D.contents (disk_of pages.value)) (λ bytes.
         ∥ IsOpenedStore bytes (view space.value.parts) ∥₁) },
 }

@@ -12,21 +12,22 @@ use Rattle.pm_view.specs.View.{Cars}
 use Rattle.pm_saving.specs.Progress.{Progress, Saving, cars_or_none}
 use Rattle.pm_saving.specs.Tied.{IsTied}
 use Rattle.pm_law_saving.proofs.Next.{next_goes}
+use Rattle.pm_law_saving.proofs.ServingLemmas.Kept as kept
 use Rattle.pm_save.specs.Progress.Answers.{IsFlushed, Spares, TellsOn}
 use Rattle.pm_save.specs.Shown.{frozen_of}
 use Rattle.pm_saving.specs.Serving.{opening}
 use Rattle.pm_saving.specs.Events.{Flushes, StaysBegun}
-use Rattle.pm_engine.specs.declared.start.Start.{Start}
+use Rattle.pm_engine.specs.declared.works.start.Start.{Start}
 use Rattle.pm_engine.specs.declared.works.works.Works.{Works}
 use Rattle.pm_engine.specs.Works.Working.{FlushesOn, IsTiedIn, LastsIn, contents_in, disk_at, frozen_in, saving_in, state_in, view_in}
-use Rattle.pm_engine.specs.Seen.{IsSound, seen}
-use Rattle.pm_engine.proofs.Going.{lasts, serves_on, stays_same}
+use Rattle.pm_engine.specs.Works.Seen.{IsCrashSafe, seen}
+use Rattle.pm_engine.proofs.WorksLemmas.Going.{lasts}
 use Rattle.pm_engine.proofs.WorksLemmas.Kept.{begun_from}
 
 -- and so do the settled cars, and the copy in progress but for its pages
 pub flushed_stays : (old new : Saving) (frozen : Option Cars) (s t : State) (was now : Option (List ℕ)) (flushed : Flushed) → IsTied old frozen s was → IsFlushed old new (cars_or_none frozen) s t was now flushed
     → (new.settled ≡ old.settled) × StaysBegun old.progress new.progress
-flushed_stays old new frozen s t was now AllFlushed tied is = (ap (λ (it : Saving). it.settled) is.1.saving, stays_same old.progress new.progress (ap (λ (it : Saving). it.progress) is.1.saving))
+flushed_stays old new frozen s t was now AllFlushed tied is = (ap (λ (it : Saving). it.settled) is.1.saving, kept.stays_same old.progress new.progress (ap (λ (it : Saving). it.progress) is.1.saving))
 flushed_stays old new frozen s t was now (Wrote page) tied is =
     let begun = begun_from old.settled old.progress is.progress frozen s.header.epoch tied.begun is.is_progress in
     let goes = (next_goes old.settled (cars_or_none frozen) is.progress is.next page begun is.is_next).0 in (
@@ -59,12 +60,12 @@ module _ {D : Type 0} {F : Type 0} {g : Ghosts D} (start : Start D F g) (stopped
     stopped = refl;
   }
 
-module _ {D : Type 0} {F : Type 0} {g : Ghosts D} (start : Start D F g) (old new : Works D F g) (sound : IsSound start None old)
+module _ {D : Type 0} {F : Type 0} {g : Ghosts D} (start : Start D F g) (old new : Works D F g) (sound : IsCrashSafe start None old)
     (counts : (t : ℕ) (bytes : List ℕ) → t ≤ g.moment (disk_at new) → g.image (disk_at new) bytes → g.since (disk_at new) t bytes) (flushed : Flushed) (is : FlushesOn old new flushed) where
-  pub flush_sound : IsTiedIn new → LastsIn old new → TellsOn (contents_in old) (contents_in new) → Spares g.contents g.moment g.since (state_in old) (disk_at old) (disk_at new) → IsSound start None new
+  pub flush_sound : IsTiedIn new → LastsIn old new → TellsOn (contents_in old) (contents_in new) → Spares g.contents g.moment g.since (state_in old) (disk_at old) (disk_at new) → IsCrashSafe start None new
   flush_sound =
       let w = opening (seen start None old) in
       let tied = (sound.stored refl).tied in
-      lasts start old new sound counts (serves_on start old new None sound.served is.journal is.course is.watches (same_view start None old new flushed tied is) (same_frozen start None old new flushed tied is) (stays start None old new flushed tied is).1)
+      lasts start old new sound counts (kept.flushed (seen start None old) (seen start None new) sound.journal (flush_told start None old new flushed tied is) (stays start None old new flushed tied is).1)
       (ap (λ (entries : List Entry). settled_in (after w entries)) is.journal)
       (ap (chain w) is.journal)

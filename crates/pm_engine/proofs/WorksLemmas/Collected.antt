@@ -5,19 +5,18 @@ use Rattle.pm_types.specs.declared.entry.Entry.{Entry}
 use Rattle.pm_disk.specs.declared.disk.Disk.{Ghosts}
 use Rattle.pm_model.specs.Journal.{after, chain, settled_in}
 use Rattle.pm_shadow.specs.Pages.{disk_of}
-use Rattle.pm_evac.specs.Steps.{KeepsWorlds}
 use Rattle.pm_saving.specs.Progress.{Saving}
 use Rattle.pm_save.specs.Shown.{saving}
 use Rattle.pm_save.specs.Progress.Answers.{TellsOn}
 use Rattle.pm_saving.specs.Serving.{opening}
 use Rattle.pm_saving.specs.Events.{Collects}
-use Rattle.pm_law_saving.proofs.ServingLemmas.Following as law
-use Rattle.pm_engine.specs.declared.start.Start.{Start}
+use Rattle.pm_law_saving.proofs.ServingLemmas.Kept as kept
+use Rattle.pm_engine.specs.declared.works.start.Start.{Start}
 use Rattle.pm_engine.specs.declared.works.works.Works.{Works}
-use Rattle.pm_engine.specs.Works.Working.{CollectsOn, IsLeft, IsTiedIn, Rests, contents_in, disk_at, saving_in, view_in}
-use Rattle.pm_engine.specs.Seen.{IsSound, seen}
-use Rattle.pm_engine.proofs.Asking.{at_none, rest_sound, stored}
-use Rattle.pm_engine.proofs.Going.{lasts, stays_same}
+use Rattle.pm_engine.specs.Works.Working.{CollectsOn, IsLeft, IsTiedIn, Rests, contents_in, disk_at, saving_in}
+use Rattle.pm_engine.specs.Works.Seen.{IsCrashSafe, seen}
+use Rattle.pm_engine.proofs.WorksLemmas.Asking.{at_none, rest_sound, stored}
+use Rattle.pm_engine.proofs.WorksLemmas.Going.{lasts}
 use Rattle.pm_engine.proofs.WorksLemmas.Kept.{pages_last, spares_still}
 
 module _ {D : Type 0} {F : Type 0} {g : Ghosts D} (start : Start D F g) (stopped : Option ℕ) (old new : Works D F g) (is : CollectsOn old new) where
@@ -50,33 +49,33 @@ left_rests old new left = record {
   view = left.keeps.view;
   frozen = left.keeps.frozen;
   settled = ap (λ (it : Saving). it.settled) left.keeps.saving;
-  progress = stays_same (saving_in old).progress (saving_in new).progress (ap (λ (it : Saving). it.progress) left.keeps.saving);
+  progress = kept.stays_same (saving_in old).progress (saving_in new).progress (ap (λ (it : Saving). it.progress) left.keeps.saving);
 }
 
-module _ {D : Type 0} {F : Type 0} {g : Ghosts D} (start : Start D F g) (stopped : Option ℕ) (old new : Works D F g) (is : CollectsOn old new) (none : stopped ≡ None) (known : ∥ IsSound start stopped old ∥₁) where
-  pub collect_sound : KeepsWorlds (view_in old) (view_in new) → IsTiedIn new → ((t : ℕ) (bytes : List ℕ) → t ≤ g.moment (disk_at new) → g.image (disk_at new) bytes → g.since (disk_at new) t bytes)
-      → ((bytes : List ℕ) → g.since (disk_at old) (g.moment (disk_at old)) bytes → g.image (disk_at old) bytes) → ∥ IsSound start stopped new ∥₁
-  collect_sound worlds tied counts only_now =
+module _ {D : Type 0} {F : Type 0} {g : Ghosts D} (start : Start D F g) (stopped : Option ℕ) (old new : Works D F g) (is : CollectsOn old new) (none : stopped ≡ None) (known : ∥ IsCrashSafe start stopped old ∥₁) where
+  pub collect_sound : IsTiedIn new → ((t : ℕ) (bytes : List ℕ) → t ≤ g.moment (disk_at new) → g.image (disk_at new) bytes → g.since (disk_at new) t bytes)
+      → ((bytes : List ℕ) → g.since (disk_at old) (g.moment (disk_at old)) bytes → g.image (disk_at old) bytes) → ∥ IsCrashSafe start stopped new ∥₁
+  collect_sound tied counts only_now =
       let w = opening (seen start None old) in
-      subst (λ (o : Option ℕ). ∥ IsSound start o new ∥₁) (sym none) (∥∥₁_map (at_none start stopped old none known) (λ sound.
-      lasts start old new sound counts (law.collected (seen start None old) (seen start None new) sound.served (collects start None old new is) worlds)
+      subst (λ (o : Option ℕ). ∥ IsCrashSafe start o new ∥₁) (sym none) (∥∥₁_map (at_none start stopped old none known) (λ sound.
+      lasts start old new sound counts (kept.collected (seen start None old) (seen start None new) sound.journal (collects start None old new is))
       (ap (λ (entries : List Entry). settled_in (after w entries)) is.journal)
       (ap (chain w) is.journal)
       tied (pages_last old new is.pages) (told old new is.pages)
       (spares_still old new only_now (same_disk old new is.pages) (sound.stored refl).tied.sound)))
 
 -- nothing was made
-module _ {D : Type 0} {F : Type 0} {g : Ghosts D} (start : Start D F g) (stopped : Option ℕ) (old new : Works D F g) (left : IsLeft old new) (none : stopped ≡ None) (known : ∥ IsSound start stopped old ∥₁) where
+module _ {D : Type 0} {F : Type 0} {g : Ghosts D} (start : Start D F g) (stopped : Option ℕ) (old new : Works D F g) (left : IsLeft old new) (none : stopped ≡ None) (known : ∥ IsCrashSafe start stopped old ∥₁) where
   pub left_sound : new.pages ≡ old.pages → IsTiedIn new → ((t : ℕ) (bytes : List ℕ) → t ≤ g.moment (disk_at new) → g.image (disk_at new) bytes → g.since (disk_at new) t bytes)
-      → ((bytes : List ℕ) → g.since (disk_at old) (g.moment (disk_at old)) bytes → g.image (disk_at old) bytes) → ∥ IsSound start stopped new ∥₁
+      → ((bytes : List ℕ) → g.since (disk_at old) (g.moment (disk_at old)) bytes → g.image (disk_at old) bytes) → ∥ IsCrashSafe start stopped new ∥₁
   left_sound pages tied counts only_now =
       rest_sound start stopped old none known new (left_rests old new left) tied (pages_last old new pages) (told old new pages)
       (spares_still old new only_now (same_disk old new pages) (stored start stopped old none known).tied.sound) counts
 
 -- either way
-module _ {D : Type 0} {F : Type 0} {g : Ghosts D} {T E : Type 0} (start : Start D F g) (stopped : Option ℕ) (old new : Works D F g) (none : stopped ≡ None) (known : ∥ IsSound start stopped old ∥₁) where
-  pub tried_sound : (result : Result T E) → OnOk result (CollectsOn old new) → OnErr result (IsLeft old new) → KeepsWorlds (view_in old) (view_in new) → new.pages ≡ old.pages → IsTiedIn new
+module _ {D : Type 0} {F : Type 0} {g : Ghosts D} {T E : Type 0} (start : Start D F g) (stopped : Option ℕ) (old new : Works D F g) (none : stopped ≡ None) (known : ∥ IsCrashSafe start stopped old ∥₁) where
+  pub tried_sound : (result : Result T E) → OnOk result (CollectsOn old new) → OnErr result (IsLeft old new) → new.pages ≡ old.pages → IsTiedIn new
       → ((t : ℕ) (bytes : List ℕ) → t ≤ g.moment (disk_at new) → g.image (disk_at new) bytes → g.since (disk_at new) t bytes)
-      → ((bytes : List ℕ) → g.since (disk_at old) (g.moment (disk_at old)) bytes → g.image (disk_at old) bytes) → ∥ IsSound start stopped new ∥₁
-  tried_sound (Ok made) is left worlds pages = collect_sound start stopped old new is none known worlds
-  tried_sound (Err fault) is left worlds pages = left_sound start stopped old new left none known pages
+      → ((bytes : List ℕ) → g.since (disk_at old) (g.moment (disk_at old)) bytes → g.image (disk_at old) bytes) → ∥ IsCrashSafe start stopped new ∥₁
+  tried_sound (Ok made) is left pages = collect_sound start stopped old new is none known
+  tried_sound (Err fault) is left pages = left_sound start stopped old new left none known pages

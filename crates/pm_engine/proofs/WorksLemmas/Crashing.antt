@@ -23,21 +23,21 @@ use Rattle.pm_save.specs.Progress.Answers.{Spares}
 use Rattle.pm_saving.specs.Serving.{opening, world}
 use Rattle.pm_saving.specs.Events.{Serves}
 use Rattle.pm_saving.specs.Images.{IsCopyInProgress, IsSettledCopy, IsTold}
-use Rattle.pm_law_saving.proofs.ServingLemmas.Following as law
-use Rattle.pm_engine.specs.declared.start.Start.{Start}
+use Rattle.pm_law_saving.proofs.ServingLemmas.Kept as law
+use Rattle.pm_engine.specs.declared.works.start.Start.{Start}
 use Rattle.pm_engine.specs.declared.works.works.Works.{Works}
 use Rattle.pm_engine.specs.Works.Working.{Answers, LeavesEither, SettlesCopy, StaysStill, contents_in, disk_at, frozen_in, saving_in, state_in}
-use Rattle.pm_engine.specs.Seen.{IsSound, disk_then, seen}
-use Rattle.pm_engine.specs.Calls.{MayStand}
-use Rattle.pm_engine.proofs.Answering.{not_saved}
-use Rattle.pm_engine.proofs.Asking.{leaves_begun, leaves_settled, saving_is, stored, tells}
+use Rattle.pm_engine.specs.Works.Seen.{IsCrashSafe, disk_then, seen}
+use Rattle.pm_engine.specs.Works.Copies.{MayStand}
+use Rattle.pm_engine.proofs.WorksLemmas.Answering.{not_saved}
+use Rattle.pm_engine.proofs.WorksLemmas.Asking.{leaves_begun, leaves_settled, saving_is, stored, tells}
 use Rattle.pm_engine.proofs.WorksLemmas.Kept.{spares_still}
 
 -- only `settle` settles a copy
 never_acts : (world : World) (client : ℕ) (cmd : Cmd) (number : ℕ) → is_act cmd ≡ true → Saved number ≡ (answer world client cmd).0 → ⊥
 never_acts world client cmd number act is = let other : says_saved (Saved number) ≡ false = not_saved world client cmd (Saved number) is (law.acts cmd act) in cc other
 
-module _ {D : Type 0} {F : Type 0} {g : Ghosts D} (start : Start D F g) (stopped : Option ℕ) (old : Works D F g) (none : stopped ≡ None) (known : ∥ IsSound start stopped old ∥₁) (new : Works D F g) where
+module _ {D : Type 0} {F : Type 0} {g : Ghosts D} (start : Start D F g) (stopped : Option ℕ) (old : Works D F g) (none : stopped ≡ None) (known : ∥ IsCrashSafe start stopped old ∥₁) (new : Works D F g) where
   -- the last acknowledged copy alone
   pub settled_alone : (cmd : Cmd) (result : Result Reply EngineFault) → Spares g.contents g.moment g.since (state_in old) (disk_at old) (disk_at new) → IsTold (g.contents (disk_then start))
       → LeavesOnly g.moment g.since (disk_at old) (disk_at new) (MayStand cmd (seen start stopped old) result)

@@ -1,5 +1,5 @@
 -- What holds of an engine that was just opened.
-use Rattle.std.proofs.Common.{◌≡◌, ℕ, ◌≤◌, true, false, List, [], ◌∷◌, Option, Some, None, sym, ap, subst, ◌∙◌}
+use Rattle.std.proofs.Common.{◌≡◌, ℕ, ◌≤◌, true, false, List, [], ◌∷◌, Option, Some, None, sym, ap, subst}
 use Rattle.std.specs.List.{AllByRecursion}
 use Rattle.pm_disk.specs.declared.disk.Disk.{Ghosts}
 use Rattle.pm_disk.specs.Disk.{IfTold}
@@ -14,7 +14,6 @@ use Rattle.pm_shadow.specs.Images.{Holds}
 use Rattle.pm_shadow.specs.Pages.{current_kept, disk_of}
 use Rattle.pm_view.specs.View.{Cars}
 use Rattle.pm_copies.specs.Listed.{copy_in}
-use Rattle.pm_copies.specs.Opened.{IsFresh}
 use Rattle.pm_saving.specs.Progress.{Saving}
 use Rattle.pm_saving.specs.Tied.{HasCopy, IsOnPage, IsTied}
 use Rattle.pm_law_saving.proofs.Giving.{store_begins}
@@ -25,32 +24,16 @@ use Rattle.pm_saving.specs.Images.{IsSettledCopy, IsStored, KeepsImages}
 use Rattle.pm_space.specs.Shown.{view}
 use Rattle.pm_law_saving.proofs.ServingLemmas.Opening.{begins_served}
 use Rattle.pm_law_saving.proofs.ServingLemmas.Images.{begins}
-use Rattle.pm_engine.specs.declared.start.Start.{Start}
+use Rattle.pm_engine.specs.declared.works.start.Start.{Start}
 use Rattle.pm_engine.specs.declared.works.works.Works.{Works}
 use Rattle.pm_engine.specs.Works.Working.{contents_in, course_in, disk_at, frozen_in, saving_in, state_in, view_in}
-use Rattle.pm_engine.specs.History.{HasHistory}
-use Rattle.pm_engine.specs.Seen.{IsSound, disk_then, seen}
-use Rattle.pm_engine.proofs.Going.{settled_there}
-use Rattle.pm_engine.proofs.Past.{past_begun}
+use Rattle.pm_engine.specs.Works.Seen.{IsCrashSafe, disk_then, seen}
+use Rattle.pm_engine.proofs.WorksLemmas.Going.{settled_there}
 
 -- each car stands on a page of the current copy
 on_pages : (s : State) (cars : List KeptPage) → s.known ≡ true → AllByRecursion (λ (kept : KeptPage). (2 ≤ kept.page) × (s.uses kept.page ≡ Current)) cars → AllByRecursion (IsOnPage s) cars
 on_pages s [] known all = tt
 on_pages s (kept ∷ cars) known all = (record { from_2 = all.0.0; keeps = ap (keeps_by s.known) all.0.1 }, on_pages s cars known all.1)
-
--- where nothing was asked yet it is an engine that was just opened
-module _ {D : Type 0} {F : Type 0} {g : Ghosts D} (start : Start D F g) (works : Works D F g) (frozen : frozen_in works ≡ None) (journal : works.journal.items ≡ []) (course : course_in works ≡ []) (watches : works.watches.items ≡ []) (events : works.events ≡ 0)
-    (steps : works.steps ≡ 0) (space : start.space.value ≡ works.space) where
-  viewed : view start.space.value.parts ≡ view_in works
-  viewed = ap (λ space. view space.parts) space
-
-  pub just_begun : just_opened start.number (view start.space.value.parts) (saving_in works) ≡ seen start None works
-  just_begun =
-      (λ i. record { number = start.number; opened = view start.space.value.parts; view = viewed i; frozen = sym frozen i; saving = saving_in works; journal = sym journal i; course = sym course i; watches = sym watches i; events = sym events i; steps = sym steps i; stopped = None })
-
-  -- with nothing behind it
-  pub past_now : (next_id : ℕ) → IsFresh next_id (view_in works) → (saving_in works).progress ≡ None → ∥ HasHistory (seen start None works) ∥₁
-  past_now next_id fresh idle = past_begun (seen start None works) next_id (subst (IsFresh next_id) (sym viewed) fresh) idle just_begun
 
 module _ {D : Type 0} {F : Type 0} {g : Ghosts D} (start : Start D F g) (works : Works D F g) (s0 : State) (place : F) (cars : List KeptPage)
     (unknown : s0.known ≡ false) (knows : KnowsPages s0 (state_in works)) (makes : MakesSpace s0 (state_in works) works.space.parts place cars) (fine : (state_in works).failed ≡ false)
@@ -87,24 +70,34 @@ module _ {D : Type 0} {F : Type 0} {g : Ghosts D} (start : Start D F g) (works :
       subst P same (store_begins cars (state_in works) (contents_in works) fine known within (knows.idle unknown) (on_pages (state_in works) cars known (makes.on_pages unknown))
       (λ bytes told. record { graph = (opens bytes told).store.found.graph; keeps = keeps_it bytes told; cars = sym (opens bytes told).cars_are }))
 
+  begun : (frozen_in works ≡ None) → works.journal.items ≡ [] → course_in works ≡ [] → works.watches.items ≡ [] → works.events ≡ 0 → works.steps ≡ 0 → start.space.value ≡ works.space → just_opened start.number (view_in works) (saving_in works) ≡ seen start None works
+  begun frozen journal course watches events steps space =
+      let viewed = ap (λ space. view space.parts) space in
+      (λ i. record { number = start.number; opened = sym viewed i; view = view_in works; frozen = sym frozen i; saving = saving_in works; journal = sym journal i; course = sym course i; watches = sym watches i; events = sym events i; steps = sym steps i; stopped = None })
+
+  -- it serves the world of the copy in its space
+  pub start_served : (frozen_in works ≡ None) → saving_in works ≡ record { settled = cars; progress = None } → works.journal.items ≡ [] → course_in works ≡ [] → works.watches.items ≡ [] → works.events ≡ 0 → works.steps ≡ 0 → start.space.value ≡ works.space → IsServed (seen start None works)
+  start_served frozen saved journal course watches events steps space =
+      subst IsServed (begun frozen journal course watches events steps space)
+      (begins_served start.number _ makes.entries s0.header.next (view_in works) (saving_in works) makes.accepted makes.opened (ap (λ (s : Saving). s.progress) saved))
+
   pub start_sound : (frozen_in works ≡ None) → saving_in works ≡ record { settled = cars; progress = None } → works.journal.items ≡ [] → course_in works ≡ [] → works.watches.items ≡ [] → works.events ≡ 0 → works.steps ≡ 0 → start.number ≡ (state_in works).header.epoch
       → start.space.value ≡ works.space → start.pages.value ≡ works.pages → ((bytes : List ℕ) → g.since (disk_at works) (g.moment (disk_at works)) bytes → g.image (disk_at works) bytes)
-      → ((bytes left : List ℕ) → contents_in works ≡ Some bytes → g.image (disk_at works) left → left ≡ bytes) → IsSound start None works
+      → ((bytes left : List ℕ) → contents_in works ≡ Some bytes → g.image (disk_at works) left → left ≡ bytes) → IsCrashSafe start None works
   start_sound frozen saved journal course watches events steps number space pages only_now only =
-      let viewed = ap (λ space. view space.parts) space in
       let it : Serving = just_opened start.number (view_in works) (saving_in works) in
-      let same : it ≡ seen start None works = (λ i. just_opened start.number (sym viewed i) (saving_in works)) ∙ just_begun start works frozen journal course watches events steps space in
-      let served = subst IsServed same (begins_served start.number _ makes.entries s0.header.next (view_in works) (saving_in works) makes.accepted makes.opened (ap (λ (s : Saving). s.progress) saved)) in
+      let same : it ≡ seen start None works = begun frozen journal course watches events steps space in
+      let keeps = (start_served frozen saved journal course watches events steps space).journal in
       let stored : IsStored it (state_in works) (g.contents (disk_then start)) (contents_in works) = record {
         tied = subst (λ (f : Option Cars). IsTied (saving_in works) f (state_in works) (contents_in works)) frozen (tied frozen saved);
         numbered = sym number;
         has = λ first bytes told. has_copy bytes told;
       } in
       record {
-        served = served;
+        journal = keeps;
         stored = λ _. subst (λ (one : Serving). IsStored one (state_in works) (g.contents (disk_then start)) (contents_in works)) same stored;
         images = subst (λ (d : D). KeepsImages g.contents g.image g.moment g.since d (seen start None works) (disk_at works)) (sym (ap disk_of pages))
-            (begins g.contents g.image g.moment g.since (disk_at works) (seen start None works) (settled_there (seen start None works) served) only_now
+            (begins g.contents g.image g.moment g.since (disk_at works) (seen start None works) (settled_there (seen start None works) keeps) only_now
             (λ first left here. subst (λ (one : Serving). IsSettledCopy (world one) left) same
             (subst (λ (n : ℕ). StandsForCopy left n (copy_in (view_in works))) (sym number) (subst (λ (b : List ℕ). StandsForCopy b (state_in works).header.epoch (copy_in (view_in works))) (sym (only first.0 left first.1 here)) (stands first.0 first.1)))));
       }

@@ -11,7 +11,7 @@ use Rattle.pm_law_course.proofs.Kept.{command_keeps}
 use Rattle.pm_engine.specs.declared.works.works.Works.{Works}
 use Rattle.pm_engine.specs.Works.Acting.{DoesItsRow, ChangesSpace}
 use Rattle.pm_engine.specs.Works.Working.{Answers, view_in}
-use Rattle.pm_engine.proofs.Answering.{save_view, settle_view, unsave_view, watch_view}
+use Rattle.pm_engine.proofs.WorksLemmas.Answering.{save_view, settle_view, unsave_view, watch_view}
 
 -- a command on the space does its row
 row_changes : (client : ℕ) (cmd : Cmd) (old new : SpaceView) (reply : Reply) → is_act cmd ≡ true → DoesItsRow client cmd old new reply → ChangesSpace client cmd old new reply

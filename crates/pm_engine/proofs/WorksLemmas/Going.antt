@@ -1,5 +1,5 @@
 -- What holds of an engine goes on through each of its calls.
-use Rattle.std.proofs.Common.{◌≡◌, ℕ, ◌≤◌, Bool, true, false, if◌then◌else◌, option_map, List, [], ◌∷◌, ◌++◌, length, Option, Some, None, Contains, refl, sym, ap, subst, ◌∙◌, arith}
+use Rattle.std.proofs.Common.{◌≡◌, ℕ, ◌≤◌, Bool, true, false, if◌then◌else◌, List, [], ◌∷◌, ◌++◌, Option, Some, None, Contains, refl, sym, ap, subst, ◌∙◌}
 use Rattle.pm_types.specs.declared.command.Cmd.{Cmd}
 use Rattle.pm_types.specs.declared.entry.Entry.{Entry}
 use Rattle.pm_types.specs.declared.reply.Reply.{Reply}
@@ -11,19 +11,18 @@ use Rattle.pm_model.specs.Journal.{IsLegal, after, chain, settled_along, settled
 use Rattle.pm_model.proofs.ChainLaws.{after_more, chain_same, same_settled}
 use Rattle.pm_model.proofs.Members.{at_first, in_rest}
 use Rattle.pm_image.specs.Stands.{StandsForCopy}
-use Rattle.pm_view.specs.View.{Cars, SpaceView}
-use Rattle.pm_view.specs.Represents.{Represents}
-use Rattle.pm_saving.specs.Progress.{Progress, cars_or_none}
-use Rattle.pm_saving.specs.Tied.{GoesOn, HasCopy}
+use Rattle.pm_saving.specs.Tied.{HasCopy}
 use Rattle.pm_save.specs.Progress.Answers.{Spares, TellsOn}
-use Rattle.pm_saving.specs.Serving.{IsServed, Serving, numbered_copy, opening, world}
-use Rattle.pm_saving.specs.Events.{Appends, Serves, StaysBegun, watched}
+use Rattle.pm_saving.specs.Serving.{KeepsJournal, Serving, opening, world}
+use Rattle.pm_saving.specs.Events.{Appends, Serves, watched}
 use Rattle.pm_saving.specs.Images.{IsSettledCopy, IsStored, IsTold}
 use Rattle.pm_law_saving.proofs.ServingLemmas.Images.{spared}
-use Rattle.pm_engine.specs.declared.start.Start.{Start}
+use Rattle.pm_law_saving.proofs.ServingLemmas.Kept as law
+use Rattle.pm_engine.specs.declared.works.start.Start.{Start}
 use Rattle.pm_engine.specs.declared.works.works.Works.{Works}
-use Rattle.pm_engine.specs.Works.Working.{Adds, IsTiedIn, LastsIn, Rests, contents_in, course_in, disk_at, frozen_in, saving_in, state_in, view_in, watches_in}
-use Rattle.pm_engine.specs.Seen.{IsSound, disk_then, seen}
+use Rattle.pm_engine.specs.Works.Working.{Adds, IsTiedIn, LastsIn, Rests, contents_in, disk_at, state_in, watches_in}
+use Rattle.pm_engine.specs.Works.Seen.{IsCrashSafe, disk_then, seen}
+use Rattle.pm_engine.proofs.WorksLemmas.Telling.{nothing_served}
 
 -- ---- the copy that settled last is one of the chain
 
@@ -40,26 +39,8 @@ along world kept (entry ∷ rest) is legal =
     by true now later last here same goes = in_rest kept last (now ∷ later) (goes now refl)
     by false now later last here same goes = goes kept (same refl)
 
-pub settled_there : (it : Serving) → IsServed it → Contains (chain (opening it) it.journal) (settled_in (world it))
-settled_there it served = along (opening it) (settled_in (opening it)) it.journal refl served.legal
-
--- ---- copies in progress
-
-stays_begun : (frozen : Option Cars) (old new : Option Progress) → StaysBegun old new → option_map (numbered_copy frozen) old ≡ option_map (numbered_copy frozen) new
-stays_begun frozen None None stays = refl
-stays_begun frozen None (Some now) stays = absurd stays
-stays_begun frozen (Some was) None stays = absurd stays
-stays_begun frozen (Some was) (Some now) stays = (λ i. Some (sym stays.number i, sym (stays.copy (cars_or_none frozen)) i))
-
-goes_same : (progress : Progress) → GoesOn progress progress
-goes_same progress = record { number = refl; roots = refl; next_id = refl; copy = λ cars. refl; left = omega arith }
-
-pub stays_same : (old new : Option Progress) → new ≡ old → StaysBegun old new
-stays_same old new is = subst (StaysBegun old) (sym is) (same old)
-  where
-    same : (progress : Option Progress) → StaysBegun progress progress
-    same None = tt
-    same (Some progress) = goes_same progress
+pub settled_there : (it : Serving) → KeepsJournal it → Contains (chain (opening it) it.journal) (settled_in (world it))
+settled_there it keeps = along (opening it) (settled_in (opening it)) it.journal refl keeps.legal
 
 module _ {D : Type 0} {F : Type 0} {g : Ghosts D} (start : Start D F g) (old new : Works D F g) where
   abbrev before : Serving
@@ -84,21 +65,9 @@ module _ {D : Type 0} {F : Type 0} {g : Ghosts D} (start : Start D F g) (old new
   pub appends : (client : ℕ) (cmd : Cmd) (reply : Reply) → watched (seen start None old) cmd reply ≡ watches_in old → Adds client cmd reply old new → Appends client cmd (seen start None old) (seen start None new) reply
   appends = appends_so None
 
-  -- the journal stays, and so do the watches, what is seen of the space, and the copies but for their pages
-  pub serves_on : (stopped : Option ℕ) → IsServed (seen start None old) → new.journal.items ≡ old.journal.items → course_in new ≡ course_in old → watches_in new ≡ watches_in old → view_in new ≡ view_in old → frozen_in new ≡ frozen_in old
-      → StaysBegun (saving_in old).progress (saving_in new).progress → IsServed (seen start stopped new)
-  serves_on stopped served journal course watches view frozen stays =
-      let w = opening (seen start None old) in
-      record {
-        closed = served.closed;
-        legal = subst (IsLegal w) (sym journal) served.legal;
-        represents = subst (Represents (view_in new)) (ap (after w) (sym journal)) (subst (λ (v : SpaceView). Represents v (world (seen start None old))) (sym view) served.represents);
-        saving = ap (λ (entries : List Entry). (after w entries).saving) journal ∙ served.saving
-            ∙ stays_begun (frozen_in old) (saving_in old).progress (saving_in new).progress stays
-            ∙ ap (λ (f : Option Cars). option_map (numbered_copy f) (saving_in new).progress) (sym frozen);
-        watching = ap (λ (entries : List Entry). (after w entries).watches) journal ∙ served.watching ∙ sym (ap length watches);
-        told = ap length course ∙ served.told ∙ sym (ap length journal);
-      }
+  -- nothing was answered
+  pub rests_kept : (later : Option ℕ) → KeepsJournal (seen start None old) → Rests old new → KeepsJournal (seen start later new)
+  rests_kept later keeps rests = law.unanswered (seen start None old) (seen start later new) keeps (nothing_served start None old new later rests)
 
   -- at each moment of the call the current copy stood
   pub leaves : IsStored (seen start None old) (state_in old) (g.contents (disk_then start)) (contents_in old) → (IsTold (g.contents (disk_then start)) → IsTold (contents_in old))
@@ -110,7 +79,7 @@ module _ {D : Type 0} {F : Type 0} {g : Ghosts D} (start : Start D F g) (old new
       subst (λ (n : ℕ). LeavesOnly g.moment g.since (disk_at old) (disk_at new) (λ image. StandsForCopy image n w.settled_copy)) stored.numbered
       (spares w.settled_copy was.0 was.1 (stored.has first was.0 was.1))
 
-  module _ (sound : IsSound start None old) (counts : (t : ℕ) (bytes : List ℕ) → t ≤ g.moment (disk_at new) → g.image (disk_at new) bytes → g.since (disk_at new) t bytes) where
+  module _ (sound : IsCrashSafe start None old) (counts : (t : ℕ) (bytes : List ℕ) → t ≤ g.moment (disk_at new) → g.image (disk_at new) bytes → g.since (disk_at new) t bytes) where
     stored : IsStored (seen start None old) (state_in old) (g.contents (disk_then start)) (contents_in old)
     stored = sound.stored refl
 
@@ -118,11 +87,11 @@ module _ {D : Type 0} {F : Type 0} {g : Ghosts D} (start : Start D F g) (old new
     tells told is = told is.0 is.1
 
     -- the same copy has settled, and it stands where it stood
-    pub lasts : IsServed (seen start None new) → settled_in (world (seen start None new)) ≡ settled_in (world (seen start None old))
+    pub lasts : KeepsJournal (seen start None new) → settled_in (world (seen start None new)) ≡ settled_in (world (seen start None old))
         → chain (opening (seen start None new)) new.journal.items ≡ chain (opening (seen start None old)) old.journal.items
-        → IsTiedIn new → LastsIn old new → TellsOn (contents_in old) (contents_in new) → Spares g.contents g.moment g.since (state_in old) (disk_at old) (disk_at new) → IsSound start None new
-    lasts served settled same tied last told spares = record {
-      served = served;
+        → IsTiedIn new → LastsIn old new → TellsOn (contents_in old) (contents_in new) → Spares g.contents g.moment g.since (state_in old) (disk_at old) (disk_at new) → IsCrashSafe start None new
+    lasts keeps settled same tied last told spares = record {
+      journal = keeps;
       stored = λ _. record {
         tied = tied;
         numbered = ap (λ h. h.epoch) last.header ∙ stored.numbered ∙ sym (ap (λ (kept : ℕ × Copy). kept.0) settled);
@@ -132,35 +101,35 @@ module _ {D : Type 0} {F : Type 0} {g : Ghosts D} (start : Start D F g) (old new
             (last.has (world (seen start None old)).settled_copy was.0 was.1 (stored.has first was.0 was.1) bytes is);
       };
       images = spared g.contents g.image g.moment g.since (disk_then start) (seen start None old) (disk_at old) (disk_at new) (IsSettledCopy (world (seen start None old))) refl sound.images (leaves stored sound.images.told spares) (tells told) counts
-          (seen start None new) settled same (settled_there (seen start None old) sound.served) (λ left is. is);
+          (seen start None new) settled same (settled_there (seen start None old) sound.journal) (λ left is. is);
     }
 
     -- nothing was answered
-    pub rests_sound : Rests old new → IsTiedIn new → LastsIn old new → TellsOn (contents_in old) (contents_in new) → Spares g.contents g.moment g.since (state_in old) (disk_at old) (disk_at new) → IsSound start None new
+    pub rests_sound : Rests old new → IsTiedIn new → LastsIn old new → TellsOn (contents_in old) (contents_in new) → Spares g.contents g.moment g.since (state_in old) (disk_at old) (disk_at new) → IsCrashSafe start None new
     rests_sound rests =
         let w = opening (seen start None old) in
-        lasts (serves_on None sound.served rests.nothing.journal rests.nothing.course rests.nothing.watches rests.view rests.frozen rests.progress)
+        lasts (rests_kept None sound.journal rests)
         (ap (λ (entries : List Entry). settled_in (after w entries)) rests.nothing.journal)
         (ap (chain w) rests.nothing.journal)
 
     -- a command was answered that settles nothing
-    pub answers_sound : (client : ℕ) (cmd : Cmd) (reply : Reply) → Serves client cmd (seen start None old) (seen start None new) reply → IsServed (seen start None new) → says_saved reply ≡ false
-        → IsTiedIn new → LastsIn old new → TellsOn (contents_in old) (contents_in new) → Spares g.contents g.moment g.since (state_in old) (disk_at old) (disk_at new) → IsSound start None new
-    answers_sound client cmd reply serves served other =
+    pub answers_sound : (client : ℕ) (cmd : Cmd) (reply : Reply) → Serves client cmd (seen start None old) (seen start None new) reply → KeepsJournal (seen start None new) → says_saved reply ≡ false
+        → IsTiedIn new → LastsIn old new → TellsOn (contents_in old) (contents_in new) → Spares g.contents g.moment g.since (state_in old) (disk_at old) (disk_at new) → IsCrashSafe start None new
+    answers_sound client cmd reply serves keeps other =
         let w = opening (seen start None old) in
         let entry : Entry = record { client = client; cmd = cmd; reply = reply } in
-        lasts served
+        lasts keeps
         (ap (λ (entries : List Entry). settled_in (after w entries)) serves.appends.journal ∙ ap settled_in (after_more w old.journal.items entry)
         ∙ same_settled (world (seen start None old)) client cmd (ap says_saved (sym serves.reply_is) ∙ other))
         (ap (chain w) serves.appends.journal ∙ chain_same w old.journal.items entry other)
 
     -- the disk failed, and the current copy stood at each moment
-    pub failed_still : (count : ℕ) → Rests old new → TellsOn (contents_in old) (contents_in new) → Spares g.contents g.moment g.since (state_in old) (disk_at old) (disk_at new) → IsSound start (Some count) new
+    pub failed_still : (count : ℕ) → Rests old new → TellsOn (contents_in old) (contents_in new) → Spares g.contents g.moment g.since (state_in old) (disk_at old) (disk_at new) → IsCrashSafe start (Some count) new
     failed_still count rests told spares =
         let w = opening (seen start None old) in
         record {
-          served = serves_on (Some count) sound.served rests.nothing.journal rests.nothing.course rests.nothing.watches rests.view rests.frozen rests.progress;
+          journal = rests_kept (Some count) sound.journal rests;
           stored = λ none. absurd (cc none);
           images = spared g.contents g.image g.moment g.since (disk_then start) (seen start None old) (disk_at old) (disk_at new) (IsSettledCopy (world (seen start None old))) refl sound.images (leaves stored sound.images.told spares) (tells told) counts
-              (seen start (Some count) new) (ap (λ (entries : List Entry). settled_in (after w entries)) rests.nothing.journal) (ap (chain w) rests.nothing.journal) (settled_there (seen start None old) sound.served) (λ left is. is);
+              (seen start (Some count) new) (ap (λ (entries : List Entry). settled_in (after w entries)) rests.nothing.journal) (ap (chain w) rests.nothing.journal) (settled_there (seen start None old) sound.journal) (λ left is. is);
         }

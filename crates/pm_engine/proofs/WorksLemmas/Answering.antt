@@ -10,6 +10,7 @@ use Rattle.pm_types.specs.declared.reply.Reply.TheVariants.{Begun, Busy, Dropped
 use Rattle.pm_disk.specs.declared.disk.Disk.{Ghosts}
 use Rattle.pm_disk.specs.Disk.{IfTold, LeavesOnly}
 use Rattle.pm_model.specs.World.{World}
+use Rattle.pm_model.specs.Copying.{copy}
 use Rattle.pm_model.specs.Answer.{answer}
 use Rattle.pm_model.specs.Frames.{is_settle, saves}
 use Rattle.pm_shadow.specs.declared.pages.Pages.{Pages}
@@ -22,23 +23,23 @@ use Rattle.pm_image.specs.Stands.{StandsForCopy}
 use Rattle.pm_view.specs.View.{Cars, SpaceView}
 use Rattle.pm_view.specs.Work.{work}
 use Rattle.pm_law_collect.specs.Work.Raises.{raises}
-use Rattle.pm_view.specs.Law.{HeapLaw}
 use Rattle.pm_view.specs.Commands.{is_act}
+use Rattle.pm_copies.specs.Listed.{copy_in}
 use Rattle.pm_saving.specs.Progress.{Progress, cars_or_none, copy_of}
 use Rattle.pm_saving.specs.Paging.{NextPage, CarPage, PartPage, next_page, with_next, written_on}
 use Rattle.pm_saving.specs.Tied.{HasCopy}
 use Rattle.pm_save.specs.Progress.Answers.{TellsOn}
 use Rattle.pm_save.specs.Writer.Settling.{SparesEither}
-use Rattle.pm_saving.specs.Serving.{IsServed, numbered_copy, opening, world}
+use Rattle.pm_saving.specs.Serving.{KeepsJournal, Serving, numbered_copy, opening, world}
 use Rattle.pm_saving.specs.Events.{Appends, Serves}
 use Rattle.pm_saving.specs.Images.{IsSettledCopy, IsStored, IsTold}
-use Rattle.pm_law_saving.proofs.ServingLemmas.Following as law
+use Rattle.pm_law_saving.proofs.ServingLemmas.Kept as law
 use Rattle.pm_law_saving.proofs.ServingLemmas.Images.{acknowledged, failed}
-use Rattle.pm_engine.specs.declared.start.Start.{Start}
+use Rattle.pm_engine.specs.declared.works.start.Start.{Start}
 use Rattle.pm_engine.specs.declared.works.works.Works.{Works}
 use Rattle.pm_engine.specs.Works.Working.{Acts, Adds, Answers, IsTiedIn, LeavesEither, Rests, Saves, SetsWatch, SettlesCopy, SettlesIt, StaysStill, Unsaves, Watches, contents_in, disk_at, frozen_in, room_in, saving_in, state_in, view_in, watches_in}
-use Rattle.pm_engine.specs.Seen.{IsSound, disk_then, seen}
-use Rattle.pm_engine.proofs.Going.{answers_sound, appends, appends_so, serves_on, settled_there}
+use Rattle.pm_engine.specs.Works.Seen.{IsCrashSafe, disk_then, seen}
+use Rattle.pm_engine.proofs.WorksLemmas.Going.{answers_sound, appends, appends_so, rests_kept, settled_there}
 use Rattle.pm_engine.proofs.WorksLemmas.Kept.{pages_last, spares_still}
 
 -- only `settle` says that a copy settled
@@ -50,43 +51,41 @@ not_saved world client cmd (Saved number) is none =
 not_saved world client cmd reply is none = refl
 
 module _ {D : Type 0} {F : Type 0} {g : Ghosts D} (start : Start D F g) (old new : Works D F g) where
-  pub act_served : (client : ℕ) (cmd : Cmd) (reply : Reply) → IsServed (seen start None old) → is_act cmd ≡ true → Acts client cmd old new reply
-      → Serves client cmd (seen start None old) (seen start None new) reply × IsServed (seen start None new)
-  act_served client cmd reply served act acts =
-      let w = world (seen start None old) in
-      let is = acts.served w served.represents in
+  pub act_served : (client : ℕ) (cmd : Cmd) (reply : Reply) → KeepsJournal (seen start None old) → is_act cmd ≡ true → reply ≡ (answer (world (seen start None old)) client cmd).0 → Acts client cmd old new reply
+      → Serves client cmd (seen start None old) (seen start None new) reply × KeepsJournal (seen start None new)
+  act_served client cmd reply keeps act is acts =
       let appended = appends start old new client cmd reply (law.sets_none (seen start None old) cmd reply (law.unwatching cmd act)) acts.adds in (
-        record { appends = appended; reply_is = is.reply },
-        law.acted client cmd (seen start None old) (seen start None new) reply served act appended is.reply is.world acts.frozen acts.saving,
+        record { appends = appended; reply_is = is },
+        law.acted client cmd (seen start None old) (seen start None new) reply keeps act appended is acts.frozen acts.saving,
       )
 
   -- an entry whose reply has this number
   numbered : (client : ℕ) (cmd : Cmd) (reply : ℕ → Reply) (number other : ℕ) → number ≡ other → Adds client cmd (reply number) old new → Adds client cmd (reply other) old new
   numbered client cmd reply number other is adds = subst (λ (n : ℕ). Adds client cmd (reply n) old new) is adds
 
-  back : (client : ℕ) (cmd : Cmd) (reply : ℕ → Reply) (number other : ℕ) → number ≡ other → Serves client cmd (seen start None old) (seen start None new) (reply other) × IsServed (seen start None new)
-      → Serves client cmd (seen start None old) (seen start None new) (reply number) × IsServed (seen start None new)
-  back client cmd reply number other is both = subst (λ (n : ℕ). Serves client cmd (seen start None old) (seen start None new) (reply n) × IsServed (seen start None new)) (sym is) both
+  back : (client : ℕ) (cmd : Cmd) (reply : ℕ → Reply) (number other : ℕ) → number ≡ other → Serves client cmd (seen start None old) (seen start None new) (reply other) × KeepsJournal (seen start None new)
+      → Serves client cmd (seen start None old) (seen start None new) (reply number) × KeepsJournal (seen start None new)
+  back client cmd reply number other is both = subst (λ (n : ℕ). Serves client cmd (seen start None old) (seen start None new) (reply n) × KeepsJournal (seen start None new)) (sym is) both
 
-  pub save_served : (client : ℕ) (reply : Reply) → IsServed (seen start None old) → HeapLaw (view_in old) → (state_in old).header.epoch ≡ (world (seen start None old)).settled → Saves client old new reply
-      → Serves client Save (seen start None old) (seen start None new) reply × IsServed (seen start None new)
-  save_served client (Busy number) served heap at is =
+  pub save_served : (client : ℕ) (reply : Reply) → KeepsJournal (seen start None old) → copy_in (view_in old) ≡ copy (world (seen start None old)) → (state_in old).header.epoch ≡ (world (seen start None old)).settled → Saves client old new reply
+      → Serves client Save (seen start None old) (seen start None new) reply × KeepsJournal (seen start None new)
+  save_served client (Busy number) served copied at is =
       back client Save Busy number is.begun.number is.number_is
-      (law.busy client (seen start None old) (seen start None new) is.begun served is.is_begun (appends start old new client Save (Busy is.begun.number) refl (numbered client Save Busy number is.begun.number is.number_is is.adds)) is.keeps.view is.keeps.frozen is.keeps.saving)
-  save_served client SavesSpent served heap at is =
-      law.spent client (seen start None old) (seen start None new) served is.none (sym at ∙ is.last) (appends start old new client Save SavesSpent refl is.adds) is.keeps.view is.keeps.frozen is.keeps.saving
-  save_served client (Begun number) served heap at is =
+      (law.busy client (seen start None old) (seen start None new) is.begun served is.is_begun (appends start old new client Save (Busy is.begun.number) refl (numbered client Save Busy number is.begun.number is.number_is is.adds)) is.keeps.frozen is.keeps.saving)
+  save_served client SavesSpent served copied at is =
+      law.spent client (seen start None old) (seen start None new) served is.none (sym at ∙ is.last) (appends start old new client Save SavesSpent refl is.adds) is.keeps.frozen is.keeps.saving
+  save_served client (Begun number) served copied at is =
       back client Save Begun number is.begun.number is.number_is
-      (law.begins client (seen start None old) (seen start None new) is.begun served heap is.none (subst (λ (n : ℕ). n < LAST_COPY) at is.below) (is.next ∙ ap (λ (n : ℕ). n + 1) at)
-      (appends start old new client Save (Begun is.begun.number) refl (numbered client Save Begun number is.begun.number is.number_is is.adds)) is.view is.is_begun is.copy)
-  save_served client reply served heap at is = absurd is
+      (law.begins client (seen start None old) (seen start None new) is.begun served is.none (subst (λ (n : ℕ). n < LAST_COPY) at is.below) (is.next ∙ ap (λ (n : ℕ). n + 1) at)
+      (appends start old new client Save (Begun is.begun.number) refl (numbered client Save Begun number is.begun.number is.number_is is.adds)) is.is_begun (is.copy ∙ copied))
+  save_served client reply served copied at is = absurd is
 
-  pub unsave_served : (client : ℕ) (reply : Reply) → IsServed (seen start None old) → Unsaves client old new reply → Serves client Unsave (seen start None old) (seen start None new) reply × IsServed (seen start None new)
+  pub unsave_served : (client : ℕ) (reply : Reply) → KeepsJournal (seen start None old) → Unsaves client old new reply → Serves client Unsave (seen start None old) (seen start None new) reply × KeepsJournal (seen start None new)
   unsave_served client Idle served is =
-      law.undropped client (seen start None old) (seen start None new) served is.none (appends start old new client Unsave Idle refl is.adds) is.keeps.view is.keeps.frozen is.keeps.saving
+      law.undropped client (seen start None old) (seen start None new) served is.none (appends start old new client Unsave Idle refl is.adds) is.keeps.frozen is.keeps.saving
   unsave_served client (Dropped number) served is =
       back client Unsave Dropped number is.begun.number is.number_is
-      (law.drops client (seen start None old) (seen start None new) is.begun served is.is_begun (appends start old new client Unsave (Dropped is.begun.number) refl (numbered client Unsave Dropped number is.begun.number is.number_is is.adds)) is.view is.none)
+      (law.drops client (seen start None old) (seen start None new) is.begun served is.is_begun (appends start old new client Unsave (Dropped is.begun.number) refl (numbered client Unsave Dropped number is.begun.number is.number_is is.adds)) is.none)
   unsave_served client reply served is = absurd is
 
 -- ---- watches
@@ -113,13 +112,13 @@ module _ {D : Type 0} {F : Type 0} {g : Ghosts D} (start : Start D F g) (stopped
   watch_appends reply is = absurd is
 
 module _ {D : Type 0} {F : Type 0} {g : Ghosts D} (start : Start D F g) (old new : Works D F g) where
-  pub watch_served : (client : ℕ) (reply : Reply) → IsServed (seen start None old) → Watches client old new reply → Serves client Watch (seen start None old) (seen start None new) reply × IsServed (seen start None new)
+  pub watch_served : (client : ℕ) (reply : Reply) → KeepsJournal (seen start None old) → Watches client old new reply → Serves client Watch (seen start None old) (seen start None new) reply × KeepsJournal (seen start None new)
   watch_served client TooManyWatches served is =
       let full = is.full in
-      law.watches_full client (seen start None old) (seen start None new) served (omega (arith, full)) (appends start old new client Watch TooManyWatches refl is.adds) is.keeps.view is.keeps.frozen is.keeps.saving
+      law.watches_full client (seen start None old) (seen start None new) served (omega (arith, full)) (appends start old new client Watch TooManyWatches refl is.adds) is.keeps.frozen is.keeps.saving
   watch_served client (Watching number) served is =
-      subst (λ (n : ℕ). Serves client Watch (seen start None old) (seen start None new) (Watching n) × IsServed (seen start None new)) (sym is.number_is)
-      (law.watches_set client (seen start None old) (seen start None new) served is.few (set_appends start None old new client number (length (watches_in old) + 1) is.number_is is) is.keeps.view is.keeps.frozen is.keeps.saving)
+      subst (λ (n : ℕ). Serves client Watch (seen start None old) (seen start None new) (Watching n) × KeepsJournal (seen start None new)) (sym is.number_is)
+      (law.watches_set client (seen start None old) (seen start None new) served is.few (set_appends start None old new client number (length (watches_in old) + 1) is.number_is is) is.keeps.frozen is.keeps.saving)
   watch_served client reply served is = absurd is
 
 watch_other : {D F : Type 0} {g : Ghosts D} (client : ℕ) (old new : Works D F g) (reply : Reply) → Watches client old new reply → says_saved reply ≡ false
@@ -151,7 +150,7 @@ module _ {D : Type 0} {F : Type 0} {g : Ghosts D} (start : Start D F g) (old new
       subst (λ (n : ℕ). LeavesOnly g.moment g.since (disk_at old) (disk_at new) (λ image. StandsForCopy image n w.settled_copy ⊎ StandsForCopy image progress.number (copy_of cars progress))) stored.numbered
       (all w.settled_copy was.0 was.1 (stored.has first was.0 was.1))
 
-module _ {D : Type 0} {F : Type 0} {g : Ghosts D} (start : Start D F g) (old new : Works D F g) (sound : IsSound start None old)
+module _ {D : Type 0} {F : Type 0} {g : Ghosts D} (start : Start D F g) (old new : Works D F g) (sound : IsCrashSafe start None old)
     (counts : (t : ℕ) (bytes : List ℕ) → t ≤ g.moment (disk_at new) → g.image (disk_at new) bytes → g.since (disk_at new) t bytes) (told : TellsOn (contents_in old) (contents_in new)) where
   tells : IsTold (contents_in old) → IsTold (contents_in new)
   tells is = told is.0 is.1
@@ -159,14 +158,14 @@ module _ {D : Type 0} {F : Type 0} {g : Ghosts D} (start : Start D F g) (old new
   -- the copy in progress has settled
   pub settled_sound : (client number : ℕ) → SettlesCopy client old new number → IsTiedIn new
       → SparesEither g.contents g.moment g.since (saving_in old).progress (cars_or_none (frozen_in old)) (state_in old) (disk_at old) (disk_at new)
-      → Serves client Settle (seen start None old) (seen start None new) (Saved number) × IsSound start None new
+      → Serves client Settle (seen start None old) (seen start None new) (Saved number) × IsCrashSafe start None new
   settled_sound client number is tied spares =
       let progress = is.settles.progress in
       let cars = cars_or_none (frozen_in old) in
       let OS = seen start None old in
       let NS = seen start None new in
       let adds = subst (λ (n : ℕ). Adds client Settle (Saved n) old new) is.settles.number_is is.adds in
-      let all = law.settles client OS NS progress sound.served is.settles.is_progress (appends start old new client Settle (Saved progress.number) refl adds) is.view (ap (λ s. s.progress) is.settles.saving) in
+      let all = law.settles client OS NS progress sound.journal is.settles.is_progress (appends start old new client Settle (Saved progress.number) refl adds) (ap (λ s. s.progress) is.settles.saving) in
       let copied : (world NS).settled_copy ≡ copy_of cars progress = all.3 in
       let w = opening OS in
       let entry : Entry = record { client = client; cmd = Settle; reply = Saved progress.number } in
@@ -177,7 +176,7 @@ module _ {D : Type 0} {F : Type 0} {g : Ghosts D} (start : Start D F g) (old new
       λ left it. subst (StandsForCopy left (world NS).settled) (sym copied) (subst (λ (n : ℕ). StandsForCopy left n (copy_of cars progress)) (sym all.2) it) in (
         subst (λ (n : ℕ). Serves client Settle OS NS (Saved n)) (sym is.settles.number_is) all.0,
         record {
-          served = all.1;
+          journal = all.1;
           stored = λ _. record {
             tied = tied;
             numbered = ap (λ h. h.epoch) is.settles.header ∙ written_number cars is.settles.pages progress ∙ sym all.2;
@@ -190,7 +189,7 @@ module _ {D : Type 0} {F : Type 0} {g : Ghosts D} (start : Start D F g) (old new
               (ap (chain w) all.0.appends.journal ∙ chain_more w old.journal.items entry ∙ ap (λ (last : World). chain w old.journal.items ++ settled_in last ∷ []) (ap (after w) (sym all.0.appends.journal)))
               (λ kept there. Contains-append_left (chain w old.journal.items) (settled_in (world NS) ∷ []) kept there)
               (Contains-append_right (chain w old.journal.items) (settled_in (world NS) ∷ []) (settled_in (world NS)) (at_first (settled_in (world NS)) []))
-              (settled_there OS sound.served)
+              (settled_there OS sound.journal)
               (λ left it. ⊎_elim (λ settled. inl settled) (λ begun. inr (stands left begun)) it)
               (λ first left here.
               let was = sound.images.told first in
@@ -200,19 +199,19 @@ module _ {D : Type 0} {F : Type 0} {g : Ghosts D} (start : Start D F g) (old new
 
   -- the disk failed
   pub failed_sound : (count : ℕ) → Rests old new → SparesEither g.contents g.moment g.since (saving_in old).progress (cars_or_none (frozen_in old)) (state_in old) (disk_at old) (disk_at new)
-      → (progress : Progress) → (saving_in old).progress ≡ Some progress → IsSound start (Some count) new
+      → (progress : Progress) → (saving_in old).progress ≡ Some progress → IsCrashSafe start (Some count) new
   failed_sound count rests spares progress is =
       let OS = seen start None old in
       let NS = seen start (Some count) new in
       let w = opening OS in
       let cars = cars_or_none (frozen_in old) in
       let saving : (world OS).saving ≡ Some (progress.number, copy_of cars progress) =
-      sound.served.saving ∙ ap (option_map (numbered_copy (frozen_in old))) is in
+      sound.journal.saving ∙ ap (option_map (numbered_copy (frozen_in old))) is in
       record {
-        served = serves_on start old new (Some count) sound.served rests.nothing.journal rests.nothing.course rests.nothing.watches rests.view rests.frozen rests.progress;
+        journal = rests_kept start old new (Some count) sound.journal rests;
         stored = λ none. absurd (cc none);
         images = failed g.contents g.image g.moment g.since (disk_then start) OS (disk_at old) (disk_at new) (λ image. IsSettledCopy (world OS) image ⊎ StandsForCopy image progress.number (copy_of cars progress)) refl sound.images
-            (leaves_either start old new (sound.stored refl) sound.images.told progress is spares) tells counts NS refl (ap (after w) rests.nothing.journal) (ap (chain w) rests.nothing.journal) (settled_there OS sound.served)
+            (leaves_either start old new (sound.stored refl) sound.images.told progress is spares) tells counts NS refl (ap (after w) rests.nothing.journal) (ap (chain w) rests.nothing.journal) (settled_there OS sound.journal)
             (λ left it. ⊎_elim (λ settled. inl settled) (λ begun. inr ((progress.number, copy_of cars progress), saving, begun)) it);
       }
 
@@ -230,7 +229,6 @@ unsave_other client old new reply is = absurd is
 
 -- what is known of a command that was answered
 pub record Told {D F : Type 0} {g : Ghosts D} (cmd : Cmd) (old new : Works D F g) : Type 0 where
-  pub heap : HeapLaw (view_in old)
   pub tied : IsTiedIn new
   pub still : is_settle cmd ≡ false → StaysStill old new
   pub leaves : is_settle cmd ≡ true → LeavesEither old new
@@ -238,14 +236,19 @@ pub record Told {D F : Type 0} {g : Ghosts D} (cmd : Cmd) (old new : Works D F g
   pub counts : (t : ℕ) (bytes : List ℕ) → t ≤ g.moment (disk_at new) → g.image (disk_at new) bytes → g.since (disk_at new) t bytes
   pub only_now : (bytes : List ℕ) → g.since (disk_at old) (g.moment (disk_at old)) bytes → g.image (disk_at old) bytes
 
-module _ {D : Type 0} {F : Type 0} {g : Ghosts D} (start : Start D F g) (old new : Works D F g) (sound : IsSound start None old) where
+-- What a space has to say as the world does: the reply to a command on it, and the copy that `save` begins.
+pub record AgreesOn (client : ℕ) (cmd : Cmd) (reply : Reply) (it : Serving) : Type 0 where
+  pub reply_is : is_act cmd ≡ true → reply ≡ (answer (world it) client cmd).0
+  pub copied : cmd ≡ Save → copy_in it.view ≡ copy (world it)
+
+module _ {D : Type 0} {F : Type 0} {g : Ghosts D} (start : Start D F g) (old new : Works D F g) (sound : IsCrashSafe start None old) where
   abbrev Result_of : ℕ → Cmd → Reply → Type 0
-  Result_of client cmd reply = Serves client cmd (seen start None old) (seen start None new) reply × IsSound start None new
+  Result_of client cmd reply = Serves client cmd (seen start None old) (seen start None new) reply × IsCrashSafe start None new
 
   stays : (client : ℕ) (cmd : Cmd) (reply : Reply) → IsTiedIn new → StaysStill old new → TellsOn (contents_in old) (contents_in new)
       → ((t : ℕ) (bytes : List ℕ) → t ≤ g.moment (disk_at new) → g.image (disk_at new) bytes → g.since (disk_at new) t bytes)
       → ((bytes : List ℕ) → g.since (disk_at old) (g.moment (disk_at old)) bytes → g.image (disk_at old) bytes)
-      → says_saved reply ≡ false → Serves client cmd (seen start None old) (seen start None new) reply × IsServed (seen start None new) → Result_of client cmd reply
+      → says_saved reply ≡ false → Serves client cmd (seen start None old) (seen start None new) reply × KeepsJournal (seen start None new) → Result_of client cmd reply
   stays client cmd reply tied still told counts only_now other both = (
     both.0,
     answers_sound start old new sound counts client cmd reply both.0 both.1 other tied still.lasts told (spares_still old new only_now still.disk (sound.stored refl).tied.sound),
@@ -254,29 +257,29 @@ module _ {D : Type 0} {F : Type 0} {g : Ghosts D} (start : Start D F g) (old new
   settle_answered : (client : ℕ) (reply : Reply) → Told Settle old new → SettlesIt client old new reply → Result_of client Settle reply
   settle_answered client Idle all is =
       stays client Settle Idle all.tied (record { disk = ap (λ (p : Pages D g). disk_of p) is.pages; lasts = pages_last old new is.pages }) all.told all.counts all.only_now refl
-      (law.idle client (seen start None old) (seen start None new) sound.served is.none (appends start old new client Settle Idle refl is.adds) is.keeps.view is.keeps.frozen is.keeps.saving)
+      (law.idle client (seen start None old) (seen start None new) sound.journal is.none (appends start old new client Settle Idle refl is.adds) is.keeps.frozen is.keeps.saving)
   settle_answered client (Saved number) all is = settled_sound start old new sound all.counts all.told client number is all.tied (all.leaves refl).either
   settle_answered client reply all is = absurd is
 
-  act_answered : (client : ℕ) (cmd : Cmd) (reply : Reply) → is_act cmd ≡ true → Told cmd old new → is_settle cmd ≡ false → Acts client cmd old new reply → Result_of client cmd reply
-  act_answered client cmd reply act all quiet is =
-      let both = act_served start old new client cmd reply sound.served act is in
+  act_answered : (client : ℕ) (cmd : Cmd) (reply : Reply) → is_act cmd ≡ true → AgreesOn client cmd reply (seen start None old) → Told cmd old new → is_settle cmd ≡ false → Acts client cmd old new reply → Result_of client cmd reply
+  act_answered client cmd reply act agrees all quiet is =
+      let both = act_served start old new client cmd reply sound.journal act (agrees.reply_is act) is in
       stays client cmd reply all.tied (all.still quiet) all.told all.counts all.only_now
       (not_saved (world (seen start None old)) client cmd reply both.0.reply_is (law.acts cmd act)) both
 
   -- each command
-  pub answered : (client : ℕ) (cmd : Cmd) (reply : Reply) → Told cmd old new → Answers client cmd old new reply → Result_of client cmd reply
-  answered client Save reply all is =
+  pub answered : (client : ℕ) (cmd : Cmd) (reply : Reply) → AgreesOn client cmd reply (seen start None old) → Told cmd old new → Answers client cmd old new reply → Result_of client cmd reply
+  answered client Save reply agrees all is =
       stays client Save reply all.tied (all.still refl) all.told all.counts all.only_now (save_other client old new reply is)
-      (save_served start old new client reply sound.served all.heap (sound.stored refl).numbered is)
-  answered client Settle reply all is = settle_answered client reply all is
-  answered client Unsave reply all is =
+      (save_served start old new client reply sound.journal (agrees.copied refl) (sound.stored refl).numbered is)
+  answered client Settle reply agrees all is = settle_answered client reply all is
+  answered client Unsave reply agrees all is =
       stays client Unsave reply all.tied (all.still refl) all.told all.counts all.only_now (unsave_other client old new reply is)
-      (unsave_served start old new client reply sound.served is)
-  answered client Watch reply all is =
+      (unsave_served start old new client reply sound.journal is)
+  answered client Watch reply agrees all is =
       stays client Watch reply all.tied (all.still refl) all.told all.counts all.only_now (watch_other client old new reply is)
-      (watch_served start old new client reply sound.served is)
-  answered client cmd reply all is = act_answered client cmd reply refl all refl is
+      (watch_served start old new client reply sound.journal is)
+  answered client cmd reply agrees all is = act_answered client cmd reply refl agrees all refl is
 
 -- ---- the entry of an answer
 
