@@ -625,7 +625,7 @@ if size == "copies":
     for copy in range(1100):
         lines += [f"0 put 1 0 {copy % 256:02x}", "0 save", "0 settle"]
 elif size == "steps":
-    lines = ["0 new 1 0 00", "0 root a 1", "! gc 10000001"]
+    lines = ["0 new 1 0 00", "0 root a 1", "0 watch", "! gc 10000001"]
 elif size == "comments":
     lines = ["#" + "x" * 4_999_999] * 40 + ["0 new 1 0 -"]
 elif size == "names":
@@ -652,7 +652,8 @@ PYTHON
 
     fresh
     run_size steps
-    row "10,000,001 events" "0 end 10000001 1" "$? $(tail -n 1 "$work/out" | cut -d' ' -f1,2,4)"
+    row "10,000,001 events" "0 end 10000001 1111111 1,watch 1 bound 1052676 done 1111111 old 0" \
+        "$? $(tail -n 2 "$work/out" | paste -sd,)"
 
     # The first collection takes 15 events, each further one nine: 1 + (14,800,000 - 15) / 9 of them are completed.
     fresh

@@ -1,7 +1,7 @@
 -- What follows from the history of an engine, state by state.
 use Rattle.std.proofs.Common.{◌≡◌, ◌⊎◌, inl, inr, ℕ, ◌+◌, ◌≤◌, Bool, true, false, cond, if◌then◌else◌, List, [], ◌∷◌, ◌++◌, length, map, append_assoc, refl, sym, ap, subst, ◌∙◌, arith}
 use Rattle.std.proofs.lemmas.List.{append-nil, map-append}
-use Rattle.pm_types.specs.Counts.{capped, greatest_count, raised}
+use Rattle.pm_types.specs.Counts.{greatest_count, raised}
 use Rattle.pm_types.specs.declared.command.Cmd.{Cmd}
 use Rattle.pm_types.specs.declared.command.Cmd.TheVariants as cmds
 use Rattle.pm_types.specs.declared.entry.Entry.{Entry}
@@ -11,10 +11,9 @@ use Rattle.pm_types.specs.declared.reply.Reply.{Reply}
 use Rattle.pm_types.specs.declared.reply.Reply.TheVariants.{Watching}
 use Rattle.pm_model.specs.Journal.{sets_watch, watch_places}
 use Rattle.pm_view.specs.View.{SpaceView}
-use Rattle.pm_view.specs.Events.{next_row, after}
+use Rattle.pm_view.specs.Events.{next_row, after, completes}
 use Rattle.pm_view.specs.Watches.{watch_in}
 use Rattle.pm_copies.specs.Opened.{IsFresh}
-use Rattle.pm_law_course.specs.Course.{completes}
 use Rattle.pm_law_course.proofs.Completing.{completed_then}
 use Rattle.pm_evac.specs.Steps.{IsEvent}
 use Rattle.pm_saving.specs.Serving.{KeepsOpening, Serving, just_opened}
@@ -68,8 +67,8 @@ watched_places it cmd reply = sym (append-nil (map position_of it.watches))
 one_completed : (old new : SpaceView) (step : Step) → IsEvent old new step → (new.completed ≤ raised old.completed) ⊎ (new.completed ≤ old.completed)
 one_completed old new step event = by_row (completes old (next_row old)) (completed_then old (next_row old) event.picked event.number) (ap (λ (v : SpaceView). v.completed) event.after)
   where
-    by_row : (b : Bool) → (after old event.picked event.number (next_row old)).completed ≡ cond b (old.completed + 1) old.completed
-        → new.completed ≡ capped (after old event.picked event.number (next_row old)).completed → (new.completed ≤ raised old.completed) ⊎ (new.completed ≤ old.completed)
+    by_row : (b : Bool) → (after old event.picked event.number (next_row old)).completed ≡ cond b (raised old.completed) old.completed
+        → new.completed ≡ (after old event.picked event.number (next_row old)).completed → (new.completed ≤ raised old.completed) ⊎ (new.completed ≤ old.completed)
     by_row true rose is = inl (omega (arith, rose, is))
     by_row false same is = inr (omega (arith, same, is))
 

@@ -66,5 +66,6 @@ module _ {D : Type 0} {F : Type 0} {g : Ghosts D} (it : Engine D F g) (count : â
     still = record { disk = refl; none = tt };
     bound = kept_still (serving it).view (serving it).view refl;
     memory = tt;
+    short = tt;
     room = omega arith;
   }

@@ -16,10 +16,11 @@ use Rattle.pm_disk.specs.Disk.{LeavesOnly}
 use Rattle.pm_disk.specs.Made.{MadeAtMost, MadeMore}
 use Rattle.pm_model.specs.Frames.{is_settle, saves}
 use Rattle.pm_shadow.specs.State.{abandoned_in}
+use Rattle.pm_view.specs.Events.{next_row}
 use Rattle.pm_view.specs.Work.{work}
 use Rattle.pm_view.specs.Bounded.{KeepsWatches}
 use Rattle.pm_law_collect.specs.Work.Raises.{raises}
-use Rattle.pm_evac.specs.Steps.{IsMade}
+use Rattle.pm_evac.specs.Steps.{IsMade, TakesMemory}
 use Rattle.pm_saving.specs.Paging.{left_of}
 use Rattle.pm_saving.specs.Tied.{Settles}
 use Rattle.pm_saving.specs.Progress.{cars_or_none}
@@ -215,7 +216,8 @@ module _ {D : Type 0} {F : Type 0} {g : Ghosts D} where
     pub still : CallsNoDisk old new result
     -- what fits stays, the rank has not risen, and sunk sets stay so, whatever is answered: each watch keeps its bound
     pub bound : KeepsWatches (serving old).view (serving new).view
-    -- after want of memory nothing has changed
+    -- after want of memory nothing has changed, and the event may take memory
     pub memory : IfErr result (IfMemory (serving new ≡ serving old))
+    pub short : IfErr result (IfMemory (TakesMemory (next_row (serving old).view)))
     -- there is room for as many entries
     pub room : room old ≤ room new

@@ -19,12 +19,11 @@ use Rattle.pm_model.specs.Text.{text}
 use Rattle.pm_model.proofs.ClosedLaws.{empty_closed}
 use Rattle.pm_script.specs.declared.line.Line.{Line}
 use Rattle.pm_view.specs.View.{SpaceView}
-use Rattle.pm_view.specs.Counts.{standing}
 use Rattle.pm_view.specs.Bounded.{IsHonest}
 use Rattle.pm_copies.specs.Listed.{copy_in}
 use Rattle.pm_saving.specs.Paging.{left_of}
 use Rattle.pm_saving.specs.Progress.{Saving}
-use Rattle.pm_saving.specs.Serving.{IsServed, Serving, just_opened, opening, world}
+use Rattle.pm_saving.specs.Serving.{Serving, just_opened, opening, world}
 use Rattle.pm_saving.specs.Images as images
 use Rattle.pm_saving.specs.Images.{IsTold}
 use Rattle.pm_engine.specs.declared.engine.Engine.{Engine}
@@ -47,14 +46,14 @@ use Rattle.pm_runs.specs.declared.writes.Writes.{Writes}
 use Rattle.pm_runs.specs.Ends.Ends.{RanShort, stop_in, ended_by}
 use Rattle.pm_runs.specs.Ends.Stages.{IsPast, unreached, the_events, the_output}
 use Rattle.pm_runs.specs.Ends.Disks.{IsLastOf, IsOfDisk, IsOfRun}
-use Rattle.pm_runs.specs.Ends.Tallies.{ComesTo, ReachesAtMost}
+use Rattle.pm_runs.specs.Ends.Tallies.{ComesTo}
 use Rattle.pm_runs.specs.Engines.{RunsEngine}
 use Rattle.pm_runs.specs.Wrote.{AcknowledgesFor, Wrote}
 use Rattle.pm_runs.specs.Ends.Journals.{IsBegun, ServesInOrder, ServesLines}
 use Rattle.pm_runs.specs.Ends.Causes.{ShowsCauses}
 use Rattle.pm_runs.proofs.EndsLemmas.Parts.{with_parts}
 use Rattle.pm_runs.proofs.EndsLemmas.Faults.{late_past}
-use Rattle.pm_runs.proofs.EndsLemmas.Tallied.{engine_comes}
+use Rattle.pm_runs.proofs.EndsLemmas.Tallied.{KeepsAll, engine_comes}
 
 -- an empty journal is legal from the world of the empty copy
 pub none_begun : IsBegun []
@@ -189,7 +188,7 @@ module _ {D F K : Type 0} {g : disk.Ghosts D} (k : sink.Ghosts K) where
       × (IsTold (g.contents (opened_disk old)) → LeavesOnly g.moment g.since (disk_in old) end (IsOfRun detail (opening (serving old)) journal))
       × (IsTold (g.contents (opened_disk old)) → (left : List ℕ) → g.image end left → IsLastOf detail (after (opening (serving old)) journal) left)
       × (journal ≡ [] → end ≡ disk_in old)
-      × ComesTo (opening (serving old)) journal (tally_of tally)
+      × ComesTo (g.contents (opened_disk old)) (opening (serving old)) journal (tally_of tally)
       × Wrote k writes sink last (text journal) (tail_of (tally_of tally)) (stop_in detail)
 
 module _ {D F S K : Type 0} {g : disk.Ghosts D} (k : sink.Ghosts K) where
@@ -197,13 +196,12 @@ module _ {D F S K : Type 0} {g : disk.Ghosts D} (k : sink.Ghosts K) where
   pub engine_run : (writes : Writes) (old new : Engine D F g) (tally : Tally) (source : S) (sink last : K) (it : Ended D S K)
       (stop : Option Stop) (a b c d : ℕ)
       → it.journal.items ≡ (serving new).journal → RunsOnDisk old new stop → KeepsStart old new
-      → ∥ IsServed (serving new) ∥₁ → length (serving new).course ≡ length (serving new).journal → IsClosed (opening (serving new)) → IsLegal (opening (serving new)) (serving new).journal
-      → (world (serving new)).watches ≡ length (serving new).watches
-      → ReachesAtMost (world (serving new)) (standing (serving new).view) → tally_of tally ≡ tally_in (serving new)
+      → KeepsAll (g.contents (opened_disk new)) (serving new) → IsClosed (opening (serving new)) → IsLegal (opening (serving new)) (serving new).journal
+      → tally_of tally ≡ tally_in (serving new)
       → AllByRecursion IsHonest (tally_of tally).lines
       → Wrote k writes sink last (text (serving new).journal) (tail_of (tally_in (serving new))) stop
       → RunsEngine k writes old sink (with_parts it (ended_by stop a b c d) (Some tally) (disk_in new) source last)
-  engine_run writes old new tally source sink last it stop a b c d is_journal on_disk start served told closed legal watching few is honest wrote =
+  engine_run writes old new tally source sink last it stop a b c d is_journal on_disk start kept closed legal is honest wrote =
       let left = subst (Leaves k writes old (disk_in new) tally sink last (ended_by stop a b c d)) (sym is_journal) leaves in
       record {
         late = ended_late stop a b c d;
@@ -220,6 +218,14 @@ module _ {D F S K : Type 0} {g : disk.Ghosts D} (k : sink.Ghosts K) where
       same : opening (serving new) ≡ opening (serving old)
       same = λ i. begin (start.opening.number i) (copy_in (start.opening.opened i))
 
+      -- what it came to, from the world and of the disk that were opened
+      comes : ComesTo (g.contents (opened_disk old)) (opening (serving old)) (serving new).journal (tally_of tally)
+      comes =
+          let then : (g.contents (opened_disk new), opening (serving new)) ≡ (g.contents (opened_disk old), opening (serving old)) = (λ i. (g.contents (start.disk i), same i)) in
+          subst (ComesTo (g.contents (opened_disk old)) (opening (serving old)) (serving new).journal) (sym is)
+          (subst (λ (begun : Option (List ℕ) × World). ComesTo begun.0 begun.1 (serving new).journal (tally_in (serving new))) then
+          (engine_comes (g.contents (opened_disk new)) (serving new) kept (subst (λ (total : Total). AllByRecursion IsHonest total.lines) is honest)))
+
       leaves : Leaves k writes old (disk_in new) tally sink last (ended_by stop a b c d) (serving new).journal
       leaves =
           let detail = ended_by stop a b c d in
@@ -230,7 +236,7 @@ module _ {D F S K : Type 0} {g : disk.Ghosts D} (k : sink.Ghosts K) where
                 (λ left it. subst (λ (w : World). IsOfRun detail w journal left) same (of_run (serving new) stop a b c d left on_disk.going it))),
             (λ told left there. subst (λ (w : World). IsLastOf detail (after w journal) left) same (of_last (serving new) stop a b c d left on_disk.going (on_disk.last told left there))),
             on_disk.idle,
-            subst (ComesTo (opening (serving old)) journal) (sym is) (subst (λ (w : World). ComesTo w journal (tally_in (serving new))) same (engine_comes (serving new) served told (subst (λ (total : Total). AllByRecursion IsHonest total.lines) is honest) watching few)),
+            comes,
             subst (λ (total : Total). Wrote k writes sink last (text journal) (tail_of total) (stop_in detail)) (sym is)
                 (subst (λ (why : Option Stop). Wrote k writes sink last (text journal) (tail_of (tally_in (serving new))) why) (stop_back stop a b c d) wrote),
           )

@@ -53,7 +53,7 @@ module _ {D S K : Type 0} (d : disk.Ghosts D) (k : sink.Ghosts K) where
   -- lines were run
   pub store_run : (writes : Writes) (disk : D) (sink : K) (it : Ended D S K) (begun : IsBegun it.journal.items) → the_events < unreached it.detail
       → IsSome it.tally → ((bytes : List ℕ) → d.contents disk ≡ Some bytes → StandsForCopy bytes begun.number begun.copy)
-      → IfSome it.tally (λ tally. ComesTo (begin begun.number begun.copy) it.journal.items (tally_of tally))
+      → IfSome it.tally (λ tally. ComesTo (d.contents disk) (begin begun.number begun.copy) it.journal.items (tally_of tally))
       → LeavesDisk d disk it.disk it.detail it.journal.items
       → IfSome it.tally (λ tally. Wrote k writes sink it.sink (text it.journal.items) (tail_of (tally_of tally)) (stop_in it.detail))
       → RunsStore d k writes disk sink it

@@ -37,7 +37,7 @@ module _ {D F S K : Type 0} {g : Ghosts D} (k : sink.Ghosts K) where
     pub idle : ended.journal.items ≡ [] → ended.disk ≡ disk_in engine
     -- there is a tally, which is that of the engine
     pub there : IsSome ended.tally
-    pub comes_to : IfSome ended.tally (λ it. ComesTo (opening (serving engine)) ended.journal.items (tally_of it))
+    pub comes_to : IfSome ended.tally (λ it. ComesTo (g.contents (opened_disk engine)) (opening (serving engine)) ended.journal.items (tally_of it))
     -- what was written
     pub replies : IfSome ended.tally
         (λ it. Wrote k writes sink ended.sink (text ended.journal.items) (tail_of (tally_of it)) (stop_in ended.detail))

@@ -32,7 +32,7 @@ module _ {D S K : Type 0} (d : disk.Ghosts D) (k : sink.Ghosts K) where
     pub stands : IsSome ended.tally → (bytes : List ℕ) → d.contents disk ≡ Some bytes
         → StandsForCopy bytes begun.number begun.copy
     -- what the engine came to, from that world
-    pub tallies : TalliesRun (begin begun.number begun.copy) ended.detail ended.journal.items ended.tally
+    pub tallies : TalliesRun (d.contents disk) (begin begun.number begun.copy) ended.detail ended.journal.items ended.tally
     -- what it does to the disk
     pub leaves : LeavesDisk d disk ended.disk ended.detail ended.journal.items
     -- the sink is not called where no store was opened

@@ -1,16 +1,24 @@
 -- What an engine comes to, as the tally tells it.
-use Rattle.std.proofs.Common.{◌≡◌, ◌⊎◌, inl, inr, ⊎_elim, ℕ, ◌+◌, ◌≤◌, min, List, [], ◌∷◌, length, refl, sym, subst, ◌∙◌, arith}
-use Rattle.std.specs.List.{AllByRecursion}
-use Rattle.std.proofs.lemmas.Bool.{cases_lt}
+use Rattle.std.proofs.Common.{◌≡◌, ℕ, ◌+◌, ◌≤◌, min, List, [], ◌∷◌, length, Option, refl, sym, subst, ◌∙◌, arith}
+use Rattle.std.specs.List.{AllByRecursion, AllByRecursion-prop, AllZip}
+use Rattle.std.proofs.Math.Logic.{∥∥₁_elim}
+use Rattle.std.proofs.Props.{props}
 use Rattle.pm_types.specs.Counts.{greatest_count}
 use Rattle.pm_types.specs.declared.event.Watch.{Watch}
 use Rattle.pm_types.specs.declared.event.WatchLine.{WatchLine}
-use Rattle.pm_model.specs.World.{World}
+use Rattle.pm_disk.specs.Disk.{IfTold}
+use Rattle.pm_model.specs.Journal.{watch_places}
 use Rattle.pm_view.specs.View.{SpaceView}
 use Rattle.pm_view.specs.Counts.{standing}
 use Rattle.pm_view.specs.Watches.{lines_from}
-use Rattle.pm_view.specs.Bounded.{IsHonest}
+use Rattle.pm_view.specs.Law.{HeapLaw}
+use Rattle.pm_view.specs.Bounded.{EndsLost, IsHonest}
+use Rattle.pm_law_course.proofs.CountLemmas.Few.{fewer_than_given}
+use Rattle.pm_law_bound.proofs.Many.{all_least}
+use Rattle.pm_copies.specs.Opened.{IsOpenedStore}
+use Rattle.pm_saving.specs.Bounds.{KeepsBounds}
 use Rattle.pm_saving.specs.Serving.{IsServed, Serving, opening, world}
+use Rattle.pm_engine.specs.History.{HasHistory}
 use Rattle.pm_engine.specs.Shown.{tally_in}
 use Rattle.pm_runs.specs.Ends.Tallies.{ComesTo, ReachesAtMost}
 
@@ -23,19 +31,50 @@ lines_done : (view : SpaceView) (number : ℕ) (watches : List Watch) → AllByR
 lines_done view number [] = tt
 lines_done view number (watch ∷ watches) = (omega arith, lines_done view (number + 1) watches)
 
--- the number of objects that stand, or the greatest one of 64 bits
-at_most : (world : World) (n : ℕ) → ReachesAtMost world n → ReachesAtMost world (min n greatest_count) ⊎ (min n greatest_count ≡ greatest_count)
-at_most world n few =
-    ⊎_elim (λ over. inr (omega arith)) (λ within. let same : n ≡ min n greatest_count = omega arith in inl (subst (ReachesAtMost world) same few)) (cases_lt greatest_count n)
+-- What an engine keeps at any moment, of a disk that told this when it was opened.
+pub record KeepsAll (told : Option (List ℕ)) (it : Serving) : Type 0 where
+  pub served : ∥ IsServed it ∥₁
+  pub course : length it.course ≡ length it.journal
+  pub watching : (world it).watches ≡ length it.watches
+  pub standing : ReachesAtMost (world it) (standing it.view)
+  pub lawful : HeapLaw it.view
+  pub history : ∥ HasHistory it ∥₁
+  pub bounded : ∥ KeepsBounds it ∥₁
+  pub store : IfTold told (λ bytes. ∥ IsOpenedStore bytes it.opened ∥₁)
+  pub few : it.view.completed ≤ it.steps
+  pub gone : AllZip (EndsLost (opening it) it.journal it.view) (lines_from it.view 1 it.watches) (watch_places 0 it.journal)
 
-pub engine_comes : (it : Serving) → ∥ IsServed it ∥₁ → length it.course ≡ length it.journal → AllByRecursion IsHonest (tally_in it).lines → (world it).watches ≡ length it.watches → ReachesAtMost (world it) (standing it.view) → ComesTo (opening it) it.journal (tally_in it)
-engine_comes it served told honest watching few = record {
-  of_engine = record { engine = it; began = refl; has = refl; served = served; is_tally = refl };
-  told = told;
+-- fewer objects stand than identities were given, so that the number is told
+number_told : (view : SpaceView) → HeapLaw view → standing view ≡ min (standing view) greatest_count
+number_told view law = let fewer = fewer_than_given view law in let last = law.built.next.1 in omega (arith, fewer, last)
+
+least_once : (line : WatchLine) → IsProp (1052676 ≤ line.bound)
+least_once line = hlevel props
+
+least_bounds : (it : Serving) → ∥ KeepsBounds it ∥₁ → AllByRecursion (λ (line : WatchLine). 1052676 ≤ line.bound) (lines_from it.view 1 it.watches)
+least_bounds it known = ∥∥₁_elim known (AllByRecursion-prop (λ (line : WatchLine). 1052676 ≤ line.bound) least_once _) (λ are. all_least (opening it) it.journal it.view 1 it.watches are)
+
+pub engine_comes : (told : Option (List ℕ)) (it : Serving) → KeepsAll told it → AllByRecursion IsHonest (tally_in it).lines → ComesTo told (opening it) it.journal (tally_in it)
+engine_comes told it kept honest = record {
+  of_engine = record {
+    engine = it;
+    began = refl;
+    has = refl;
+    served = kept.served;
+    lawful = kept.lawful;
+    history = kept.history;
+    bounded = kept.bounded;
+    store = kept.store;
+    gone = kept.gone;
+    is_tally = refl;
+  };
+  course = kept.course;
   journal_is = refl;
   entries = refl;
-  watching = length_lines it.view 1 it.watches ∙ sym watching;
+  watching = length_lines it.view 1 it.watches ∙ sym kept.watching;
   done = lines_done it.view 1 it.watches;
+  least = least_bounds it kept.bounded;
+  few = kept.few;
   honest = honest;
-  standing = at_most (world it) (standing it.view) few;
+  standing = subst (ReachesAtMost (world it)) (number_told it.view kept.lawful) kept.standing;
 }

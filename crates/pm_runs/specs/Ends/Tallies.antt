@@ -1,14 +1,18 @@
 -- What is told at the end of a run of the engine that made it.
-use Rattle.std.specs.Prelude.{◌≡◌, ◌⊎◌, ℕ, ◌≤◌, List, length, nat_eq, Option, None, IsSome, IfSome}
-use Rattle.std.specs.List.{AllByRecursion, IsDistinct}
-use Rattle.pm_types.specs.Counts.{greatest_count}
+use Rattle.std.specs.Prelude.{◌≡◌, ℕ, ◌≤◌, List, length, nat_eq, Option, None, IsSome, IfSome}
+use Rattle.std.specs.List.{AllByRecursion, AllZip, IsDistinct}
 use Rattle.pm_types.specs.declared.entry.Entry.{Entry}
+use Rattle.pm_disk.specs.Disk.{IfTold}
 use Rattle.pm_model.specs.World.{World}
-use Rattle.pm_model.specs.Journal.{after}
+use Rattle.pm_model.specs.Journal.{after, watch_places}
 use Rattle.pm_model.specs.Reachability.{IsReachable}
 use Rattle.pm_view.specs.Represents.{IsHeld}
-use Rattle.pm_view.specs.Bounded.{IsHonest}
+use Rattle.pm_view.specs.Bounded.{EndsLost, IsHonest}
+use Rattle.pm_view.specs.Law.{HeapLaw}
+use Rattle.pm_copies.specs.Opened.{IsOpenedStore}
+use Rattle.pm_saving.specs.Bounds.{KeepsBounds}
 use Rattle.pm_saving.specs.Serving.{IsServed, Serving, opening}
+use Rattle.pm_engine.specs.History.{HasHistory}
 use Rattle.pm_engine.specs.declared.tally.Tally.{Tally}
 use Rattle.pm_engine.specs.Shown.{Total, tally_in, tally_of}
 use Rattle.pm_runs.specs.declared.ends.ended.Detail.{Detail}
@@ -20,38 +24,50 @@ ReachesAtMost world count =
     (ids : List ℕ) → IsDistinct nat_eq ids → AllByRecursion (IsReachable world.heap (IsHeld world)) ids → length ids ≤ count
 
 -- It is what an engine came to that began in this world, has this journal, and serves the world at its end: so what is told
--- of each watch is told of one space, which stands for that world.
-pub record IsOfEngine (start : World) (journal : List Entry) (total : Total) : Type 0 where
+-- of each watch is told of one space, which stands for that world. The engine came by calls from the space that the disk's
+-- bytes were opened as, where it told them; and each watch notes the space as it was when it was set, and keeps its bound.
+pub record IsOfEngine (told : Option (List ℕ)) (start : World) (journal : List Entry) (total : Total) : Type 0 where
   pub engine : Serving
   pub began : opening engine ≡ start
   pub has : engine.journal ≡ journal
   pub served : ∥ IsServed engine ∥₁
+  pub lawful : HeapLaw engine.view
+  pub history : ∥ HasHistory engine ∥₁
+  pub bounded : ∥ KeepsBounds engine ∥₁
+  pub store : IfTold told (λ bytes. ∥ IsOpenedStore bytes engine.opened ∥₁)
+  -- where as many collections were completed since a watch was set as its bound says, nothing that the world had lost when
+  -- it was set is in any car
+  pub gone : AllZip (EndsLost start journal engine.view) total.lines (watch_places 0 journal)
   pub is_tally : total ≡ tally_in engine
 
--- What an engine came to that was opened in this world, and has this journal.
-pub record ComesTo (start : World) (journal : List Entry) (total : Total) : Type 0 where
+-- What an engine came to that was opened in this world, of a disk that told this, and has this journal.
+pub record ComesTo (told : Option (List ℕ)) (start : World) (journal : List Entry) (total : Total) : Type 0 where
   -- it is that of the engine
-  pub of_engine : IsOfEngine start journal total
+  pub of_engine : IsOfEngine told start journal total
   -- it is told of this journal, with its length
   pub journal_is : total.journal ≡ journal
   pub entries : total.entries ≡ length journal
   -- of each entry it tells what had been made before it
-  pub told : length total.course ≡ length journal
+  pub course : length total.course ≡ length journal
   -- there is a line for each watch that is set in the world at the journal's end
   pub watching : length total.lines ≡ (after start journal).watches
   -- since a watch was set no more collections were completed than in all
   pub done : AllByRecursion (λ line. line.done ≤ total.completed) total.lines
+  -- no bound is less than that of one train of 1,024 objects, and no more collections were completed than events of the
+  -- collector were made
+  pub least : AllByRecursion (λ line. 1052676 ≤ line.bound) total.lines
+  pub few : total.completed ≤ total.steps
   -- where as many collections were completed since a watch was set as its bound says, no object of a train of that time
   -- stands
   pub honest : AllByRecursion IsHonest total.lines
-  -- no more objects are reached in that world than stand; that number ends at the greatest one of 64 bits
-  pub standing : ReachesAtMost (after start journal) total.standing ⊎ (total.standing ≡ greatest_count)
+  -- no more objects are reached in that world than stand
+  pub standing : ReachesAtMost (after start journal) total.standing
 
--- The tally of a run, from the world that was opened, by how it ended.
-pub record TalliesRun (start : World) (detail : Detail) (journal : List Entry) (tally : Option Tally) : Type 0 where
+-- The tally of a run over a disk that told this, from the world that was opened, by how it ended.
+pub record TalliesRun (told : Option (List ℕ)) (start : World) (detail : Detail) (journal : List Entry) (tally : Option Tally) : Type 0 where
   -- past the store it is there
   pub opened : IsPast the_store detail → IsSome tally
   -- before the events it is not
   pub unopened : IsBefore the_events detail → tally ≡ None
   -- it is that of the engine
-  pub comes_to : IfSome tally (λ it. ComesTo start journal (tally_of it))
+  pub comes_to : IfSome tally (λ it. ComesTo told start journal (tally_of it))

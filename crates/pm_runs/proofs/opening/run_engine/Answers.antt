@@ -55,7 +55,19 @@ returns-clause-runs g c =
     at_end (λ it. RunsEngine g.K.Sink c.args.writes c.args.engine c.args.sink it) c.end_with.result {detail = ended_by stop a b x y} {disk = disk_in run.new.engine}
     (◌∙◌ {c = ended_by stop a b x y} e.detail c.ended_by-detail.ensures) e.tally (e.disk ∙ parts.ensures.disk) e.source e.sink
     (engine_run g.K.Sink c.args.writes c.args.engine run.new.engine parts.result.2 c.args.source c.args.sink run.new.sink c.end_with.result stop a b x y
-    (ap (λ v. v.items) e.journal ∙ parts.ensures.journal) run.ensures.disk run.ensures.start kept.served kept.told kept.closed kept.legal kept.watching kept.standing parts.ensures.tally parts.ensures.honest run.ensures.wrote)
+    (ap (λ v. v.items) e.journal ∙ parts.ensures.journal) run.ensures.disk run.ensures.start
+    (record {
+      served = kept.served;
+      course = kept.told;
+      watching = kept.watching;
+      standing = kept.standing;
+      lawful = kept.law;
+      history = kept.history;
+      bounded = kept.bounds;
+      store = kept.store;
+      few = kept.few;
+      gone = kept.gone;
+    }) kept.closed kept.legal parts.ensures.tally parts.ensures.honest run.ensures.wrote)
 
 pub returns-clause-saved : goal.returns-clause-saved
 returns-clause-saved g c =

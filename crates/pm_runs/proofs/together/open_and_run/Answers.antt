@@ -1,10 +1,11 @@
-use Rattle.std.proofs.Common.{◌∙◌, ap, sym, subst, List, Option, None}
+use Rattle.std.proofs.Common.{◌∙◌, ap, sym, subst, ℕ, List, Option, None}
 use Rattle.std.specs.Prelude.{IfSome}
 use Rattle.std.proofs.Math.Logic.{∥∥₁_map}
 use Rattle.pm_types.specs.declared.entry.Entry.{Entry}
 use Rattle.pm_disk.specs.Made.{Made}
 use Rattle.pm_copies.specs.Listed.{copy_in}
 use Rattle.pm_saving.specs.Images.{IsTold}
+use Rattle.pm_saving.specs.Serving.{opening}
 use Rattle.pm_place.specs.Choosers.{IsChooser}
 use Rattle.pm_engine.specs.declared.tally.Tally.{Tally}
 use Rattle.pm_engine.specs.Shown.{disk_in, opened_disk, serving, tally_of}
@@ -13,6 +14,7 @@ use Rattle.pm_runs.specs.declared.writes.Writes.TheVariants.{Replies}
 use Rattle.pm_runs.specs.Ends.Ends.{not_opened}
 use Rattle.pm_runs.specs.Ends.Journals.{ServesLines}
 use Rattle.pm_runs.specs.Ends.Causes.{ShowsCauses}
+use Rattle.pm_runs.specs.Ends.Tallies.{ComesTo}
 use Rattle.pm_runs.specs.Runs.{RunsStore}
 use Rattle.pm_runs.proofs.EndsLemmas.Parts.{at_end}
 use Rattle.pm_runs.proofs.Ran.{fresh_engine}
@@ -35,12 +37,13 @@ returns-in-Ok-clause-store g c =
     let engine = c.in-Ok.engine in
     let opens = c.in-Ok.ensures in
     let it = c.run_engine.result in
+    let Comes : Option (List ℕ) → Type 0 = λ told. IfSome it.tally (λ tally. ComesTo told (opening (serving engine)) it.journal.items (tally_of tally)) in
     let told_then : IsTold (g.D.Disk.contents c.args.disk) → IsTold (g.D.Disk.contents (opened_disk engine)) =
     λ told. (told.0, ap g.D.Disk.contents opens.opening ∙ opens.told ∙ told.1) in
     ∥∥₁_map c.run_engine.ensures.runs (λ ran.
     store_run g.D.Disk g.K.Sink Replies c.args.disk c.args.sink it
     (record { number = (serving engine).number; copy = copy_in (serving engine).opened; closed = ran.closed; legal = ran.legal })
-    ran.late ran.there opens.stands ran.comes_to
+    ran.late ran.there opens.stands (subst Comes (ap g.D.Disk.contents opens.opening ∙ opens.told) ran.comes_to)
     (opened_run g.D.Disk c.args.disk (disk_in engine) it.disk (serving engine).number (copy_in (serving engine).opened) it.detail it.journal.items
     opens.told opens.leaves opens.stands ran.legal (λ told. ran.images (told_then told)) (λ told. ran.last (told_then told)) ran.idle opens.made ran.late)
     ran.replies)

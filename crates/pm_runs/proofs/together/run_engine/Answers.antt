@@ -46,7 +46,19 @@ returns-clause-runs g c =
     at_end (λ it. RunsEngine g.K.Sink Replies c.args.engine c.args.sink it) c.end_with.result {detail = ended_by stop a b x y} {disk = disk_in new}
     (◌∙◌ {c = ended_by stop a b x y} e.detail c.ended_by-detail.ensures) e.tally (e.disk ∙ parts.ensures.disk) e.source e.sink
     (engine_run g.K.Sink Replies c.args.engine new parts.result.2 c.args.source c.args.sink run.new.sink c.end_with.result stop a b x y
-    (ap (λ v. v.items) e.journal ∙ parts.ensures.journal) on_disk start kept.served kept.told kept.closed kept.legal kept.watching kept.standing parts.ensures.tally parts.ensures.honest run.ensures.sink))
+    (ap (λ v. v.items) e.journal ∙ parts.ensures.journal) on_disk start
+    (record {
+      served = kept.served;
+      course = kept.told;
+      watching = kept.watching;
+      standing = kept.standing;
+      lawful = kept.law;
+      history = kept.history;
+      bounded = kept.bounds;
+      store = kept.store;
+      few = kept.few;
+      gone = kept.gone;
+    }) kept.closed kept.legal parts.ensures.tally parts.ensures.honest run.ensures.sink))
 
 pub returns-clause-short : goal.returns-clause-short
 returns-clause-short g c =

@@ -39,6 +39,7 @@ returns-in-Ok-clause-call g c =
       still = record { disk = same_disk self.works new c.collect.ensures.pages; none = tt };
       bound = made_keeps (view_in self.works) (view_in new) c.in-Ok.step g.F.Fn (place_in self.works) c.collect.ensures.counted c.in-Ok.ensures.event;
       memory = tt;
+      short = tt;
       room = let same = c.collect.ensures.room in omega (arith, same);
     }
 
@@ -56,5 +57,6 @@ returns-in-Err-clause-call g c =
       still = record { disk = disk; none = tt };
       bound = kept_still (view_in self.works) (view_in new) c.in-Err.ensures.err.keeps.view;
       memory = left_alone self.opening self.stopped self.works new c.in-Err.ensures.err;
+      short = c.in-Err.ensures.short;
       room = let same = c.collect.ensures.room in omega (arith, same);
     }
