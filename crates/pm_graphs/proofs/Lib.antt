@@ -4,7 +4,7 @@ pub mod ReadLaws
 pub mod Lists
 pub mod LookedLaws
 pub mod ChainLaws
-pub mod HeldLaws
+pub mod LinkingLaws
 pub mod Walks
 pub mod GraphLaws
 pub mod OpenLaws

@@ -17,46 +17,46 @@ use Rattle.pm_image.specs.CarPages.{car_used}
 use Rattle.pm_image.specs.CatalogPages.{catalog_used, entry_size}
 use Rattle.pm_image.specs.Graphs.{Site, field_sites, slot_sites, record_sites, root_sites}
 use Rattle.pm_graphs.specs.declared.fault.Place.{Place}
-use Rattle.pm_graphs.specs.Linking.{HeldCars, may_name, linked_by}
+use Rattle.pm_graphs.specs.Linking.{Leads, may_name, linked_by}
 use Rattle.pm_graphs.specs.Reading.{IsCar, IsMeasured}
 
 -- ---- addresses one behind another
 
-pub both_linked : (held : HeldCars) (xs ys : List Site) → linked_by held xs ≡ Ok tt → linked_by held (xs ++ ys) ≡ linked_by held ys
+pub both_linked : (leads : Leads) (xs ys : List Site) → linked_by leads xs ≡ Ok tt → linked_by leads (xs ++ ys) ≡ linked_by leads ys
 unfolding linked_by
-both_linked held [] ys is = refl
-both_linked held (site ∷ xs) ys is =
-    elim (may_name held site.to site.to_live) as (λ b. (if b then linked_by held xs else Err (Malformed site.page site.at)) ≡ Ok tt → (if b then linked_by held (xs ++ ys) else Err (Malformed site.page site.at)) ≡ linked_by held ys) [
-      | true ↦ λ rest. both_linked held xs ys rest
+both_linked leads [] ys is = refl
+both_linked leads (site ∷ xs) ys is =
+    elim (may_name leads site.to site.to_live) as (λ b. (if b then linked_by leads xs else Err (Malformed site.page site.at)) ≡ Ok tt → (if b then linked_by leads (xs ++ ys) else Err (Malformed site.page site.at)) ≡ linked_by leads ys) [
+      | true ↦ λ rest. both_linked leads xs ys rest
       | false ↦ λ never. cc never
     ] is
 
-pub front_fails : (held : HeldCars) (xs ys : List Site) (fault : OpenFault) → linked_by held xs ≡ Err fault → linked_by held (xs ++ ys) ≡ Err fault
+pub front_fails : (leads : Leads) (xs ys : List Site) (fault : OpenFault) → linked_by leads xs ≡ Err fault → linked_by leads (xs ++ ys) ≡ Err fault
 unfolding linked_by
-front_fails held [] ys fault is = cc
-front_fails held (site ∷ xs) ys fault is =
-    elim (may_name held site.to site.to_live) as (λ b. (if b then linked_by held xs else Err (Malformed site.page site.at)) ≡ Err fault → (if b then linked_by held (xs ++ ys) else Err (Malformed site.page site.at)) ≡ Err fault) [
-      | true ↦ λ rest. front_fails held xs ys fault rest
+front_fails leads [] ys fault is = cc
+front_fails leads (site ∷ xs) ys fault is =
+    elim (may_name leads site.to site.to_live) as (λ b. (if b then linked_by leads xs else Err (Malformed site.page site.at)) ≡ Err fault → (if b then linked_by leads (xs ++ ys) else Err (Malformed site.page site.at)) ≡ Err fault) [
+      | true ↦ λ rest. front_fails leads xs ys fault rest
       | false ↦ λ here. here
     ] is
 
-module _ {A : Type 0} (held : HeldCars) (sites : ℕ → List A → List Site) (one : ℕ → A → List Site) (size : A → ℕ) (step : (place : ℕ) (x : A) (xs : List A) → sites place (x ∷ xs) ≡ one place x ++ sites (place + size x) xs)
-    (none : (place : ℕ) → sites place [] ≡ []) (all : List A) (start place i : ℕ) (so_far : linked_by held (sites start all) ≡ linked_by held (sites place (drop i all))) where
-  parts : (x : A) → drop i all ≡ x ∷ drop (i + 1) all → linked_by held (sites start all) ≡ linked_by held (one place x ++ sites (place + size x) (drop (i + 1) all))
-  parts x here = so_far ∙ ap (λ (xs : List A). linked_by held (sites place xs)) here ∙ ap (linked_by held) (step place x (drop (i + 1) all))
+module _ {A : Type 0} (leads : Leads) (sites : ℕ → List A → List Site) (one : ℕ → A → List Site) (size : A → ℕ) (step : (place : ℕ) (x : A) (xs : List A) → sites place (x ∷ xs) ≡ one place x ++ sites (place + size x) xs)
+    (none : (place : ℕ) → sites place [] ≡ []) (all : List A) (start place i : ℕ) (so_far : linked_by leads (sites start all) ≡ linked_by leads (sites place (drop i all))) where
+  parts : (x : A) → drop i all ≡ x ∷ drop (i + 1) all → linked_by leads (sites start all) ≡ linked_by leads (one place x ++ sites (place + size x) (drop (i + 1) all))
+  parts x here = so_far ∙ ap (λ (xs : List A). linked_by leads (sites place xs)) here ∙ ap (linked_by leads) (step place x (drop (i + 1) all))
 
   -- one element more was gone through
-  pub walk_on : (x : A) → drop i all ≡ x ∷ drop (i + 1) all → linked_by held (one place x) ≡ Ok tt → linked_by held (sites start all) ≡ linked_by held (sites (place + size x) (drop (i + 1) all))
-  walk_on x here is = parts x here ∙ both_linked held (one place x) (sites (place + size x) (drop (i + 1) all)) is
+  pub walk_on : (x : A) → drop i all ≡ x ∷ drop (i + 1) all → linked_by leads (one place x) ≡ Ok tt → linked_by leads (sites start all) ≡ linked_by leads (sites (place + size x) (drop (i + 1) all))
+  walk_on x here is = parts x here ∙ both_linked leads (one place x) (sites (place + size x) (drop (i + 1) all)) is
 
   -- an element is at fault
-  pub walk_stop : (x : A) (fault : OpenFault) → drop i all ≡ x ∷ drop (i + 1) all → linked_by held (one place x) ≡ Err fault → linked_by held (sites start all) ≡ Err fault
-  walk_stop x fault here is = parts x here ∙ front_fails held (one place x) (sites (place + size x) (drop (i + 1) all)) fault is
+  pub walk_stop : (x : A) (fault : OpenFault) → drop i all ≡ x ∷ drop (i + 1) all → linked_by leads (one place x) ≡ Err fault → linked_by leads (sites start all) ≡ Err fault
+  walk_stop x fault here is = parts x here ∙ front_fails leads (one place x) (sites (place + size x) (drop (i + 1) all)) fault is
 
   -- all were gone through
-  pub walk_done : length all ≤ i → linked_by held (sites start all) ≡ Ok tt
+  pub walk_done : length all ≤ i → linked_by leads (sites start all) ≡ Ok tt
   unfolding linked_by
-  walk_done le = so_far ∙ ap (λ (xs : List A). linked_by held (sites place xs)) (drop_of_length-le all le) ∙ ap (linked_by held) (none place)
+  walk_done le = so_far ∙ ap (λ (xs : List A). linked_by leads (sites place xs)) (drop_of_length-le all le) ∙ ap (linked_by leads) (none place)
 
 -- ---- what is gone through
 
@@ -139,7 +139,7 @@ all_within most (entry ∷ slots) few has = (within_limits most entry.1 few has.
 pub all_measured : (count next : ℕ) (cars : List KeptPage) → AllByRecursion (IsCar count next) cars → AllByRecursion IsMeasured cars
 all_measured count next [] are = tt
 all_measured count next (kept ∷ cars) are =
-    (record { fits = are.0.has.fits; within = all_within are.0.most kept.image.slots are.0.few are.0.has.slots }, all_measured count next cars are.1)
+    (record { ascend = are.0.has.ascend; fits = are.0.has.fits; within = all_within are.0.most kept.image.slots are.0.few are.0.has.slots }, all_measured count next cars are.1)
 
 -- the fault of an address at this place
 abbrev pub led_place : Place → OpenFault

@@ -18,7 +18,7 @@ use Rattle.pm_image.specs.declared.catalog.CatEntry.TheVariants.{Car, Root}
 use Rattle.pm_image.specs.declared.catalog.CatalogPage.{CatalogPage}
 use Rattle.pm_image.specs.declared.settled.KeptPage.{KeptPage}
 use Rattle.pm_types.specs.Results.{◌>>=◌}
-use Rattle.pm_image.specs.CarPages.{Numbers, HasCarPage, car_at, car_used}
+use Rattle.pm_image.specs.CarPages.{Numbers, Ascend, HasCarPage, car_at, car_used}
 use Rattle.pm_image.specs.CarAnswers.{a_car}
 use Rattle.pm_image.specs.CatalogPages.{Met, is_next_name, catalog_at, catalog_used}
 use Rattle.pm_image.specs.Opening.{page_of}
@@ -183,7 +183,8 @@ pub record IsReadWhole (count next : ℕ) (catalog : Catalog) (cars : List KeptP
   pub few : most ≤ FIELDS
   pub reads : AreRead most next set.empty (entries_of catalog) cars
 
--- a car whose slots fit a page, each within the limits
+-- a car whose slots ascend and fit a page, each within the limits
 pub record IsMeasured (kept : KeptPage) : Type 0 where
+  pub ascend : Ascend 0 kept.image.slots
   pub fits : car_used kept.image.slots ≤ PAGE_BYTES
   pub within : AllByRecursion (λ (entry : ℕ × Slot). IsWithinLimits FIELDS entry.1) kept.image.slots

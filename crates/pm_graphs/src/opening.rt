@@ -11,7 +11,6 @@ ghost use Rattle.pm_graphs.specs.Reopening.{IsGraph, IsGraphFault, open_fault};
 use crate::chain::Chain;
 use crate::fault::ReadFault;
 use crate::from_page::FromPage;
-use crate::held::hold_all;
 use crate::links::check_links;
 use crate::read_cars::ReadCars;
 use crate::reading::{read_cars, read_chain};
@@ -72,9 +71,7 @@ fn read_whole<D: Disk, P: FromPage>(
     let chain = read_chain(alloc, pages, &mut buffer)?;
     let listed = chain.as_slice();
     let cars = read_cars(alloc, pages, listed, most, header.next, &mut buffer)?;
-    let kept = cars.as_slice();
-    let held = hold_all(alloc, kept)?;
-    check_links(&held, listed, kept)?;
+    check_links(listed, cars.mapped())?;
     Ok((chain, cars))
 }
 

@@ -8,6 +8,7 @@ ghost use Rattle.pm_image.specs.CarPages.{HasCarPage, car_spelling, one_car, pad
 ghost use Rattle.pm_graphs.specs.Reading.{car_list};
 
 use crate::from_page::FromPage;
+use crate::mapped_cars::MappedCars;
 use crate::settled::{PackedPage, PackedPages};
 use pm_image::{KeptPage, Settled};
 use pm_types::NoMemory;
@@ -48,14 +49,14 @@ impl<P: FromPage> ReadCar<P> {
     }
 }
 
-/// Cars that were read, each with its page, and what was made of each page. They are seen as a list of `KeptPage`s.
+/// Cars that were read so far, each with its page, and what was made of each page. They are seen as a list of `KeptPage`s.
 #[derive(Drop)]
-pub struct ReadCars<P: FromPage> {
+pub(crate) struct ReadList<P: FromPage> {
     cars: Vec<KeptPage>,
     made: Vec<P>,
 }
 
-impl<P: FromPage> Model for ReadCars<P> {
+impl<P: FromPage> Model for ReadList<P> {
     ghost use Rattle.std.specs.Prelude.{List};
     ghost use Rattle.std.specs.List.{AllZip};
     ghost use Rattle.std.specs.Coded.{coded_list};
@@ -71,12 +72,12 @@ impl<P: FromPage> Model for ReadCars<P> {
     ghost invariant = { λ it. AllZip P.is_of it.made.items it.cars.items };
 }
 
-impl<P: FromPage> ReadCars<P> {
+impl<P: FromPage> ReadList<P> {
     /// No car. It takes no memory.
-    pub(crate) fn new(alloc: Global) -> ReadCars<P>
+    pub(crate) fn new(alloc: Global) -> ReadList<P>
         ensures { result ≡ [] }
     {
-        ReadCars {
+        ReadList {
             cars: Vec::new(alloc),
             made: Vec::new(alloc),
         }
@@ -106,31 +107,64 @@ impl<P: FromPage> ReadCars<P> {
         }
     }
 
-    /// The cars, lent.
-    pub fn as_slice(&self) -> &[KeptPage]
+    /// These cars, with the map of the slots that they list.
+    pub(crate) fn mapped(self, alloc: Global) -> Result<ReadCars<P>, NoMemory>
+        ensures { IfOk result (λ cars. cars ≡ self) }
+    {
+        let ReadList { cars, made } = self;
+        let cars = MappedCars::of_cars(alloc, Settled::from_vec(cars))?;
+        Ok(ReadCars { cars, made })
+    }
+}
+
+/// Cars that were read, each with its page, what was made of each page, and the map of the slots that they list. They are
+/// seen as a list of `KeptPage`s.
+#[derive(Drop)]
+pub struct ReadCars<P: FromPage> {
+    cars: MappedCars,
+    made: Vec<P>,
+}
+
+impl<P: FromPage> Model for ReadCars<P> {
+    ghost use Rattle.std.specs.Prelude.{List};
+    ghost use Rattle.std.specs.List.{AllZip};
+    ghost use Rattle.std.specs.Coded.{coded_list};
+    ghost use Rattle.pm_image.specs.declared.settled.KeptPage.{KeptPage};
+    ghost use Rattle.pm_image.specs.contracts.settled.KeptPage as kept_page;
+
+    ghost Value = { List KeptPage };
+
+    ghost coded = { coded_list kept_page.the_row.coded };
+
+    ghost view = { λ it. it.cars };
+
+    ghost invariant = { λ it. AllZip P.is_of it.made.items it.cars };
+}
+
+impl<P: FromPage> ReadCars<P> {
+    /// The cars with their map, lent.
+    pub(crate) fn mapped(&self) -> &MappedCars
         ensures { result.now ≡ self.now }
     {
-        self.cars.as_slice()
+        &self.cars
     }
 
-    /// The cars as their pages spell them, and what was made of each page, in the same order.
-    pub fn into_made(self) -> (Settled, Vec<P>)
+    /// The cars with their map, and what was made of each page, in the same order.
+    pub fn into_made(self) -> (MappedCars, Vec<P>)
         ensures cars { result.0 ≡ self }
         ensures made { AllZip P.is_of result.1.items self }
     {
-        (Settled::from_vec(self.cars), self.made)
+        (self.cars, self.made)
     }
 }
 
 impl ReadCars<PackedPage> {
-    /// The cars as their pages spell them, and the same packed.
+    /// The cars as their pages spell them, and the same packed. Their map is let go.
     pub fn into_parts(self) -> (Settled, PackedPages)
         ensures cars { result.0 ≡ self }
         ensures packed { result.1 ≡ self }
     {
-        (
-            Settled::from_vec(self.cars),
-            PackedPages::from_vec(self.made),
-        )
+        let (cars, _leads) = self.cars.into_parts();
+        (cars, PackedPages::from_vec(self.made))
     }
 }

@@ -18,7 +18,7 @@ ghost use Rattle.pm_graphs.specs.Reading.{Gives, GoesOn, behind, of_page, Counts
 use crate::chain::Chain;
 use crate::fault::ReadFault;
 use crate::from_page::FromPage;
-use crate::read_cars::{ReadCar, ReadCars};
+use crate::read_cars::{ReadCar, ReadCars, ReadList};
 use pm_disk::Disk;
 use pm_image::{
     CatEntry, CatalogPage, KeptPage, Met, NumberSet, PageFault, read_car_in, read_catalog_in,
@@ -175,7 +175,7 @@ fn read_listed<D: Disk, P: FromPage>(
     most: u32,
     next: u64,
     met: &mut NumberSet,
-    cars: &mut ReadCars<P>,
+    cars: &mut ReadList<P>,
     buffer: &mut [u8],
 ) -> Result<(), ReadFault>
     requires pages { AllByRecursion (IsEntryThere (state pages.old).count) entries.now }
@@ -201,7 +201,8 @@ fn read_listed<D: Disk, P: FromPage>(
     Ok(())
 }
 
-/// The cars that a catalog lists, in order, of objects of at most so many fields, of a store with this next identity.
+/// The cars that a catalog lists, in order, of objects of at most so many fields, of a store with this next identity,
+/// with the map of their slots.
 pub(crate) fn read_cars<D: Disk, P: FromPage>(
     alloc: Global,
     pages: &mut Pages<D>,
@@ -222,14 +223,15 @@ pub(crate) fn read_cars<D: Disk, P: FromPage>(
     ensures counts { Counts (D.count (disk_of pages.old)) (D.count (disk_of pages.new)) result }
 {
     let mut met = NumberSet::new(alloc);
-    let mut cars = ReadCars::new(alloc);
+    let mut cars = ReadList::new(alloc);
     for page in catalog {
         let entries = page.1.entries.as_slice();
         read_listed(
             alloc, pages, entries, most, next, &mut met, &mut cars, buffer,
         )?;
     }
-    Ok(cars)
+    let mapped = cars.mapped(alloc)?;
+    Ok(mapped)
 }
 
 /// The catalog that the current header names.

@@ -22,7 +22,8 @@ use Rattle.pm_copies.specs.Opened.{opened_object, next_after, opened_car}
 use Rattle.pm_law_copies.proofs.Lists.{or_else, nat_turned}
 use Rattle.pm_law_copies.proofs.Objects.{slot_from}
 use Rattle.pm_law_copies.proofs.OpenedCars.{live_of, opened_slots, slot_opened}
-use Rattle.pm_reopen.specs.Leading.{Leads, resolved_by, lead_cars}
+use Rattle.pm_graphs.specs.Linking.{Leads, resolved_by, lead_cars}
+use Rattle.pm_graphs.proofs.LinkingLaws.{AreAscending}
 use Rattle.pm_reopen.specs.Making.{followed_object, with_slot, with_slots}
 use Rattle.pm_reopen.proofs.LeadingLaws.{object_same}
 
@@ -60,7 +61,7 @@ slots_number leads car ((m, Moved to) ∷ es) = slots_number leads (with_slot le
 
 -- ---- the slots
 
-module _ (kept : List KeptPage) where
+module _ (kept : List KeptPage) (ascending : AreAscending kept) where
   leads : Leads
   leads = lead_cars kept
 
@@ -78,7 +79,7 @@ module _ (kept : List KeptPage) where
   slot_held car ((m, Moved to) ∷ es) n least ascend = slot_held (with_slot leads car (m, Moved to)) es n (m + 1) ascend.2
   slot_held car ((m, Live object) ∷ es) n least ascend =
       slot_held (with_slot leads car (m, Live object)) es n (m + 1) ascend.2
-      ∙ ap (or_else (find nat_cmp n (opened_slots all es))) (get-insert nat_cmp_total car.slots m (Live (followed_object leads object)) n ∙ ap (λ o. cond (eq_by_cmp nat_cmp n m) (Some (Live o)) (get car.slots n)) (object_same kept object))
+      ∙ ap (or_else (find nat_cmp n (opened_slots all es))) (get-insert nat_cmp_total car.slots m (Live (followed_object leads object)) n ∙ ap (λ o. cond (eq_by_cmp nat_cmp n m) (Some (Live o)) (get car.slots n)) (object_same kept ascending object))
       ∙ elim (eq_by_cmp nat_cmp n m) as (λ b. eq_by_cmp nat_cmp n m ≡ b → or_else (find nat_cmp n (opened_slots all es)) (cond b (Some (Live (opened_object all object))) (get car.slots n)) ≡ or_else (cond b (Some (Live (opened_object all object))) (find nat_cmp n (opened_slots all es))) (get car.slots n)) [
         | true ↦ λ here. ap (λ o. or_else o (Some (Live (opened_object all object)))) (slot_opened all (m + 1) es n ascend.2 ∙ ap (live_of all) (none_behind m n es (slot_in es n) (eqb-true m n (nat_turned m n ∙ here)) ascend.2 refl))
         | false ↦ λ there. refl

@@ -13,14 +13,15 @@ use Rattle.pm_copies.specs.Listed.{Listed, images}
 use Rattle.pm_copies.specs.Accepted.{IsAcceptedCar, root_in, roots_in}
 use Rattle.pm_copies.specs.Opened.{has_object, listed_in, resolved_at}
 use Rattle.pm_copies.specs.Built.{Placed, opened_placed, renumbered, renumbered_on, opening_cars, opening_roots}
+use Rattle.pm_graphs.proofs.LinkingLaws.{AreAscending}
 use Rattle.pm_graphs.proofs.Lists.{drop_here}
 use Rattle.pm_reopen.specs.declared.opened_cars.LastTrain.{LastTrain}
-use Rattle.pm_reopen.specs.Leading.{Leads, lead_cars, resolved_by}
+use Rattle.pm_graphs.specs.Linking.{Leads, lead_cars, resolved_by}
 use Rattle.pm_reopen.specs.Rebuild.Lists.{placed_of}
 use Rattle.pm_reopen.specs.Listing.{opened_by, number_after, renumbered_after, listed_on, followed_root}
 use Rattle.pm_reopen.specs.Making.{with_slots}
 use Rattle.pm_reopen.proofs.RebuildLemmas.Ends.{map_both}
-use Rattle.pm_reopen.proofs.LeadingLaws.{resolved_same}
+use Rattle.pm_reopen.proofs.LeadingLaws.{accepted_ascend, resolved_same}
 use Rattle.pm_reopen.proofs.CarLaws as car
 
 -- ---- a car more
@@ -75,16 +76,19 @@ car_at cars i x lt is all = (subst (λ (ks : List KeptPage). AllByRecursion IsAc
 
 -- ---- what a space is built of
 
-module _ (kept : List KeptPage) (es : List CatEntry) (paired : images (listed_in es (images_of kept)) ≡ images_of kept) where
+module _ (kept : List KeptPage) (es : List CatEntry) (paired : images (listed_in es (images_of kept)) ≡ images_of kept) (accepted : AllByRecursion IsAcceptedCar (images (listed_in es (images_of kept)))) where
+  ascending : AreAscending kept
+  ascending = accepted_ascend kept (subst (AllByRecursion IsAcceptedCar) paired accepted)
+
   opened_same : (listed : List Listed) → AllByRecursion IsAcceptedCar (images listed) → flat_map (opened_by (lead_cars kept)) listed ≡ flat_map (opened_placed (images_of kept)) listed
   opened_same [] all = refl
-  opened_same (one ∷ listed) all = λ i. cond (has_object one.1.slots) ((one.0, car.car_opened kept one.1 all.0.ascend i) ∷ []) [] ++ opened_same listed all.1 i
+  opened_same (one ∷ listed) all = λ i. cond (has_object one.1.slots) ((one.0, car.car_opened kept ascending one.1 all.0.ascend i) ∷ []) [] ++ opened_same listed all.1 i
 
   -- the cars are those that opening makes
-  pub cars_listed : (leads : Leads) → leads ≡ lead_cars kept → AllByRecursion IsAcceptedCar (images (listed_in es (images_of kept))) → listed_on leads [] None (listed_in es (images_of kept)) ≡ opening_cars (listed_in es (images_of kept))
-  cars_listed leads are all =
+  pub cars_listed : (leads : Leads) → leads ≡ lead_cars kept → listed_on leads [] None (listed_in es (images_of kept)) ≡ opening_cars (listed_in es (images_of kept))
+  cars_listed leads are =
       ap (λ (l : Leads). renumbered (flat_map (opened_by l) (listed_in es (images_of kept)))) are
-      ∙ ap renumbered (opened_same (listed_in es (images_of kept)) all)
+      ∙ ap renumbered (opened_same (listed_in es (images_of kept)) accepted)
       ∙ ap (λ (all : List CarImage). renumbered (flat_map (opened_placed all) (listed_in es (images_of kept)))) (sym paired)
 
   -- and so are the roots
@@ -92,7 +96,7 @@ module _ (kept : List KeptPage) (es : List CatEntry) (paired : images (listed_in
   roots_listed leads are = λ i. map (λ (root : List ℕ × Addr). (root.0, followed i root.1)) (roots_in es)
     where
       followed : ◌≡◌ {A = Addr → Addr} (resolved_by leads) (resolved_at (images (listed_in es (images_of kept))))
-      followed = ap resolved_by are ∙ (λ i at. resolved_same kept at i) ∙ ap resolved_at (sym paired)
+      followed = ap resolved_by are ∙ (λ i at. resolved_same kept ascending at i) ∙ ap resolved_at (sym paired)
 
 -- ---- the roots that entries list
 

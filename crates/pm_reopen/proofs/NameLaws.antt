@@ -11,7 +11,7 @@ use Rattle.pm_types.specs.declared.address.Addr.{Addr}
 use Rattle.pm_image.specs.declared.catalog.CatEntry.{CatEntry}
 use Rattle.pm_image.specs.declared.catalog.CatEntry.TheVariants as kinds
 use Rattle.pm_copies.specs.Accepted.{NamesAscend, roots_in}
-use Rattle.pm_reopen.specs.Leading.{Leads}
+use Rattle.pm_graphs.specs.Linking.{Leads}
 use Rattle.pm_reopen.specs.Rebuild.Lists.{NamesDiffer}
 use Rattle.pm_reopen.specs.Listing.{followed_root}
 

@@ -1,5 +1,4 @@
 pub mod Rebuild
-pub mod Leading
 pub mod Making
 pub mod Listing
 pub mod Opening

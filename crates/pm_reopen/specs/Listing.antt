@@ -7,7 +7,7 @@ use Rattle.pm_copies.specs.Listed.{Listed}
 use Rattle.pm_copies.specs.Opened.{has_object}
 use Rattle.pm_copies.specs.Built.{Placed, renumbered, renumbered_on}
 use Rattle.pm_reopen.specs.declared.opened_cars.LastTrain.{LastTrain}
-use Rattle.pm_reopen.specs.Leading.{Leads, resolved_by}
+use Rattle.pm_graphs.specs.Linking.{Leads, resolved_by}
 use Rattle.pm_reopen.specs.Making.{with_slots}
 
 -- a car that has an object, as it is opened, with the number of its train

@@ -4,7 +4,7 @@ use Rattle.pm_types.specs.declared.object.Object.{Object}
 use Rattle.pm_types.specs.declared.object.Slot.{Slot}
 use Rattle.pm_types.specs.declared.object.Slot.TheVariants.{Live, Moved}
 use Rattle.pm_cars.specs.Cars.{Car, placed, with_next}
-use Rattle.pm_reopen.specs.Leading.{Leads, resolved_by}
+use Rattle.pm_graphs.specs.Linking.{Leads, resolved_by}
 
 -- an object, each field of which is followed
 abbrev pub followed_object : Leads → Object → Object

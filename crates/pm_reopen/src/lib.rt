@@ -1,7 +1,6 @@
 //! Opening a store as a space.
 #![tactic(auto)]
 
-mod leading;
 mod listed;
 mod opened_car;
 mod opened_cars;

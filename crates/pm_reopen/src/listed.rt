@@ -7,11 +7,11 @@ ghost use Rattle.pm_copies.specs.Accepted.{IsAccepted};
 ghost use Rattle.pm_copies.specs.Opened.{IsOpened, listed_in};
 ghost use Rattle.pm_space.specs.Shown.{view};
 
-use crate::leading::lead_cars;
 use crate::opened_cars::open_cars;
 use crate::opened_roots::open_roots;
 use crate::rebuild::build;
-use pm_image::{CatEntry, Settled};
+use pm_graphs::MappedCars;
+use pm_image::CatEntry;
 use pm_law_copies::opening_builds_a_space;
 use pm_place::Placement;
 use pm_space::Space;
@@ -19,7 +19,7 @@ use pm_types::NoMemory;
 use std::alloc::Global;
 
 /// The space that opening makes of what a catalog lists: its entries, the cars of those that list one, in their order,
-/// whose objects are moved into it, and the next identity. No rule of opening refuses them.
+/// with the map of their slots, and the next identity. The objects are moved into it. No rule of opening refuses them.
 ///
 /// Every address is followed through at most one Moved slot, what had moved is Gone, and cars without an object go;
 /// cars and slots keep their numbers, and trains are numbered from 1. Of these cars and roots a space is built. Time and
@@ -32,7 +32,7 @@ pub fn build_listed<F: Drop>(
     alloc: Global,
     place: Placement<F>,
     entries: &[CatEntry],
-    cars: Settled,
+    cars: MappedCars,
     next: u64,
 ) -> Result<Space<F>, NoMemory>
     requires paired { images (listed_in entries.now (images_of cars)) ≡ images_of cars }
@@ -43,7 +43,7 @@ pub fn build_listed<F: Drop>(
     ensures place { IfOk result (λ space. space.parts.place ≡ place) }
 {
     opening_builds_a_space();
-    let leads = lead_cars(alloc, cars.as_slice())?;
+    let (cars, leads) = cars.into_parts();
     let opened = open_cars(alloc, &leads, entries, cars)?;
     let roots = open_roots(alloc, &leads, entries)?;
     drop(leads);

@@ -3,12 +3,12 @@
 ghost use Rattle.std.specs.Prelude.{◌≡◌, ◌+◌, ◌≤◌, map, option_map, IfOk, OnOk};
 ghost use Rattle.pm_cars.specs.Cars.{new_car, slot_room, used};
 ghost use Rattle.pm_image.specs.CarPages.{Ascend, car_used};
-ghost use Rattle.pm_reopen.specs.Leading.{resolved_by};
+ghost use Rattle.pm_graphs.specs.Linking.{resolved_by};
 ghost use Rattle.pm_reopen.specs.Making.{followed_object, with_slot, with_slots};
 ghost use Rattle.pm_types.specs.declared.limits.TheConstants.{CAR_BYTES, CAR_HEAD_BYTES, LAST_SLOT};
 
-use crate::leading::{Leads, resolve};
 use pm_cars::{Car, slots_are_counted};
+use pm_graphs::{Leads, resolve};
 use pm_image::{CarImage, SlotList};
 use pm_types::{Addr, Fields, NoMemory, Object, Slot};
 use std::alloc::Global;

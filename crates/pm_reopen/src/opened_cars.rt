@@ -11,10 +11,10 @@ ghost use Rattle.pm_copies.specs.Opened.{has_object, listed_in};
 ghost use Rattle.pm_reopen.specs.Rebuild.Lists.{placed_of};
 ghost use Rattle.pm_reopen.specs.Listing.{number_after, listed_on};
 
-use crate::leading::Leads;
 use crate::opened_car::open_car;
 use crate::rebuild::CarList;
 use pm_cars::Car;
+use pm_graphs::Leads;
 use pm_image::{CarImage, CatEntry, KeptPage, Settled};
 use pm_types::{NoMemory, Slot};
 use std::alloc::Global;

@@ -4,8 +4,8 @@ ghost use Rattle.std.specs.Prelude.{◌≡◌, ◌++◌, map, IfOk, OnOk};
 ghost use Rattle.pm_copies.specs.Accepted.{root_in, roots_in};
 ghost use Rattle.pm_reopen.specs.Listing.{followed_root};
 
-use crate::leading::{Leads, resolve};
 use crate::rebuild::RootList;
+use pm_graphs::{Leads, resolve};
 use pm_image::CatEntry;
 use pm_types::{Addr, Name, NoMemory};
 use std::alloc::Global;

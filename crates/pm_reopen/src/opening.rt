@@ -22,8 +22,7 @@ ghost use Rattle.pm_reopen.specs.Opening.{KnowsPages, IsUnopened};
 use crate::build_listed;
 use pm_disk::Disk;
 use pm_graphs::settled::PackedPages;
-use pm_graphs::{Chain, FromPage, Unpacked, flatten, read_graph, with_cars};
-use pm_image::Settled;
+use pm_graphs::{Chain, FromPage, MappedCars, Unpacked, flatten, read_graph, with_cars};
 use pm_place::Placement;
 use pm_shadow::Pages;
 use pm_space::Space;
@@ -35,7 +34,7 @@ fn build_graph<F: Drop>(
     alloc: Global,
     place: Placement<F>,
     chain: Chain,
-    cars: Settled,
+    cars: MappedCars,
     next: u64,
 ) -> Result<(Space<F>, Vec<u64>), NoMemory>
     requires paired { images (listed_in (entries_of chain) (images_of cars)) ≡ images_of cars }

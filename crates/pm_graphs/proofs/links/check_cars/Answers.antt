@@ -30,16 +30,16 @@ returns-in_err-check_records c =
     let l = c.loop-kept in
     let one = (λ (kept : KeptPage). record_sites kept.page CAR_HEAD_BYTES kept.image.slots) in
     let p = err_from_is_err_and c.from_residual.result c.from_residual.ensures.1 in
-    rw (p.1, p.2) (sym (walk_stop c.args.held.now (listed one) (listed_one one) no_size (listed_step one) (listed_none one) c.args.cars.now 0 0 l.kept-index l.invariant.so_far
-    c.kept-item.result (led_place c.in_err-check_records.field-0.0) (drop_here c.args.cars.now l.kept-index c.kept-item.result c.loop-kept-test.true c.kept-item.is) (ap (λ (slots : List (ℕ × Slot)). linked_by c.args.held.now (record_sites c.kept-item.result.page CAR_HEAD_BYTES slots)) (sym c.as_slice.ensures) ∙ sym c.in_err-check_records.ensures)))
+    rw (p.1, p.2) (sym (walk_stop c.args.leads.now (listed one) (listed_one one) no_size (listed_step one) (listed_none one) c.args.cars.now 0 0 l.kept-index l.invariant.so_far
+    c.kept-item.result (led_place c.in_err-check_records.field-0.0) (drop_here c.args.cars.now l.kept-index c.kept-item.result c.loop-kept-test.true c.kept-item.is) (ap (λ (slots : List (ℕ × Slot)). linked_by c.args.leads.now (record_sites c.kept-item.result.page CAR_HEAD_BYTES slots)) (sym c.as_slice.ensures) ∙ sym c.in_err-check_records.ensures)))
 
 pub loop-kept-preserved : goal.loop-kept-preserved
 loop-kept-preserved c =
     let l = c.loop-kept in
     let one = (λ (kept : KeptPage). record_sites kept.page CAR_HEAD_BYTES kept.image.slots) in
     record {
-      so_far = walk_on c.args.held.now (listed one) (listed_one one) no_size (listed_step one) (listed_none one) c.args.cars.now 0 0 l.kept-index l.invariant.so_far
-          c.kept-item.result (drop_here c.args.cars.now l.kept-index c.kept-item.result c.loop-kept-test.true c.kept-item.is) (ap (λ (slots : List (ℕ × Slot)). linked_by c.args.held.now (record_sites c.kept-item.result.page CAR_HEAD_BYTES slots)) (sym c.as_slice.ensures) ∙ sym c.in_ok-check_records.ensures);
+      so_far = walk_on c.args.leads.now (listed one) (listed_one one) no_size (listed_step one) (listed_none one) c.args.cars.now 0 0 l.kept-index l.invariant.so_far
+          c.kept-item.result (drop_here c.args.cars.now l.kept-index c.kept-item.result c.loop-kept-test.true c.kept-item.is) (ap (λ (slots : List (ℕ × Slot)). linked_by c.args.leads.now (record_sites c.kept-item.result.page CAR_HEAD_BYTES slots)) (sym c.as_slice.ensures) ∙ sym c.in_ok-check_records.ensures);
     }
 
 pub returns : goal.returns
@@ -47,4 +47,4 @@ returns c =
     let l = c.loop-kept in
     let one = (λ (kept : KeptPage). record_sites kept.page CAR_HEAD_BYTES kept.image.slots) in
     let low = c.loop-kept-test.false in
-    sym (walk_done c.args.held.now (listed one) (listed_one one) no_size (listed_step one) (listed_none one) c.args.cars.now 0 0 l.kept-index l.invariant.so_far (omega arith))
+    sym (walk_done c.args.leads.now (listed one) (listed_one one) no_size (listed_step one) (listed_none one) c.args.cars.now 0 0 l.kept-index l.invariant.so_far (omega arith))

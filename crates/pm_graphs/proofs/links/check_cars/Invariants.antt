@@ -8,6 +8,6 @@ use Rattle.pm_graphs.proofs.links.check_cars.Given as goal
 
 abbrev pub invariant-loop-kept : goal.invariant-loop-kept
 invariant-loop-kept l = record {
-  so_far : linked_by l.held (flat_map (λ (kept : KeptPage). record_sites kept.page CAR_HEAD_BYTES kept.image.slots) l.cars)
-      ≡ linked_by l.held (flat_map (λ (kept : KeptPage). record_sites kept.page CAR_HEAD_BYTES kept.image.slots) (drop l.kept-index l.cars));
+  so_far : linked_by l.leads (flat_map (λ (kept : KeptPage). record_sites kept.page CAR_HEAD_BYTES kept.image.slots) l.cars)
+      ≡ linked_by l.leads (flat_map (λ (kept : KeptPage). record_sites kept.page CAR_HEAD_BYTES kept.image.slots) (drop l.kept-index l.cars));
 }

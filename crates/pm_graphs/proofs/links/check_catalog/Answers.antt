@@ -22,16 +22,16 @@ returns-in_err-check_roots c =
     let l = c.loop-page in
     let one = (λ (page : ℕ × CatalogPage). root_sites page.0 ENTRIES page.1.entries) in
     let p = err_from_is_err_and c.from_residual.result c.from_residual.ensures.1 in
-    rw (p.1, p.2) (sym (walk_stop c.args.held.now (listed one) (listed_one one) no_size (listed_step one) (listed_none one) c.args.catalog.now 0 0 l.page-index l.invariant.so_far
-    c.page-item.result (led_place c.in_err-check_roots.field-0.0) (drop_here c.args.catalog.now l.page-index c.page-item.result c.loop-page-test.true c.page-item.is) (ap (λ (es : List CatEntry). linked_by c.args.held.now (root_sites c.page-item.result.0 ENTRIES es)) (sym c.as_slice.ensures) ∙ sym c.in_err-check_roots.ensures)))
+    rw (p.1, p.2) (sym (walk_stop c.args.leads.now (listed one) (listed_one one) no_size (listed_step one) (listed_none one) c.args.catalog.now 0 0 l.page-index l.invariant.so_far
+    c.page-item.result (led_place c.in_err-check_roots.field-0.0) (drop_here c.args.catalog.now l.page-index c.page-item.result c.loop-page-test.true c.page-item.is) (ap (λ (es : List CatEntry). linked_by c.args.leads.now (root_sites c.page-item.result.0 ENTRIES es)) (sym c.as_slice.ensures) ∙ sym c.in_err-check_roots.ensures)))
 
 pub loop-page-preserved : goal.loop-page-preserved
 loop-page-preserved c =
     let l = c.loop-page in
     let one = (λ (page : ℕ × CatalogPage). root_sites page.0 ENTRIES page.1.entries) in
     record {
-      so_far = walk_on c.args.held.now (listed one) (listed_one one) no_size (listed_step one) (listed_none one) c.args.catalog.now 0 0 l.page-index l.invariant.so_far
-          c.page-item.result (drop_here c.args.catalog.now l.page-index c.page-item.result c.loop-page-test.true c.page-item.is) (ap (λ (es : List CatEntry). linked_by c.args.held.now (root_sites c.page-item.result.0 ENTRIES es)) (sym c.as_slice.ensures) ∙ sym c.in_ok-check_roots.ensures);
+      so_far = walk_on c.args.leads.now (listed one) (listed_one one) no_size (listed_step one) (listed_none one) c.args.catalog.now 0 0 l.page-index l.invariant.so_far
+          c.page-item.result (drop_here c.args.catalog.now l.page-index c.page-item.result c.loop-page-test.true c.page-item.is) (ap (λ (es : List CatEntry). linked_by c.args.leads.now (root_sites c.page-item.result.0 ENTRIES es)) (sym c.as_slice.ensures) ∙ sym c.in_ok-check_roots.ensures);
     }
 
 pub returns : goal.returns
@@ -39,4 +39,4 @@ returns c =
     let l = c.loop-page in
     let one = (λ (page : ℕ × CatalogPage). root_sites page.0 ENTRIES page.1.entries) in
     let low = c.loop-page-test.false in
-    sym (walk_done c.args.held.now (listed one) (listed_one one) no_size (listed_step one) (listed_none one) c.args.catalog.now 0 0 l.page-index l.invariant.so_far (omega arith))
+    sym (walk_done c.args.leads.now (listed one) (listed_one one) no_size (listed_step one) (listed_none one) c.args.catalog.now 0 0 l.page-index l.invariant.so_far (omega arith))

@@ -8,6 +8,6 @@ use Rattle.pm_graphs.proofs.links.check_catalog.Given as goal
 
 abbrev pub invariant-loop-page : goal.invariant-loop-page
 invariant-loop-page l = record {
-  so_far : linked_by l.held (flat_map (λ (page : ℕ × CatalogPage). root_sites page.0 ENTRIES page.1.entries) l.catalog)
-      ≡ linked_by l.held (flat_map (λ (page : ℕ × CatalogPage). root_sites page.0 ENTRIES page.1.entries) (drop l.page-index l.catalog));
+  so_far : linked_by l.leads (flat_map (λ (page : ℕ × CatalogPage). root_sites page.0 ENTRIES page.1.entries) l.catalog)
+      ≡ linked_by l.leads (flat_map (λ (page : ℕ × CatalogPage). root_sites page.0 ENTRIES page.1.entries) (drop l.page-index l.catalog));
 }

@@ -28,7 +28,7 @@ returns-in_err-check_record c =
     let l = c.loop-listed in
     let slots = c.args.slots.now in
     let p = err_from_is_err_and c.from_residual.result c.from_residual.ensures.1 in
-    rw (p.1, p.2) (sym (walk_stop c.args.held.now (record_sites c.args.page) (record_at c.args.page) record_size (record_step c.args.page) (record_none c.args.page) slots CAR_HEAD_BYTES l.at l.listed-index l.invariant.so_far
+    rw (p.1, p.2) (sym (walk_stop c.args.leads.now (record_sites c.args.page) (record_at c.args.page) record_size (record_step c.args.page) (record_none c.args.page) slots CAR_HEAD_BYTES l.at l.listed-index l.invariant.so_far
     c.listed-item.result (led_place c.in_err-check_record.field-0.0) (drop_here slots l.listed-index c.listed-item.result c.loop-listed-test.true c.listed-item.is) (sym c.in_err-check_record.ensures)))
 
 pub loop-listed-preserved : goal.loop-listed-preserved
@@ -42,12 +42,12 @@ loop-listed-preserved c =
     let next : l.at + (4 + c.size.result) ≡ l.at + record_size listed = ap (λ (n : ℕ). l.at + (4 + n)) size in
     record {
       place = omega (arith, used, size, l.invariant.place);
-      so_far = walk_on c.args.held.now (record_sites c.args.page) (record_at c.args.page) record_size (record_step c.args.page) (record_none c.args.page) slots CAR_HEAD_BYTES l.at l.listed-index l.invariant.so_far listed here (sym c.in_ok-check_record.ensures)
-          ∙ ap (λ (n : ℕ). linked_by c.args.held.now (record_sites c.args.page n (drop (l.listed-index + 1) slots))) (sym next);
+      so_far = walk_on c.args.leads.now (record_sites c.args.page) (record_at c.args.page) record_size (record_step c.args.page) (record_none c.args.page) slots CAR_HEAD_BYTES l.at l.listed-index l.invariant.so_far listed here (sym c.in_ok-check_record.ensures)
+          ∙ ap (λ (n : ℕ). linked_by c.args.leads.now (record_sites c.args.page n (drop (l.listed-index + 1) slots))) (sym next);
     }
 
 pub returns : goal.returns
 returns c =
     let l = c.loop-listed in
     let low = c.loop-listed-test.false in
-    sym (walk_done c.args.held.now (record_sites c.args.page) (record_at c.args.page) record_size (record_step c.args.page) (record_none c.args.page) c.args.slots.now CAR_HEAD_BYTES l.at l.listed-index l.invariant.so_far (omega arith))
+    sym (walk_done c.args.leads.now (record_sites c.args.page) (record_at c.args.page) record_size (record_step c.args.page) (record_none c.args.page) c.args.slots.now CAR_HEAD_BYTES l.at l.listed-index l.invariant.so_far (omega arith))

@@ -8,5 +8,5 @@ use Rattle.pm_graphs.proofs.links.check_records.Given as goal
 abbrev pub invariant-loop-listed : goal.invariant-loop-listed
 invariant-loop-listed l = record {
   place : l.at + car_used (drop l.listed-index l.slots) ≡ CAR_HEAD_BYTES + car_used l.slots;
-  so_far : linked_by l.held (record_sites l.page CAR_HEAD_BYTES l.slots) ≡ linked_by l.held (record_sites l.page l.at (drop l.listed-index l.slots));
+  so_far : linked_by l.leads (record_sites l.page CAR_HEAD_BYTES l.slots) ≡ linked_by l.leads (record_sites l.page l.at (drop l.listed-index l.slots));
 }

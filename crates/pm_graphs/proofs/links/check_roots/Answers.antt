@@ -21,7 +21,7 @@ returns-in_err-check_root c =
     let l = c.loop-entry in
     let entries = c.args.entries.now in
     let p = err_from_is_err_and c.from_residual.result c.from_residual.ensures.1 in
-    rw (p.1, p.2) (sym (walk_stop c.args.held.now (root_sites c.args.page) (root_at c.args.page) entry_size (root_step c.args.page) (root_none c.args.page) entries ENTRIES l.at l.entry-index l.invariant.so_far
+    rw (p.1, p.2) (sym (walk_stop c.args.leads.now (root_sites c.args.page) (root_at c.args.page) entry_size (root_step c.args.page) (root_none c.args.page) entries ENTRIES l.at l.entry-index l.invariant.so_far
     c.entry-item.result (led_place c.in_err-check_root.field-0.0) (drop_here entries l.entry-index c.entry-item.result c.loop-entry-test.true c.entry-item.is) (sym c.in_err-check_root.ensures)))
 
 pub loop-entry-preserved : goal.loop-entry-preserved
@@ -34,12 +34,12 @@ loop-entry-preserved c =
     let size = c.entry_bytes-at.ensures in
     record {
       place = omega (arith, used, size, l.invariant.place);
-      so_far = walk_on c.args.held.now (root_sites c.args.page) (root_at c.args.page) entry_size (root_step c.args.page) (root_none c.args.page) entries ENTRIES l.at l.entry-index l.invariant.so_far entry here (sym c.in_ok-check_root.ensures)
-          ∙ ap (λ (n : ℕ). linked_by c.args.held.now (root_sites c.args.page (l.at + n) (drop (l.entry-index + 1) entries))) (sym size);
+      so_far = walk_on c.args.leads.now (root_sites c.args.page) (root_at c.args.page) entry_size (root_step c.args.page) (root_none c.args.page) entries ENTRIES l.at l.entry-index l.invariant.so_far entry here (sym c.in_ok-check_root.ensures)
+          ∙ ap (λ (n : ℕ). linked_by c.args.leads.now (root_sites c.args.page (l.at + n) (drop (l.entry-index + 1) entries))) (sym size);
     }
 
 pub returns : goal.returns
 returns c =
     let l = c.loop-entry in
     let low = c.loop-entry-test.false in
-    sym (walk_done c.args.held.now (root_sites c.args.page) (root_at c.args.page) entry_size (root_step c.args.page) (root_none c.args.page) c.args.entries.now ENTRIES l.at l.entry-index l.invariant.so_far (omega arith))
+    sym (walk_done c.args.leads.now (root_sites c.args.page) (root_at c.args.page) entry_size (root_step c.args.page) (root_none c.args.page) c.args.entries.now ENTRIES l.at l.entry-index l.invariant.so_far (omega arith))

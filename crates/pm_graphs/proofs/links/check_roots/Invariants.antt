@@ -8,5 +8,5 @@ use Rattle.pm_graphs.proofs.links.check_roots.Given as goal
 abbrev pub invariant-loop-entry : goal.invariant-loop-entry
 invariant-loop-entry l = record {
   place : l.at + catalog_used (drop l.entry-index l.entries) ≡ ENTRIES + catalog_used l.entries;
-  so_far : linked_by l.held (root_sites l.page ENTRIES l.entries) ≡ linked_by l.held (root_sites l.page l.at (drop l.entry-index l.entries));
+  so_far : linked_by l.leads (root_sites l.page ENTRIES l.entries) ≡ linked_by l.leads (root_sites l.page l.at (drop l.entry-index l.entries));
 }

@@ -31,7 +31,7 @@ pub check_links-requires-clause-catalog : goal.check_links-requires-clause-catal
 check_links-requires-clause-catalog g c = subst (AllByRecursion (λ (page : ℕ × CatalogPage). catalog_used page.1.entries ≤ PAGE_BYTES)) (sym c.as_slice-listed.ensures) c.in_ok-chain.ensures.sound.fits
 
 pub check_links-requires-clause-cars : goal.check_links-requires-clause-cars
-check_links-requires-clause-cars g c = subst (AllByRecursion IsMeasured) (sym c.as_slice-kept.ensures) (all_measured c.read_chain.new.pages.count c.header-header.result.now.next c.in_ok-cars.cars c.in_ok-cars.ensures.cars)
+check_links-requires-clause-cars g c = subst (AllByRecursion IsMeasured) (sym c.mapped.ensures) (all_measured c.read_chain.new.pages.count c.header-header.result.now.next c.in_ok-cars.cars c.in_ok-cars.ensures.cars)
 
 pub returns-in_err-chain-clause-gives : goal.returns-in_err-chain-clause-gives
 returns-in_err-chain-clause-gives g c bytes told =
@@ -60,7 +60,7 @@ returns-in_err-check_links-clause-gives g c bytes told =
     let place = c.in_err-check_links.field-0.0 in
     let same = asked c.args.pages.now.count bytes header c.most_fields-most.result c.header-header.result.now.next c.read_chain.new.pages.count c.as_slice-listed.result.now c.in_ok-chain.chain
     (c.most_fields-most.ensures ∙ ap (λ (h : Header). most_fields h.version) c.header-header.ensures) (ap (λ (h : Header). h.next) c.header-header.ensures) (ap (λ (s : State). s.count) c.in_ok-chain.ensures.looked.same) c.as_slice-listed.ensures in
-    let links = (λ i. linked (images_of (sym c.as_slice-kept.ensures i)) (sites_of (sym c.as_slice-listed.ensures i) (sym c.as_slice-kept.ensures i))) ∙ sym c.in_err-check_links.ensures in
+    let links = (λ i. linked (images_of (sym c.mapped.ensures i)) (sites_of (sym c.as_slice-listed.ensures i) (sym c.mapped.ensures i))) ∙ sym c.in_err-check_links.ensures in
     rw (p.1, p.2) (links_fail (store_of c.args.pages.now.count bytes) header c.in_ok-chain.chain c.in_ok-cars.cars (Malformed place.page place.at) (c.in_ok-chain.ensures.gives bytes told)
     (sym same ∙ c.in_ok-cars.ensures.gives bytes (c.in_ok-chain.ensures.looked.looks.told ∙ told)) links)
 
@@ -69,14 +69,11 @@ returns-clause-gives g c bytes told =
     let header = c.args.pages.now.header in
     let same = asked c.args.pages.now.count bytes header c.most_fields-most.result c.header-header.result.now.next c.read_chain.new.pages.count c.as_slice-listed.result.now c.in_ok-chain.chain
     (c.most_fields-most.ensures ∙ ap (λ (h : Header). most_fields h.version) c.header-header.ensures) (ap (λ (h : Header). h.next) c.header-header.ensures) (ap (λ (s : State). s.count) c.in_ok-chain.ensures.looked.same) c.as_slice-listed.ensures in
-    let links = (λ i. linked (images_of (sym c.as_slice-kept.ensures i)) (sites_of (sym c.as_slice-listed.ensures i) (sym c.as_slice-kept.ensures i))) ∙ sym c.in_ok-check_links.ensures in
+    let links = (λ i. linked (images_of (sym c.mapped.ensures i)) (sites_of (sym c.as_slice-listed.ensures i) (sym c.mapped.ensures i))) ∙ sym c.in_ok-check_links.ensures in
     graph_found (store_of c.args.pages.now.count bytes) header c.in_ok-chain.chain c.in_ok-cars.cars (c.in_ok-chain.ensures.gives bytes told) (sym same ∙ c.in_ok-cars.ensures.gives bytes (c.in_ok-chain.ensures.looked.looks.told ∙ told)) links
 
 pub returns-in_err-cars-clause-looked : goal.returns-in_err-cars-clause-looked
 returns-in_err-cars-clause-looked g c = looked_then c.args.pages.now c.read_chain.new.pages c.read_cars.new.pages c.in_ok-chain.ensures.looked c.in_err-cars.ensures.looked
-
-pub returns-in_err-held-clause-looked : goal.returns-in_err-held-clause-looked
-returns-in_err-held-clause-looked g c = looked_then c.args.pages.now c.read_chain.new.pages c.read_cars.new.pages c.in_ok-chain.ensures.looked c.in_ok-cars.ensures.looked
 
 pub returns-in_err-check_links-clause-looked : goal.returns-in_err-check_links-clause-looked
 returns-in_err-check_links-clause-looked g c = looked_then c.args.pages.now c.read_chain.new.pages c.read_cars.new.pages c.in_ok-chain.ensures.looked c.in_ok-cars.ensures.looked
@@ -91,7 +88,7 @@ returns-clause-whole g c =
       sound = c.in_ok-chain.ensures.sound;
       cars_are = subst (λ (h : Header). AllByRecursion (IsCar c.args.pages.now.count h.next) c.in_ok-cars.cars) c.header-header.ensures
           (subst (λ (n : ℕ). AllByRecursion (IsCar n c.header-header.result.now.next) c.in_ok-cars.cars) count c.in_ok-cars.ensures.cars);
-      links = (λ i. linked (images_of (sym c.as_slice-kept.ensures i)) (sites_of (sym c.as_slice-listed.ensures i) (sym c.as_slice-kept.ensures i))) ∙ sym c.in_ok-check_links.ensures;
+      links = (λ i. linked (images_of (sym c.mapped.ensures i)) (sites_of (sym c.as_slice-listed.ensures i) (sym c.mapped.ensures i))) ∙ sym c.in_ok-check_links.ensures;
       follow = c.in_ok-chain.ensures.follow;
       most = c.most_fields-most.result;
       few = subst (λ (n : ℕ). n ≤ FIELDS) (sym c.most_fields-most.ensures) (few_fields c.header-header.result.now.version);

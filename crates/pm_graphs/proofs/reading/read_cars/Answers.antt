@@ -1,4 +1,4 @@
-use Rattle.std.proofs.Common.{◌≡◌, ◌+◌, ◌++◌, ℕ, List, drop, take, sym, ap, subst, ◌∙◌, arith}
+use Rattle.std.proofs.Common.{◌≡◌, ◌+◌, ◌++◌, ℕ, List, Ok, drop, take, sym, ap, subst, ◌∙◌, arith}
 use Rattle.std.specs.List.{AllByRecursion}
 use Rattle.std.specs.FinSet as set
 use Rattle.std.proofs.lemmas.Result.{err_from_is_err_and}
@@ -6,7 +6,7 @@ use Rattle.pm_image.specs.declared.catalog.CatEntry.{CatEntry}
 use Rattle.pm_image.specs.declared.settled.KeptPage.{KeptPage}
 use Rattle.pm_image.specs.Graphs.{Catalog, cars_from, entries_of}
 use Rattle.pm_shadow.specs.State.{State}
-use Rattle.pm_graphs.specs.Reading.{Fails, store_of, IsCar, IsEntryThere, LeadsOn}
+use Rattle.pm_graphs.specs.Reading.{Fails, store_of, IsCar, IsEntryThere, AreRead, LeadsOn}
 use Rattle.pm_graphs.proofs.Lists.{drop_here, first_all, second_all}
 use Rattle.pm_graphs.proofs.ChainLaws.{taken_more, entries_more, reads_done}
 use Rattle.pm_graphs.proofs.LookedLaws.{looked_then}
@@ -75,9 +75,14 @@ returns-clause-gives g c bytes told =
     let store = store_of c.args.pages.now.count bytes in
     let low = c.loop-page-test.false in
     pages_done c.args.most c.args.next store l.met c.args.catalog.now l.page-index l.cars (cars_from c.args.most c.args.next store set.empty (entries_of c.args.catalog.now)) (omega arith) (l.invariant.so_far bytes told)
+    ∙ ap (λ (cars : List KeptPage). Ok cars) (sym c.in_ok-mapped.ensures)
+
+pub returns-clause-cars : goal.returns-clause-cars
+returns-clause-cars g c = subst (AllByRecursion (IsCar c.args.pages.now.count c.args.next)) (sym c.in_ok-mapped.ensures) c.loop-page.invariant.cars
 
 pub returns-clause-reads : goal.returns-clause-reads
 returns-clause-reads g c =
     let l = c.loop-page in
     let low = c.loop-page-test.false in
-    reads_done c.args.most c.args.next set.empty l.met c.args.catalog.now l.page-index l.cars (omega arith) l.invariant.reads
+    subst (λ (cars : List KeptPage). AreRead c.args.most c.args.next set.empty (entries_of c.args.catalog.now) cars) (sym c.in_ok-mapped.ensures)
+    (reads_done c.args.most c.args.next set.empty l.met c.args.catalog.now l.page-index l.cars (omega arith) l.invariant.reads)

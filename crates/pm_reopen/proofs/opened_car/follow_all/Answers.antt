@@ -1,7 +1,7 @@
 use Rattle.std.proofs.Common.{length, ap, ◌∙◌, arith}
 use Rattle.std.specs.Option.{option_map}
 use Rattle.std.proofs.lemmas.List.{length-set}
-use Rattle.pm_reopen.specs.Leading.{resolved_by}
+use Rattle.pm_graphs.specs.Linking.{resolved_by}
 use Rattle.pm_reopen.proofs.RebuildLemmas.Ends.{put_next}
 use Rattle.pm_reopen.proofs.opened_car.follow_all.Goals as goal
 

@@ -1,6 +1,6 @@
 use Rattle.std.proofs.Common.{◌≡◌, ◌++◌, length, map, take, drop}
 use Rattle.std.specs.Option.{option_map}
-use Rattle.pm_reopen.specs.Leading.{resolved_by}
+use Rattle.pm_graphs.specs.Linking.{resolved_by}
 use Rattle.pm_reopen.proofs.opened_car.follow_all.Given as goal
 
 -- the fields before the one at hand were followed, and those from it on are still to be

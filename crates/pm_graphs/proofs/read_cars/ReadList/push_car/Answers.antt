@@ -2,7 +2,7 @@ use Rattle.std.proofs.Common.{List, [], ◌∷◌, ◌++◌, sym, ap, subst, ◌
 use Rattle.std.specs.List.{AllZip}
 use Rattle.pm_image.specs.declared.settled.KeptPage.{KeptPage}
 use Rattle.pm_graphs.proofs.MadeLaws.{zip_more}
-use Rattle.pm_graphs.proofs.read_cars.ReadCars.push_car.Goals as goal
+use Rattle.pm_graphs.proofs.read_cars.ReadList.push_car.Goals as goal
 
 pub invariant_of-self-2 : goal.invariant_of-self-2
 invariant_of-self-2 g c =

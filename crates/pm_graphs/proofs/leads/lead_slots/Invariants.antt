@@ -1,11 +1,11 @@
 use Rattle.std.proofs.Common.{◌≡◌, ◌≤◌, length, drop}
-use Rattle.pm_reopen.specs.Leading.{lead_cars}
-use Rattle.pm_reopen.proofs.leading.lead_cars.Given as goal
+use Rattle.pm_graphs.specs.Linking.{lead_slots}
+use Rattle.pm_graphs.proofs.leads.lead_slots.Given as goal
 
 abbrev pub invariant-loop-left : goal.invariant-loop-left
 invariant-loop-left l = record {
-  so_far : l.leads ≡ lead_cars (drop l.left l.cars);
-  inside : l.left ≤ length l.cars;
+  so_far : l.leads ≡ lead_slots (drop l.left l.slots);
+  inside : l.left ≤ length l.slots;
 }
 
 abbrev pub decreases-loop-left : goal.decreases-loop-left
