@@ -4,6 +4,7 @@ pub mod SweepsLemmas
 pub mod MovesLemmas
 pub mod Event
 pub mod Picks
+pub mod SameObjects
 pub mod WaysOut
 pub mod WorkLemmas
 pub mod TracesLemmas

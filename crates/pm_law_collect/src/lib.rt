@@ -3,6 +3,7 @@
 
 pub mod changes;
 mod laws;
+mod making;
 pub mod moves;
 pub mod phases;
 pub mod sweeps;
@@ -14,3 +15,4 @@ pub use laws::{
     an_event_moves_one_object_at_most, an_object_may_go_where_it_is_named,
     there_is_a_train_to_pick,
 };
+pub use making::an_event_makes_no_object;

@@ -30,12 +30,12 @@ use Rattle.pm_law_commands.proofs.RowLemmas.News.{at_insert}
 use Rattle.pm_law_commands.specs.Served.{IsServed}
 use Rattle.pm_law_commands.proofs.Registers.{refused_both}
 
-null_fields : (n i : ℕ) → option_flatten {T = Addr} (slice_get (replicate n None) i) ≡ None
+pub null_fields : (n i : ℕ) → option_flatten {T = Addr} (slice_get (replicate n None) i) ≡ None
 null_fields zero i = refl
 null_fields (suc n) zero = refl
 null_fields (suc n) (suc i) = null_fields n i
 
-null_names : (view : SpaceView) (n : ℕ) → map (names view) (replicate n None) ≡ replicate n None
+pub null_names : (view : SpaceView) (n : ℕ) → map (names view) (replicate n None) ≡ replicate n None
 null_names view zero = refl
 null_names view (suc n) = ap (λ xs. None ∷ xs) (null_names view n)
 
@@ -60,7 +60,8 @@ module _ (view : SpaceView) (law : HeapLaw view) (room : view.next ≤ LAST_ID) 
     anchor = λ a to is. let was = law.anchor a to is in record { live = was.live; kept = was.kept; old = was.old; stands = was.stands; leaves = was.leaves };
   }
 
-  spent_stands : (world : World) → Represents view world → Represents (spent view) (record world { next = world.next + 1 })
+  -- and stands for the world whose next identity was given too
+  pub spent_stands : (world : World) → Represents view world → Represents (spent view) (record world { next = world.next + 1 })
   spent_stands world stands = record {
     roots = stands.roots;
     registers = stands.registers;

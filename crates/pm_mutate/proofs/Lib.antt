@@ -1,3 +1,4 @@
 pub mod CommandsLemmas
 pub mod ShownBytes
 pub mod Carried
+pub mod Late

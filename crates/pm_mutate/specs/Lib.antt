@@ -1,3 +1,4 @@
 pub mod Births
 pub mod Commands
 pub mod Acts
+pub mod Young

@@ -8,10 +8,12 @@ mod collected;
 mod drawn;
 mod frozen;
 mod laid;
+mod late;
 mod lines;
 mod opened;
 mod paths;
 mod scripted;
+mod searched;
 mod spaced;
 
 pub use case::take;

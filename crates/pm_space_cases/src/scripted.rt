@@ -5,6 +5,7 @@ ghost use Rattle.pm_types.specs.declared.limits.TheConstants.{CLIENTS};
 ghost use Rattle.pm_place.specs.Choosers.{IsChooser};
 ghost use Rattle.pm_view.specs.Commands.{is_act};
 
+use crate::late::{Late, carry_late, late_of};
 use crate::lines::script_of;
 use crate::paths::{Found, push_found};
 use pm_case_text::{
@@ -64,6 +65,8 @@ pub(crate) struct Course {
     times: u64,
     // The line of the last reply.
     reply: String,
+    // The identity of the object that came in last.
+    late: Id,
     /// How many commands were refused, or met a null field.
     pub(crate) refused: u64,
 }
@@ -77,6 +80,7 @@ pub(crate) fn new_course(alloc: Global, shows: Shows) -> Course {
         step: Step::Nothing,
         times: 0,
         reply: String::new(alloc),
+        late: 0,
         refused: 0,
     }
 }
@@ -268,6 +272,62 @@ fn run<F: Fn(&[u64]) -> usize + Drop>(
     Ok(())
 }
 
+// Carries out a line of objects that come in late.
+fn run_late<F: Fn(&[u64]) -> usize + Drop>(
+    space: &mut Space<F>,
+    alloc: Global,
+    late: &Late,
+    course: &mut Course,
+    out: &mut String,
+) -> Result<(), Fault>
+    requires { IsChooser F.Fn space.old.parts.place }
+    ensures { IsChooser F.Fn space.new.parts.place }
+{
+    course.reply.clear();
+    carry_late(space, alloc, late, &mut course.late, &mut course.reply)?;
+    if with_replies(course.shows) {
+        push_words(course.reply.as_str(), out)
+    } else {
+        Ok(())
+    }
+}
+
+// Carries it out so many times.
+fn run_late_times<F: Fn(&[u64]) -> usize + Drop>(
+    space: &mut Space<F>,
+    alloc: Global,
+    late: &Late,
+    times: u32,
+    course: &mut Course,
+    out: &mut String,
+) -> Result<(), Fault>
+    requires { IsChooser F.Fn space.old.parts.place }
+    ensures { IsChooser F.Fn space.new.parts.place }
+{
+    for _ in 0..times {
+        run_late(space, alloc, late, course, out)?;
+    }
+    Ok(())
+}
+
+// Carries out a part: a line of objects that come in late, or of a script, or `N* ` and a line, N times.
+fn run_part<F: Fn(&[u64]) -> usize + Drop>(
+    space: &mut Space<F>,
+    alloc: Global,
+    part: &str,
+    course: &mut Course,
+    out: &mut String,
+) -> Result<(), Fault>
+    requires { IsChooser F.Fn space.old.parts.place }
+    ensures { IsChooser F.Fn space.new.parts.place }
+{
+    let (times, line) = part.split_once("* ").unwrap_or(("1", part));
+    match late_of(alloc, line)? {
+        Some(late) => run_late_times(space, alloc, &late, small(times)?, course, out),
+        None => run(space, alloc, script_of(alloc, part)?.as_slice(), course, out),
+    }
+}
+
 /// Carries out the lines between ` / `.
 pub(crate) fn run_text<F: Fn(&[u64]) -> usize + Drop>(
     space: &mut Space<F>,
@@ -279,8 +339,10 @@ pub(crate) fn run_text<F: Fn(&[u64]) -> usize + Drop>(
     requires { IsChooser F.Fn space.old.parts.place }
     ensures { IsChooser F.Fn space.new.parts.place }
 {
-    let script = script_of(alloc, text)?;
-    run(space, alloc, script.as_slice(), course, out)
+    for part in text.split(" / ") {
+        run_part(space, alloc, part, course, out)?;
+    }
+    Ok(())
 }
 
 // Adds the numbers at the end.

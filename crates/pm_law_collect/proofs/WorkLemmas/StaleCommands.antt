@@ -73,7 +73,7 @@ module _ (view : SpaceView) (number : ℕ) (object : Object) (law : HeapLaw view
   born_in_keeps : KeepsStale view (born_in view number object)
   born_in_keeps = put_keeps (tail_for view y (object_room object)) refl
 
-born_keeps : (view : SpaceView) (number : ℕ) (object : Object) → HeapLaw view → get view.cars number ≡ None → KeepsStale view (born view number object)
+pub born_keeps : (view : SpaceView) (number : ℕ) (object : Object) → HeapLaw view → get view.cars number ≡ None → KeepsStale view (born view number object)
 born_keeps view number object law vacant = by_births (nat_le 1024 view.trains.births) refl
   where
     opening_keeps : (has : HasCar view.trains.trains (youngest view.trains.trains)) → KeepsStale view (opened view law has)

@@ -14,7 +14,7 @@ use Rattle.pm_law_commands.proofs.RowLemmas.News.{at_insert}
 use Rattle.pm_space.specs.Shown.{in_new_train}
 use Rattle.pm_space.specs.Places.{with_place, place_of}
 use Rattle.pm_space.proofs.Linking.{insert_twice}
-use Rattle.pm_mutate.specs.Commands.Births.{with_one_born, born_held}
+use Rattle.pm_mutate.specs.Commands.Births.{with_one_born, born_held, IsBornAt}
 use Rattle.pm_mutate.specs.Births.Births.{open_tail, IsOpenedFor}
 
 here : {X : Type 0} (m : FinMap nat_cmp X) (k : ℕ) (v : X) → get (insert m k v) k ≡ Some v
@@ -62,42 +62,42 @@ cars_kept : (v : SpaceView) (b : Bool) → (opened_if v b).cars ≡ v.cars
 cars_kept v true = refl
 cars_kept v false = refl
 
-pub registers_kept : (v : SpaceView) (b : Bool) (o : Option ℕ) (number : ℕ) → (with_place (opened_if v b) (youngest (opened_if v b).trains.trains) o number).registers ≡ v.registers
-registers_kept v true None number = refl
-registers_kept v true (Some car) number = refl
-registers_kept v false None number = refl
-registers_kept v false (Some car) number = refl
+registers_kept : (v : SpaceView) (b : Bool) (o : Option ℕ) (number : ℕ) (object : Object) → (with_count (put_in (opened_if v b) (youngest (opened_if v b).trains.trains) o number object)).registers ≡ v.registers
+registers_kept v true None number object = refl
+registers_kept v true (Some car) number object = refl
+registers_kept v false None number object = refl
+registers_kept v false (Some car) number object = refl
 
+-- a birth leaves the registers
+pub registers_born : (v : SpaceView) (number : ℕ) (object : Object) → (born v number object).registers ≡ v.registers
+registers_born v number object = registers_kept v (nat_le 1024 v.trains.births) (open_tail (with_open_train v) (object_room object)) number object
+
+-- the answer and the space after a birth
+abbrev pub born_at : SpaceView → ℕ → Object → Addr × SpaceView
+born_at v number object = (birthplace v number object, born v number object)
+
+-- an object that is born in the car that was prepared for it is born as the row says
 module _ (v w : SpaceView) (car : ℕ) (object : Object) (opened : IsOpenedFor (with_open_train v) (object_room object) w car) where
   abbrev open_view : SpaceView
   open_view = with_open_train v
 
-  -- the object is born
-  pub is_born : record (with_one_born w car object) { next = v.next + 1 } ≡ born (spent v) opened.number object
-  is_born =
-      (λ i. record (with_one_born (opened.space i) (opened.place i) object) { next = v.next + 1 })
-      ∙ ap (λ (x : SpaceView). record x { next = v.next + 1 }) (placed open_view (open_tail open_view (object_room object)) opened.number object)
-      ∙ born_later v (nat_le 1024 v.trains.births) opened.number object
+  is_born : with_one_born w car object ≡ born v opened.number object
+  is_born = (λ i. with_one_born (opened.space i) (opened.place i) object) ∙ placed open_view (open_tail open_view (object_room object)) opened.number object
 
-  -- at its place
-  pub is_at : next_place w.cars car ≡ birthplace (spent v) opened.number object
-  is_at =
-      (λ i. next_place (opened.space i).cars (opened.place i))
-      ∙ place_is open_view (open_tail open_view (object_room object)) opened.number
-      ∙ at_later v (nat_le 1024 v.trains.births) opened.number object
+  is_at : next_place w.cars car ≡ birthplace v opened.number object
+  is_at = (λ i. next_place (opened.space i).cars (opened.place i)) ∙ place_is open_view (open_tail open_view (object_room object)) opened.number
 
   -- the number of the new car was that of no car before
-  pub is_vacant : IsVacant v.cars opened.number
+  is_vacant : IsVacant v.cars opened.number
   is_vacant = subst (λ cars. IsVacant cars opened.number) (cars_kept v (nat_le 1024 v.trains.births)) opened.vacant
 
-  -- the registers are those of before
-  pub same_registers : w.registers ≡ v.registers
-  same_registers = ap (λ (w : SpaceView). w.registers) opened.space ∙ registers_kept v (nat_le 1024 v.trains.births) (open_tail open_view (object_room object)) opened.number
+  pub born_so : (x : SpaceView) (at : Addr) → x ≡ with_one_born w car object → at ≡ next_place w.cars car → IsBornAt v object (at, x)
+  born_so x at space place = let born = space ∙ is_born in let there = place ∙ is_at in (opened.number, is_vacant, λ i. (there i, born i))
 
-  -- the space where a register holds it
-  pub born_seen : (x : SpaceView) (client register reg : ℕ) (at : Addr) → x ≡ with_one_born w car object → at ≡ next_place w.cars car → register ≡ reg
-      → spread (record x { next = v.next + 1 }) (Handle client register) (Some at) ≡ born_held v client reg object opened.number
-  born_seen x client register reg at space place same =
-      let born = ap (λ (x : SpaceView). record x { next = v.next + 1 }) space ∙ is_born in
-      let there = place ∙ is_at in
-      λ i. spread (born i) (Handle client (same i)) (Some (there i))
+-- the next identity was given before, and a register holds the object
+pub born_seen : (v x : SpaceView) (client register reg number : ℕ) (object : Object) (at : Addr) → (at, x) ≡ born_at v number object → register ≡ reg
+    → spread (record x { next = v.next + 1 }) (Handle client register) (Some at) ≡ born_held v client reg object number
+born_seen v x client register reg number object at born same =
+    let space = ap (λ (g : Addr × SpaceView). record g.1 { next = v.next + 1 }) born ∙ born_later v (nat_le 1024 v.trains.births) number object in
+    let there = ap (λ (g : Addr × SpaceView). g.0) born ∙ at_later v (nat_le 1024 v.trains.births) number object in
+    λ i. spread (space i) (Handle client (same i)) (Some (there i))

@@ -1,5 +1,6 @@
 -- An object that is born and held.
 use Rattle.std.specs.Prelude.{ℕ, List, Some}
+use Rattle.pm_types.specs.declared.address.Addr.{Addr}
 use Rattle.pm_types.specs.declared.object.Object.{Object}
 use Rattle.pm_types.specs.declared.source.RefSource.TheVariants.{Handle}
 use Rattle.pm_types.specs.declared.reply.Reply.{Reply}
@@ -13,6 +14,10 @@ use Rattle.pm_mutate.specs.Commands.Picked.{IsForSomeCar}
 -- an object is in the next slot of this car, and one more was born in the open train
 abbrev pub with_one_born : SpaceView → ℕ → Object → SpaceView
 with_one_born view car object = with_count (record view { cars = with_object_in view.cars car object })
+
+-- an object is born, in a new car of some number where one is needed, at the place that is answered
+abbrev pub IsBornAt : SpaceView → Object → Addr × SpaceView → Type 0
+IsBornAt view object given = IsForSomeCar view (λ number. (birthplace view number object, born view number object)) given
 
 -- an object is born under the next identity, in a new car of this number where one is needed, and a register holds it
 abbrev pub born_held : SpaceView → ℕ → ℕ → Object → ℕ → SpaceView

@@ -12,7 +12,7 @@ abbrev pub IsForSomeRoot : SpaceView → (ℕ → Reply × SpaceView) → Reply 
 IsForSomeRoot view row given = (number : ℕ) × IsFree view.roots number × (given ≡ row number)
 
 -- this is the row for the least number from 1 on that no car has
-abbrev pub IsForSomeCar : SpaceView → (ℕ → Reply × SpaceView) → Reply × SpaceView → Type 0
+abbrev pub IsForSomeCar : {A : Type 0} → SpaceView → (ℕ → A × SpaceView) → A × SpaceView → Type 0
 IsForSomeCar view row given = (number : ℕ) × IsVacant view.cars number × (given ≡ row number)
 
 -- this is the command's row, for what is picked for it

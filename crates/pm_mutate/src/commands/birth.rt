@@ -1,53 +1,20 @@
-ghost use Rattle.std.specs.Prelude.{◌≡◌, ◌≤◌, ◌<◌, ◌||◌, nat_lt, true, replicate, length, None, Some, IfOk};
+ghost use Rattle.std.specs.Prelude.{◌≡◌, ◌≤◌, ◌<◌, ◌||◌, nat_lt, length, Some};
 ghost use Rattle.std.specs.FinMap.{get};
 ghost use Rattle.pm_types.specs.declared.limits.TheConstants.{CLIENTS, REGISTERS, FIELDS, OBJECT_BYTES};
 ghost use Rattle.pm_types.specs.declared.source.RefSource.TheVariants.{Handle};
-ghost use Rattle.pm_trains.specs.declared.trains.TheConstants.{BIRTHS};
-ghost use Rattle.pm_cars.specs.Cars.{object_room};
-ghost use Rattle.pm_snap.specs.Snapped.{is_ready};
 ghost use Rattle.pm_view.specs.Law.{HeapLaw};
-ghost use Rattle.pm_view.specs.Rows.{next_of, spread};
+ghost use Rattle.pm_view.specs.Rows.{spread};
 ghost use Rattle.pm_space.specs.Linked.{sets_of, AreHoused, HasRoom, HasRoomFor};
-ghost use Rattle.pm_space.specs.Places.{FitsIn};
-ghost use Rattle.pm_space.specs.Shown.{view, HasBirthRoom, KeepsRest, MakesRow};
-ghost use Rattle.pm_mutate.specs.Commands.Births.{with_one_born, IsHeldNew, IsRowOfNew};
+ghost use Rattle.pm_space.specs.Shown.{view, KeepsRest, MakesRow};
+ghost use Rattle.pm_mutate.specs.Commands.Births.{IsHeldNew, IsRowOfNew};
 
-use crate::births::place_for;
+use crate::births::{be_born, fresh};
 use crate::commands::reading::register;
-use pm_space::{Parts, make_room, put_into, room_of, tell_all};
+use pm_space::{Parts, make_room, tell_all};
 use pm_types::{
-    Addr, Bytes, FIELDS, Fields, Id, LAST_ID, NoMemory, OBJECT_BYTES, Object, RefSource, Reg, Reply,
+    Addr, Bytes, FIELDS, LAST_ID, NoMemory, OBJECT_BYTES, Object, RefSource, Reg, Reply,
 };
 use std::alloc::Global;
-
-// An object of so many null fields and these bytes.
-fn fresh(alloc: Global, id: Id, count: u32, bytes: &Bytes) -> Result<Object, NoMemory>
-    ensures { IfOk result (λ object. object ≡ record { id = id; fields = replicate count None; bytes = bytes.now }) }
-{
-    let fields = vec![in alloc; None; count as usize]?;
-    let bytes = bytes.copy(alloc)?;
-    Ok(Object {
-        id,
-        fields: Fields::from_vec(fields),
-        bytes,
-    })
-}
-
-// An object is born in a car that is prepared for it, and is counted. It answers where.
-fn bear<F>(parts: &mut Parts<F>, car: u64, object: Object) -> Addr
-    requires ready { is_ready parts.old.cars car ≡ true }
-    requires birth { HasBirthRoom parts.old.cars car }
-    requires fits { FitsIn (view parts.old).cars car (object_room object) }
-    requires births { parts.old.trains.births < BIRTHS }
-    ensures view { view parts.new ≡ with_one_born (view parts.old) car object }
-    ensures place { result ≡ record { car = car; slot = next_of (get (view parts.old).cars car) } }
-    ensures links { parts.new.links ≡ parts.old.links }
-    ensures rest { KeepsRest parts.old parts.new }
-{
-    let slot = put_into(&mut parts.cars, car, object);
-    parts.trains.born();
-    Addr { car, slot }
-}
 
 // Lets a register hold an object, in room that was made before.
 fn hold_in_room<F>(parts: &mut Parts<F>, client: u32, register: u32, at: Addr)
@@ -88,11 +55,9 @@ fn hold_new<F>(
 {
     let old = register(parts, client, reg);
     make_room(&mut parts.links, old, None)?;
-    let room = room_of(&object);
     let next = parts.next + 1;
-    let car = place_for(parts, alloc, room)?;
     let id = object.id;
-    let at = bear(parts, car, object);
+    let at = be_born(parts, alloc, object)?;
     parts.next = next;
     hold_in_room(parts, client, reg.number(), at);
     Ok(Reply::Ident(id))
@@ -129,6 +94,6 @@ pub fn new<F>(
     if parts.next > LAST_ID as u64 {
         return Ok(Reply::IdsSpent);
     }
-    let object = fresh(alloc, parts.next as u32, count, bytes)?;
+    let object = fresh(alloc, parts.next as u32, count, bytes.as_slice())?;
     hold_new(parts, alloc, client, reg, object)
 }
