@@ -13,9 +13,8 @@ set -uo pipefail
 cd "$(dirname "$0")/.." || exit 1
 export LC_ALL=C
 
-# The functions that take a library's own answer: `hex`, `clap`, and the standard library's words of the command line.
-builders='crates/pm_script/src/memory.rt
-crates/pm_words/src/memory.rt
+# The functions that take a library's own answer: `clap`, and the standard library's words of the command line.
+builders='crates/pm_words/src/memory.rt
 crates/pmos/src/memory.rt'
 
 # The counts that come to an end: the file, and what it counts.

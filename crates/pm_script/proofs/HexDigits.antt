@@ -69,7 +69,7 @@ decoded_pairs i (high ∷ low ∷ word) bytes is =
       decoded_pairs (i + 2) word rest.0 rest.1,
     )
 
-pair_made : (high low i h l : ℕ) → hex_digit_value high ≡ Some h → hex_digit_value low ≡ Some l → pair_value high low i ≡ Ok (h * 16 + l)
+pub pair_made : (high low i h l : ℕ) → hex_digit_value high ≡ Some h → hex_digit_value low ≡ Some l → pair_value high low i ≡ Ok (h * 16 + l)
 pair_made high low i h l ha hb = rw (ha, hb) refl
 
 -- what pairs of digits spell is decoded

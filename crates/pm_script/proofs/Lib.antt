@@ -2,6 +2,7 @@ pub mod Both
 pub mod Numerals
 pub mod NameTests
 pub mod HexDigits
+pub mod DigitPairs
 pub mod Hexes
 pub mod Steps
 pub mod ResultSteps

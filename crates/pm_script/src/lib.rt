@@ -5,10 +5,10 @@
 mod body;
 mod command;
 mod fault;
+mod hexadecimal;
 mod laws;
 mod limits;
 mod line;
-mod memory;
 pub mod parted;
 mod parts;
 mod reply;

@@ -10,7 +10,7 @@ ghost use Rattle.pm_script.specs.Values.{is_digit, is_numeral, number_of, number
 ghost use Rattle.pm_script.specs.Reading.{Finds};
 
 use crate::fault::{Cause, LineFault};
-use crate::memory::out_of_memory;
+use crate::hexadecimal::decode_into;
 use crate::verb::First;
 use pm_types::{Bytes, CLIENTS, Name, NameFault, NoMemory, Reg};
 use std::alloc::Global;
@@ -114,18 +114,14 @@ pub(crate) fn first(word: &[u8]) -> Option<First>
 fn pairs(alloc: Global, word: &[u8]) -> Result<Bytes, LineFault>
     ensures { Finds result causes.Hex (some_bytes (decode_of word.now)) }
 {
-    match hex::decode(alloc, word) {
-        Ok(bytes) => {
-            if bytes.is_empty() {
-                Err(LineFault::Bad(Cause::Hex))
-            } else {
-                Ok(Bytes::from_vec(bytes))
-            }
-        }
-        Err(error) => match out_of_memory(error) {
-            Some(refused) => Err(LineFault::Memory(refused)),
-            None => Err(LineFault::Bad(Cause::Hex)),
-        },
+    if word.is_empty() || word.len() % 2 != 0 {
+        return Err(LineFault::Bad(Cause::Hex));
+    }
+    let mut bytes = vec![in alloc; 0u8; word.len() / 2]?;
+    if decode_into(word, bytes.as_mut_slice()) {
+        Ok(Bytes::from_vec(bytes))
+    } else {
+        Err(LineFault::Bad(Cause::Hex))
     }
 }
 
