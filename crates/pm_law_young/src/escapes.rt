@@ -14,9 +14,9 @@ ghost use Rattle.pm_nursery.specs.Joined.{AreJoined};
 ghost use Rattle.pm_nursery.specs.Moving.{young_changing};
 ghost use Rattle.pm_nursery.specs.Escaping.{AreEscaping, Escapes, IsAscending, SetsField, bears, is_full, young_then};
 
-/// A law of escapes: what escapes is what is joined to the value, to the object in the objects where its field is null, or to
-/// the object that is bound; in a sweep it is what the nursery's registers reach. At a command that is refused, and where both
-/// sides of a field are young or neither is, nothing escapes.
+/// A law of escapes: what escapes is what is joined to the value, to the object in the objects where its field is null,
+/// or to the object that is bound; in a sweep it is what the nursery's registers reach. At a command that is refused,
+/// and where both sides of a field are young or neither is, nothing escapes.
 pub fn what_escapes_is_carried()
     ensures value { (world : World) (nursery : NurseryView) (client : ℕ) (cmd : Cmd) (reg index value object other : ℕ)
         (ids : List ℕ) → SetsField cmd reg index value → is_refusal cmd (answer world client cmd).0 ≡ false
@@ -39,9 +39,9 @@ pub fn what_escapes_is_carried()
         → AreReached nursery ids }
     ensures refused { (world : World) (nursery : NurseryView) (client : ℕ) (cmd : Cmd) (ids : List ℕ)
         → is_refusal cmd (answer world client cmd).0 ≡ true → AreEscaping world nursery client cmd ids → ids ≡ [] }
-    ensures one_side { (world : World) (nursery : NurseryView) (client : ℕ) (cmd : Cmd) (reg index value object other : ℕ)
-        (ids : List ℕ) → SetsField cmd reg index value → held world client reg ≡ Some object
-        → held world client value ≡ Some other
+    ensures one_side { (world : World) (nursery : NurseryView) (client : ℕ) (cmd : Cmd)
+        (reg index value object other : ℕ) (ids : List ℕ) → SetsField cmd reg index value
+        → held world client reg ≡ Some object → held world client value ≡ Some other
         → is_some (get nursery.objects object) ≡ is_some (get nursery.objects other)
         → AreEscaping world nursery client cmd ids → ids ≡ [] }
 {}
@@ -72,8 +72,8 @@ pub fn what_is_carried_escapes()
         → ((id : ℕ) → Escapes world nursery client cmd id → ⊥) → AreEscaping world nursery client cmd [] }
 {}
 
-/// A law of what is young after a command: where no object is made, what did not go out; where one is, that one too, or that
-/// one alone where the nursery was full, and so was swept.
+/// A law of what is young after a command: where no object is made, what did not go out; where one is, that one too, or
+/// that one alone where the nursery was full, and so was swept.
 pub fn what_is_young_then()
     ensures stays { (world : World) (nursery after : NurseryView) (client : ℕ) (cmd : Cmd) (ids : List ℕ) (id : ℕ)
         → makes_object cmd ≡ false → GoesOut nursery ids after

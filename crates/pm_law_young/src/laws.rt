@@ -36,9 +36,9 @@ pub fn an_escape_changes_no_world()
         → IsDetached nursery.objects ids → GoesOut nursery ids after → IsNursery after }
 {}
 
-/// A law of sweeps: where the young objects come in that the nursery's registers reach, and all others are dropped, the world
-/// within and the empty nursery stand for the same world. Of the young objects just those came in that the world's names
-/// and registers reach.
+/// A law of sweeps: where the young objects come in that the nursery's registers reach, and all others are dropped, the
+/// world within and the empty nursery stand for the same world. Of the young objects just those came in that the
+/// world's names and registers reach.
 pub fn a_sweep_drops_what_nothing_reaches()
     ensures world { (within world later : World) (nursery : NurseryView) (ids : List ℕ)
         → IsYoung within nursery world → IsNursery nursery → AreReached nursery ids
@@ -56,8 +56,8 @@ pub fn a_young_worlds_copy()
     ensures { (within world : World) (nursery : NurseryView) → IsYoung within nursery world → copy within ≡ copy world }
 {}
 
-/// A law of what is joined: it is the least that has the object and, with one, each that it holds or that holds it; it goes
-/// both ways; and no object outside it holds one inside, nor the other way round.
+/// A law of what is joined: it is the least that has the object and, with one, each that it holds or that holds it; it
+/// goes both ways; and no object outside it holds one inside, nor the other way round.
 pub fn what_is_joined_is_detached()
     ensures itself { (objects : Heap) (id : ℕ) → IsJoined objects id id }
     ensures next { (objects : Heap) (id from to : ℕ) → IsJoined objects id from → Touches objects from to
@@ -69,8 +69,8 @@ pub fn what_is_joined_is_detached()
     ensures detached { (objects : Heap) (id : ℕ) (ids : List ℕ) → AreJoined objects id ids → IsDetached objects ids }
 {}
 
-/// A law of nurseries: the objects are the world's, and a register of the nursery is the world's where that holds a young
-/// object.
+/// A law of nurseries: the objects are the world's, and a register of the nursery is the world's where that holds a
+/// young object.
 pub fn a_nursery_is_of_its_world()
     ensures objects { (within world : World) (nursery : NurseryView) (id : ℕ) (object : Object)
         → IsYoung within nursery world → get nursery.objects id ≡ Some object → get world.heap id ≡ Some object }
@@ -84,8 +84,8 @@ pub fn a_world_is_young_with_nothing()
     ensures { (world : World) → IsClosed world → IsYoung world no_nursery world }
 {}
 
-/// A law of steps: what one step of a command does within, in the nursery, or in both, it does to the world. Whatever else
-/// stays.
+/// A law of steps: what one step of a command does within, in the nursery, or in both, it does to the world. Whatever
+/// else stays.
 pub fn a_young_world_goes_on()
     ensures old_object { (within world : World) (nursery : NurseryView) (id : ℕ) (object : Object)
         → IsYoung within nursery world → IsSome (get within.heap id) → Names within.heap object
@@ -115,12 +115,12 @@ pub fn a_young_world_goes_on()
         → IsYoung (unbinding within name) nursery (unbinding world name) }
 {}
 
-/// A law of fields: where a field of a young object is set to an object within, it is made null first, what is joined to the
-/// object then comes in, and the field is set within: so the world's field is set, and what the field held before does not
-/// count.
+/// A law of fields: where a field of a young object is set to an object within, it is made null first, what is joined
+/// to the object then comes in, and the field is set within: so the world's field is set, and what the field held
+/// before does not count.
 pub fn a_field_is_set_to_an_old_object()
-    ensures { (within world later : World) (nursery after : NurseryView) (id index value : ℕ) (known : Object) (ids : List ℕ)
-        → IsYoung within nursery world → IsNursery nursery → get nursery.objects id ≡ Some known
+    ensures { (within world later : World) (nursery after : NurseryView) (id index value : ℕ) (known : Object)
+        (ids : List ℕ) → IsYoung within nursery world → IsNursery nursery → get nursery.objects id ≡ Some known
         → IsSome (get within.heap value)
         → AreJoined (young_changing nursery id (with_field known index None)).objects id ids
         → ComesIn within (young_changing nursery id (with_field known index None)) ids later
@@ -141,5 +141,6 @@ pub fn a_nursery_stays_closed()
         → reg < REGISTERS → IsSome (get nursery.objects id) → IsNursery (young_holding nursery client reg id) }
     ensures forgotten { (nursery : NurseryView) (client reg : ℕ) → IsNursery nursery
         → IsNursery (young_forgetting nursery client reg) }
-    ensures closed { (nursery : NurseryView) (client : ℕ) → IsNursery nursery → IsNursery (young_closing nursery client) }
+    ensures closed { (nursery : NurseryView) (client : ℕ) → IsNursery nursery
+        → IsNursery (young_closing nursery client) }
 {}

@@ -2,7 +2,8 @@
 use Rattle.std.specs.Prelude.{ℕ, Bool, true, false, not, ◌&&◌, ◌||◌, nat_eq, if◌then◌else◌, Option, Some, None}
 use Rattle.std.specs.FinMap.{get, retain_keys}
 use Rattle.pm_types.specs.declared.command.Cmd.{Cmd}
-use Rattle.pm_types.specs.declared.command.Cmd.TheVariants.{New, Load, Store, Clear, Show, Put, Copy, IdOf, Forget, Bind, Close, Swap}
+use Rattle.pm_types.specs.declared.command.Cmd.TheVariants.{New, Load, Store, Clear, Show, Put, Copy, IdOf, Forget}
+use Rattle.pm_types.specs.declared.command.Cmd.TheVariants.{Bind, Close, Swap}
 use Rattle.pm_types.specs.declared.reply.Reply.{Reply}
 use Rattle.pm_model.specs.Heap.{Object}
 use Rattle.pm_model.specs.World.{World, Registers}
@@ -21,7 +22,8 @@ reads_register (Copy to reg) register = nat_eq reg register
 reads_register (IdOf reg) register = nat_eq reg register
 reads_register (Forget reg) register = nat_eq reg register
 reads_register (Bind name reg) register = nat_eq reg register
-reads_register (Swap reg index old value) register = nat_eq reg register || (nat_eq old register || nat_eq value register)
+reads_register (Swap reg index old value) register =
+    nat_eq reg register || (nat_eq old register || nat_eq value register)
 reads_register cmd register = false
 
 -- the command needs no more than registers and objects: it reads, sets or empties them, or makes one
@@ -41,7 +43,9 @@ is_of_objects cmd = false
 
 -- the registers without those of the client that the command sets, unless the reply refuses it
 abbrev pub unset : Registers → ℕ → Cmd → Reply → Registers
-unset registers client cmd reply = if is_refusal cmd reply then registers else retain_keys registers (λ place. not (sets_register cmd place.1 && nat_eq place.0 client))
+unset registers client cmd reply =
+    if is_refusal cmd reply then registers
+    else retain_keys registers (λ place. not (sets_register cmd place.1 && nat_eq place.0 client))
 
 -- the world of the young objects and of the nursery's registers alone
 abbrev pub young_alone : World → NurseryView → World
@@ -53,7 +57,8 @@ nursery_of world = record { objects = world.heap; registers = world.registers }
 
 -- what the register holds in the nursery, or else within
 abbrev pub held_in_either : World → NurseryView → ℕ → ℕ → Option ℕ
-held_in_either within nursery client reg = or_else (get nursery.registers (client, reg)) (get within.registers (client, reg))
+held_in_either within nursery client reg =
+    or_else (get nursery.registers (client, reg)) (get within.registers (client, reg))
 
 -- the first, or else the second
 abbrev pub object_or_else : Option Object → Option Object → Option Object

@@ -34,8 +34,8 @@ abbrev pub is_id : Option ℕ → ℕ → Bool
 is_id None id = false
 is_id (Some found) id = nat_eq found id
 
--- The index has an identity and a register just where the register holds the identity; and each register is one that a client
--- has.
+-- The index has an identity and a register just where the register holds the identity; and each register is one that a
+-- client has.
 pub record IsTurned (registers : Registers) (turned : BTreeSet (ℕ × (ℕ × ℕ))) : Type 0 where
   pub same : (id : ℕ) (place : ℕ × ℕ) → contains holder_cmp turned (id, place) ≡ is_id (get registers place) id
   pub places : (place : ℕ × ℕ) (id : ℕ) → get registers place ≡ Some id → IsRegister place

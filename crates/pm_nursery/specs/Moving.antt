@@ -18,7 +18,8 @@ young_forgetting nursery client reg = record nursery { registers = remove nurser
 
 -- no register of the client is
 abbrev pub young_closing : NurseryView → ℕ → NurseryView
-young_closing nursery client = record nursery { registers = retain_keys nursery.registers (λ place. not (nat_eq place.0 client)) }
+young_closing nursery client =
+    record nursery { registers = retain_keys nursery.registers (λ place. not (nat_eq place.0 client)) }
 
 -- what the fields of an object name is there
 abbrev pub Names : Heap → Object → Type 0

@@ -1,5 +1,6 @@
 -- Objects that come in from a nursery, and those that a sweep carries.
-use Rattle.std.specs.Prelude.{◌≡◌, ℕ, Bool, true, false, ◌||◌, nat_eq, if◌then◌else◌, List, [], ◌∷◌, Option, Some, None, IsSome}
+use Rattle.std.specs.Prelude.{◌≡◌, ℕ, Bool, true, false, ◌||◌, nat_eq, if◌then◌else◌, List, [], ◌∷◌, Option, Some, None}
+use Rattle.std.specs.Prelude.{IsSome}
 use Rattle.std.specs.FinMap.{get}
 use Rattle.pm_model.specs.Heap.{Heap, Holds}
 use Rattle.pm_model.specs.World.{World}
@@ -25,7 +26,8 @@ left_held ids (Some id) = if among ids id then None else Some id
 pub record ComesIn (within : World) (nursery : NurseryView) (ids : List ℕ) (later : World) : Type 0 where
   pub rest : later ≡ record within { heap = later.heap; registers = later.registers }
   pub heap : (id : ℕ) → get later.heap id ≡ (if among ids id then get nursery.objects id else get within.heap id)
-  pub registers : (place : ℕ × ℕ) → get later.registers place ≡ carried ids (get nursery.registers place) (get within.registers place)
+  pub registers : (place : ℕ × ℕ)
+      → get later.registers place ≡ carried ids (get nursery.registers place) (get within.registers place)
 
 -- the nursery once they went out of it
 pub record GoesOut (nursery : NurseryView) (ids : List ℕ) (later : NurseryView) : Type 0 where

@@ -1,5 +1,6 @@
 -- Young objects that are met on the way from some of them.
-use Rattle.std.specs.Prelude.{◌≡◌, ◌⊎◌, ℕ, ◌+◌, true, cond, if◌then◌else◌, List, [], ◌∷◌, length, Option, Some, None, IsSome, Contains}
+use Rattle.std.specs.Prelude.{◌≡◌, ◌⊎◌, ℕ, ◌+◌, true, cond, if◌then◌else◌, List, [], ◌∷◌, length, Option, Some, None}
+use Rattle.std.specs.Prelude.{IsSome, Contains}
 use Rattle.std.specs.List.{flat_map}
 use Rattle.std.specs.List.Sorted.{IsStrictlySortedBy}
 use Rattle.std.specs.Ordering.{nat_cmp}
@@ -40,12 +41,13 @@ Goes objects pairs from (next ∷ path) to = Steps objects pairs from next × Go
 abbrev pub Arrives : Heap → BTreeSet (ℕ × ℕ) → List ℕ → ℕ → Type 0
 Arrives objects pairs starts id = (from : ℕ) × (path : List ℕ) × Contains starts from × Goes objects pairs from path id
 
--- these are the objects that are met on the way from the start: they are arrived at, and have those of the start and, with one
--- object, each that is a step away
+-- these are the objects that are met on the way from the start: they are arrived at, and have those of the start and,
+-- with one object, each that is a step away
 pub record AreMet (objects : Heap) (pairs : BTreeSet (ℕ × ℕ)) (starts ids : List ℕ) : Type 0 where
   pub each : (id : ℕ) → among ids id ≡ true → Arrives objects pairs starts id
   pub begun : (id : ℕ) → Contains starts id → IsSome (get objects id) → among ids id ≡ true
-  pub next : (from to : ℕ) → among ids from ≡ true → Steps objects pairs from to → IsSome (get objects to) → among ids to ≡ true
+  pub next : (from to : ℕ) → among ids from ≡ true → Steps objects pairs from to
+      → IsSome (get objects to) → among ids to ≡ true
 
 -- behind the identities of the list come the holders that stand beside this one
 pub record PushesHolders (pairs : BTreeSet (ℕ × ℕ)) (id : ℕ) (before after : List ℕ) : Type 0 where
@@ -53,10 +55,15 @@ pub record PushesHolders (pairs : BTreeSet (ℕ × ℕ)) (id : ℕ) (before afte
   pub kept : (other : ℕ) → Contains before other → Contains after other
   pub all : (other : ℕ) → contains place_cmp pairs (id, other) ≡ true → Contains after other
 
--- An identity is looked at: one that has no object, or was met, is passed; else it is met, and what is a step away is pending.
-pub data Meets (objects : Heap) (pairs : BTreeSet (ℕ × ℕ)) (id : ℕ) (met : BTreeSet ℕ) (pending : List ℕ) (after : BTreeSet ℕ) (later : List ℕ) : Type 0 where
-  passed : (get objects id ≡ None) ⊎ (contains nat_cmp met id ≡ true) → after.keys ≡ met.keys → later ≡ pending → Meets objects pairs id met pending after later
-  went : IsSome (get objects id) → ((q : ℕ) → contains nat_cmp after q ≡ cond (is_at (nat_cmp id) q) true (contains nat_cmp met q)) → length after.keys ≡ length met.keys + 1 → IsStrictlySortedBy nat_cmp after.keys
+-- An identity is looked at: one that has no object, or was met, is passed; else it is met, and what is a step away is
+-- pending.
+pub data Meets (objects : Heap) (pairs : BTreeSet (ℕ × ℕ)) (id : ℕ) (met : BTreeSet ℕ) (pending : List ℕ)
+    (after : BTreeSet ℕ) (later : List ℕ) : Type 0 where
+  passed : (get objects id ≡ None) ⊎ (contains nat_cmp met id ≡ true) → after.keys ≡ met.keys → later ≡ pending
+      → Meets objects pairs id met pending after later
+  went : IsSome (get objects id)
+      → ((q : ℕ) → contains nat_cmp after q ≡ cond (is_at (nat_cmp id) q) true (contains nat_cmp met q))
+      → length after.keys ≡ length met.keys + 1 → IsStrictlySortedBy nat_cmp after.keys
       → ((other : ℕ) → Contains later other → Contains pending other ⊎ Steps objects pairs id other)
       → ((other : ℕ) → Contains pending other ⊎ Steps objects pairs id other → Contains later other)
       → Meets objects pairs id met pending after later

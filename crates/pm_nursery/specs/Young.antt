@@ -14,7 +14,8 @@ pub record NurseryView : Type 0 where
 
 -- a nursery is stored as the pair of its parts
 abbrev pub nursery_code : Coded NurseryView
-nursery_code = code_by (Heap × Registers) (coded× (code coded_ℕ object_code) (code (coded× coded_ℕ coded_ℕ) coded_ℕ)) (λ n. (n.objects, n.registers)) (λ p. record { objects = p.0; registers = p.1 }) (λ _. refl)
+nursery_code = code_by (Heap × Registers) (coded× (code coded_ℕ object_code) (code (coded× coded_ℕ coded_ℕ) coded_ℕ))
+    (λ n. (n.objects, n.registers)) (λ p. record { objects = p.0; registers = p.1 }) (λ _. refl)
 
 -- the nursery of nothing
 abbrev pub no_nursery : NurseryView
@@ -32,8 +33,8 @@ IsSmall object = (length object.fields ≤ FIELDS) × (length object.bytes ≤ O
 abbrev pub IsRegister : ℕ × ℕ → Type 0
 IsRegister place = (place.0 < CLIENTS) × (place.1 < REGISTERS)
 
--- There are few young objects, each within the limits, and what a field or a register names is one of them. Each register is
--- one that a client has.
+-- There are few young objects, each within the limits, and what a field or a register names is one of them. Each
+-- register is one that a client has.
 pub record IsNursery (nursery : NurseryView) : Type 0 where
   pub few : len nursery.objects ≤ YOUNG
   pub small : (id : ℕ) (object : Object) → get nursery.objects id ≡ Some object → IsSmall object
@@ -46,13 +47,14 @@ abbrev pub or_else : Option ℕ → Option ℕ → Option ℕ
 or_else None other = other
 or_else (Some id) other = Some id
 
--- A world within, the one for which a space stands, and a nursery stand together for a world. All but heap and registers is
--- the same. A register holds what it holds in the nursery, or else within, and one that the nursery has is empty within. Each
--- object within and each young one is the world's, and no identity is both. What a root, a register or a field within names
--- is an object within.
+-- A world within, the one for which a space stands, and a nursery stand together for a world. All but heap and
+-- registers is the same. A register holds what it holds in the nursery, or else within, and one that the nursery has is
+-- empty within. Each object within and each young one is the world's, and no identity is both. What a root, a register
+-- or a field within names is an object within.
 pub record IsYoung (within : World) (nursery : NurseryView) (world : World) : Type 0 where
   pub rest : within ≡ record world { heap = within.heap; registers = within.registers }
-  pub registers : (place : ℕ × ℕ) → get world.registers place ≡ or_else (get nursery.registers place) (get within.registers place)
+  pub registers : (place : ℕ × ℕ)
+      → get world.registers place ≡ or_else (get nursery.registers place) (get within.registers place)
   pub vacant : (place : ℕ × ℕ) (id : ℕ) → get nursery.registers place ≡ Some id → get within.registers place ≡ None
   pub inside : (id : ℕ) (object : Object) → get within.heap id ≡ Some object → get world.heap id ≡ Some object
   pub young : (id : ℕ) (object : Object) → get nursery.objects id ≡ Some object → get world.heap id ≡ Some object

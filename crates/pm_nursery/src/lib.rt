@@ -1,11 +1,11 @@
 //! Young objects, at most 256 of them, and the registers that hold one: what lies outside the cars until it escapes.
 #![tactic(auto)]
 
-mod holding;
 mod limits;
 mod nursery;
 mod objects;
-mod touching;
+mod pairs;
+mod registers;
 mod walk;
 mod young;
 

@@ -1,4 +1,5 @@
-ghost use Rattle.std.specs.Prelude.{◌≡◌, ◌+◌, ◌<◌, ◌≤◌, ℕ, length, Some, None, IsSome, IsSomeAnd, IfSome, IfOk, OnOk, OnErr};
+ghost use Rattle.std.specs.Prelude.{◌≡◌, ◌+◌, ◌<◌, ◌≤◌, ℕ, length, Some, None, IsSome, IsSomeAnd, IfSome, IfOk, OnOk};
+ghost use Rattle.std.specs.Prelude.{OnErr};
 ghost use Rattle.std.specs.List.{All};
 ghost use Rattle.std.specs.Option.{option_map};
 ghost use Rattle.std.specs.FinMap as map;
@@ -12,10 +13,10 @@ ghost use Rattle.pm_nursery.specs.Moving.{young_changing, young_closing, young_f
 ghost use Rattle.pm_nursery.specs.Sweeping.{AreReached, GoesOut, IsDetached};
 ghost use Rattle.pm_nursery.specs.Young.{IsNursery, IsSmall, no_nursery};
 
-use crate::holding::Holding;
 use crate::limits::YOUNG;
 use crate::objects::Objects;
-use crate::touching::held_beside_holder;
+use crate::pairs::held_beside_holder;
+use crate::registers::Registers;
 use crate::walk::walk;
 use crate::young::Young;
 use pm_types::{CLIENTS, Id, NoMemory, REGISTERS};
@@ -23,11 +24,12 @@ use std::alloc::Global;
 use std::collections::{BTreeSet, btree_set};
 use std::marker::Model;
 
-/// Young objects, at most 256 of them, and the registers that hold one. What a field or a register names is one of them.
+/// Young objects, at most 256 of them, and the registers that hold one. What a field or a register names is one of
+/// them.
 #[derive(Drop)]
 pub struct Nursery {
     objects: Objects,
-    registers: Holding,
+    registers: Registers,
 }
 
 impl Model for Nursery {
@@ -49,7 +51,7 @@ impl Nursery {
     {
         Nursery {
             objects: Objects::new(alloc),
-            registers: Holding::new(alloc),
+            registers: Registers::new(alloc),
         }
     }
 
@@ -88,8 +90,8 @@ impl Nursery {
         self.registers.get(client, register)
     }
 
-    /// Adds a young object under an identity that no young object has. Its fields are null, at most 255, and its bytes at
-    /// most 4,096. After want of memory all is as it was, and the object is let go.
+    /// Adds a young object under an identity that no young object has. Its fields are null, at most 255, and its bytes
+    /// at most 4,096. After want of memory all is as it was, and the object is let go.
     pub fn add(&mut self, id: Id, young: Young) -> Result<(), NoMemory>
         requires few { map.len self.old.objects < YOUNG }
         requires new { map.get self.old.objects id ≡ None }
@@ -120,8 +122,8 @@ impl Nursery {
         self.objects.set_bytes(id, at, from);
     }
 
-    /// Lets this register of this client hold the young object, in place of what it held. After want of memory all is as
-    /// it was.
+    /// Lets this register of this client hold the young object, in place of what it held. After want of memory all is
+    /// as it was.
     pub fn hold(&mut self, client: u32, register: u32, id: Id) -> Result<(), NoMemory>
         requires client { client < CLIENTS }
         requires register { register < REGISTERS }
@@ -146,9 +148,9 @@ impl Nursery {
         self.registers.close(client);
     }
 
-    /// The young objects that are joined to this one, itself among them, ascending, each once: no other object holds one of
-    /// them, and none of them holds another object. It takes time by the number of young fields that are not null, and its
-    /// logarithm.
+    /// The young objects that are joined to this one, itself among them, ascending, each once: no other object holds
+    /// one of them, and none of them holds another object. It takes time by the number of young fields that are not
+    /// null, and its logarithm.
     pub fn joined(&self, alloc: Global, id: Id) -> Result<Vec<Id>, NoMemory>
         requires { IsSome (map.get self.now.objects id) }
         ensures ascending { IfOk result (λ ids. IsAscending ids.items) }
@@ -161,8 +163,8 @@ impl Nursery {
         walk(alloc, &self.objects, &holders, pending)
     }
 
-    /// The young objects that the registers reach along young fields, ascending, each once. It takes time by the number of
-    /// registers that hold one, of the objects that are reached, and of their fields.
+    /// The young objects that the registers reach along young fields, ascending, each once. It takes time by the number
+    /// of registers that hold one, of the objects that are reached, and of their fields.
     pub fn reached(&self, alloc: Global) -> Result<Vec<Id>, NoMemory>
         ensures ascending { IfOk result (λ ids. IsAscending ids.items) }
         ensures reached { IfOk result (λ ids. AreReached self.now ids.items) }

@@ -6,6 +6,7 @@ mod answers;
 mod case;
 mod choosers;
 mod numbers;
+mod nurseries;
 mod queues;
 mod registers;
 mod roots;

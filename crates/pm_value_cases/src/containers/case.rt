@@ -3,6 +3,7 @@
 use crate::containers::anchors::push_anchor;
 use crate::containers::choosers::push_pick;
 use crate::containers::numbers::push_numbered;
+use crate::containers::nurseries::push_nursery;
 use crate::containers::queues::push_queue;
 use crate::containers::registers::push_registers;
 use crate::containers::roots::push_roots;
@@ -10,7 +11,7 @@ use crate::containers::sets::{push_gathered, push_set};
 use crate::containers::spelling::push_same;
 use crate::containers::tables::push_table;
 use crate::containers::trains::push_trains;
-use crate::containers::{numbers, queues, sets, trains};
+use crate::containers::{numbers, nurseries, queues, sets, trains};
 use pm_case_text::{Fault, first_word, is_silent, push_case, refuse, small};
 use pm_types::ROOTS;
 use std::alloc::Global;
@@ -37,6 +38,7 @@ fn push_small(alloc: Global, step: &str, text: &str, out: &mut String) -> Result
         "pick" => push_pick(alloc, text, out),
         "numbered" => push_numbered(alloc, text, out),
         "trains" => push_trains(alloc, text, out),
+        "nursery" => push_nursery(alloc, text, out),
         _ => push_long(alloc, step, text, out),
     }
 }
@@ -49,6 +51,7 @@ fn is_right(alloc: Global, step: &str, count: u32, out: &mut String) -> Result<b
         "long-set" => sets::is_long_right(alloc, count, false),
         "long-gathered" => sets::is_long_right(alloc, count, true),
         "long-trains" => trains::is_long_right(alloc, count, out),
+        "long-nursery" => nurseries::drawn::is_long_right(alloc, count, out),
         _ => Err(refuse("no such step")),
     }
 }
