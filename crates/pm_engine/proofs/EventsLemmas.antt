@@ -2,3 +2,4 @@ pub mod Journals
 pub mod Answering
 pub mod Going
 pub mod Made
+pub mod Lines

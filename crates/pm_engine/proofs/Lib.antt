@@ -6,3 +6,4 @@ pub mod Telling
 pub mod Histories
 pub mod Past
 pub mod EventsLemmas
+pub mod Crosses

@@ -18,14 +18,10 @@ use Rattle.pm_script.specs.Parted.Lists.{count_left, list_of}
 use Rattle.pm_script.proofs.PartedLemmas.Parting.{commands_both, commands_elsewhere, commands_here}
 use Rattle.pm_saving.specs.Serving.{Serving}
 use Rattle.pm_saving.specs.Events.{FailsAs}
-use Rattle.pm_engine.specs.Events.Events.{Adds}
+use Rattle.pm_engine.specs.Events.Events.{Adds, FitsLine}
 use Rattle.pm_engine.specs.Events.Running.{IsFresh}
-use Rattle.pm_lock.specs.Kept.{FitsLine, KeepsScript}
-
--- each entry's text is a line, also that of one more
-told_more : (journal : List Entry) (entry : Entry) → AllByRecursion FitsLine journal → FitsLine entry → AllByRecursion FitsLine (journal ++ entry ∷ [])
-told_more [] entry told fits = (fits, tt)
-told_more (first ∷ journal) entry told fits = (told.0, told_more journal entry told.1 fits)
+use Rattle.pm_engine.proofs.EventsLemmas.Lines.{told_more}
+use Rattle.pm_lock.specs.Kept.{KeepsScript}
 
 -- a request, alone
 abbrev one_request : ℕ → Cmd → List Request

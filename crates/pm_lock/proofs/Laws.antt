@@ -1,23 +1,18 @@
 -- Facts of a book that hold as soon as it is known that they hold in some way.
-use Rattle.std.proofs.Common.{◌≡◌, ⊎_elim, inl, inr, ℕ, ◌<◌, ◌≤◌, List, Option, Some, None}
-use native.Mathlib.Decide.{dec_lt}
-use Rattle.std.specs.List.{AllByRecursion, AllByRecursion-prop}
+use Rattle.std.proofs.Common.{◌≡◌, ℕ, ◌<◌, ◌≤◌, List, Option, Some, None}
+use Rattle.std.specs.List.{AllByRecursion-prop}
 use Rattle.std.proofs.Math.Logic.{∥∥₁_elim, ∥∥₁_map}
 use Rattle.std.proofs.Props.{props}
 use mathlib.Core.HLevel.{⊥_prop}
-use Rattle.pm_types.specs.Counts.{Rose, greatest_count}
 use Rattle.pm_types.specs.declared.limits.TheConstants.{CLIENTS}
-use Rattle.pm_types.specs.declared.entry.Entry.{Entry}
 use Rattle.pm_types.specs.declared.fault.EngineFault.{EngineFault}
 use Rattle.pm_types.specs.declared.fault.EngineFault.TheVariants.{Memory, Disk, Reopen}
-use Rattle.pm_types.specs.declared.reply.Reply.{Reply}
-use Rattle.pm_types.specs.declared.reply.Reply.TheVariants.{Shown}
-use Rattle.pm_types.specs.Replies.{IsShortReply}
 use Rattle.pm_script.specs.declared.line.Line.{Line}
 use Rattle.pm_script.specs.declared.line.Line.TheVariants.{Client, Gc, Flush}
 use Rattle.pm_script.specs.Script.{AreLines, first_of}
 use Rattle.pm_script.specs.Words.{IsFirst}
-use Rattle.pm_lock.specs.Kept.{FitsLine, HasCauseSince}
+use Rattle.pm_engine.proofs.Counts.{splits_rose}
+use Rattle.pm_lock.specs.Kept.{HasCauseSince}
 
 -- a fact with one proof at most
 pub splits_once : {A : Type 0} → IsProp A → ∥ A ∥₁ → A
@@ -45,29 +40,7 @@ splits_lines lines known = record {
   clients = splits_once (AllByRecursion-prop (λ line. IsFirst (first_of line)) client_once lines) (∥∥₁_map known (λ are. are.clients));
 }
 
--- ---- entries
-
-short_once : (reply : Reply) → IsProp (IsShortReply reply)
-short_once (Shown bytes) = within_once _ _
-short_once reply = hlevel props
-
-fits_once : (entry : Entry) → IsProp (FitsLine entry)
-fits_once entry = let below = below_once entry.client CLIENTS in let short = short_once entry.reply in hlevel (props, below, short)
-
-pub told_once : (journal : List Entry) → IsProp (AllByRecursion FitsLine journal)
-told_once journal = AllByRecursion-prop FitsLine fits_once journal
-
 -- ---- counts
-
-same_once : (a b c d : ℕ) → IsProp ((a ≡ b) × (c ≡ d))
-same_once a b c d = hlevel props
-
-splits_rose : (before after : ℕ) → ∥ Rose before after ∥₁ → Rose before after
-splits_rose before after known = by (dec_lt before after)
-  where
-    by : Dec (before < after) → Rose before after
-    by (yes less) = inl less
-    by (no not) = inr (splits_once (same_once before greatest_count after greatest_count) (∥∥₁_map known (⊎_elim (λ less. absurd (not less)) (λ end. end))))
 
 pub splits_cause : (fault : Option EngineFault) (opened first now : ℕ) → ∥ HasCauseSince fault opened first now ∥₁ → HasCauseSince fault opened first now
 splits_cause None opened first now known = tt

@@ -8,8 +8,7 @@ use Rattle.pm_types.specs.declared.limits.TheConstants.{CLIENTS}
 use Rattle.pm_types.specs.declared.fault.EngineFault.{EngineFault}
 use Rattle.pm_disk.specs.declared.disk.Disk.{Ghosts}
 use Rattle.pm_turns.specs.declared.turn.Turn.TheVariants.{Finished}
-use Rattle.pm_engine.specs.declared.engine.Engine.{Engine}
-use Rattle.pm_engine.specs.Shown.{KeepsStart}
+use Rattle.pm_engine.proofs.EventsLemmas.Going.{same_start}
 use Rattle.pm_lock.specs.declared.book.Book.{Book}
 use Rattle.pm_lock.specs.declared.workers.TheConstants.{COLLECTOR, FLUSHER}
 use Rattle.pm_script.specs.Parted.Left.{lists_in}
@@ -26,9 +25,6 @@ not_flusher who below is = omega (arith, below, is)
 
 pub none_some : (fault : Option EngineFault) → fault ≡ None → IsSome fault → ⊥
 none_some fault none some = let never : false ≡ true = sym (ap is_some none) ∙ some in cc never
-
-same_start : {D F : Type 0} {g : Ghosts D} (it : Engine D F g) → KeepsStart it it
-same_start it = record { opening = record { number = refl; opened = refl }; disk = refl; count = refl; chooser = refl }
 
 module _ {D : Type 0} {F : Type 0} {g : Ghosts D} (old : Book D F g) (kept : ∥ KeepsBook old.script.value old.first.value old.engine (lists_in old.parts) old.collects old.flushes old.fault ∥₁) where
   -- a book is told by its fields: what its type keeps adds nothing

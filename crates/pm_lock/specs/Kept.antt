@@ -2,12 +2,9 @@
 use Rattle.std.specs.Prelude.{◌≡◌, ◌⊎◌, ℕ, ◌+◌, ◌^◌, ◌<◌, ◌≤◌, true, List, ◌∷◌, ◌++◌, length, Option, Some, None, option_map}
 use Rattle.std.specs.List.{AllByRecursion}
 use Rattle.pm_types.specs.Counts.{ShowsRise}
-use Rattle.pm_types.specs.declared.limits.TheConstants.{CLIENTS}
 use Rattle.pm_types.specs.declared.command.Cmd.{Cmd}
-use Rattle.pm_types.specs.declared.entry.Entry.{Entry}
 use Rattle.pm_types.specs.declared.fault.EngineFault.{EngineFault}
 use Rattle.pm_types.specs.declared.fault.EngineFault.TheVariants.{Memory, Disk, Reopen}
-use Rattle.pm_types.specs.Replies.{IsShortReply}
 use Rattle.pm_disk.specs.declared.disk.Disk.{Ghosts}
 use Rattle.pm_model.specs.Frames.{is_settle}
 use Rattle.pm_model.specs.Journal.{commands_of, part}
@@ -20,11 +17,7 @@ use Rattle.pm_engine.specs.declared.engine.Engine.{Engine}
 use Rattle.pm_engine.specs.Shown.{disk_in, opened_count, room, serving}
 use Rattle.pm_engine.specs.declared.events.stop.Stop.{Stop}
 use Rattle.pm_engine.specs.Events.Causes.{stop_of}
-use Rattle.pm_engine.specs.Events.Events.{EngineGoesOn, IsUnfinished}
-
--- an entry's text is one line: who asked is a client, and what the reply shows is no longer than an object
-abbrev pub FitsLine : Entry → Type 0
-FitsLine entry = (entry.client < CLIENTS) × IsShortReply entry.reply
+use Rattle.pm_engine.specs.Events.Events.{EngineGoesOn, FitsLine, IsUnfinished}
 
 -- What is left of a script, beside what an engine has answered and made of it.
 pub record KeepsScript (lines : List Line) (it : Serving) (lists : List (List Cmd)) (collects flushes : ℕ) : Type 0 where

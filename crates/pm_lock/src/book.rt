@@ -41,8 +41,8 @@ impl<D: Disk, F: Drop> Book<D, F> {
     ghost use Rattle.pm_saving.specs.Images.{IsSettledCopy, IsTold};
     ghost use Rattle.pm_engine.specs.Shown.{KeepsStart, disk_in, opened_count, opened_disk, room, serving};
     ghost use Rattle.pm_engine.specs.Events.Running.{IsFresh};
-    ghost use Rattle.pm_engine.specs.Events.Events.{EngineGoesOn};
-    ghost use Rattle.pm_lock.specs.Kept.{FitsLine, HasCauseSince, HasLeft, stop_kept, stopped_by};
+    ghost use Rattle.pm_engine.specs.Events.Events.{EngineGoesOn, FitsLine};
+    ghost use Rattle.pm_lock.specs.Kept.{HasCauseSince, HasLeft, stop_kept, stopped_by};
     ghost use Rattle.pm_lock.specs.Shown.{BeginsBook, collects_in, engine_in, fault_in, first_in, flushes_in};
     ghost use Rattle.pm_lock.specs.Shown.{left_in, lines_in};
 

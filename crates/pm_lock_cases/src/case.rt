@@ -1,5 +1,6 @@
 //! A line of the input: a case's name, or a step.
 
+use crate::logged::push_logbook;
 use crate::opened::push_opened;
 use crate::spelling::workers;
 use crate::threaded::push_threads;
@@ -104,6 +105,17 @@ fn push_failing_threads<R: Threads + Wait + Sync>(
     push_threads(rt, alloc, call, lines, "threads", out)
 }
 
+// `N : PART : PART ..`: makes the events of the parts at a logbook over a disk that fails call N behind those of the
+// opening; no call fails where N is 0.
+fn push_logbook_text(alloc: Global, text: &str, out: &mut String) -> Result<(), Fault> {
+    let (call, parts) = parted(text)?;
+    let call = number(call)?;
+    if call == 0 {
+        return push_logbook(alloc, 0, parts, out);
+    }
+    push_logbook(alloc, call.saturating_add(opening(alloc)?), parts, out)
+}
+
 // A step: its first word, and what follows.
 fn push_step<R: Threads + Wait + Sync>(
     rt: &R,
@@ -117,6 +129,7 @@ fn push_step<R: Threads + Wait + Sync>(
         "turns" | "fails" => push_turned_text(alloc, step == "fails", text, out),
         "threads" | "alone" | "between" => push_threads(rt, alloc, 0, text, step, out),
         "threads-fail" => push_failing_threads(rt, alloc, text, out),
+        "logbook" => push_logbook_text(alloc, text, out),
         _ => Err(refuse("no such step")),
     }
 }

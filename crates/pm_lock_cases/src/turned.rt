@@ -30,8 +30,12 @@ fn push_reply(alloc: Global, entry: &Entry, out: &mut String) -> Result<(), Faul
     push_reply_line(line.as_slice(), out)
 }
 
-// Adds the reply's line of an entry, if there is one.
-fn push_entry(alloc: Global, entry: Option<&Entry>, out: &mut String) -> Result<(), Fault> {
+/// Adds the reply's line of an entry, if there is one.
+pub(crate) fn push_entry(
+    alloc: Global,
+    entry: Option<&Entry>,
+    out: &mut String,
+) -> Result<(), Fault> {
     match entry {
         Some(entry) => push_reply(alloc, entry, out),
         None => push_words(" / ", out),

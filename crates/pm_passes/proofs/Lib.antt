@@ -1,4 +1,4 @@
 mod Calls
 mod Sums
-mod Passes
+pub mod Passes
 pub mod Steps

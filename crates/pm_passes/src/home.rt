@@ -26,23 +26,6 @@ pub struct Home<B: Logged + Drop> {
     ghost one_slot: { table.shared.table_id.slots ≡ 1 },
 }
 
-// The value in a slot of its own. Where there is no memory it comes back.
-fn one_slot<B: Drop>(alloc: Global, value: B) -> Result<Vec<Option<B>>, B>
-    ensures slot { IfOk result (λ slots. slots.items ≡ Some value ∷ []) }
-    ensures refused { IfErr result (λ back. back ≡ value) }
-{
-    let mut slots = Vec::new(alloc);
-    match slots.push(Some(value)) {
-        Ok(()) => Ok(slots),
-        Err(failed) => {
-            let Some(value) = failed.value else {
-                unreachable!()
-            };
-            Err(value)
-        }
-    }
-}
-
 impl<B: Logged + Drop> Home<B> {
     ghost use Rattle.pm_passes.specs.Numbering.{every, last_number};
     ghost use Rattle.pm_passes.specs.Views.{StartsWith, AddsEntry, HasOwn, first_pass, given, given_telling, given_unseen, met, other_part, parted};
@@ -60,10 +43,10 @@ impl<B: Logged + Drop> Home<B> {
         ensures refused { IfErr result (λ back. back ≡ value) }
     {
         let about = Snapshot::of(&value);
-        let slots = match one_slot(alloc, value) {
-            Ok(slots) => slots,
-            Err(value) => return Err(value),
+        let Ok(mut slots) = Vec::with_capacity(alloc, 1) else {
+            return Err(value);
         };
+        slots.push_reserved(Some(value));
         match Table::new(alloc, &[1, 0], slots, &about) {
             Ok((table, seat)) => {
                 let turn = Mutex::new(());
@@ -78,21 +61,22 @@ impl<B: Logged + Drop> Home<B> {
         }
     }
 
-    /// Waits for the lock. The steps with the value are made while it is held.
-    pub fn lock<R: Wait>(&self, rt: &R) -> Hold<'_> {
-        self.turn.lock(rt)
-    }
-
-    /// Takes the value out, where it is at home: the seat has it then, and its pass has seen the whole log.
-    pub fn take_out(&self, _hold: &Hold<'_>, seat: &mut PassSeat<B>) -> bool
+    /// Waits for the lock, and takes the value out as soon as it is at home. The seat has it then, and its pass has seen
+    /// the whole log. Each step with the value asks for the lock, which is let go with what is answered here.
+    pub fn take_out<R: Wait>(&self, rt: &R, seat: &mut PassSeat<B>) -> Hold<'_>
         requires seat { seat.old.table_id ≡ self.now.table.shared.table_id }
         requires idle { IsIdle seat.old.me }
         ensures table { seat.new.table_id ≡ seat.old.table_id }
-        ensures out { result ≡ true → HasLog B.Logged B.Tie.row.coded.code seat.new.me }
-        ensures sees { result ≡ true → Sees seat.old.me.0 seat.new.me.0 }
-        ensures missed { result ≡ false → seat.new.me ≡ seat.old.me }
+        ensures out { HasLog B.Logged B.Tie.row.coded.code seat.new.me }
+        ensures sees { Sees seat.old.me.0 seat.new.me.0 }
     {
-        self.table.shared.swap::<TakeOut>(seat, 0, 0) == 1
+        for _ in rt.forever() {
+            let hold = self.turn.lock(rt);
+            if self.table.shared.swap::<TakeOut>(seat, 0, 0) == 1 {
+                return hold;
+            }
+        }
+        unreachable!()
     }
 
     /// Tells all of the entry that the value has got, with the log's new length.
@@ -212,15 +196,10 @@ impl<B: Logged + Drop> Home<B> {
         ensures events { seat.me.0.events ≤ (B.numbers result).events }
         ensures whole { seat.me.0.shares ≡ every → IsWhole B.Logged seat.me.0 result }
     {
-        for _ in rt.forever() {
-            let hold = self.turn.lock(rt);
-            if self.take_out(&hold, &mut seat) {
-                let Some(value) = self.table.shared.exchange(&mut seat, 0, None) else {
-                    unreachable!()
-                };
-                return value;
-            }
-        }
-        unreachable!()
+        let _hold = self.take_out(rt, &mut seat);
+        let Some(value) = self.table.shared.exchange(&mut seat, 0, None) else {
+            unreachable!()
+        };
+        value
     }
 }

@@ -4,8 +4,8 @@
 mod home;
 mod pass;
 mod rule;
-mod serving;
-mod sharing;
+mod service;
+mod shares;
 #[cfg(test)]
 mod tests;
 mod value;

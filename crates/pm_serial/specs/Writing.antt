@@ -1,9 +1,6 @@
 -- What a run of lines writes.
-use Rattle.std.specs.Prelude.{◌≡◌, ◌<◌, ℕ, List, [], ◌++◌, Option, Some, length}
+use Rattle.std.specs.Prelude.{◌≡◌, ℕ, List, [], ◌++◌, Option, Some, length}
 use Rattle.pm_types.specs.Counts.{Rose}
-use Rattle.pm_types.specs.declared.entry.Entry.{Entry}
-use Rattle.pm_types.specs.declared.limits.TheConstants.{CLIENTS}
-use Rattle.pm_types.specs.Replies.{IsShortReply}
 use Rattle.pm_model.specs.Text.{tail}
 use Rattle.pm_serial.specs.Output.Writing.{PutsAll, PutsPart}
 use Rattle.pm_engine.specs.Shown.{Total}
@@ -35,7 +32,3 @@ pub record WroteRun {K : Type 0} (written : K → Option (List ℕ)) (finished c
   pub whole : IsElsewhere stop → ¬ (Rose (count old) (count new)) → PutsAll (written old) (written new) text
   -- the count of failed calls rose where the run stopped for the sink
   pub cause : CountsSink stop (count old) (count new)
-
--- an entry's text is one line: who asked is a client, and what the reply shows is no longer than an object
-abbrev pub FitsLine : Entry → Type 0
-FitsLine entry = (entry.client < CLIENTS) × IsShortReply entry.reply

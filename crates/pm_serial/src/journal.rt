@@ -7,8 +7,9 @@ ghost use Rattle.pm_serial.specs.Output.Gathered.{gathered};
 ghost use Rattle.pm_engine.specs.Shown.{serving, tally_in};
 ghost use Rattle.pm_engine.specs.declared.events.stop.Stop.TheVariants.{Writing};
 ghost use Rattle.pm_engine.specs.Events.Causes.{why};
+ghost use Rattle.pm_engine.specs.Events.Events.{FitsLine};
 ghost use Rattle.pm_serial.specs.Stepping.{IsGathered, SinkGoesOn};
-ghost use Rattle.pm_serial.specs.Writing.{FitsLine, WroteRun, tail_of};
+ghost use Rattle.pm_serial.specs.Writing.{WroteRun, tail_of};
 
 use crate::behind::Behind;
 use crate::ending::end;

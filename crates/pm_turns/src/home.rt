@@ -26,23 +26,6 @@ pub struct Home<B: Turned + Drop> {
     ghost one_slot: { table.shared.table_id.slots ≡ 1 },
 }
 
-// The value in a slot of its own. Where there is no memory it comes back, and who gave it goes on without a table.
-fn one_slot<B: Drop>(alloc: Global, value: B) -> Result<Vec<Option<B>>, B>
-    ensures slot { IfOk result (λ slots. slots.items ≡ Some value ∷ []) }
-    ensures refused { IfErr result (λ back. back ≡ value) }
-{
-    let mut slots = Vec::new(alloc);
-    match slots.push(Some(value)) {
-        Ok(()) => Ok(slots),
-        Err(failed) => {
-            let Some(value) = failed.value else {
-                unreachable!()
-            };
-            Err(value)
-        }
-    }
-}
-
 impl<B: Turned + Drop> Home<B> {
     /// Lays the value into a table, and gives the first seat. Where there is no memory the value comes back.
     pub fn new(alloc: Global, value: B) -> Result<(Home<B>, HomeSeat<B>), B>
@@ -52,10 +35,10 @@ impl<B: Turned + Drop> Home<B> {
         ensures refused { IfErr result (λ back. back ≡ value) }
     {
         let about = Snapshot::of(&value);
-        let slots = match one_slot(alloc, value) {
-            Ok(slots) => slots,
-            Err(value) => return Err(value),
+        let Ok(mut slots) = Vec::with_capacity(alloc, 1) else {
+            return Err(value);
         };
+        slots.push_reserved(Some(value));
         match Table::new(alloc, &[1], slots, &about) {
             Ok((table, seat)) => {
                 let turn = Mutex::new(());

@@ -275,6 +275,10 @@ module _ {D : Type 0} {F : Type 0} {g : Ghosts D} (old new : Engine D F g) where
 counts_then : (stop : Option Stop) (before mid end : ℕ) → mid ≡ before → CountsDisk stop mid end → CountsDisk stop before end
 counts_then stop before mid end same cause = subst (λ (n : ℕ). CountsDisk stop n end) same cause
 
+-- what an engine was opened with is its own
+pub same_start : {D F : Type 0} {g : Ghosts D} (it : Engine D F g) → KeepsStart it it
+same_start it = record { opening = record { number = refl; opened = refl }; disk = refl; count = refl; chooser = refl }
+
 keeps_then : {D F : Type 0} {g : Ghosts D} (old mid new : Engine D F g) → KeepsStart old mid → KeepsStart mid new → KeepsStart old new
 keeps_then old mid new one two = record {
   opening = record { number = two.opening.number ∙ one.opening.number; opened = two.opening.opened ∙ one.opening.opened };
@@ -292,7 +296,7 @@ module _ {D : Type 0} {F : Type 0} {g : Ghosts D} where
       → (IsTold (g.contents (opened_disk old)) → (left : List ℕ) → g.image (disk_in old) left → IsSettledCopy (world (serving old)) left)
       → ((left : List ℕ) → g.since (disk_in old) (g.moment (disk_in old)) left → g.image (disk_in old) left) → EngineGoesOn old old None
   goes_first old none legal settled now = record {
-    start = record { opening = record { number = refl; opened = refl }; disk = refl; count = refl; chooser = refl };
+    start = same_start old;
     room = omega arith;
     grows = λ kept there. there;
     leaves = λ told. started g.moment g.since (disk_in old) (IsOfRun (serving old)) (λ left there. settled_of_run (serving old) (serving old) legal (λ kept in_chain. in_chain) left (settled told left (now left there)));

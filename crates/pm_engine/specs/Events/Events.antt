@@ -1,6 +1,7 @@
 -- What events do over an engine, one behind another: what is answered, and what becomes of engine and disk.
 use Rattle.std.specs.Prelude.{◌≡◌, ℕ, ◌+◌, ◌<◌, ◌≤◌, true, List, [], ◌∷◌, ◌++◌, Contains, length, Option, None}
 use Rattle.pm_types.specs.Counts.{greatest_count, capped, raised}
+use Rattle.pm_types.specs.declared.limits.TheConstants.{CLIENTS}
 use Rattle.pm_types.specs.declared.command.Cmd.{Cmd}
 use Rattle.pm_types.specs.declared.entry.Entry.{Entry}
 use Rattle.pm_types.specs.Replies.{IsShortReply}
@@ -17,6 +18,10 @@ use Rattle.pm_engine.specs.declared.engine.Engine.{Engine}
 use Rattle.pm_engine.specs.Shown.{KeepsStart, disk_in, opened_disk, room, serving}
 use Rattle.pm_engine.specs.declared.events.stop.Stop.{Stop}
 use Rattle.pm_engine.specs.Events.Causes.{CountsDisk, IsDone, IsOfDisk, OnMemory}
+
+-- an entry's text is one line: who asked is a client, and what the reply shows is no longer than an object
+abbrev pub FitsLine : Entry → Type 0
+FitsLine entry = (entry.client < CLIENTS) × IsShortReply entry.reply
 
 -- An entry of this request was put at the journal's end, whose reply fits a line, and what had been made before it at the
 -- end of the course; one event more was made, which is none of the collector.

@@ -2,7 +2,8 @@ use Rattle.std.proofs.Common.{◌∙◌}
 use Rattle.std.specs.Coded.{Coded-set, coded_list, coded_ℕ, coded_option}
 use Rattle.std.proofs.Math.Logic.{∥∥₁_map}
 use Rattle.pm_types.specs.contracts.Cmd as cmd_type
-use Rattle.pm_lock.proofs.Laws.{below_once, number_once, splits_lines, splits_once, told_once}
+use Rattle.pm_engine.proofs.EventsLemmas.Lines.{told_once}
+use Rattle.pm_lock.proofs.Laws.{below_once, number_once, splits_lines, splits_once}
 use Rattle.pm_lock.proofs.book.Book.keep_its_script.Goals as goal
 
 pub returns-clause-legal : goal.returns-clause-legal

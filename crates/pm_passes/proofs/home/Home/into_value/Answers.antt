@@ -4,5 +4,5 @@ use Rattle.pm_passes.proofs.home.Home.into_value.Goals as goal
 
 pub exchange-requires : goal.exchange-requires
 exchange-requires g c =
-    let taken = c.take_out.ensures in
-    (taken.table ∙ c.loop.invariant.2 ∙ c.requires.seat, slot_held _ _ _ (taken.out c.if-take_out.true))
+    let taken = c.take_out-hold.ensures in
+    (taken.table ∙ c.requires.seat, slot_held _ _ _ taken.out)

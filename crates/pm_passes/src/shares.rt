@@ -76,13 +76,8 @@ impl<B: Logged + Drop> Home<B> {
         ensures parts { IfSome result (λ other. SplitsPass seat.old.me.0 seat.new.me.0 other.0.me.0) }
         ensures none { IfNone result (FindsNoNumber seat.old.me.0 seat.new.me.0) }
     {
-        for _ in rt.forever() {
-            let hold = self.lock(rt);
-            if self.take_out(&hold, seat) {
-                return self.split_held(&hold, seat);
-            }
-        }
-        unreachable!()
+        let hold = self.take_out(rt, seat);
+        self.split_held(&hold, seat)
     }
 
     /// Splits off a pass of a number that none had, which has seen as much and has half of the shares, rounded down.

@@ -68,13 +68,8 @@ impl<B: Served + Drop> Home<B> {
         ensures ready { IsReadyPass seat.new.me }
         ensures serves { Serves B.Logged B.refuses result seat.old.me.0 seat.new.me.0 }
     {
-        for _ in rt.forever() {
-            let hold = self.lock(rt);
-            if self.take_out(&hold, seat) {
-                return self.serve_held(&hold, seat, number);
-            }
-        }
-        unreachable!()
+        let hold = self.take_out(rt, seat);
+        self.serve_held(&hold, seat, number)
     }
 
     /// Makes a call of this caller as soon as the value is at home, and answers how many entries the log has then. The

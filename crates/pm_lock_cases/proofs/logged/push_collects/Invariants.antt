@@ -1,0 +1,7 @@
+use Rattle.std.proofs.Common.{◌≡◌}
+use Rattle.pm_engine.specs.Shown.{chooser}
+use Rattle.pm_seats.specs.Shown.{engine_in, next_in}
+use Rattle.pm_lock_cases.proofs.logged.push_collects.Given as goal
+
+abbrev pub invariant-loop : goal.invariant-loop
+invariant-loop g l = record { same : chooser (engine_in l.book) ≡ chooser (engine_in l.fn.book); next : next_in l.book ≡ next_in l.fn.book }

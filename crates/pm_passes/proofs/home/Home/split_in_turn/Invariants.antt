@@ -1,9 +1,0 @@
-use Rattle.std.proofs.Common.{◌≡◌}
-use Rattle.pm_passes.proofs.home.Home.split_in_turn.Given as goal
-
-abbrev pub invariant-loop : goal.invariant-loop
-invariant-loop g l =
-    (goal.iterator-loop g).can_next l.iterator'
-    × (goal.iterator-loop g).is_finite l.iterator'
-    × (l.seat.table_id ≡ l.fn.seat.table_id)
-    × (l.seat.me ≡ l.fn.seat.me)

@@ -1,0 +1,5 @@
+pub mod Pairs
+pub mod Laws
+pub mod Keeping
+pub mod Telling
+pub mod Crosses

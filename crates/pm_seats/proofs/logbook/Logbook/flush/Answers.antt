@@ -1,0 +1,10 @@
+use Rattle.std.proofs.Common.{arith}
+use Rattle.pm_seats.specs.Callers.{callers_of}
+use Rattle.pm_seats.proofs.Laws.{known_few}
+use Rattle.pm_seats.proofs.logbook.Logbook.flush.Goals as goal
+
+pub flush_within-requires-clause-within : goal.flush_within-requires-clause-within
+flush_within-requires-clause-within g c =
+    let self = c.args.self.now in
+    let few = known_few self.first.value self.engine (callers_of self.callers) self.next self.kept in
+    omega (arith, few)

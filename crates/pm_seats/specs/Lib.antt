@@ -1,0 +1,4 @@
+pub mod Callers
+pub mod Kept
+pub mod Shown
+pub mod Events
