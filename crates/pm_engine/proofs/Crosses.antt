@@ -10,7 +10,7 @@ use Rattle.pm_space.proofs.space.Space.TheSendSync as spaces
 use Rattle.pm_shadow.specs.contracts.Pages as pages
 use Rattle.pm_shadow.proofs.pages.Pages.TheSendSync as page_sets
 use Rattle.pm_save.proofs.saver.Saver.TheSendSync as savers
-use Rattle.pm_engine.specs.contracts.start.Start as start
+use Rattle.pm_engine.specs.contracts.works.start.Start as start
 use Rattle.pm_engine.specs.contracts.works.works.Works as works
 use Rattle.pm_engine.specs.contracts.works.course.Course as course
 use Rattle.pm_engine.specs.contracts.engine.Engine as engine

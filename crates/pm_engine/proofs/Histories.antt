@@ -9,7 +9,7 @@ use Rattle.pm_types.specs.declared.event.Step.{Step}
 use Rattle.pm_types.specs.declared.event.Watch.{Watch}
 use Rattle.pm_types.specs.declared.reply.Reply.{Reply}
 use Rattle.pm_types.specs.declared.reply.Reply.TheVariants.{Watching}
-use Rattle.pm_model.specs.Journal.{sets_watch, watch_places}
+use Rattle.pm_model.specs.Journal.{says_watching, watch_places}
 use Rattle.pm_view.specs.View.{SpaceView}
 use Rattle.pm_view.specs.Events.{next_row, after, completes}
 use Rattle.pm_view.specs.Watches.{watch_in}
@@ -47,17 +47,17 @@ position_of watch = watch.position
 abbrev placed : Bool → ℕ → List ℕ
 placed set place = if set then place ∷ [] else []
 
-places_more : (place : ℕ) (journal : List Entry) (entry : Entry) → watch_places place (journal ++ entry ∷ []) ≡ watch_places place journal ++ placed (sets_watch entry.cmd entry.reply) (place + length journal)
+places_more : (place : ℕ) (journal : List Entry) (entry : Entry) → watch_places place (journal ++ entry ∷ []) ≡ watch_places place journal ++ placed (says_watching entry.cmd entry.reply) (place + length journal)
 places_more place [] entry =
     let here : place ≡ place + 0 = omega arith in
-    append-nil (placed (sets_watch entry.cmd entry.reply) place) ∙ ap (placed (sets_watch entry.cmd entry.reply)) here
+    append-nil (placed (says_watching entry.cmd entry.reply) place) ∙ ap (placed (says_watching entry.cmd entry.reply)) here
 places_more place (first ∷ journal) entry =
     let behind : place + 1 + length journal ≡ place + length (first ∷ journal) = omega arith in
-    let head = placed (sets_watch first.cmd first.reply) place in
-    ap (λ (places : List ℕ). head ++ places) (places_more (place + 1) journal entry ∙ ap (λ (n : ℕ). watch_places (place + 1) journal ++ placed (sets_watch entry.cmd entry.reply) n) behind)
-    ∙ sym (append_assoc head (watch_places (place + 1) journal) (placed (sets_watch entry.cmd entry.reply) (place + length (first ∷ journal))))
+    let head = placed (says_watching first.cmd first.reply) place in
+    ap (λ (places : List ℕ). head ++ places) (places_more (place + 1) journal entry ∙ ap (λ (n : ℕ). watch_places (place + 1) journal ++ placed (says_watching entry.cmd entry.reply) n) behind)
+    ∙ sym (append_assoc head (watch_places (place + 1) journal) (placed (says_watching entry.cmd entry.reply) (place + length (first ∷ journal))))
 
-watched_places : (it : Serving) (cmd : Cmd) (reply : Reply) → map position_of (watched it cmd reply) ≡ map position_of it.watches ++ placed (sets_watch cmd reply) (length it.journal)
+watched_places : (it : Serving) (cmd : Cmd) (reply : Reply) → map position_of (watched it cmd reply) ≡ map position_of it.watches ++ placed (says_watching cmd reply) (length it.journal)
 watched_places it cmds.Watch (Watching number) = map-append position_of it.watches (watch_in it.view (length it.journal) ∷ [])
 watched_places it cmd reply = sym (append-nil (map position_of it.watches))
 
@@ -105,8 +105,8 @@ answered_counted old new is was =
     record {
       positions =
           ap (map position_of) appends.watches ∙ watched_places old is.cmd is.reply
-          ∙ ap (λ (places : List ℕ). places ++ placed (sets_watch is.cmd is.reply) (length old.journal)) was.positions
-          ∙ ap (λ (place : ℕ). watch_places 0 old.journal ++ placed (sets_watch is.cmd is.reply) place) here
+          ∙ ap (λ (places : List ℕ). places ++ placed (says_watching is.cmd is.reply) (length old.journal)) was.positions
+          ∙ ap (λ (place : ℕ). watch_places 0 old.journal ++ placed (says_watching is.cmd is.reply) place) here
           ∙ sym (places_more 0 old.journal entry) ∙ sym (ap (watch_places 0) appends.journal);
       few = omega (arith, completed, few, steps);
       below = omega (arith, below, steps);

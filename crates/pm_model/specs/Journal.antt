@@ -64,11 +64,12 @@ abbrev pub progress : World → List Entry → Option (ℕ × Copy)
 progress world journal = (after world journal).saving
 
 -- a command that is answered so sets a watch
-abbrev pub sets_watch : Cmd → Reply → Bool
-sets_watch Watch (Watching number) = true
-sets_watch cmd reply = false
+abbrev pub says_watching : Cmd → Reply → Bool
+says_watching Watch (Watching number) = true
+says_watching cmd reply = false
 
 -- the places of the entries that set a watch, where the first entry stands at this place
 abbrev pub watch_places : ℕ → List Entry → List ℕ
 watch_places place [] = []
-watch_places place (entry ∷ rest) = (if sets_watch entry.cmd entry.reply then place ∷ [] else []) ++ watch_places (place + 1) rest
+watch_places place (entry ∷ rest) =
+    (if says_watching entry.cmd entry.reply then place ∷ [] else []) ++ watch_places (place + 1) rest

@@ -45,17 +45,22 @@ admitted id count bytes = record { id = id; fields = replicate count None; bytes
 
 -- each world that the space stands for has the object too, where its heap has none of this identity
 abbrev pub AdmitsToo : SpaceView → ℕ → ℕ → List ℕ → SpaceView → Type 0
-AdmitsToo view id count bytes after = (world : World) → Represents view world → get world.heap id ≡ None → Represents after (changing world id (fresh count bytes))
+AdmitsToo view id count bytes after =
+    (world : World) → Represents view world → get world.heap id ≡ None
+    → Represents after (changing world id (fresh count bytes))
 
 -- ---- a field and a register
 
 -- each world that the space stands for, and whose heap has both objects, has the field set too
 abbrev pub LinksToo : SpaceView → Addr → ℕ → Addr → SpaceView → Type 0
 LinksToo view at index to after =
-    (world : World) (from other : ℕ) (known : Object) → Represents view world → id_at view at ≡ Some from → id_at view to ≡ Some other
-    → get world.heap from ≡ Some known → IsSome (get world.heap other) → Represents after (changing world from (with_field known index (Some other)))
+    (world : World) (from other : ℕ) (known : Object) → Represents view world
+    → id_at view at ≡ Some from → id_at view to ≡ Some other
+    → get world.heap from ≡ Some known → IsSome (get world.heap other)
+    → Represents after (changing world from (with_field known index (Some other)))
 
 -- each world that the space stands for, and whose heap has the object, has the register hold it too
 abbrev pub HoldsToo : SpaceView → ℕ → ℕ → Addr → SpaceView → Type 0
 HoldsToo view client register at after =
-    (world : World) (id : ℕ) → Represents view world → id_at view at ≡ Some id → IsSome (get world.heap id) → Represents after (holding world client register id)
+    (world : World) (id : ℕ) → Represents view world → id_at view at ≡ Some id → IsSome (get world.heap id)
+    → Represents after (holding world client register id)

@@ -1,4 +1,4 @@
-ghost use Rattle.std.specs.Prelude.{◌≡◌, ◌≤◌, true, false, [], ◌∷◌, Some, length, IfOk, IfErr, IfSome, IfNone};
+ghost use Rattle.std.specs.Prelude.{◌≡◌, ◌≤◌, true, false, [], ◌∷◌, Some, IfOk, IfErr, IfSome, IfNone};
 
 use crate::rule::{
     Entering, Looking, Meeting, OneLog, Parting, PutBack, PutBackTelling, PutBackUnseen, TakeOut,
@@ -28,7 +28,7 @@ pub struct Home<B: Logged + Drop> {
 
 impl<B: Logged + Drop> Home<B> {
     ghost use Rattle.pm_passes.specs.Numbering.{every, last_number};
-    ghost use Rattle.pm_passes.specs.Views.{StartsWith, AddsEntry, HasOwn, first_pass, given, given_telling, given_unseen, met, other_part, parted};
+    ghost use Rattle.pm_passes.specs.Views.{StartsWith, AddsEntry, HasOwn, first_pass, given, given_telling, given_unseen, other_part, parted};
     ghost use Rattle.pm_passes.specs.Steps.{EntersHeld, HasDrawn, HasLog, IsHolding, IsIdle, IsNew, IsReady, Sees, SeesLonger};
     ghost use Rattle.pm_passes.specs.Passes.{IsWhole, MeetsPass};
 

@@ -6,7 +6,7 @@ use std::mem;
 use std::sync::Wait;
 
 impl<B: Served + Drop> Home<B> {
-    ghost use Rattle.std.specs.Prelude.{◌≡◌, ◌<◌, true, false, [], ◌∷◌};
+    ghost use Rattle.std.specs.Prelude.{◌≡◌, ◌<◌, false, []};
     ghost use Rattle.pm_passes.specs.Views.{StartsWith, HasOwnIn};
     ghost use Rattle.pm_passes.specs.Steps.{HasLog, IsHolding, IsIdle};
     ghost use Rattle.pm_passes.specs.Passes.{EntersIf, HasServed, IsAmong, IsReadyPass, Serves, view_of};

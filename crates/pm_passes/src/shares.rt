@@ -10,7 +10,7 @@ use std::sync::Wait;
 const EVERY: u64 = 4_294_967_296;
 
 impl<B: Logged + Drop> Home<B> {
-    ghost use Rattle.std.specs.Prelude.{◌≡◌, ◌≤◌, true, false, [], ◌∷◌, Some, IfOk, IfErr, IfSome, IfNone};
+    ghost use Rattle.std.specs.Prelude.{◌≡◌, ◌≤◌, false, [], Some, IfOk, IfErr, IfSome, IfNone};
     ghost use Rattle.pm_passes.specs.Numbering.{every, last_number};
     ghost use Rattle.pm_passes.specs.Views.{StartsWith, first_pass, other_part, parted};
     ghost use Rattle.pm_passes.specs.Steps.{HasLog, IsHolding, IsIdle, IsNew};

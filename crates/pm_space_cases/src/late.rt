@@ -6,7 +6,9 @@ ghost use Rattle.pm_mutate.specs.Young.{MayBeAdmitted};
 ghost use Rattle.pm_space.specs.Shown.{view};
 
 use crate::searched::{find, has_field, is_live};
-use pm_case_text::{Fault, first_word, push_filled, push_said, push_words, raw_bytes, refuse, small};
+use pm_case_text::{
+    Fault, first_word, push_filled, push_said, push_words, raw_bytes, refuse, small,
+};
 use pm_mutate::{admit, hold, link, spend};
 use pm_space::Space;
 use pm_types::{Addr, CLIENTS, FIELDS, Id, OBJECT_BYTES, REGISTERS};
@@ -25,9 +27,17 @@ pub(crate) enum Late {
         bytes: Vec<u8>,
     },
     /// `link ID K ID`: field K of the first object names the second.
-    Link { of: Id, index: u32, to: Id },
+    Link {
+        of: Id,
+        index: u32,
+        to: Id,
+    },
     /// `hold C R ID`: register R of client C holds the object.
-    Hold { client: u32, register: u32, id: Id },
+    Hold {
+        client: u32,
+        register: u32,
+        id: Id,
+    },
 }
 
 // Two numbers of 32 bits, and what follows them.
@@ -51,6 +61,14 @@ fn id_of(word: &str) -> Result<Option<Id>, Fault> {
     }
 }
 
+// The bytes of an object; `H` is 4,096 bytes 00.
+fn bytes_of(alloc: Global, digits: &str) -> Result<Vec<u8>, Fault> {
+    match digits {
+        "H" => Ok(vec![in alloc; 0; OBJECT_BYTES]?),
+        _ => raw_bytes(alloc, digits),
+    }
+}
+
 // `ID N HEX`.
 fn admit_of(alloc: Global, text: &str) -> Result<Late, Fault> {
     let (word, rest) = first_word(text);
@@ -58,7 +76,7 @@ fn admit_of(alloc: Global, text: &str) -> Result<Late, Fault> {
     Ok(Late::Admit {
         id: id_of(word)?,
         count: small(count)?,
-        bytes: raw_bytes(alloc, digits)?,
+        bytes: bytes_of(alloc, digits)?,
     })
 }
 

@@ -324,7 +324,13 @@ fn run_part<F: Fn(&[u64]) -> usize + Drop>(
     let (times, line) = part.split_once("* ").unwrap_or(("1", part));
     match late_of(alloc, line)? {
         Some(late) => run_late_times(space, alloc, &late, small(times)?, course, out),
-        None => run(space, alloc, script_of(alloc, part)?.as_slice(), course, out),
+        None => run(
+            space,
+            alloc,
+            script_of(alloc, part)?.as_slice(),
+            course,
+            out,
+        ),
     }
 }
 

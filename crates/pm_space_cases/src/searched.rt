@@ -1,14 +1,15 @@
 //! Objects of a space that are searched by their identities: each slot is looked at.
 
-ghost use Rattle.std.specs.Prelude.{◌≡◌, ◌≢◌, ◌<◌, true, false, length, get_or, Some, None};
+ghost use Rattle.std.specs.Prelude.{◌≡◌, ◌≢◌, true, false, Some, None, IsSome};
 ghost use Rattle.pm_types.specs.declared.source.RefSource.TheVariants.{Field};
-ghost use Rattle.pm_trains.specs.Trains.{empty_train};
+ghost use Rattle.pm_trains.specs.Trains.{cars_at};
 ghost use Rattle.pm_view.specs.Reading.{id_at, SourceStands};
 ghost use Rattle.pm_view.specs.Seen.{seen, IsLive};
 ghost use Rattle.pm_space.specs.Shown.{view};
-ghost use Rattle.pm_space_cases.specs.Lacking.{Lacks, LacksIn, LackAll};
+ghost use Rattle.pm_space_cases.specs.Lacking.{Lacks, LacksBelow, LacksIn, LackAll, LacksInTrain};
 
 use pm_space::{Parts, Space, is_aside, object_at};
+use pm_trains::a_car_is_found_where_it_stands;
 use pm_types::{Addr, Id};
 
 // Whether the object at an address has the identity.
@@ -23,7 +24,7 @@ fn is_at<F>(parts: &Parts<F>, at: Addr, id: Id) -> bool
 
 // The object of a car that has the identity, among its first slots.
 fn in_slots<F>(parts: &Parts<F>, car: u64, slots: u32, id: Id) -> Option<Addr>
-    ensures { result ≡ None → (slot : ℕ) → slot < slots → id_at (view parts.now) (record { car = car; slot = slot }) ≢ Some id }
+    ensures { result ≡ None → LacksBelow (view parts.now) id car slots }
 {
     for slot in 0..slots {
         let at = Addr { car, slot };
@@ -58,14 +59,13 @@ fn in_cars<F>(parts: &Parts<F>, cars: &[u64], id: Id) -> Option<Addr>
     None
 }
 
-// The object of the train at a place that has the identity.
-fn in_train<F>(parts: &Parts<F>, place: u64, id: Id) -> Option<Addr>
-    requires { place < length parts.now.trains.trains }
-    ensures { result ≡ None
-        → LackAll (view parts.now) id (get_or parts.now.trains.trains place (empty_train 0)).cars }
+// The object of a train that has the identity.
+fn in_train<F>(parts: &Parts<F>, train: u64, id: Id) -> Option<Addr>
+    requires { IsSome (cars_at parts.now.trains.trains train) }
+    ensures { result ≡ None → LacksInTrain (view parts.now) id train }
 {
     parts.trains.sound();
-    let train = parts.trains.nth(place);
+    a_car_is_found_where_it_stands();
     in_cars(parts, parts.trains.cars(train), id)
 }
 
@@ -74,7 +74,7 @@ pub(crate) fn find<F: Drop>(space: &Space<F>, id: Id) -> Option<Addr>
     ensures { result ≡ None → Lacks (view space.now.parts) id }
 {
     for place in 0..space.parts.trains.len() {
-        let found = in_train(&space.parts, place, id);
+        let found = in_train(&space.parts, space.parts.trains.nth(place), id);
         if found.is_some() {
             return found;
         }

@@ -1,4 +1,4 @@
-ghost use Rattle.std.specs.Prelude.{◌≡◌, ◌<◌, true, false, [], ◌∷◌, Some, IfOk, IfErr};
+ghost use Rattle.std.specs.Prelude.{◌≡◌, ◌<◌, true, false, [], Some, IfOk, IfErr};
 ghost use Rattle.pm_turns.specs.declared.limits.TheConstants.{WORKERS};
 ghost use Rattle.pm_turns.specs.Views.{seated};
 ghost use Rattle.pm_turns.specs.Rule.{IsIdle, Holds};
