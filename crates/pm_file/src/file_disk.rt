@@ -51,6 +51,7 @@ impl<R: StoreFiles + Drop> FileDisk<R> {
     /// The first sync of a file that was empty when it was opened syncs its folder before.
     pub fn at(rt: R, alloc: Global, path: &str) -> Result<FileDisk<R>, NoMemory>
         ensures count { IfOk result (λ disk. ⟦<FileDisk<R> as Disk>⟧.count disk ≡ 0) }
+        ensures uncalled { IfOk result (λ disk. ⟦<FileDisk<R> as Disk>⟧.moment disk ≡ 0) }
         ensures contents { IfOk result (λ disk. ⟦<FileDisk<R> as Disk>⟧.contents disk ≡ R.lies rt path.now) }
         ensures images { IfOk result (λ disk. SameImages (R.leaves rt path.now)
             (⟦<FileDisk<R> as Disk>⟧.image disk)) }

@@ -1,2 +1,3 @@
 pub mod TakenSoFar
 pub mod WrittenSoFar
+pub mod TriesLemmas

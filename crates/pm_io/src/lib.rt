@@ -4,8 +4,10 @@
 
 mod calls;
 mod failed;
+mod in_stream;
 mod mem_sink;
 mod mem_source;
+mod out_stream;
 mod reading;
 mod sink;
 mod source;
@@ -13,8 +15,10 @@ mod std_sink;
 mod std_source;
 
 pub use failed::Failed;
+pub use in_stream::InStream;
 pub use mem_sink::MemSink;
 pub use mem_source::MemSource;
+pub use out_stream::OutStream;
 pub use reading::{ReadAll, pieces_have_their_size, read_all};
 pub use sink::Sink;
 pub use source::Source;

@@ -1,38 +1,46 @@
-ghost use Rattle.std.specs.Prelude.{◌≡◌, ◌≢◌, ◌≤◌, length, None, IfOk, IfErr, OnOk, OnErr};
-ghost use Rattle.std.specs.Io.{ReadsAtMost};
-ghost use Rattle.std.specs.Io.KnownBytes.{ReadConsumes};
+ghost use Rattle.std.specs.Prelude.{◌≡◌, ◌≢◌, ℕ, ◌<◌, ◌≤◌, List, [], Some, length, IfOk, IfErr, OnOk, OnErr};
 ghost use Rattle.std.specs.IoError.{error_kind};
 ghost use Rattle.pm_types.specs.Counts.{Rose};
+ghost use Rattle.pm_io.specs.Known.{new_source};
+ghost use Rattle.pm_io.specs.Streams.{TakesFront};
+ghost use Rattle.pm_io.specs.Tries.{NoneFailed, ShowsFault};
 
 use crate::calls::count;
-use crate::{Failed, Source};
+use crate::{Failed, InStream, Source};
 use std::io;
-use std::io::{Error, ErrorKind, Read};
+use std::io::{Error, ErrorKind};
 use std::marker::Model;
 
-/// A source over one of std's readers. As a source it tells nothing of the bytes that are to come.
+/// A source over a stream, which may be any of std's readers. It tells the bytes that the stream tells.
 #[derive(Drop)]
-pub struct StdSource<R: Read> {
+pub struct StdSource<R: InStream> {
     reader: R,
     faults: u64,
 }
 
-impl<R: Read> Model for StdSource<R> {
-    ghost use Rattle.pm_io.specs.Known.{StreamState};
+impl<R: InStream> Model for StdSource<R> {
+    ghost use Rattle.pm_io.specs.Known.{SourceOver};
 
-    ghost Value = { StreamState };
+    ghost Value = { SourceOver };
 
-    ghost view = { λ s. record { known = R.remaining s.reader; faults = s.faults } };
+    ghost view = { λ s. record { left = R.left s.reader; tries = R.tries s.reader; faults = s.faults } };
 }
 
-// One read, tried again where it was interrupted.
-fn read_once<R: Read>(reader: &mut R, into: &mut [u8]) -> io::Result<usize>
-    ensures fits { ReadsAtMost result into.new }
-    ensures bytes { ReadConsumes (R.remaining reader.old) (R.remaining reader.new) result into.new }
+// One call of the stream, tried again where it was interrupted.
+fn give_once<R: InStream>(reader: &mut R, into: &mut [u8]) -> io::Result<usize>
+    ensures fits { IfOk result (λ n. n ≤ length into.old) }
+    ensures taken { IfOk result (λ n. (bytes : List ℕ) → R.left reader.old ≡ Some bytes
+        → TakesFront bytes n into.new (R.left reader.new)) }
+    ensures end { IfOk result (λ n. (bytes : List ℕ) → R.left reader.old ≡ Some bytes
+        → n ≡ 0 → 0 < length into.old → bytes ≡ []) }
+    ensures kept { OnErr result ((bytes : List ℕ) → R.left reader.old ≡ Some bytes
+        → R.left reader.new ≡ Some bytes) }
+    ensures none_failed { OnOk result (NoneFailed (R.tries reader.old) (R.tries reader.new)) }
+    ensures shown { OnErr result (ShowsFault (R.tries reader.old) (R.tries reader.new)) }
     ensures tried_again { IfErr result (λ error. error_kind error ≢ ErrorKind.Interrupted) }
 {
-    for _ in 0..u64::MAX {
-        match reader.read(into) {
+    for _turn in 0..u64::MAX {
+        match reader.give(into) {
             Ok(n) => return Ok(n),
             Err(error) => {
                 if error.kind() != ErrorKind::Interrupted {
@@ -44,31 +52,36 @@ fn read_once<R: Read>(reader: &mut R, into: &mut [u8]) -> io::Result<usize>
     Err(Error::other("interrupted too often"))
 }
 
-impl<R: Read + Drop> StdSource<R> {
-    /// A source of what the reader gives.
+impl<R: InStream> StdSource<R> {
+    /// A source of what the stream gives.
     pub fn new(reader: R) -> Self
-        ensures known { result.known ≡ R.remaining reader }
-        ensures faults { result.faults ≡ 0 }
+        ensures { result ≡ new_source (R.left reader) (R.tries reader) }
     {
         StdSource { reader, faults: 0 }
     }
 }
 
-impl<R: Read + Drop> Source for StdSource<R> {
-    ghost left = { λ _. None };
+impl<R: InStream> Source for StdSource<R> {
+    ghost left = { λ source. source.left };
 
     ghost count = { λ source. source.faults };
 
     fn take(&mut self, into: &mut [u8]) -> Result<usize, Failed>
         ensures fits { IfOk result (λ n. n ≤ length into.old) }
+        ensures taken { IfOk result (λ n. (bytes : List ℕ) → self.old.left ≡ Some bytes
+            → TakesFront bytes n into.new self.new.left) }
+        ensures end { IfOk result (λ n. (bytes : List ℕ) → self.old.left ≡ Some bytes
+            → n ≡ 0 → 0 < length into.old → bytes ≡ []) }
+        ensures failed { OnErr result ((bytes : List ℕ) → self.old.left ≡ Some bytes
+            → self.new.left ≡ Some bytes) }
         ensures counted { OnOk result (self.new.faults ≡ self.old.faults) }
         ensures cause { OnErr result (Rose self.old.faults self.new.faults) }
 
-        // What std knows of the bytes: those that came were the first, 0 came only at the end, and a
-        // call that fails loses none.
-        ensures bytes { ReadConsumes self.old.known self.new.known result into.new }
+        // It fails where a call of the stream failed, and there alone.
+        ensures none_failed { OnOk result (NoneFailed self.old.tries self.new.tries) }
+        ensures shown { OnErr result (ShowsFault self.old.tries self.new.tries) }
     {
-        let taken = read_once(&mut self.reader, into);
+        let taken = give_once(&mut self.reader, into);
         count(taken, &mut self.faults)
     }
 

@@ -40,16 +40,17 @@ use Rattle.pm_runs.specs.Threads.Running.{AnswersClients, LeavesSome}
 use Rattle.pm_engine.specs.Events.Running.{IsFresh, RunsOnDisk}
 use Rattle.pm_serial.specs.Writing.{tail_of}
 use Rattle.pm_serial.specs.Ordered.{StopsAmong, course_of}
+use Rattle.pm_serial.specs.Stepping.{IsOfSink}
 use Rattle.pm_runs.specs.declared.ends.ended.Detail.{Detail}
 use Rattle.pm_runs.specs.declared.ends.ended.Alone.{Alone as Ended}
 use Rattle.pm_runs.specs.declared.writes.Writes.{Writes}
-use Rattle.pm_runs.specs.Ends.Ends.{RanShort, stop_in, ended_by}
+use Rattle.pm_runs.specs.Ends.Ends.{IsUnwritten, RanShort, stop_in, ended_by}
 use Rattle.pm_runs.specs.Ends.Stages.{IsPast, unreached, the_events, the_output}
 use Rattle.pm_runs.specs.Ends.Disks.{IsLastOf, IsOfDisk, IsOfRun}
 use Rattle.pm_runs.specs.Ends.Tallies.{ComesTo}
 use Rattle.pm_runs.specs.Engines.{RunsEngine}
 use Rattle.pm_runs.specs.Wrote.{AcknowledgesFor, Wrote}
-use Rattle.pm_runs.specs.Ends.Journals.{IsBegun, ServesInOrder, ServesLines}
+use Rattle.pm_runs.specs.Ends.Journals.{IsBegun, ServesAll, ServesInOrder, ServesLines}
 use Rattle.pm_runs.specs.Ends.Causes.{ShowsCauses}
 use Rattle.pm_runs.proofs.EndsLemmas.Parts.{with_parts}
 use Rattle.pm_runs.proofs.EndsLemmas.Faults.{late_past}
@@ -88,6 +89,13 @@ stop_back None a b c d = refl
 stop_back (Some (StopMemory _)) a b c d = refl
 stop_back (Some StopWriting) a b c d = refl
 stop_back (Some StopDevice) a b c d = refl
+
+-- the sink failed where the run stopped for it
+pub sink_back : (stop : Option Stop) (a b c d : ℕ) → IsUnwritten (ended_by stop a b c d) → IsOfSink stop
+sink_back None a b c d unwritten = absurd unwritten
+sink_back (Some (StopMemory _)) a b c d unwritten = absurd unwritten
+sink_back (Some StopWriting) a b c d unwritten = tt
+sink_back (Some StopDevice) a b c d unwritten = absurd unwritten
 
 done_back : (stop : Option Stop) (a b c d : ℕ) → IsPast the_output (ended_by stop a b c d) → IsDone stop
 done_back None a b c d past = tt
@@ -139,8 +147,8 @@ order_served lines it tally stop a b c d is answers = record {
       ⊎_elim (λ (none : it.events ≡ 0). inl (same ∙ none)) (λ (some : 0 < left_of it.saving.progress). inr (omega (arith, some, left)))
       (answers.short (short_back stop a b c d ran) done more client parted (sym same ∙ made) few);
   stopped =
-      subst (λ (why : Option Stop). OnStop why (events_asked lines ≤ greatest_count → StopsAmong lines it.journal (tally_of tally).steps (tally_of tally).events)) (stop_back stop a b c d)
-      (subst (λ (total : Total). OnStop stop (events_asked lines ≤ greatest_count → StopsAmong lines it.journal total.steps total.events)) (sym is) answers.stopped);
+      subst (λ (why : Option Stop). OnStop why (events_asked lines ≤ greatest_count → StopsAmong lines it.journal (tally_of tally).steps (tally_of tally).events why)) (stop_back stop a b c d)
+      (subst (λ (total : Total). OnStop stop (events_asked lines ≤ greatest_count → StopsAmong lines it.journal total.steps total.events stop)) (sym is) answers.stopped);
 }
 
 -- and by each client
@@ -157,6 +165,10 @@ lines_served lines it tally stop a b c d is answers =
       steps = λ past. ap (λ (total : Total). total.steps) is ∙ answers.steps (done_back stop a b c d past);
       events = λ past. ap (λ (total : Total). total.events) is ∙ answers.events (done_back stop a b c d past);
     }
+
+-- all of it
+pub all_served : (lines : List Line) (it : Serving) (tally : Tally) → tally_of tally ≡ tally_in it → AnswersLines lines it None → ServesAll lines it.journal (Some tally)
+all_served lines it tally is answers = record { serves = lines_served lines it tally None 0 0 0 0 is answers; order = order_served lines it tally None 0 0 0 0 is answers }
 
 -- where the clients' commands were asked in any order
 pub clients_served : (lines : List Line) (it : Serving) (tally : Tally) (stop : Option Stop) (a b c d : ℕ) → tally_of tally ≡ tally_in it

@@ -13,9 +13,10 @@ use Rattle.pm_script.specs.declared.line.Line.{Line}
 use Rattle.pm_script.specs.Script.{IsScript}
 use Rattle.pm_runs.specs.Threads.Running.{LeavesSome}
 use Rattle.pm_runs.specs.declared.ends.ended.Alone.{Alone as Ended}
+use Rattle.pm_runs.specs.declared.ends.ended.Detail.TheVariants.{Fine}
 use Rattle.pm_runs.specs.declared.writes.Writes.{Writes}
 use Rattle.pm_runs.specs.declared.writes.Writes.TheVariants.{Replies}
-use Rattle.pm_runs.specs.Ends.Ends.{RanShort, stop_in}
+use Rattle.pm_runs.specs.Ends.Ends.{IsUnwritten, RanShort, stop_in}
 use Rattle.pm_runs.specs.Ends.Stages.{IsPast, the_words, the_script}
 use Rattle.pm_runs.specs.Ends.Journals.{IsBegun, KeepsOrder, ReadsScript}
 use Rattle.pm_runs.specs.Ends.Disks.{LeavesDisk}
@@ -74,6 +75,9 @@ module _ {D S K : Type 0} (d : disk.Ghosts D) (s : source.Ghosts S) (k : sink.Gh
         → ReadsScript bytes ended.detail ended.journal.items ended.tally
     -- what it does to disk and sink; the replies are written behind the last event
     pub store : ∥ RunsStore d k Replies disk sink ended ∥₁
+    -- where the sink failed all was made that the script asks for, as where the run is done
+    pub last : IsUnwritten ended.detail → (bytes : List ℕ) → s.left source ≡ Some bytes
+        → ReadsScript bytes Fine ended.journal.items ended.tally
     -- where memory runs out, no event was made, or one is left in which it may: where nothing but a settle of a copy that
     -- was flushed whole is left, it does not run out
     pub short : RanShort ended.detail → (bytes : List ℕ) → s.left source ≡ Some bytes → (lines : List Line) → IsScript bytes lines

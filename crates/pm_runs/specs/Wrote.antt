@@ -9,6 +9,11 @@ use Rattle.pm_runs.specs.Trial.Trials.{WroteTrial}
 use Rattle.pm_runs.specs.declared.writes.Writes.{Writes}
 use Rattle.pm_runs.specs.declared.writes.Writes.TheVariants.{Replies, Digest}
 
+-- the run writes behind its last event alone
+abbrev pub WritesLast : Writes → Type 0
+WritesLast Replies = ⊥
+WritesLast Digest = Unit {0}
+
 module _ {K : Type 0} (k : sink.Ghosts K) where
   -- what a run of lines put into the sink for the text of its journal and for the lines behind it, by what it writes and by
   -- why it stopped, if it did

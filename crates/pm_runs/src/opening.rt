@@ -4,9 +4,9 @@ ghost use Rattle.pm_script.specs.Script.{AreLines};
 ghost use Rattle.pm_place.specs.Choosers.{IsChooser};
 ghost use Rattle.pm_engine.specs.Shown.{chooser, disk_in, serving};
 ghost use Rattle.pm_engine.specs.Events.Running.{IsFresh};
-ghost use Rattle.pm_runs.specs.Ends.Ends.{status_of, stop_in};
-ghost use Rattle.pm_runs.specs.Ends.Journals.{ServesInOrder, ServesLines};
-ghost use Rattle.pm_runs.specs.Wrote.{AcknowledgesFor};
+ghost use Rattle.pm_runs.specs.Ends.Ends.{IsUnwritten, status_of, stop_in};
+ghost use Rattle.pm_runs.specs.Ends.Journals.{ServesAll, ServesInOrder, ServesLines};
+ghost use Rattle.pm_runs.specs.Wrote.{AcknowledgesFor, WritesLast};
 ghost use Rattle.pm_runs.specs.Ends.Causes.{ShowsCauses};
 ghost use Rattle.pm_runs.specs.Runs.{RunsStore};
 ghost use Rattle.pm_runs.specs.Engines.{RunsEngine};
@@ -38,6 +38,8 @@ fn run_engine<D: Disk, F: Fn(&[u64]) -> usize + Drop, S: Source, K: Sink>(
     ensures source { result.source ≡ source }
     ensures serves { ServesLines lines.items result.detail result.journal.items result.tally }
     ensures order { ServesInOrder lines.items result.detail result.journal.items result.tally }
+    ensures last { WritesLast writes → IsUnwritten result.detail
+        → ServesAll lines.items result.journal.items result.tally }
     ensures runs { RunsEngine K.Sink writes engine sink result }
     ensures saved { AcknowledgesFor K.Sink writes sink result.sink result.journal.items (stop_in result.detail) }
     ensures causes { ShowsCauses D.Disk S.Source K.Sink (disk_in engine) source sink result }
@@ -69,6 +71,8 @@ pub fn run_lines<D: Disk, F: Fn(&[u64]) -> usize + Drop, S: Source, K: Sink>(
     ensures source { result.source ≡ source }
     ensures serves { ServesLines lines.items result.detail result.journal.items result.tally }
     ensures order { ServesInOrder lines.items result.detail result.journal.items result.tally }
+    ensures last { WritesLast writes → IsUnwritten result.detail
+        → ServesAll lines.items result.journal.items result.tally }
     ensures store { RunsStore D.Disk K.Sink writes disk sink result }
     // Acknowledged is told: unless the sink failed, the text through each reply `saved` is finished.
     ensures saved { IfSome result.tally

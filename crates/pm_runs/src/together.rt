@@ -3,9 +3,10 @@ ghost use Rattle.std.specs.Prelude.{◌≡◌, List, ℕ, IfSome};
 ghost use Rattle.pm_place.specs.Choosers.{IsChooser};
 ghost use Rattle.pm_engine.specs.Shown.{chooser, disk_in, serving, tally_of};
 ghost use Rattle.pm_engine.specs.Events.Running.{IsFresh};
+ghost use Rattle.pm_runs.specs.declared.ends.ended.Detail.TheVariants.{Fine};
 ghost use Rattle.pm_runs.specs.declared.writes.Writes.TheVariants.{Replies};
 ghost use Rattle.pm_runs.specs.Threads.Running.{LeavesSome};
-ghost use Rattle.pm_runs.specs.Ends.Ends.{RanShort, status_of};
+ghost use Rattle.pm_runs.specs.Ends.Ends.{IsUnwritten, RanShort, status_of};
 ghost use Rattle.pm_runs.specs.Ends.Journals.{ServesLines};
 ghost use Rattle.pm_runs.specs.Ends.Causes.{ShowsCauses};
 ghost use Rattle.pm_runs.specs.Runs.{RunsStore, RunsTogether};
@@ -52,6 +53,8 @@ fn run_engine<
     ensures status { result.status ≡ status_of result.detail }
     ensures source { result.source ≡ source }
     ensures serves { ServesLines script result.detail result.journal.items result.tally }
+    ensures last { IsUnwritten result.detail
+        → ServesLines script Fine result.journal.items result.tally }
     ensures runs { ∥ RunsEngine K.Sink Replies engine sink result ∥₁ }
     ensures short { RanShort result.detail → IfSome result.tally (λ it. ∥ LeavesSome script result.journal.items
         (tally_of it).steps (tally_of it).events (tally_of it).left ∥₁) }
@@ -90,6 +93,8 @@ fn open_and_run<
     ensures status { result.status ≡ status_of result.detail }
     ensures source { result.source ≡ source }
     ensures serves { ServesLines script result.detail result.journal.items result.tally }
+    ensures last { IsUnwritten result.detail
+        → ServesLines script Fine result.journal.items result.tally }
     ensures store { ∥ RunsStore D.Disk K.Sink Replies disk sink result ∥₁ }
     ensures short { RanShort result.detail → IfSome result.tally (λ it. ∥ LeavesSome script result.journal.items
         (tally_of it).steps (tally_of it).events (tally_of it).left ∥₁) }

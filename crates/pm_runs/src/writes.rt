@@ -1,4 +1,5 @@
 //! What a run of lines writes.
+ghost use Rattle.std.specs.Prelude.{None};
 ghost use Rattle.pm_model.specs.Text.{text};
 ghost use Rattle.pm_script.specs.Script.{AreLines};
 ghost use Rattle.pm_place.specs.Choosers.{IsChooser};
@@ -7,8 +8,9 @@ ghost use Rattle.pm_serial.specs.Causes.{CountsSink};
 ghost use Rattle.pm_engine.specs.Events.Causes.{why};
 ghost use Rattle.pm_serial.specs.Running.{AnswersLines};
 ghost use Rattle.pm_engine.specs.Events.Running.{IsFresh, RunsOnDisk};
+ghost use Rattle.pm_serial.specs.Stepping.{IsOfSink};
 ghost use Rattle.pm_serial.specs.Writing.{tail_of};
-ghost use Rattle.pm_runs.specs.Wrote.{AcknowledgesFor, Wrote};
+ghost use Rattle.pm_runs.specs.Wrote.{AcknowledgesFor, WritesLast, Wrote};
 
 use crate::ends::{Engine, Stop, run_lines};
 use crate::trial::run_trial;
@@ -44,6 +46,8 @@ pub(crate) fn write_lines<D: Disk, F: Fn(&[u64]) -> usize + Drop, K: Sink>(
     ensures saved { AcknowledgesFor K.Sink writes sink.old sink.new (serving engine.new).journal (why result) }
     ensures cause { CountsSink (why result) (K.count sink.old) (K.count sink.new) }
     ensures start { KeepsStart engine.old engine.new }
+    ensures last { WritesLast writes → IsOfSink (why result)
+        → AnswersLines lines.items (serving engine.new) None }
 {
     match writes {
         Writes::Replies => run_lines(alloc, lines, engine, sink),

@@ -1,5 +1,5 @@
 -- What is finished of the replies that say that a copy settled, one part of a run behind another.
-use Rattle.std.proofs.Common.{◌≡◌, ◌⊎◌, ⊎_elim, inl, inr, ℕ, ◌+◌, ◌≤◌, Bool, true, false, Result, Ok, Err, OnOk, List, [], ◌∷◌, ◌++◌, length, Option, Some, None, refl, ap, sym, subst, ◌∙◌, append_assoc, length-append, arith}
+use Rattle.std.proofs.Common.{take, ◌≡◌, ◌⊎◌, ⊎_elim, inl, inr, ℕ, ◌+◌, ◌≤◌, Bool, true, false, Result, Ok, Err, OnOk, List, [], ◌∷◌, ◌++◌, length, Option, Some, None, refl, ap, sym, subst, ◌∙◌, append_assoc, length-append, arith}
 use Rattle.std.proofs.lemmas.List.{append-nil}
 use Rattle.std.proofs.lemmas.Grind.{flat_map-append}
 use Rattle.pm_types.specs.Memory.{no_memory}
@@ -9,13 +9,14 @@ use Rattle.pm_model.specs.Journal.{says_saved}
 use Rattle.pm_model.specs.Text.{reply_line, text}
 use Rattle.pm_types.specs.declared.reply.Reply.{Reply}
 use Rattle.pm_types.specs.declared.reply.Reply.TheVariants.{Saved}
-use Rattle.pm_serial.specs.Output.Writing.{GoesOn, PutsAll}
-use Rattle.pm_serial.proofs.Gathering.{all_then}
+use Rattle.pm_serial.specs.declared.output.output.TheConstants.{BUFFER_BYTES}
+use Rattle.pm_serial.specs.Output.Writing.{GoesOn, IsNear, PutsAll}
+use Rattle.pm_serial.proofs.Gathering.{all_then, not_both}
 use Rattle.pm_engine.specs.declared.events.stop.Stop.{Stop}
 use Rattle.pm_engine.specs.declared.events.stop.Stop.TheVariants.{Memory, Writing, Device}
 use Rattle.pm_engine.specs.Events.Causes.{IsDone}
 use Rattle.pm_serial.specs.Causes.{IsElsewhere}
-use Rattle.pm_serial.specs.Stepping.{EndsSink, IsGathered, SinkGoesOn}
+use Rattle.pm_serial.specs.Stepping.{EndsSink, IsGathered, IsOfSink, SinkGoesOn}
 use Rattle.pm_serial.specs.Writing.{WroteRun}
 use Rattle.pm_serial.specs.Acknowledged.{Acknowledges, FinishesSaved, KeepsSaved, TellsAll, TellsSaved}
 
@@ -85,12 +86,24 @@ module _ {K : Type 0} (k : Ghosts K) where
   told_all piece old mid new gathered later last (Err e) on all none finished = tt
 
   -- neither journal nor sink changed
-  pub keeps_still : (sink : K) (gathered : List ℕ) (journal longer : List Entry) (stop : Option Stop) → longer ≡ journal → KeepsSaved k sink sink gathered journal longer stop
-  keeps_still sink gathered journal longer stop same = record { saved = λ is bytes before told parted was. subst (FinishesSaved (k.finished sink) before) (sym same) was }
+  pub keeps_still : (sink : K) (gathered : List ℕ) (journal longer : List Entry) (stop : Option Stop) → IsGathered stop → longer ≡ journal → KeepsSaved k sink sink gathered journal longer stop
+  keeps_still sink gathered journal longer stop is same = record {
+    saved = λ _ bytes before told parted was. subst (FinishesSaved (k.finished sink) before) (sym same) was;
+    near = λ of. absurd (not_both stop is of);
+  }
 
   -- the sink failed
-  pub keeps_lost : (old new : K) (gathered : List ℕ) (journal longer : List Entry) → KeepsSaved k old new gathered journal longer (Some Writing)
-  keeps_lost old new gathered journal longer = record { saved = λ is. absurd is }
+  pub keeps_lost : (old new : K) (gathered piece : List ℕ) (journal longer : List Entry) → text longer ≡ text journal ++ piece → IsNear (k.written old) (k.written new) (gathered ++ piece)
+      → KeepsSaved k old new gathered journal longer (Some Writing)
+  keeps_lost old new gathered piece journal longer grown some = record {
+    saved = λ is. absurd is;
+    near = λ of bytes before all told parted now.
+        let near = some bytes all told now in
+        let whole : before ++ text longer ≡ bytes ++ (gathered ++ piece) =
+        ap (λ (t : List ℕ). before ++ t) grown ∙ sym (append_assoc before (text journal) piece) ∙ ap (λ (t : List ℕ). t ++ piece) (sym parted) ∙ append_assoc bytes gathered piece in
+        let same = ap length whole in
+        omega (arith, near, same);
+  }
 
   -- what was put and what is gathered are the text of the journal
   on_text : (old mid : K) (gathered later bytes before : List ℕ) (journal longer : List Entry) → (on : SinkGoesOn k.written k.count old mid gathered later journal longer None) → (told : k.written old ≡ Some bytes) → bytes ++ gathered ≡ before ++ text journal
@@ -106,6 +119,7 @@ module _ {K : Type 0} (k : Ghosts K) where
   keeps_other old new gathered journal longer last pushed other same = record {
     saved = λ is bytes before told parted was.
         subst (λ (n : ℕ). FinishesSaved n before longer) (sym same) (subst (FinishesSaved (k.finished old) before) (sym pushed) (saved_more (k.finished old) before journal last other was));
+    near = λ of. absurd of;
   }
 
   -- or one that does, after which all is finished
@@ -120,6 +134,7 @@ module _ {K : Type 0} (k : Ghosts K) where
         sym is_all ∙ sym (append-nil (bytes ++ divided.done)) ∙ ap (λ (t : List ℕ). (bytes ++ divided.done) ++ t) (sym tells.none) ∙ on_text old new gathered later bytes before journal longer on told parted in
         let count : k.finished new ≡ length (before ++ text longer) = all.2 ∙ ap length whole in
         saved_all (k.finished new) before longer (omega (arith, count));
+    near = λ of. absurd of;
   }
 
   pub keeps_entry : (old new : K) (gathered later : List ℕ) (journal longer : List Entry) (last : Entry) → longer ≡ journal ++ last ∷ [] → SinkGoesOn k.written k.count old new gathered later journal longer None
@@ -137,6 +152,9 @@ module _ {K : Type 0} (k : Ghosts K) where
     saved = λ is bytes before told parted was.
         let divided = on.on tt bytes told in
         second.saved is (bytes ++ divided.done) before divided.put (on_text old mid gathered later bytes before journal between on told parted) (first.saved tt bytes before told parted was);
+    near = λ of bytes before all told parted now.
+        let divided = on.on tt bytes told in
+        second.near of (bytes ++ divided.done) before all divided.put (on_text old mid gathered later bytes before journal between on told parted) now;
   }
 
   -- the last entry of a journal that grew by one is that one
@@ -155,11 +173,21 @@ module _ {K : Type 0} (k : Ghosts K) where
 
   -- nothing was answered
   pub acknowledges_none : (sink : K) (journal : List Entry) (stop : Option Stop) → journal ≡ [] → Acknowledges k sink sink journal stop
-  acknowledges_none sink journal stop none = record { saved = λ is before told. subst (FinishesSaved (k.finished sink) before) (sym none) (saved_none (k.finished sink) before) }
+  acknowledges_none sink journal stop none = record {
+    saved = λ is before told. subst (FinishesSaved (k.finished sink) before) (sym none) (saved_none (k.finished sink) before);
+    near = λ of bytes all told now.
+        let same : ◌≡◌ {A = Option (List ℕ)} (Some bytes) (Some all) = sym told ∙ now in
+        let is_all : bytes ≡ all = cc same in
+        let long = ap length is_all in
+        let text_none : bytes ++ text journal ≡ bytes = ap (λ (j : List Entry). bytes ++ text j) none ∙ append-nil bytes in
+        let whole = ap length text_none in
+        omega (arith, long, whole);
+  }
 
   pub acknowledges_run : (old mid new : K) (gathered later tail : List ℕ) (journal longer : List Entry) (ran stop : Option Stop) → gathered ≡ [] → journal ≡ [] → KeepsSaved k old mid gathered journal longer ran
-      → EndsSink k.written k.finished k.count mid new later tail ran stop → WroteRun k.written k.finished k.count old new (text longer) tail stop → Acknowledges k old new longer stop
-  acknowledges_run old mid new gathered later tail journal longer ran stop none empty keeps ends wrote = record { saved = by stop refl }
+      → EndsSink k.written k.finished k.count mid new later tail ran stop → WroteRun k.written k.finished k.count old new (text longer) tail stop
+      → SinkGoesOn k.written k.count old mid gathered later journal longer ran → length later ≤ BUFFER_BYTES → Acknowledges k old new longer stop
+  acknowledges_run old mid new gathered later tail journal longer ran stop none empty keeps ends wrote run short = record { saved = by stop refl; near = near_by ran refl }
     where
       at_mid : IsGathered ran → (before : List ℕ) → k.written old ≡ Some before → FinishesSaved (k.finished mid) before longer
       at_mid is before told =
@@ -190,3 +218,29 @@ module _ {K : Type 0} (k : Ghosts K) where
       by (Some (Memory _)) is gathered_is before told = elsewhere (Memory no_memory) is tt before told
       by (Some Device) is gathered_is before told = elsewhere Device is tt before told
       by (Some Writing) is gathered_is before told = absurd (subst IsGathered is gathered_is)
+
+      begins : (before : List ℕ) → before ++ gathered ≡ before ++ text journal
+      begins before = ap (λ (t : List ℕ). before ++ t) (none ∙ ap text (sym empty))
+
+      -- a run that stopped elsewhere does not stop for the sink
+      stopped_for : (other : Stop) → ran ≡ Some other → IsOfSink stop → IsOfSink (Some other)
+      stopped_for other is of =
+          ⊎_elim (λ (same : stop ≡ ran). subst IsOfSink (same ∙ is) of) (λ both. let never : ◌≡◌ {A = Option Stop} (Some other) None = sym is ∙ both.0 in absurd (cc never)) ends.why
+
+      near_by : (why : Option Stop) → ran ≡ why → IsOfSink stop → IsNear (k.written old) (k.written new) (text longer)
+      near_by None is of before all told now =
+          let on = subst (λ (s : Option Stop). SinkGoesOn k.written k.count old mid gathered later journal longer s) is run in
+          let divided = on.on tt before told in
+          let full = on_text old mid gathered later before before journal longer on told (begins before) in
+          let part = ends.part (subst IsGathered (sym is) tt) (before ++ divided.done) divided.put in
+          let same : ◌≡◌ {A = Option (List ℕ)} (Some ((before ++ divided.done) ++ take part.part (later ++ tail))) (Some all) = sym part.appended ∙ now in
+          let is_all : (before ++ divided.done) ++ take part.part (later ++ tail) ≡ all = cc same in
+          let long : length all ≡ length (before ++ divided.done) + length (take part.part (later ++ tail)) = sym (ap length is_all) ∙ length-append (before ++ divided.done) (take part.part (later ++ tail)) in
+          let whole : length (before ++ text longer) ≡ length (before ++ divided.done) + length later = sym (ap length full) ∙ length-append (before ++ divided.done) later in
+          omega (arith, short, long, whole)
+      near_by (Some Writing) is of before all told now =
+          let lost : IsOfSink ran = subst IsOfSink (sym is) tt in
+          let stood : k.written new ≡ k.written mid = ap k.written (ends.none lost) in
+          keeps.near lost before before all told (begins before) (sym stood ∙ now)
+      near_by (Some (Memory _)) is of before all told now = absurd (stopped_for (Memory no_memory) is of)
+      near_by (Some Device) is of before all told now = absurd (stopped_for Device is of)

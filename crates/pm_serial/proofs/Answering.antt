@@ -95,7 +95,7 @@ from_zero n most = omega arith
 -- all lines of a run
 pub answers_lines : (lines : List Line) (old new : Serving) (stop : Option Stop) → IsFresh old → (part : AnswersPart (requests_asked lines) (events_asked lines) (steps_asked lines) old new stop)
     → (events_asked lines ≤ greatest_count → IsFirstPart new.course (course_of 0 0 lines)) → (IsDone stop → events_asked lines ≤ greatest_count → new.course ≡ course_of 0 0 lines)
-    → OnStop stop (events_asked lines ≤ greatest_count → StopsAmong lines new.journal new.steps new.events)
+    → OnStop stop (events_asked lines ≤ greatest_count → StopsAmong lines new.journal new.steps new.events stop)
     → (stop ≡ Some (Memory no_memory) → (done more : List Line) (client : ℕ) → lines ≡ done ++ Client client Settle ∷ more → new.events ≡ events_asked done → events_asked done < greatest_count → (new.events ≡ 0) ⊎ 0 < left_of new.saving.progress)
     → AnswersLines lines new stop
 answers_lines lines old new stop fresh part ordered all_ordered stopped short =

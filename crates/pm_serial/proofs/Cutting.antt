@@ -1,5 +1,5 @@
 -- Where a run stops: the line, and how many events were made until then.
-use Rattle.std.proofs.Common.{◌≡◌, ◌⊎◌, ⊎_elim, ℕ, ◌+◌, ◌<◌, ◌≤◌, min, true, [], refl, arith, List, ◌∷◌, ◌++◌, take, Option, Some, None, Result, Ok, Err, OnErr, ap, sym, subst, ◌∙◌, append_assoc}
+use Rattle.std.proofs.Common.{◌≡◌, ◌⊎◌, ⊎_elim, inl, inr, ℕ, ◌+◌, ◌<◌, ◌≤◌, min, true, [], refl, arith, List, ◌∷◌, ◌++◌, take, Option, Some, None, Result, Ok, Err, OnErr, ap, sym, subst, ◌∙◌, append_assoc}
 use Rattle.std.proofs.Math.Seq.{take-nil}
 use Rattle.std.proofs.lemmas.List.{append-nil}
 use Rattle.pm_types.specs.Memory.{no_memory}
@@ -21,9 +21,10 @@ use Rattle.pm_engine.specs.Events.Events.{AnswersPart, IsShort, IsUnfinished, Ke
 use Rattle.pm_engine.specs.Events.Running.{IsFresh}
 use Rattle.pm_serial.specs.Ordered.{StopsAmong, steps_first}
 use Rattle.pm_serial.specs.Running.{AnswersLines}
-use Rattle.pm_serial.specs.Stepping.{AsksSettle, IsCut, StopsLine, StopsLines, events_of, steps_in, steps_made}
+use Rattle.pm_serial.specs.Stepping.{AsksSettle, IsCut, IsGathered, IsOfSink, StopsLine, StopsLines, events_of, steps_in, steps_made}
 use Rattle.pm_engine.proofs.EventsLemmas.Answering.{counted_then, still_counted}
 use Rattle.pm_serial.proofs.Answering.{events_cons}
+use Rattle.pm_serial.proofs.Gathering.{not_both}
 use Rattle.pm_serial.proofs.Ordering.{events_append, few_steps}
 
 -- of so many events of a kind these were made
@@ -57,11 +58,13 @@ on_stop (Some stop) p = p
 -- ---- a line
 
 -- a command that was not answered
-pub stops_before : (client : ℕ) (cmd : Cmd) (old new : Serving) (stop : Stop) → KeepsCounts old new → IsShort cmd old new (Some stop) → StopsLine (Client client cmd) old new (Some stop)
-stops_before client cmd old new stop stays short = record {
+pub stops_before : (client : ℕ) (cmd : Cmd) (old new : Serving) (stop : Stop) → IsGathered (Some stop) → KeepsCounts old new → IsShort cmd old new (Some stop)
+    → StopsLine (Client client cmd) old new (Some stop)
+stops_before client cmd old new stop unwritten stays short = record {
   made = 0;
   within = omega arith;
   cut = λ _. omega arith;
+  last = λ of. absurd (not_both (Some stop) unwritten of);
   served = ap requests_of stays.journal ∙ sym (append-nil (requests_of old.journal));
   events = λ small. stays.events ∙ still_counted old.events greatest_count small;
   steps = λ small. stays.steps ∙ still_counted old.steps greatest_count small;
@@ -74,6 +77,7 @@ stops_behind client cmd old new part = record {
   made = 1;
   within = omega arith;
   cut = λ never. absurd never;
+  last = λ _. (tt, refl);
   served = part.all tt;
   events = part.events tt;
   steps = part.steps tt;
@@ -81,15 +85,16 @@ stops_behind client cmd old new part = record {
 }
 
 -- events of the collector, or such that write pages
-pub stops_events : (line : Line) (kind : Kind) (count : ℕ) (old new : Serving) (result : Result (Unit {0}) Stop) → count ≡ events_of line → request_of line ≡ [] → ((made : ℕ) → steps_in line made ≡ steps_made kind made)
+pub stops_events : (line : Line) (kind : Kind) (count : ℕ) (old new : Serving) (result : Result (Unit {0}) Stop) → IsGathered (why result) → count ≡ events_of line → request_of line ≡ [] → ((made : ℕ) → steps_in line made ≡ steps_made kind made)
     → (AsksSettle line → ⊥) → new.journal ≡ old.journal → OnErr result (IsCut kind count old new) → OnStop (why result) (StopsLine line old new (why result))
-stops_events line kind count old new (Ok done) is none same no_settle journal cut = tt
-stops_events line kind count old new (Err stop) is none same no_settle journal cut =
+stops_events line kind count old new (Ok done) unwritten is none same no_settle journal cut = tt
+stops_events line kind count old new (Err stop) unwritten is none same no_settle journal cut =
     let less = cut.within in
     record {
       made = cut.made;
       within = omega (arith, less, is);
       cut = λ _. omega (arith, less, is);
+      last = λ of. absurd (not_both (Some stop) unwritten of);
       served = ap requests_of journal ∙ sym (append-nil (requests_of old.journal)) ∙ ap (λ (more : List Request). requests_of old.journal ++ more) (sym (take-nil cut.made) ∙ ap (take cut.made) (sym none));
       events = cut.events;
       steps = λ small. cut.steps small ∙ ap (λ (n : ℕ). min (old.steps + n) greatest_count) (sym (same cut.made));
@@ -109,6 +114,7 @@ stops_lines lines done rest line old mid new stop parted part stops = record {
   made = stops.made;
   within = stops.within;
   cut = stops.cut;
+  last = stops.last;
   served =
       stops.served ∙ ap (λ (all : List Request). all ++ take stops.made (request_of line)) (part.all tt)
       ∙ append_assoc (requests_of old.journal) (requests_asked done) (take stops.made (request_of line));
@@ -182,8 +188,8 @@ module _ (lines : List Line) (old new : Serving) (fresh : IsFresh old) (few : ev
   counted_from was now n zero less counts = counts (omega (arith, zero)) ∙ ap (λ (w : ℕ). min (w + n) greatest_count) zero ∙ within_most n greatest_count less
 
   -- in a line
-  stopped_in : (stop : Option Stop) → StopsLines lines old new stop → StopsAmong lines new.journal new.steps new.events
-  stopped_in stop stops =
+  stopped_in : (before stop : Option Stop) → (IsOfSink stop → IsOfSink before) → StopsLines lines old new before → StopsAmong lines new.journal new.steps new.events stop
+  stopped_in before stop same stops =
       let all = events_parted lines stops.done stops.more stops.line stops.lines_are in
       let within = stops.within in
       let less = few_steps stops.done in
@@ -197,11 +203,12 @@ module _ (lines : List Line) (old new : Serving) (fresh : IsFresh old) (few : ev
         served = stops.served ∙ ap (λ (r : List Request). r ++ (requests_asked stops.done ++ take stops.made (request_of stops.line))) none_served;
         events_are = counted_from old.events new.events (events_asked stops.done + stops.made) fresh.events (omega (arith, few, all, within)) stops.events;
         steps_are = counted_from old.steps new.steps (steps_asked stops.done + steps_in stops.line stops.made) fresh.steps (omega (arith, few, all, within, less, some)) stops.steps;
+        last = λ of. inr (stops.last (same of));
       }
 
   -- behind all lines
-  stopped_behind : AnswersPart (requests_asked lines) (events_asked lines) (steps_asked lines) old new None → StopsAmong lines new.journal new.steps new.events
-  stopped_behind part =
+  stopped_behind : (stop : Option Stop) → AnswersPart (requests_asked lines) (events_asked lines) (steps_asked lines) old new None → StopsAmong lines new.journal new.steps new.events stop
+  stopped_behind stop part =
       let less = few_steps lines in
       record {
         done = lines;
@@ -212,18 +219,21 @@ module _ (lines : List Line) (old new : Serving) (fresh : IsFresh old) (few : ev
         served = part.all tt ∙ ap (λ (r : List Request). r ++ requests_asked lines) none_served ∙ sym (append-nil (requests_asked lines));
         events_are = counted_from old.events new.events (events_asked lines) fresh.events few (part.events tt) ∙ none (events_asked lines);
         steps_are = counted_from old.steps new.steps (steps_asked lines) fresh.steps (omega (arith, few, less)) (part.steps tt) ∙ none (steps_asked lines);
+        last = λ _. inl refl;
       }
     where
       none : (n : ℕ) → n ≡ n + 0
       none n = omega arith
 
-  pub stopped_among : (before : Option Stop) → AnswersPart (requests_asked lines) (events_asked lines) (steps_asked lines) old new before → OnStop before (StopsLines lines old new before)
-      → StopsAmong lines new.journal new.steps new.events
-  stopped_among None part stops = stopped_behind part
-  stopped_among (Some stop) part stops = stopped_in (Some stop) stops
+  -- the end of a run stops it for the sink only where it had stopped so, or was done
+  pub stopped_among : (before after : Option Stop) → (after ≡ before) ⊎ ((before ≡ None) × (after ≡ Some Writing)) → AnswersPart (requests_asked lines) (events_asked lines) (steps_asked lines) old new before
+      → OnStop before (StopsLines lines old new before) → StopsAmong lines new.journal new.steps new.events after
+  stopped_among None after why part stops = stopped_behind after part
+  stopped_among (Some stop) after why part stops =
+      stopped_in (Some stop) after (λ of. ⊎_elim (λ same. subst IsOfSink same of) (λ both. absurd (let never : Some stop ≡ None = both.0 in cc never)) why) stops
 
 -- before the first line
-pub stopped_first : (lines : List Line) (it : Serving) → IsFresh it → StopsAmong lines it.journal it.steps it.events
+pub stopped_first : (lines : List Line) (it : Serving) → IsFresh it → StopsAmong lines it.journal it.steps it.events (Some (Memory no_memory))
 stopped_first lines it fresh = record {
   done = [];
   rest = lines;
@@ -233,6 +243,7 @@ stopped_first lines it fresh = record {
   served = ap requests_of fresh.journal;
   events_are = fresh.events;
   steps_are = fresh.steps ∙ none lines;
+  last = λ of. absurd of;
 }
   where
     none : (lines : List Line) → 0 ≡ 0 + steps_first lines 0
@@ -264,6 +275,7 @@ answers_unwritten lines new answers = record {
         served = answers.all tt ∙ sym (append-nil (requests_asked lines));
         events_are = counted (events_asked lines) new.events few events;
         steps_are = counted (steps_asked lines) new.steps (omega (arith, few, less)) steps;
+        last = λ _. inl refl;
       };
   short = λ is. let never : Some Writing ≡ Some (Memory no_memory) = is in absurd (cc never);
 }

@@ -22,7 +22,8 @@ counted_still (Some (Memory _)) n is = refl
 counted_still (Some Writing) n is = absurd is
 counted_still (Some Device) n is = refl
 
-not_both : (stop : Option Stop) → IsGathered stop → IsOfSink stop → ⊥
+-- a run stopped for the sink, or not
+pub not_both : (stop : Option Stop) → IsGathered stop → IsOfSink stop → ⊥
 not_both None is of = of
 not_both (Some (Memory _)) is of = of
 not_both (Some Writing) is of = is

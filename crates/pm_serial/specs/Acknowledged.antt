@@ -1,11 +1,14 @@
--- That replies which say that a copy settled are finished before the next event.
-use Rattle.std.specs.Prelude.{◌≡◌, ℕ, ◌≤◌, true, List, [], ◌∷◌, ◌++◌, length, Option, Some}
+-- That replies which say that a copy settled are finished before the next event, and what a sink that failed lacks.
+use Rattle.std.specs.Prelude.{◌≡◌, ℕ, ◌+◌, ◌≤◌, true, List, [], ◌∷◌, ◌++◌, length, Option, Some}
 use Rattle.pm_types.specs.declared.entry.Entry.{Entry}
 use Rattle.pm_io.specs.declared.sink.Sink.{Ghosts}
 use Rattle.pm_model.specs.Journal.{says_saved}
 use Rattle.pm_model.specs.Text.{text}
 use Rattle.pm_engine.specs.declared.events.stop.Stop.{Stop}
-use Rattle.pm_serial.specs.Stepping.{IsGathered}
+use Rattle.pm_script.specs.declared.reply.TheConstants.{REPLY_BYTES}
+use Rattle.pm_serial.specs.declared.output.output.TheConstants.{BUFFER_BYTES}
+use Rattle.pm_serial.specs.Output.Writing.{IsNear}
+use Rattle.pm_serial.specs.Stepping.{IsGathered, IsOfSink}
 
 -- So many bytes are finished that the text through each reply `saved` of the journal is, behind what stood there before.
 abbrev pub FinishesSaved : ℕ → List ℕ → List Entry → Type 0
@@ -27,8 +30,13 @@ module _ {K : Type 0} (k : Ghosts K) where
   pub record KeepsSaved (old new : K) (gathered : List ℕ) (journal longer : List Entry) (stop : Option Stop) : Type 0 where
     pub saved : IsGathered stop → (bytes before : List ℕ) → k.written old ≡ Some bytes → bytes ++ gathered ≡ before ++ text journal
         → FinishesSaved (k.finished old) before journal → FinishesSaved (k.finished new) before longer
+    -- and where it did, no more of the text is missing than the buffer has room for and a reply line may have
+    pub near : IsOfSink stop → (bytes before all : List ℕ) → k.written old ≡ Some bytes → bytes ++ gathered ≡ before ++ text journal
+        → k.written new ≡ Some all → length (before ++ text longer) ≤ length all + (BUFFER_BYTES + REPLY_BYTES)
 
   -- What a run has finished at its end, by why it stopped, if it did: unless the sink failed, the text through each `saved`,
   -- behind what stood there before.
   pub record Acknowledges (old new : K) (journal : List Entry) (stop : Option Stop) : Type 0 where
     pub saved : IsGathered stop → (before : List ℕ) → k.written old ≡ Some before → FinishesSaved (k.finished new) before journal
+    -- and where it did, no more of the text is missing than the buffer has room for and a reply line may have
+    pub near : IsOfSink stop → IsNear (k.written old) (k.written new) (text journal)

@@ -1,5 +1,5 @@
 -- In which order events come, and where a run stops.
-use Rattle.std.specs.Prelude.{◌≡◌, ℕ, ◌+◌, ◌≤◌, List, [], ◌∷◌, ◌++◌, take, Option}
+use Rattle.std.specs.Prelude.{◌≡◌, ◌⊎◌, ℕ, ◌+◌, ◌≤◌, List, [], ◌∷◌, ◌++◌, take, Option}
 use Rattle.pm_types.specs.Counts.{greatest_count}
 use Rattle.pm_types.specs.declared.entry.Entry.{Entry}
 use Rattle.pm_model.specs.declared.request.Request.{Request}
@@ -10,7 +10,7 @@ use Rattle.pm_saving.specs.Serving.{Before, Serving}
 use Rattle.pm_engine.specs.declared.events.stop.Stop.{Stop}
 use Rattle.pm_engine.specs.Events.Causes.{IsDone}
 use Rattle.pm_script.specs.Parted.Asked.{events_asked, request_of, requests_asked, steps_asked}
-use Rattle.pm_serial.specs.Stepping.{events_of, steps_in}
+use Rattle.pm_serial.specs.Stepping.{IsCommand, IsOfSink, events_of, steps_in}
 
 -- ---- what is made before each command
 
@@ -58,9 +58,14 @@ abbrev pub request_first : List Line → List Request
 request_first [] = []
 request_first (line ∷ lines) = request_of line
 
--- Where a run stopped that has this journal, and so many events, so many of them of the collector: all events were made of
--- the lines that are done, and of the next one, if there is one, so many.
-pub record StopsAmong (lines : List Line) (journal : List Entry) (steps events : ℕ) : Type 0 where
+-- the first line, if there is one, is a command
+abbrev pub IsCommandFirst : List Line → Type 0
+IsCommandFirst [] = ⊥
+IsCommandFirst (line ∷ lines) = IsCommand line
+
+-- Where a run stopped for this that has this journal, and so many events, so many of them of the collector: all events were
+-- made of the lines that are done, and of the next one, if there is one, so many.
+pub record StopsAmong (lines : List Line) (journal : List Entry) (steps events : ℕ) (stop : Option Stop) : Type 0 where
   pub done : List Line
   pub rest : List Line
   pub lines_are : lines ≡ done ++ rest
@@ -69,3 +74,5 @@ pub record StopsAmong (lines : List Line) (journal : List Entry) (steps events :
   pub served : requests_of journal ≡ requests_asked done ++ take made (request_first rest)
   pub events_are : events ≡ events_asked done + made
   pub steps_are : steps ≡ steps_asked done + steps_first rest made
+  -- where the sink failed nothing came behind the command whose reply it did not take, or all lines are done
+  pub last : IsOfSink stop → (rest ≡ []) ⊎ (IsCommandFirst rest × (made ≡ 1))

@@ -29,7 +29,7 @@ pub record AnswersLines (lines : List Line) (new : Serving) (stop : Option Stop)
   pub ordered : events_asked lines ≤ greatest_count → IsFirstPart new.course (course_of 0 0 lines)
   pub all_ordered : IsDone stop → events_asked lines ≤ greatest_count → new.course ≡ course_of 0 0 lines
   -- where it stopped: all of the lines that are done was made, and of the next one, if there is one, some events
-  pub stopped : OnStop stop (events_asked lines ≤ greatest_count → StopsAmong lines new.journal new.steps new.events)
+  pub stopped : OnStop stop (events_asked lines ≤ greatest_count → StopsAmong lines new.journal new.steps new.events stop)
   -- where memory runs out in a `settle`, something of the copy is left to be written, unless no event was made at all: so it
   -- does not where all of it was flushed. It is that event which was not made, where as many were made as the lines before
   -- it ask for

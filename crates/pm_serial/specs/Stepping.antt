@@ -47,6 +47,11 @@ steps_in line made = 0
 abbrev pub events_of : Line → ℕ
 events_of line = length (request_of line) + steps_of line + flushes_of line
 
+-- the line is a command
+abbrev pub IsCommand : Line → Type 0
+IsCommand (Client client cmd) = Unit {0}
+IsCommand line = ⊥
+
 -- the line asks to settle
 abbrev pub AsksSettle : Line → Type 0
 AsksSettle (Client client cmd) = is_settle cmd ≡ true
@@ -66,6 +71,8 @@ pub record StopsLine (line : Line) (old new : Serving) (stop : Option Stop) : Ty
   pub made : ℕ
   pub within : made ≤ events_of line
   pub cut : IsGathered stop → made < events_of line
+  -- and where it failed the line is a command, which was answered
+  pub last : IsOfSink stop → IsCommand line × (made ≡ 1)
   pub served : requests_of new.journal ≡ requests_of old.journal ++ take made (request_of line)
   pub events : old.events ≤ greatest_count → new.events ≡ capped (old.events + made)
   pub steps : old.steps ≤ greatest_count → new.steps ≡ capped (old.steps + steps_in line made)
@@ -81,6 +88,7 @@ pub record StopsLines (lines : List Line) (old new : Serving) (stop : Option Sto
   pub made : ℕ
   pub within : made ≤ events_of line
   pub cut : IsGathered stop → made < events_of line
+  pub last : IsOfSink stop → IsCommand line × (made ≡ 1)
   pub served : requests_of new.journal ≡ requests_of old.journal ++ (requests_asked done ++ take made (request_of line))
   pub events : old.events ≤ greatest_count → new.events ≡ capped (old.events + (events_asked done + made))
   pub steps : old.steps ≤ greatest_count → new.steps ≡ capped (old.steps + (steps_asked done + steps_in line made))

@@ -145,7 +145,7 @@ module _ {D : Type 0} (d : disk.Ghosts D) where
   restore_ends read holds dump start end (Reading before after) ends refuses leaves empty = tt
   restore_ends read holds dump start end (Writing before after) ends refuses leaves empty = tt
   restore_ends read holds dump start end (Device before after opened) ends refuses leaves empty = tt
-  restore_ends read holds dump start end (NotEmpty n) ends refuses leaves empty = make_ends d start end (NotEmpty n) leaves empty
+  restore_ends read holds dump start end (NotEmpty n) ends refuses leaves empty = make_ends d start end (NotEmpty n) leaves.leaves empty
   restore_ends read holds dump start end (Standby fault) ends refuses leaves empty = ends
   restore_ends read holds dump start end (Ahead to from) ends refuses leaves empty = ends
   restore_ends read holds dump start end (Foreign number) ends refuses leaves empty = ends

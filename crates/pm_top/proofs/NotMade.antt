@@ -4,6 +4,7 @@ use Rattle.pm_types.specs.declared.fault.InitFault.{InitFault}
 use Rattle.pm_types.specs.declared.fault.InitFault.TheVariants.{NotEmpty, Disk, Memory}
 use Rattle.pm_disk.specs.declared.disk.Disk as disk
 use Rattle.pm_disk.specs.Disk.{IfTold, SameImages}
+use Rattle.pm_disk.specs.Made.{Made, MadeAtMost}
 use Rattle.pm_io.specs.declared.source.Source as source
 use Rattle.pm_io.specs.declared.sink.Sink as sink
 use Rattle.pm_shadow.specs.Init.{IsInitFault, IsInitFaultOf, UnlessFailed, KeepsBytes}
@@ -11,7 +12,7 @@ use Rattle.pm_runs.specs.declared.ends.ended.Alone.{Alone as Ended}
 use Rattle.pm_runs.specs.Ends.Ends.{not_made}
 use Rattle.pm_runs.specs.Ends.Causes.{ShowsCauses}
 use Rattle.pm_runs.proofs.EndsLemmas.Parts.{with_parts}
-use Rattle.pm_top.specs.Stores.{LeavesMade}
+use Rattle.pm_top.specs.Stores.{CallsToMake, LeavesMade}
 
 pub none_made : {D : Type 0} (d : disk.Ghosts D) (before after : ℕ) (start end : D) (fault : InitFault)
     → IfTold (d.contents start) (λ bytes. IsInitFaultOf bytes fault) → IsInitFault before after fault
@@ -20,6 +21,12 @@ pub none_made : {D : Type 0} (d : disk.Ghosts D) (before after : ℕ) (start end
 none_made d before after start end (NotEmpty n) fault cause still kept = (cause.0, fault, still.0, still.1)
 none_made d before after start end (Disk b a) fault cause still kept = kept
 none_made d before after start end (Memory _) fault cause still kept = still
+
+-- and no more calls were made than making one takes
+pub calls_none : (before after : Made) (fault : InitFault) → MadeAtMost 4 2 before after → CallsToMake (not_made fault) before after
+calls_none before after (NotEmpty n) most = most
+calls_none before after (Disk b a) most = most
+calls_none before after (Memory _) most = most
 
 module _ {D S K : Type 0} (d : disk.Ghosts D) (s : source.Ghosts S) (k : sink.Ghosts K) where
   -- no store was made

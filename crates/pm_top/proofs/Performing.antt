@@ -7,6 +7,8 @@ use Rattle.pm_disk.specs.Disk.{SameImages}
 use Rattle.pm_disk.proofs.RunLemmas.{started}
 use Rattle.pm_io.specs.declared.source.Source as source
 use Rattle.pm_io.specs.declared.sink.Sink as sink
+use Rattle.pm_shadow.specs.Init.{shut_store}
+use Rattle.pm_shadow.proofs.OrderLemmas.{cut_none, early}
 use Rattle.pm_script.specs.declared.line.Line.{Line}
 use Rattle.pm_script.specs.Script.{IsScript}
 use Rattle.pm_make.specs.Made.{made_text}
@@ -19,7 +21,8 @@ use Rattle.pm_runs.specs.declared.ends.ended.Alone.{Alone as Ended}
 use Rattle.pm_runs.specs.declared.writes.Writes.{Writes}
 use Rattle.pm_runs.specs.declared.writes.Writes.TheVariants.{Replies, Digest}
 use Rattle.pm_runs.specs.Ends.Stages.{IsPast, unreached, the_words, the_store}
-use Rattle.pm_runs.specs.Ends.Journals.{ReadsScript, ServesInOrder, ServesLines}
+use Rattle.pm_runs.specs.Ends.Ends.{IsUnwritten}
+use Rattle.pm_runs.specs.Ends.Journals.{ReadsScript, ServesAll, ServesInOrder, ServesLines}
 use Rattle.pm_runs.specs.Ends.Wrote.{WroteText}
 use Rattle.pm_runs.specs.Ends.Causes.{ShowsCauses}
 use Rattle.pm_runs.specs.Runs.{RunsStore}
@@ -56,6 +59,7 @@ module _ {D S K : Type 0} (d : disk.Ghosts D) (k : sink.Ghosts K) where
     script = unread (made_text seed turns) it.journal.items empty;
     order = unordered (made_text seed turns) (Memory false no_memory) it.journal.items empty (λ past. absurd (omega (arith, past)));
     store = untouched_store Digest disk source sink it empty now;
+    last = λ unwritten. absurd unwritten;
     source_stays = refl;
   }
 
@@ -82,13 +86,18 @@ module _ {D S K : Type 0} (d : disk.Ghosts D) (k : sink.Ghosts K) where
 
   pub tried : (seed turns : ℕ) (lines : List Line) (disk : D) (source : S) (sink : K) (it : Ended D S K)
       → IsScript (made_text seed turns) lines → ServesLines lines it.detail it.journal.items it.tally
-      → ServesInOrder lines it.detail it.journal.items it.tally → RunsStore d k Digest disk sink it → it.source ≡ source
+      → ServesInOrder lines it.detail it.journal.items it.tally → RunsStore d k Digest disk sink it
+      → (IsUnwritten it.detail → ServesAll lines it.journal.items it.tally) → it.source ≡ source
       → TriesScript d k seed turns disk source sink it
-  tried seed turns lines disk source sink it script serves order store stays = record {
+  tried seed turns lines disk source sink it script serves order store last stays = record {
     ends = by it.detail serves.ends serves.tried;
     script = script_read (made_text seed turns) lines it.detail it.journal.items it.tally script serves;
     order = order_read (made_text seed turns) lines it.detail it.journal.items it.tally script order;
     store = store;
+    last = λ unwritten. (
+      script_read (made_text seed turns) lines Fine it.journal.items it.tally script (last unwritten).serves,
+      order_read (made_text seed turns) lines Fine it.journal.items it.tally script (last unwritten).order,
+    );
     source_stays = stays;
   }
     where
@@ -114,6 +123,10 @@ module _ {D S K : Type 0} (d : disk.Ghosts D) (s : source.Ghosts S) (k : sink.Gh
       → Does d s k command disk source sink (with_parts it (Memory false no_memory) None disk source sink)
   untouched_does Init disk source sink it empty now same = record {
     makes = (refl, same);
+    calls = record {
+      made = record { writes = omega arith; syncs = omega arith; past = refl };
+      order = λ bytes told none. early d shut_store disk disk (started d.moment d.since disk _ (λ at here. cut_none _ _ at (now at here))) (omega arith);
+    };
     leaves = λ bytes told some. started d.moment d.since disk (d.image disk) now;
     source_stays = refl;
     sink_stays = refl;
@@ -133,6 +146,7 @@ module _ {D S K : Type 0} (d : disk.Ghosts D) (s : source.Ghosts S) (k : sink.Gh
     read = λ past. absurd (omega (arith, past));
     script = λ bytes told. unread bytes it.journal.items empty;
     store = ∣ untouched_store d k Replies disk source sink it empty now ∣₁;
+    last = λ unwritten. absurd unwritten;
     short = λ ran bytes told lines script. tt;
   }
   untouched_does Inspect disk source sink it empty now same = untouched_telling d k Reports disk source sink it empty now
@@ -146,7 +160,7 @@ module _ {D S K : Type 0} (d : disk.Ghosts D) (s : source.Ghosts S) (k : sink.Gh
       spelled = λ never. absurd never;
       emptied = λ never. absurd never;
     };
-    leaves = inl (refl, same);
+    leaves = inl refl;
     keeps = λ bytes told some. started d.moment d.since disk (d.image disk) now;
     sink_stays = refl;
     no_event = empty;

@@ -5,8 +5,7 @@ use Rattle.pm_types.specs.declared.limits.TheConstants.{SOURCE_BYTES}
 use Rattle.pm_types.specs.declared.fault.InitFault.{InitFault}
 use Rattle.pm_types.specs.declared.fault.InitFault.TheVariants as init_fault
 use Rattle.pm_disk.specs.declared.disk.Disk as disk
-use Rattle.pm_disk.specs.Disk.{IfTold, LeavesOnly, SameImages}
-use Rattle.pm_disk.specs.Made.{MadeMore}
+use Rattle.pm_disk.specs.Disk.{IfTold, LeavesOnly}
 use Rattle.pm_disk.proofs.RunLemmas.{started}
 use Rattle.pm_io.specs.declared.source.Source as source
 use Rattle.pm_io.specs.declared.sink.Sink as sink
@@ -29,7 +28,7 @@ use Rattle.pm_runs.specs.declared.ends.ended.Detail.{Detail}
 use Rattle.pm_runs.specs.declared.ends.ended.Detail.TheVariants.{Fine, Usage, Script, Dump as BadDump, Reading, Writing, Device, NotEmpty, Refused, Standby, Ahead, Foreign, OtherDevice, Memory}
 use Rattle.pm_runs.specs.declared.ends.ended.Alone.{Alone as Ended}
 use Rattle.pm_runs.specs.Ends.Ends.{not_made}
-use Rattle.pm_top.specs.Stores.{LeavesMade, LeavesRestored, LeavesSettled}
+use Rattle.pm_top.specs.Stores.{CallsMaking, CallsToSettle, LeavesMade, LeavesRestored, LeavesSettled}
 use Rattle.pm_top.specs.Dumps.{EndsSettling, EndsUnrestored, HasDump, IsDumpEnd, IsReadWhole, RefusesBytes}
 use Rattle.pm_top.specs.Commands.{EndsRestoring, RestoresStore}
 use Rattle.pm_runs.proofs.EndsLemmas.Parts.{with_parts}
@@ -84,45 +83,46 @@ module _ {D : Type 0} (d : disk.Ghosts D) where
       (empty bytes told, is, λ left now. subst (λ (image : List ℕ). StandsForCopy image 0 empty_copy) (sym (only blank_store is left now)) blank_stands)
 
   -- a store was made, and the dump settled in it
-  pub then_settled : (dump : Dump) (start made end : D) (detail : Detail) → EndsSettling detail → MadeMore 4 2 0 (d.made start) (d.made made) → LeavesMade d start made Fine
-      → LeavesSettled d dump made end detail → LeavesRestored d dump start end detail
-  then_settled dump start made end Fine ends calls store settles = record { made = made; calls = calls; store = store; settles = settles }
-  then_settled dump start made end Usage ends calls store settles = absurd ends
-  then_settled dump start made end (Script fault) ends calls store settles = absurd ends
-  then_settled dump start made end (BadDump fault) ends calls store settles = absurd ends
-  then_settled dump start made end (Reading before after) ends calls store settles = absurd ends
-  then_settled dump start made end (Writing before after) ends calls store settles = absurd ends
-  then_settled dump start made end (Device before after opened) ends calls store settles = inr (record { made = made; calls = calls; store = store; settles = settles })
-  then_settled dump start made end (NotEmpty n) ends calls store settles = absurd settles
-  then_settled dump start made end (Standby fault) ends calls store settles = absurd settles
-  then_settled dump start made end (Ahead to from) ends calls store settles = absurd settles
-  then_settled dump start made end (Foreign number) ends calls store settles = absurd settles
-  then_settled dump start made end (OtherDevice before after) ends calls store settles = absurd settles
-  then_settled dump start made end (Refused fault) ends calls store settles = absurd ends
-  then_settled dump start made end (Memory opened _) ends calls store settles = inr (record { made = made; calls = calls; store = store; settles = settles })
+  pub then_settled : (dump : Dump) (start made end : D) (detail : Detail) → EndsSettling detail → CallsMaking d start made Fine → LeavesMade d start made Fine
+      → LeavesSettled d dump made end detail → CallsToSettle dump detail (d.made made) (d.made end) → LeavesRestored d dump start end detail
+  then_settled dump start made end Fine ends calls store settles settling = record { made = made; calls = calls; store = store; settles = settles; settling = settling }
+  then_settled dump start made end Usage ends calls store settles settling = absurd ends
+  then_settled dump start made end (Script fault) ends calls store settles settling = absurd ends
+  then_settled dump start made end (BadDump fault) ends calls store settles settling = absurd ends
+  then_settled dump start made end (Reading before after) ends calls store settles settling = absurd ends
+  then_settled dump start made end (Writing before after) ends calls store settles settling = absurd ends
+  then_settled dump start made end (Device before after opened) ends calls store settles settling = inr (record { made = made; calls = calls; store = store; settles = settles; settling = settling })
+  then_settled dump start made end (NotEmpty n) ends calls store settles settling = absurd settles
+  then_settled dump start made end (Standby fault) ends calls store settles settling = absurd settles
+  then_settled dump start made end (Ahead to from) ends calls store settles settling = absurd settles
+  then_settled dump start made end (Foreign number) ends calls store settles settling = absurd settles
+  then_settled dump start made end (OtherDevice before after) ends calls store settles settling = absurd settles
+  then_settled dump start made end (Refused fault) ends calls store settles settling = absurd ends
+  then_settled dump start made end (Memory opened _) ends calls store settles settling = inr (inr (record { made = made; calls = calls; store = store; settles = settles; settling = settling }))
 
   -- none was made
-  pub none_restored : (dump : Dump) (start end : D) (fault : InitFault) → LeavesMade d start end (not_made fault) → LeavesRestored d dump start end (not_made fault)
-  none_restored dump start end (init_fault.NotEmpty n) leaves = leaves
-  none_restored dump start end (init_fault.Disk b a) leaves = inl leaves
-  none_restored dump start end (init_fault.Memory _) leaves = inl leaves
+  pub none_restored : (dump : Dump) (start end : D) (fault : InitFault) → LeavesMade d start end (not_made fault) → CallsMaking d start end (not_made fault)
+      → LeavesRestored d dump start end (not_made fault)
+  none_restored dump start end (init_fault.NotEmpty n) leaves calls = record { leaves = leaves; calls = calls }
+  none_restored dump start end (init_fault.Disk b a) leaves calls = inl (record { leaves = leaves; calls = calls })
+  none_restored dump start end (init_fault.Memory _) leaves calls = inr (inl (record { leaves = leaves; calls = calls }))
 
   -- the disk was not called
-  pub uncalled_restored : (dump : Dump) (start : D) (detail : Detail) → EndsUnrestored detail → SameImages (d.image start) (d.image start) → LeavesRestored d dump start start detail
-  uncalled_restored dump start Fine ends same = absurd ends
-  uncalled_restored dump start Usage ends same = refl
-  uncalled_restored dump start (Script fault) ends same = refl
-  uncalled_restored dump start (BadDump fault) ends same = refl
-  uncalled_restored dump start (Reading before after) ends same = refl
-  uncalled_restored dump start (Writing before after) ends same = refl
-  uncalled_restored dump start (Device before after opened) ends same = absurd ends
-  uncalled_restored dump start (NotEmpty n) ends same = absurd ends
-  uncalled_restored dump start (Standby fault) ends same = absurd ends
-  uncalled_restored dump start (Ahead to from) ends same = absurd ends
-  uncalled_restored dump start (Foreign number) ends same = absurd ends
-  uncalled_restored dump start (OtherDevice before after) ends same = absurd ends
-  uncalled_restored dump start (Refused fault) ends same = refl
-  uncalled_restored dump start (Memory opened _) ends same = inl (refl, same)
+  pub uncalled_restored : (dump : Dump) (start : D) (detail : Detail) → EndsUnrestored detail → LeavesRestored d dump start start detail
+  uncalled_restored dump start Fine ends = absurd ends
+  uncalled_restored dump start Usage ends = refl
+  uncalled_restored dump start (Script fault) ends = refl
+  uncalled_restored dump start (BadDump fault) ends = refl
+  uncalled_restored dump start (Reading before after) ends = refl
+  uncalled_restored dump start (Writing before after) ends = refl
+  uncalled_restored dump start (Device before after opened) ends = absurd ends
+  uncalled_restored dump start (NotEmpty n) ends = absurd ends
+  uncalled_restored dump start (Standby fault) ends = absurd ends
+  uncalled_restored dump start (Ahead to from) ends = absurd ends
+  uncalled_restored dump start (Foreign number) ends = absurd ends
+  uncalled_restored dump start (OtherDevice before after) ends = absurd ends
+  uncalled_restored dump start (Refused fault) ends = refl
+  uncalled_restored dump start (Memory opened _) ends = inl refl
 
 -- ---- the ends of the command
 
@@ -214,7 +214,7 @@ module _ {D S K : Type 0} (d : disk.Ghosts D) (s : source.Ghosts S) (k : sink.Gh
           spelled = λ has. absurd (none_read detail ends has);
           emptied = λ whole. emptied bytes told whole;
         };
-        leaves = uncalled_restored d dump disk detail ends (record { no_more = λ image is. is; no_fewer = λ image is. is });
+        leaves = uncalled_restored d dump disk detail ends;
         keeps = λ bytes told some. started d.moment d.since disk (d.image disk) now;
         sink_stays = refl;
         no_event = empty;

@@ -17,9 +17,10 @@ use Rattle.pm_runs.specs.declared.ends.ended.Detail.{Detail}
 use Rattle.pm_runs.specs.declared.ends.ended.Detail.TheVariants.{Fine, Script, Dump as BadDump, Reading, Writing, Device, NotEmpty, Refused, Memory}
 use Rattle.pm_runs.specs.declared.ends.ended.Alone.{Alone as Ended}
 use Rattle.pm_runs.specs.declared.writes.Writes.TheVariants.{Digest}
+use Rattle.pm_runs.specs.Ends.Ends.{IsUnwritten}
 use Rattle.pm_runs.specs.Ends.Journals.{KeepsOrder, ReadsScript}
 use Rattle.pm_runs.specs.Ends.Disks.{IsRefusedFor}
-use Rattle.pm_top.specs.Stores.{LeavesMade, LeavesRestored}
+use Rattle.pm_top.specs.Stores.{CallsMaking, LeavesMade, LeavesRestored}
 use Rattle.pm_top.specs.Dumps.{HasDump, ReadsDump}
 use Rattle.pm_runs.specs.Ends.Wrote.{IsWriting, WroteText}
 use Rattle.pm_runs.specs.Runs.{RunsStore, RunsScript, RunsTogether}
@@ -80,6 +81,7 @@ module _ {D S K : Type 0} (d : disk.Ghosts D) where
   -- What `init FILE` does: a store is made, and source and sink are not called.
   pub record MakesStore (disk : D) (source : S) (sink : K) (ended : Ended D S K) : Type 0 where
     pub makes : LeavesMade d disk ended.disk ended.detail
+    pub calls : CallsMaking d disk ended.disk ended.detail
     -- where the disk told some byte, a crash at any moment leaves what it might have left at the start
     pub leaves : (bytes : List ℕ) → d.contents disk ≡ Some bytes → 0 < length bytes
         → LeavesOnly d.moment d.since disk ended.disk (d.image disk)
@@ -131,6 +133,9 @@ module _ {D S K : Type 0} (d : disk.Ghosts D) (k : sink.Ghosts K) where
     -- in the order of its lines
     pub order : KeepsOrder (made_text seed turns) ended.detail ended.journal.items ended.tally
     pub store : RunsStore d k Digest disk sink ended
+    -- where the sink failed all was made that the script asks for, as where the run is done
+    pub last : IsUnwritten ended.detail → ReadsScript (made_text seed turns) Fine ended.journal.items ended.tally
+        × KeepsOrder (made_text seed turns) Fine ended.journal.items ended.tally
     pub source_stays : ended.source ≡ source
 
 module _ {D S K : Type 0} (k : sink.Ghosts K) where

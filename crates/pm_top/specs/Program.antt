@@ -8,11 +8,10 @@ use Rattle.pm_io.specs.declared.sink.Sink as sink
 use Rattle.pm_serial.specs.Output.Writing.{PutsAll, PutsPart}
 use Rattle.pm_words.specs.declared.command.Command.{Command}
 use Rattle.pm_words.specs.Words.{AreShip, SpellsAlone, SpellsNothing}
-use Rattle.pm_runs.specs.declared.ends.ended.Detail.{Detail}
 use Rattle.pm_runs.specs.declared.ends.ended.Detail.TheVariants.{Usage, Memory}
 use Rattle.pm_runs.specs.declared.ends.ended.Ended.{Ended}
 use Rattle.pm_runs.specs.Ends.Alone.{alone}
-use Rattle.pm_runs.specs.Ends.Ends.{ShowsOther, status_of, detail_line}
+use Rattle.pm_runs.specs.Ends.Ends.{ShowsOther, status_of}
 use Rattle.pm_runs.specs.Ends.Causes.{ShowsCauses}
 use Rattle.pm_top.specs.Commands.{IsUntouched, Does}
 use Rattle.pm_top.specs.Needs.{HasNeeds, NothingFails}
@@ -23,12 +22,6 @@ module _ {E : Type 0} (e : sink.Ghosts E) where
   pub record Tells (old new : E) (line : List ℕ) : Type 0 where
     pub all : ¬ (Rose (e.count old) (e.count new)) → PutsAll (e.written old) (e.written new) line
     pub part : PutsPart (e.written old) (e.written new) line
-
-  -- The line of an end was told, and this is the status of that end.
-  pub record TellsEnd (old new : E) (status : ℕ) : Type 0 where
-    pub detail : Detail
-    pub is_status : status ≡ status_of detail
-    pub told : Tells old new (detail_line detail)
 
 module _ {D E S K : Type 0} (d : disk.Ghosts D) (e : disk.Ghosts E) (s : source.Ghosts S) (k : sink.Ghosts K) where
   -- The program ended so, with a status, a journal, a tally and what is left of both disks, source and sink: all holds of

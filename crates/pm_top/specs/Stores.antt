@@ -1,19 +1,37 @@
--- How making a store, and how restoring a dump leaves the disk.
-use Rattle.std.specs.Prelude.{◌≡◌, ◌⊎◌, ℕ, ◌<◌, List, length, Some}
+-- How making a store, and how restoring a dump leaves the disk, and which calls of the disk that takes.
+use Rattle.std.specs.Prelude.{◌≡◌, ◌⊎◌, ℕ, ◌+◌, ◌<◌, List, length, Some}
 use Rattle.pm_disk.specs.declared.disk.Disk as disk
 use Rattle.pm_disk.specs.Disk.{IfTold, LeavesOnly, SameImages}
-use Rattle.pm_disk.specs.Made.{MadeMore}
+use Rattle.pm_disk.specs.Made.{Made, MadeAtMost, MadeMore}
 use Rattle.pm_model.specs.World.{empty_copy}
 use Rattle.pm_image.specs.Stands.{StandsForCopy}
 use Rattle.pm_image.specs.Blank.{blank_store}
-use Rattle.pm_shadow.specs.Init.{KeepsBytes}
+use Rattle.pm_shadow.specs.Init.{KeepsBytes, MakesInOrder, shut_store}
+use Rattle.pm_saving.specs.Paging.{left}
 use Rattle.pm_dump.specs.Dump.{Dump}
-use Rattle.pm_restore.specs.Restored.{copy_in_dump, restored_in}
+use Rattle.pm_restore.specs.Restored.{copy_in_dump, dump_progress, restored_in}
 use Rattle.pm_runs.specs.declared.ends.ended.Detail.{Detail}
 use Rattle.pm_runs.specs.declared.ends.ended.Detail.TheVariants.{Fine, Device, NotEmpty, Memory}
 use Rattle.pm_types.specs.Memory.{no_memory}
 
+-- Making a store takes four writes and two syncs; where none is made it takes no more.
+abbrev pub CallsToMake : Detail → Made → Made → Type 0
+CallsToMake Fine before after = MadeMore 4 2 0 before after
+CallsToMake detail before after = MadeAtMost 4 2 before after
+
+-- Settling a dump in it takes a write for each page of the dump, two for the header, and two syncs; where it is not settled
+-- it takes no more.
+abbrev pub CallsToSettle : Dump → Detail → Made → Made → Type 0
+CallsToSettle dump Fine before after = MadeMore (left (dump_progress dump) + 2) 2 0 before after
+CallsToSettle dump detail before after = MadeAtMost (left (dump_progress dump) + 2) 2 before after
+
 module _ {D : Type 0} (d : disk.Ghosts D) where
+  -- By which calls a store is made: so many; and where the disk told no byte the fourth write, of the gate, is made only
+  -- behind the sync of the other three.
+  pub record CallsMaking (start end : D) (detail : Detail) : Type 0 where
+    pub made : CallsToMake detail (d.made start) (d.made end)
+    pub order : IfTold (d.contents start) (λ bytes. length bytes ≡ 0 → MakesInOrder d shut_store start end)
+
   -- How making a store leaves the disk, by how it ended.
   abbrev pub LeavesMade : D → D → Detail → Type 0
   -- a store was made on a disk that was empty, and each image stands for copy 0, of nothing
@@ -45,19 +63,26 @@ module _ {D : Type 0} (d : disk.Ghosts D) where
       LeavesOnly d.moment d.since made end (λ image. StandsForCopy image 0 empty_copy))
   LeavesSettled dump made end detail = ⊥
 
-  -- A store was made on a disk that was empty, by four writes and two syncs, and then the dump was settled in it.
+  -- A store was made on a disk that was empty, and then the dump was settled in it.
   pub record MakesAndSettles (dump : Dump) (start end : D) (detail : Detail) : Type 0 where
     pub made : D
-    pub calls : MadeMore 4 2 0 (d.made start) (d.made made)
+    pub calls : CallsMaking start made Fine
     pub store : LeavesMade start made Fine
     pub settles : LeavesSettled dump made end detail
+    pub settling : CallsToSettle dump detail (d.made made) (d.made end)
 
-  -- How restoring a dump leaves the disk, by how it ended: where it was not read, the disk is not called.
+  -- No store was made.
+  pub record MakesNone (start end : D) (detail : Detail) : Type 0 where
+    pub leaves : LeavesMade start end detail
+    pub calls : CallsMaking start end detail
+
+  -- How restoring a dump leaves the disk, by how it ended: where it was not read, the disk is not called. Memory may have run
+  -- out before.
   abbrev pub LeavesRestored : Dump → D → D → Detail → Type 0
   LeavesRestored dump start end Fine = MakesAndSettles dump start end Fine
-  LeavesRestored dump start end (NotEmpty n) = LeavesMade start end (NotEmpty n)
+  LeavesRestored dump start end (NotEmpty n) = MakesNone start end (NotEmpty n)
   LeavesRestored dump start end (Device before after opened) =
-      LeavesMade start end (Device before after opened) ⊎ MakesAndSettles dump start end (Device before after opened)
+      MakesNone start end (Device before after opened) ⊎ MakesAndSettles dump start end (Device before after opened)
   LeavesRestored dump start end (Memory opened _) =
-      LeavesMade start end (Memory opened no_memory) ⊎ MakesAndSettles dump start end (Memory opened no_memory)
+      (end ≡ start) ⊎ (MakesNone start end (Memory opened no_memory) ⊎ MakesAndSettles dump start end (Memory opened no_memory))
   LeavesRestored dump start end detail = end ≡ start

@@ -11,7 +11,7 @@ ghost use Rattle.pm_dump.specs.Sound.{IsSoundDump};
 ghost use Rattle.pm_dump.specs.Answers.{Answers, IsDumpFault};
 ghost use Rattle.pm_restore.specs.Restored.{IsNewStore};
 ghost use Rattle.pm_runs.specs.Ends.Ends.{ShowsDevice, ShowsReading, no_dump, not_settled, status_of};
-ghost use Rattle.pm_top.specs.Stores.{LeavesRestored, LeavesSettled};
+ghost use Rattle.pm_top.specs.Stores.{CallsToSettle, LeavesRestored, LeavesSettled};
 ghost use Rattle.pm_top.specs.Dumps.{EndsSettling, EndsUnrestored, IsReadWhole, RefusesBytes};
 ghost use Rattle.pm_top.specs.Commands.{RestoresStore};
 ghost use Rattle.pm_runs.specs.Ends.Causes.{ShowsCauses};
@@ -111,6 +111,7 @@ fn settle<D: Disk>(alloc: Global, mut pages: Pages<D>, dump: &Dump) -> (D, Detai
     requires new { IsNewStore (state pages) (D.contents (disk_of pages)) }
     ensures ends { EndsSettling result.1 }
     ensures leaves { LeavesSettled D.Disk dump.now (disk_of pages) result.0 result.1 }
+    ensures calls { CallsToSettle dump.now result.1 (D.made (disk_of pages)) (D.made result.0) }
     ensures device { ShowsDevice result.1 (D.count (disk_of pages)) (D.count result.0) }
     ensures reads { (D.made result.0).past ≡ (D.made (disk_of pages)).past }
 {

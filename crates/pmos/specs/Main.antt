@@ -1,8 +1,11 @@
 -- What `main` takes from its words, and what a run of the program from it leaves.
-use Rattle.std.specs.Prelude.{◌≡◌, ◌⊎◌, ℕ, ◌-◌, ◌/◌, List, [], ◌∷◌, codes}
+use Rattle.std.specs.Prelude.{◌≡◌, ◌⊎◌, ℕ, ◌-◌, ◌/◌, List, [], ◌∷◌, codes, length, Result, Ok, Err}
+use Rattle.std.specs.Borrow.{Bor}
+use Rattle.std.specs.Fn.{Shared}
 use Rattle.pm_disk.specs.declared.disk.Disk as disk
 use Rattle.pm_io.specs.declared.source.Source as source
 use Rattle.pm_io.specs.declared.sink.Sink as sink
+use Rattle.pm_place.specs.Choosers.{IsAsked}
 use Rattle.pm_words.specs.declared.chosen.Chosen.{Chosen}
 use Rattle.pm_words.specs.declared.chosen.Chosen.TheVariants.{First, Last, Middle}
 use Rattle.pm_runs.specs.declared.ends.ended.Ended.{Ended}
@@ -24,13 +27,26 @@ place_in First many = 0
 place_in Last many = many - 1
 place_in Middle many = many / 2
 
-module _ {D E S K : Type 0} (d : disk.Ghosts D) (e : disk.Ghosts E) (s : source.Ghosts S) (k : sink.Ghosts K) where
-  -- There are two disks, a source and a sink that stand so at the start, by these words, over which the program performed
-  -- what the words ask for, and ended so.
-  pub record PerformsFrom (start : List (List ℕ) → D → E → S → K → Type 0) (words : List (List ℕ)) (ended : Ended D E S K) : Type 0 where
+-- the words that std gave, or none where it gave none
+abbrev pub words_in : {A E : Type 0} → (A → List (List ℕ)) → Result A E → List (List ℕ)
+words_in items (Ok all) = items all
+words_in items (Err error) = []
+
+module _ {F : Type 0} (calls : Shared F (Bor (List ℕ) × Unit {0}) ℕ) (choose : F) where
+  -- whatever it answers of a list of trains is the place that is chosen
+  abbrev pub Chooses : Chosen → Type 0
+  Chooses chosen = (trains : Bor (List ℕ)) (index : ℕ) → IsAsked trains.now → calls.post choose (trains, tt) index → index ≡ place_in chosen (length trains.now)
+
+module _ {D S K : Type 0} (d : disk.Ghosts D) (s : source.Ghosts S) (k : sink.Ghosts K) (path : D → List ℕ) where
+  -- There are the disks of the two files that the words name, of which no call was made yet, over which, and over this source
+  -- and this sink, the program performed what the words ask for, and ended so.
+  pub record PerformsFrom (source : S) (sink : K) (words : List (List ℕ)) (ended : Ended D D S K) : Type 0 where
     pub disk : D
-    pub other : E
-    pub source : S
-    pub sink : K
-    pub starts : start words disk other source sink
-    pub performs : Performs d e s k words disk other source sink ended
+    pub other : D
+    pub path_is : path disk ≡ path_in words
+    pub other_path_is : IsOtherPath words (path other)
+    pub count : d.count disk ≡ 0
+    pub uncalled : d.moment disk ≡ 0
+    pub other_count : d.count other ≡ 0
+    pub other_uncalled : d.moment other ≡ 0
+    pub performs : Performs d d s k words disk other source sink ended

@@ -15,7 +15,7 @@ use Rattle.pm_saving.specs.Images.{IsTold}
 use Rattle.pm_reopen.specs.Refused.{IsRefusal}
 use Rattle.pm_runs.specs.declared.ends.ended.Detail.{Detail}
 use Rattle.pm_runs.specs.declared.ends.ended.Detail.TheVariants.{Fine, Usage, Script, Dump as BadDump, Reading, Writing, Device, NotEmpty, Refused, Standby, Ahead, Foreign, OtherDevice, Memory}
-use Rattle.pm_runs.specs.Ends.Ends.{not_opened}
+use Rattle.pm_runs.specs.Ends.Ends.{IsUnwritten, not_opened}
 use Rattle.pm_runs.specs.Ends.Stages.{IsPast, unreached, the_store, the_events}
 use Rattle.pm_runs.specs.Ends.Disks.{IsLastOf, IsOfRun, IsRefusedFor, LeavesDisk}
 
@@ -44,6 +44,15 @@ none_opened (Damaged page kept found) past = absurd (omega arith)
 none_opened (Malformed page at) past = absurd (omega arith)
 none_opened (Disk before after) past = absurd (omega arith)
 none_opened (NoRoom _) past = absurd (omega arith)
+
+-- no sink failed
+pub unopened_unwritten : (fault : OpenFault) → IsUnwritten (not_opened fault) → ⊥
+unopened_unwritten NotAStore unwritten = unwritten
+unopened_unwritten (Version version) unwritten = unwritten
+unopened_unwritten (Damaged page kept found) unwritten = unwritten
+unopened_unwritten (Malformed page at) unwritten = unwritten
+unopened_unwritten (Disk before after) unwritten = unwritten
+unopened_unwritten (NoRoom _) unwritten = unwritten
 
 -- it was tried
 pub tried_open : (fault : OpenFault) → the_store < unreached (not_opened fault)

@@ -71,7 +71,7 @@ order_read bytes lines detail journal tally script serves =
       all_ordered = λ past others other.
           subst (λ (ls : List Line). IfSome tally (λ it. (tally_of it).course ≡ course_of 0 0 ls)) (one_reading bytes lines others script other) (serves.all_ordered past few);
       stopped = λ others other.
-          subst (λ (ls : List Line). IfSome tally (λ it. OnStop (stop_in detail) (StopsAmong ls journal (tally_of it).steps (tally_of it).events))) (one_reading bytes lines others script other)
+          subst (λ (ls : List Line). IfSome tally (λ it. OnStop (stop_in detail) (StopsAmong ls journal (tally_of it).steps (tally_of it).events (stop_in detail)))) (one_reading bytes lines others script other)
           (stopped_at tally (stop_in detail) serves.stopped few);
       short = λ ran others done more client other parted.
           let same : others ≡ lines = sym (one_reading bytes lines others script other) in
@@ -84,8 +84,8 @@ order_read bytes lines detail journal tally script serves =
         let one = events_cons (Client client Settle) more in
         omega (arith, all, one, few)
 
-    stopped_at : (tally : Option Tally) (stop : Option Stop) → OnStop stop (events_asked lines ≤ greatest_count → IfSome tally (λ it. StopsAmong lines journal (tally_of it).steps (tally_of it).events))
-        → events_asked lines ≤ greatest_count → IfSome tally (λ it. OnStop stop (StopsAmong lines journal (tally_of it).steps (tally_of it).events))
+    stopped_at : (tally : Option Tally) (stop : Option Stop) → OnStop stop (events_asked lines ≤ greatest_count → IfSome tally (λ it. StopsAmong lines journal (tally_of it).steps (tally_of it).events stop))
+        → events_asked lines ≤ greatest_count → IfSome tally (λ it. OnStop stop (StopsAmong lines journal (tally_of it).steps (tally_of it).events stop))
     stopped_at None stop stops few = tt
     stopped_at (Some it) None stops few = tt
     stopped_at (Some it) (Some why) stops few = stops few

@@ -8,7 +8,7 @@ use Rattle.pm_io.specs.declared.sink.Sink as sink
 use Rattle.pm_runs.specs.declared.ends.ended.Detail.{Detail}
 use Rattle.pm_runs.specs.declared.ends.ended.Detail.TheVariants.{Fine, Usage, Script, Dump as BadDump, Reading, Writing, Device, NotEmpty, Refused, Standby, Ahead, Foreign, OtherDevice, Memory}
 use Rattle.pm_runs.specs.declared.ends.ended.Alone.{Alone as Ended}
-use Rattle.pm_runs.specs.Ends.Ends.{ShowsReading}
+use Rattle.pm_runs.specs.Ends.Ends.{IsUnwritten, ShowsReading}
 use Rattle.pm_runs.specs.Ends.Stages.{IsPast, the_words, the_script, the_store}
 use Rattle.pm_runs.specs.Ends.Disks.{IsRefusedFor}
 use Rattle.pm_runs.specs.Ends.Journals.{EndsReading, ReadsScript, StopsReading}
@@ -50,6 +50,22 @@ script_unread (Memory opened _) ends past = let none : IsPast the_script (Memory
 
 pub store_unread : (detail : Detail) → EndsReading detail → IsPast the_store detail → ⊥
 store_unread detail ends past = script_unread detail ends (omega (arith, past))
+
+pub unwritten_unread : (detail : Detail) → EndsReading detail → IsUnwritten detail → ⊥
+unwritten_unread Fine ends unwritten = absurd unwritten
+unwritten_unread Usage ends unwritten = absurd unwritten
+unwritten_unread (Script fault) ends unwritten = absurd unwritten
+unwritten_unread (BadDump fault) ends unwritten = absurd unwritten
+unwritten_unread (Reading before after) ends unwritten = absurd unwritten
+unwritten_unread (Writing before after) ends unwritten = absurd ends
+unwritten_unread (Device before after opened) ends unwritten = absurd unwritten
+unwritten_unread (NotEmpty bytes) ends unwritten = absurd unwritten
+unwritten_unread (Standby fault) ends unwritten = absurd unwritten
+unwritten_unread (Ahead to from) ends unwritten = absurd unwritten
+unwritten_unread (Foreign number) ends unwritten = absurd unwritten
+unwritten_unread (OtherDevice before after) ends unwritten = absurd unwritten
+unwritten_unread (Refused fault) ends unwritten = absurd unwritten
+unwritten_unread (Memory opened _) ends unwritten = absurd unwritten
 
 pub refused_unread : (bytes : List ℕ) (detail : Detail) → EndsReading detail → IsRefusedFor bytes detail
 refused_unread bytes Fine ends = tt

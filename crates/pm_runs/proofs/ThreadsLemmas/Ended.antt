@@ -18,6 +18,7 @@ use Rattle.pm_engine.specs.declared.events.stop.Stop.TheVariants.{Memory, Writin
 use Rattle.pm_engine.specs.Events.Causes.{CountsDisk, IsDone}
 use Rattle.pm_engine.specs.Events.Events.{EngineGoesOn}
 use Rattle.pm_engine.specs.Events.Running.{IsFresh, RunsOnDisk}
+use Rattle.pm_serial.specs.Stepping.{IsOfSink}
 use Rattle.pm_engine.proofs.EventsLemmas.Going.{goes_ended, goes_first, runs}
 use Rattle.pm_lock.specs.Kept.{HasCauseSince, stop_kept}
 
@@ -34,6 +35,18 @@ pub kept_none : (fault : Option EngineFault) (after : Option Stop) → Ends (sto
 kept_none None after why done = refl
 kept_none (Some fault) after why done =
     ⊎_elim (λ same. absurd (subst IsDone same done)) (λ both. let never = both.0 in absurd (cc never)) why
+
+-- no fault of an engine is one of the sink
+no_sink : (fault : EngineFault) → IsOfSink (stop_kept (Some fault)) → ⊥
+no_sink (NoRoom _) of = of
+no_sink (Disk before after) of = of
+no_sink (Reopen count) of = of
+
+-- so a run that stopped for the sink had kept none
+pub kept_unwritten : (fault : Option EngineFault) (after : Option Stop) → Ends (stop_kept fault) after → IsOfSink after → fault ≡ None
+kept_unwritten None after why of = refl
+kept_unwritten (Some fault) after why of =
+    ⊎_elim (λ same. absurd (no_sink fault (subst IsOfSink same of))) (λ both. let never = both.0 in absurd (cc never)) why
 
 -- one that memory ran out of had kept just that
 pub kept_memory : (fault : Option EngineFault) (after : Option Stop) → Ends (stop_kept fault) after → after ≡ Some (Memory no_memory) → fault ≡ Some (NoRoom no_memory)

@@ -170,6 +170,11 @@ abbrev pub RanShort : Detail → Type 0
 RanShort (Memory opened _) = Unit {0}
 RanShort detail = ⊥
 
+-- the sink failed
+abbrev pub IsUnwritten : Detail → Type 0
+IsUnwritten (Writing before after) = Unit {0}
+IsUnwritten detail = ⊥
+
 -- why a run of lines stopped that ended so, if it did
 abbrev pub stop_in : Detail → Option Stop
 stop_in (Writing before after) = Some StopWriting

@@ -18,7 +18,7 @@ use Rattle.pm_script.specs.Parted.Asked.{events_asked, flushes_asked, requests_a
 use Rattle.pm_engine.specs.Events.Causes.{OnStop}
 use Rattle.pm_serial.specs.Ordered.{StopsAmong, course_of}
 use Rattle.pm_runs.specs.declared.ends.ended.Detail.{Detail}
-use Rattle.pm_runs.specs.declared.ends.ended.Detail.TheVariants.{Script, Reading, Memory}
+use Rattle.pm_runs.specs.declared.ends.ended.Detail.TheVariants.{Fine, Script, Reading, Memory}
 use Rattle.pm_runs.specs.Ends.Ends.{IsOfScript, RanShort, stop_in}
 use Rattle.pm_runs.specs.Ends.Stages.{IsPast, unreached, the_words, the_script, the_store, the_output}
 
@@ -65,7 +65,7 @@ pub record ServesInOrder (lines : List Line) (detail : Detail) (journal : List E
       → events_asked done < greatest_count → IfSome tally (λ it. IsShortIn (events_asked done) (tally_of it))
   -- where it stopped
   pub stopped : OnStop (stop_in detail) (events_asked lines ≤ greatest_count
-      → IfSome tally (λ it. StopsAmong lines journal (tally_of it).steps (tally_of it).events))
+      → IfSome tally (λ it. StopsAmong lines journal (tally_of it).steps (tally_of it).events (stop_in detail)))
 
 -- What a run answers of these lines, once they were read, in whichever order the clients' commands are asked.
 pub record ServesLines (lines : List Line) (detail : Detail) (journal : List Entry) (tally : Option Tally) : Type 0 where
@@ -79,6 +79,11 @@ pub record ServesLines (lines : List Line) (detail : Detail) (journal : List Ent
   pub long : IsPast the_output detail → length journal ≡ length (requests_asked lines)
   pub steps : IsPast the_output detail → IfSome tally (λ it. (tally_of it).steps ≡ capped (steps_asked lines))
   pub events : IsPast the_output detail → IfSome tally (λ it. (tally_of it).events ≡ capped (events_asked lines))
+
+-- All that these lines ask was answered in their order, as where the run is done.
+pub record ServesAll (lines : List Line) (journal : List Entry) (tally : Option Tally) : Type 0 where
+  pub serves : ServesLines lines Fine journal tally
+  pub order : ServesInOrder lines Fine journal tally
 
 -- a script that is refused has this fault
 abbrev pub IsScriptEnd : List ℕ → Detail → Type 0
@@ -137,7 +142,7 @@ pub record KeepsOrder (bytes : List ℕ) (detail : Detail) (journal : List Entry
       → IfSome tally (λ it. (tally_of it).course ≡ course_of 0 0 lines)
   -- a run that stopped has made all events of the lines that are done, and of the next one, if there is one, some
   pub stopped : (lines : List Line) → IsScript bytes lines
-      → IfSome tally (λ it. OnStop (stop_in detail) (StopsAmong lines journal (tally_of it).steps (tally_of it).events))
+      → IfSome tally (λ it. OnStop (stop_in detail) (StopsAmong lines journal (tally_of it).steps (tally_of it).events (stop_in detail)))
   -- where memory runs out in a `settle`, which is the event that was not made where so many were made as the lines before it
   -- ask for, something of the copy is left to be written, unless no event was made: a copy that was flushed whole settles
   pub short : RanShort detail → (lines done more : List Line) (client : ℕ) → IsScript bytes lines

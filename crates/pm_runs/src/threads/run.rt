@@ -8,6 +8,7 @@ ghost use Rattle.pm_engine.specs.Shown.{KeepsStart, chooser, disk_in, serving, t
 ghost use Rattle.pm_engine.specs.declared.events.stop.Stop.TheVariants.{Writing};
 ghost use Rattle.pm_engine.specs.Events.Causes.{CountsDisk, why};
 ghost use Rattle.pm_engine.specs.Events.Running.{IsFresh, RunsOnDisk};
+ghost use Rattle.pm_serial.specs.Stepping.{IsOfSink};
 ghost use Rattle.pm_serial.specs.Writing.{WroteRun, tail_of};
 ghost use Rattle.pm_lock.specs.Kept.{stop_kept};
 ghost use Rattle.pm_lock.specs.Shown.{engine_in, fault_in};
@@ -101,6 +102,8 @@ pub fn run_script<
     ensures cause { CountsDisk (why result.0) (D.count (disk_in engine)) (D.count (disk_in result.1)) }
     ensures past { (D.made (disk_in result.1)).past ≡ (D.made (disk_in engine)).past }
     ensures start { ∥ KeepsStart engine result.1 ∥₁ }
+    // Where the sink failed all was answered, as where the run is done: it is called behind the last event alone.
+    ensures last { IsOfSink (why result.0) → AnswersClients script (serving result.1) None }
 {
     engine.keep_their_images();
     images_since_now(&engine);

@@ -1,6 +1,6 @@
 //! A run whose replies are not kept.
 
-ghost use Rattle.std.specs.Prelude.{◌≡◌, ◌++◌, [], ℕ, List, Some, length, OnOk, OnErr};
+ghost use Rattle.std.specs.Prelude.{◌≡◌, ◌++◌, [], ℕ, List, None, Some, length, OnOk, OnErr};
 ghost use Rattle.pm_types.specs.Counts.{Rose};
 ghost use Rattle.pm_place.specs.Choosers.{IsChooser};
 ghost use Rattle.pm_model.specs.Text.{text};
@@ -11,6 +11,7 @@ ghost use Rattle.pm_engine.specs.Shown.{KeepsStart, chooser, serving, tally_in};
 ghost use Rattle.pm_engine.specs.Events.Causes.{why};
 ghost use Rattle.pm_serial.specs.Running.{AnswersLines};
 ghost use Rattle.pm_engine.specs.Events.Running.{IsFresh, RunsOnDisk};
+ghost use Rattle.pm_serial.specs.Stepping.{IsOfSink};
 ghost use Rattle.pm_serial.specs.Writing.{tail_of};
 ghost use Rattle.pm_runs.specs.Trial.Trials.{WroteTrial, shown_digest};
 
@@ -69,6 +70,8 @@ pub fn run_trial<D: Disk, F: Fn(&[u64]) -> usize + Drop, K: Sink>(
     ensures sink { WroteTrial K.written K.finished K.count sink.old sink.new
         (text (serving engine.new).journal) (tail_of (tally_in (serving engine.new))) (why result) }
     ensures start { KeepsStart engine.old engine.new }
+    // Where the sink failed all was answered, as where the run is done: it is called behind the last event alone.
+    ensures last { IsOfSink (why result) → AnswersLines lines.items (serving engine.new) None }
 {
     engine.keep_their_images();
     let mut output = match Output::new(alloc) {

@@ -4,7 +4,11 @@ use Rattle.std.proofs.Math.Nat.{min-le_right}
 use Rattle.std.proofs.Math.Seq.{take-append-add}
 use Rattle.std.proofs.lemmas.List.{append-nil, length-append, length-take, length-take-le, take-append-le}
 use Rattle.pm_io.specs.Streams.{AppendsPart}
-use Rattle.pm_serial.specs.Output.Writing.{GoesOn, PutsPart}
+use Rattle.pm_script.specs.declared.reply.TheConstants.{REPLY_BYTES}
+use Rattle.pm_serial.specs.declared.output.output.Output.{Output}
+use Rattle.pm_serial.specs.declared.output.output.TheConstants.{BUFFER_BYTES}
+use Rattle.pm_serial.specs.Output.Gathered.{gathered}
+use Rattle.pm_serial.specs.Output.Writing.{GoesOn, IsNear, PutsPart}
 
 no_longer : (n : ℕ) (free piece : List ℕ) → take n free ≡ piece → n ≡ length piece → n ≤ length free
 no_longer n free piece is len = subst (λ (m : ℕ). m ≤ length free) (sym (length-take n free) ∙ ap length is ∙ sym len) (min-le_right n (length free))
@@ -85,3 +89,34 @@ part_then one two told mid now gathered between first second bytes known =
 -- a first part of what is gathered is one of that with a piece behind it
 pub part_longer : (piece : List ℕ) (told now : Option (List ℕ)) (gathered : List ℕ) → PutsPart told now gathered → PutsPart told now (gathered ++ piece)
 part_longer piece told now gathered some bytes known = longer_part bytes gathered piece now (some bytes known)
+
+-- ---- what is missing
+
+-- a text that is no longer than that is near, whatever was put of it
+pub near_part : (text : List ℕ) (told now : Option (List ℕ)) → length text ≤ BUFFER_BYTES + REPLY_BYTES → PutsPart told now text → IsNear told now text
+near_part text told now short some bytes all known is =
+    let part = some bytes known in
+    let same : ◌≡◌ {A = Option (List ℕ)} (Some (bytes ++ take part.part text)) (Some all) = sym part.appended ∙ is in
+    let is_all : bytes ++ take part.part text ≡ all = cc same in
+    let long : length all ≡ length bytes + length (take part.part text) = sym (ap length is_all) ∙ length-append bytes (take part.part text) in
+    let both = length-append bytes text in
+    omega (arith, short, long, both)
+
+-- and so is one whose end is near, behind what was put
+pub near_behind : (piece : List ℕ) (told mid now : Option (List ℕ)) (gathered later : List ℕ) → GoesOn piece told mid gathered later → IsNear mid now later → IsNear told now (gathered ++ piece)
+near_behind piece told mid now gathered later on behind bytes all known is =
+    let was = on bytes known in
+    let near = behind (bytes ++ was.done) all was.put is in
+    let one = length-append (bytes ++ was.done) later in
+    let two = length-append bytes was.done in
+    let three : length was.done + length later ≡ length (gathered ++ piece) = sym (length-append was.done later) ∙ ap length was.rest in
+    let four = length-append bytes (gathered ++ piece) in
+    omega (arith, near, one, two, three, four)
+
+-- no more is gathered than the buffer has room for
+pub gathered_within : (it : Output) → length (gathered it) ≤ BUFFER_BYTES
+gathered_within it = let within = it.within in let long = length-take it.used it.bytes.items in omega (arith, within, long)
+
+-- that and a reply line
+pub gathered_line : (it : Output) (line : List ℕ) → length line ≤ REPLY_BYTES → length (gathered it ++ line) ≤ BUFFER_BYTES + REPLY_BYTES
+gathered_line it line short = let some = gathered_within it in let both = length-append (gathered it) line in omega (arith, short, some, both)

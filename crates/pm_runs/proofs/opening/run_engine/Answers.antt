@@ -2,13 +2,13 @@ use Rattle.std.proofs.Common.{◌∙◌, ap, sym, subst, List, Some}
 use Rattle.pm_types.specs.declared.entry.Entry.{Entry}
 use Rattle.pm_engine.specs.Shown.{disk_in, serving}
 use Rattle.pm_engine.specs.Events.Causes.{why}
-use Rattle.pm_runs.specs.Ends.Ends.{ended_by, stop_in}
-use Rattle.pm_runs.specs.Wrote.{AcknowledgesFor}
-use Rattle.pm_runs.specs.Ends.Journals.{ServesInOrder, ServesLines}
+use Rattle.pm_runs.specs.Ends.Ends.{IsUnwritten, ended_by, stop_in}
+use Rattle.pm_runs.specs.Wrote.{AcknowledgesFor, WritesLast}
+use Rattle.pm_runs.specs.Ends.Journals.{ServesAll, ServesInOrder, ServesLines}
 use Rattle.pm_runs.specs.Ends.Causes.{ShowsCauses}
 use Rattle.pm_runs.specs.Engines.{RunsEngine}
 use Rattle.pm_runs.proofs.EndsLemmas.Parts.{at_end}
-use Rattle.pm_runs.proofs.Ran.{acknowledged, engine_run, lines_served, order_served, causes_end}
+use Rattle.pm_runs.proofs.Ran.{acknowledged, all_served, engine_run, lines_served, order_served, causes_end, sink_back}
 use Rattle.pm_runs.proofs.opening.run_engine.Goals as goal
 
 pub returns-clause-serves : goal.returns-clause-serves
@@ -98,3 +98,18 @@ returns-clause-causes g c =
     (◌∙◌ {c = ended_by stop a b x y} e.detail c.ended_by-detail.ensures) e.tally (e.disk ∙ parts.ensures.disk) e.source e.sink
     (causes_end g.D.Disk g.S.Source g.K.Sink (disk_in c.args.engine) (disk_in run.new.engine) c.args.source c.args.sink run.new.sink c.end_with.result parts.result.2 stop a b x y
     c.requires.count (c.faults.ensures ∙ ap g.D.Disk.count parts.ensures.disk) c.faults-sink_before.ensures c.faults-sink_after.ensures run.ensures.disk.cause run.ensures.cause run.ensures.disk.past)
+
+pub returns-clause-last : goal.returns-clause-last
+returns-clause-last g c =
+    let run = c.write_lines-outcome in
+    let stop = why run.result in
+    let a = c.args.disk_before in
+    let b = c.faults.result in
+    let x = c.faults-sink_before.result in
+    let y = c.faults-sink_after.result in
+    let parts = c.into_parts-disk in
+    let e = c.end_with.ensures in
+    at_end (λ it. WritesLast c.args.writes → IsUnwritten it.detail → ServesAll c.args.lines.items it.journal.items it.tally) c.end_with.result {detail = ended_by stop a b x y} {disk = disk_in run.new.engine}
+    (◌∙◌ {c = ended_by stop a b x y} e.detail c.ended_by-detail.ensures) e.tally (e.disk ∙ parts.ensures.disk) e.source e.sink
+    (λ last unwritten. subst (λ (j : List Entry). ServesAll c.args.lines.items j (Some parts.result.2)) (sym (ap (λ v. v.items) e.journal ∙ parts.ensures.journal))
+    (all_served c.args.lines.items (serving run.new.engine) parts.result.2 parts.ensures.tally (run.ensures.last last (sink_back stop a b x y unwritten))))

@@ -10,8 +10,9 @@ use Rattle.pm_place.specs.Choosers.{IsChooser}
 use Rattle.pm_engine.specs.declared.tally.Tally.{Tally}
 use Rattle.pm_engine.specs.Shown.{disk_in, opened_disk, serving, tally_of}
 use Rattle.pm_runs.specs.Threads.Running.{LeavesSome}
+use Rattle.pm_runs.specs.declared.ends.ended.Detail.TheVariants.{Fine}
 use Rattle.pm_runs.specs.declared.writes.Writes.TheVariants.{Replies}
-use Rattle.pm_runs.specs.Ends.Ends.{not_opened}
+use Rattle.pm_runs.specs.Ends.Ends.{IsUnwritten, not_opened}
 use Rattle.pm_runs.specs.Ends.Journals.{ServesLines}
 use Rattle.pm_runs.specs.Ends.Causes.{ShowsCauses}
 use Rattle.pm_runs.specs.Ends.Tallies.{ComesTo}
@@ -19,7 +20,7 @@ use Rattle.pm_runs.specs.Runs.{RunsStore}
 use Rattle.pm_runs.proofs.EndsLemmas.Parts.{at_end}
 use Rattle.pm_runs.proofs.Ran.{fresh_engine}
 use Rattle.pm_runs.proofs.EndsLemmas.Faults.{ends_open, undone_open, open_causes, causes_after}
-use Rattle.pm_runs.proofs.EndsLemmas.Opened.{opened_run, refused_run, refused_for, none_opened, tried_open}
+use Rattle.pm_runs.proofs.EndsLemmas.Opened.{opened_run, refused_run, refused_for, none_opened, tried_open, unopened_unwritten}
 use Rattle.pm_runs.proofs.Stores.{store_run, store_unrun, serves_none}
 use Rattle.pm_runs.proofs.together.open_and_run.Goals as goal
 
@@ -83,3 +84,9 @@ returns-in-Err-clause-causes g c =
     let f = c.in-Err in
     at_end (λ it. ShowsCauses g.D.Disk g.S.Source g.K.Sink c.args.disk c.args.source c.args.sink it) it (e.detail ∙ c.not_opened.ensures) e.tally e.disk e.source e.sink
     (open_causes g.D.Disk g.S.Source g.K.Sink c.args.disk f.disk c.args.source c.args.sink it f.fault f.ensures.cause (ap (λ (made : Made). made.past) f.ensures.made))
+
+pub returns-in-Err-clause-last : goal.returns-in-Err-clause-last
+returns-in-Err-clause-last g c =
+    let e = c.end_unopened.ensures in
+    at_end (λ it. IsUnwritten it.detail → ServesLines c.args.script Fine it.journal.items it.tally) c.end_unopened.result (e.detail ∙ c.not_opened.ensures) e.tally e.disk e.source e.sink
+    (λ unwritten. absurd (unopened_unwritten c.in-Err.fault unwritten))

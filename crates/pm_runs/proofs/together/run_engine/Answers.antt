@@ -1,17 +1,18 @@
-use Rattle.std.proofs.Common.{◌∙◌, ap, sym, subst, List, Some}
+use Rattle.std.proofs.Common.{◌∙◌, ap, sym, subst, List, None, Some}
 use Rattle.std.proofs.Math.Logic.{∥∥₁_map₂}
 use Rattle.pm_types.specs.declared.entry.Entry.{Entry}
 use Rattle.std.specs.Prelude.{IfSome}
 use Rattle.pm_engine.specs.Shown.{disk_in, serving, tally_of}
 use Rattle.pm_engine.specs.Events.Causes.{why}
+use Rattle.pm_runs.specs.declared.ends.ended.Detail.TheVariants.{Fine}
 use Rattle.pm_runs.specs.declared.writes.Writes.TheVariants.{Replies}
 use Rattle.pm_runs.specs.Threads.Running.{LeavesSome}
-use Rattle.pm_runs.specs.Ends.Ends.{RanShort, ended_by}
+use Rattle.pm_runs.specs.Ends.Ends.{IsUnwritten, RanShort, ended_by}
 use Rattle.pm_runs.specs.Ends.Journals.{ServesLines}
 use Rattle.pm_runs.specs.Ends.Causes.{ShowsCauses}
 use Rattle.pm_runs.specs.Engines.{RunsEngine}
 use Rattle.pm_runs.proofs.EndsLemmas.Parts.{at_end}
-use Rattle.pm_runs.proofs.Ran.{engine_run, clients_served, clients_short, causes_end}
+use Rattle.pm_runs.proofs.Ran.{engine_run, clients_served, clients_short, causes_end, sink_back}
 use Rattle.pm_runs.proofs.together.run_engine.Goals as goal
 
 pub returns-clause-serves : goal.returns-clause-serves
@@ -91,3 +92,19 @@ returns-clause-causes g c =
     (◌∙◌ {c = ended_by stop a b x y} e.detail c.ended_by-detail.ensures) e.tally (e.disk ∙ parts.ensures.disk) e.source e.sink
     (causes_end g.D.Disk g.S.Source g.K.Sink (disk_in c.args.engine) (disk_in new) c.args.source c.args.sink run.new.sink c.end_with.result parts.result.2 stop a b x y
     c.requires.count (c.faults.ensures ∙ ap g.D.Disk.count parts.ensures.disk) c.faults-sink_before.ensures c.faults-sink_after.ensures run.ensures.cause run.ensures.sink.cause run.ensures.past)
+
+pub returns-clause-last : goal.returns-clause-last
+returns-clause-last g c =
+    let run = c.run_script-outcome in
+    let new = run.result.1 in
+    let stop = why run.result.0 in
+    let a = c.args.disk_before in
+    let b = c.faults.result in
+    let x = c.faults-sink_before.result in
+    let y = c.faults-sink_after.result in
+    let parts = c.into_parts-disk in
+    let e = c.end_with.ensures in
+    at_end (λ it. IsUnwritten it.detail → ServesLines c.args.script Fine it.journal.items it.tally) c.end_with.result {detail = ended_by stop a b x y} {disk = disk_in new}
+    (◌∙◌ {c = ended_by stop a b x y} e.detail c.ended_by-detail.ensures) e.tally (e.disk ∙ parts.ensures.disk) e.source e.sink
+    (λ unwritten. subst (λ (j : List Entry). ServesLines c.args.script Fine j (Some parts.result.2)) (sym (ap (λ v. v.items) e.journal ∙ parts.ensures.journal))
+    (clients_served c.args.script (serving new) parts.result.2 None a b x y parts.ensures.tally (run.ensures.last (sink_back stop a b x y unwritten))))

@@ -4,6 +4,7 @@ use Rattle.pm_script.specs.declared.line.Line.{Line}
 use Rattle.pm_script.proofs.ScriptLaws.{one_reading}
 use Rattle.pm_engine.specs.Shown.{tally_of}
 use Rattle.pm_runs.specs.Threads.Running.{LeavesSome}
+use Rattle.pm_runs.specs.declared.ends.ended.Detail.TheVariants.{Fine}
 use Rattle.pm_runs.specs.declared.writes.Writes.TheVariants.{Replies}
 use Rattle.pm_runs.specs.Ends.Causes.{ShowsCauses}
 use Rattle.pm_runs.specs.Runs.{RunsTogether}
@@ -12,7 +13,7 @@ use Rattle.pm_runs.proofs.EndsLemmas.Faults.{causes_read}
 use Rattle.pm_runs.proofs.EndsLemmas.Opened.{uncalled_run}
 use Rattle.pm_runs.proofs.Stores.{store_unrun}
 use Rattle.pm_runs.proofs.EndsLemmas.Scripts.{script_read}
-use Rattle.pm_runs.proofs.EndsLemmas.Unread.{causes_unread, ends_unread, reads_unread, refused_unread, script_unread, store_unread}
+use Rattle.pm_runs.proofs.EndsLemmas.Unread.{causes_unread, ends_unread, reads_unread, refused_unread, script_unread, store_unread, unwritten_unread}
 use Rattle.pm_runs.proofs.together.run_together.Goals as goal
 
 pub returns-in-Ok-clause-runs : goal.returns-in-Ok-clause-runs
@@ -25,6 +26,7 @@ returns-in-Ok-clause-runs g c =
       read = λ past bytes told. ap g.S.Source.left ran.source ∙ read.emptied bytes told;
       script = λ bytes told. script_read bytes c.in-Ok.script it.detail it.journal.items it.tally (read.found bytes told) ran.serves;
       store = ran.store;
+      last = λ unwritten bytes told. script_read bytes c.in-Ok.script Fine it.journal.items it.tally (read.found bytes told) (ran.last unwritten);
       short = λ shorted bytes told lines script.
           subst (λ (ls : List Line). IfSome it.tally (λ tally. ∥ LeavesSome ls it.journal.items (tally_of tally).steps (tally_of tally).events (tally_of tally).left ∥₁))
           (one_reading bytes c.in-Ok.script lines (read.found bytes told) script) (ran.short shorted);
@@ -48,6 +50,7 @@ returns-in-Err-clause-runs g c =
       store = ∣
           store_unrun g.D.Disk g.K.Sink Replies c.args.disk c.args.disk c.read_source.new.source c.args.sink it detail e.journal (store_unread detail f.ends)
           (uncalled_run g.D.Disk c.args.disk detail c.images_since_now.ensures (store_unread detail f.ends) (λ bytes. refused_unread bytes detail f.ends)) ∣₁;
+      last = λ unwritten. absurd (unwritten_unread detail f.ends unwritten);
       short = λ ran bytes told lines script. tt;
     })
 

@@ -66,7 +66,7 @@ returns-in-Err-clause-course g c = tells_nothing (made_now (serving c.args.engin
 
 pub returns-in-Err-clause-stops : goal.returns-in-Err-clause-stops
 returns-in-Err-clause-stops g c =
-    stops_before c.args.client c.args.cmd (serving c.args.engine.now) (serving c.ask_engine.new.engine) c.in-Err.stop c.in-Err.ensures.stays c.in-Err.ensures.short
+    stops_before c.args.client c.args.cmd (serving c.args.engine.now) (serving c.ask_engine.new.engine) c.in-Err.stop c.in-Err.ensures.unwritten c.in-Err.ensures.stays c.in-Err.ensures.short
 
 pub returns-in-Err-clause-sink : goal.returns-in-Err-clause-sink
 returns-in-Err-clause-sink g c =
@@ -100,8 +100,15 @@ returns-in-Ok-tell_reply-clause-saved g c =
 
 pub returns-in-Err-tell_reply-clause-saved : goal.returns-in-Err-tell_reply-clause-saved
 returns-in-Err-tell_reply-clause-saved g c =
-    keeps_lost g.K.Sink c.args.sink.now c.tell_reply.new.sink (gathered c.args.output.now) (serving c.args.engine.now).journal (serving c.ask_engine.new.engine).journal
+    let adds = c.in-Ok.ensures.adds in
+    let journal = (serving c.args.engine.now).journal in
+    let longer = (serving c.ask_engine.new.engine).journal in
+    let last = c.index-journal-last.result in
+    let lent = c.journal-journal.result.now in
+    let is = pushed_last journal lent adds.entry last (length lent) (c.journal-journal.ensures ∙ adds.journal) refl c.index-journal-last.is in
+    let grown = text_grown journal longer adds.entry last adds.journal is in
+    keeps_lost g.K.Sink c.args.sink.now c.tell_reply.new.sink (gathered c.args.output.now) (reply_line last) journal longer grown c.in-Err-tell_reply.ensures.near
 
 pub returns-in-Err-clause-saved : goal.returns-in-Err-clause-saved
 returns-in-Err-clause-saved g c =
-    keeps_still g.K.Sink c.args.sink.now (gathered c.args.output.now) (serving c.args.engine.now).journal (serving c.ask_engine.new.engine).journal (Some c.in-Err.stop) c.in-Err.ensures.stays.journal
+    keeps_still g.K.Sink c.args.sink.now (gathered c.args.output.now) (serving c.args.engine.now).journal (serving c.ask_engine.new.engine).journal (Some c.in-Err.stop) c.in-Err.ensures.unwritten c.in-Err.ensures.stays.journal

@@ -33,7 +33,7 @@ loop-line-init g c =
       parted = c.from-left.ensures.0;
       answers = answers_none (serving old);
       course = tells_none (serving old);
-      saved = keeps_still g.K.Sink c.args.sink.now (gathered c.args.output.now) (serving old).journal (serving old).journal None refl;
+      saved = keeps_still g.K.Sink c.args.sink.now (gathered c.args.output.now) (serving old).journal (serving old).journal None tt refl;
       engine = goes_first old c.requires.running law.legal (law.settled c.requires.running) (g.met.D.Disk.only_now (disk_in old));
       sink = sink_still g.K.Sink.written g.K.Sink.finished g.K.Sink.count c.args.sink.now (gathered c.args.output.now) (serving old).journal (serving old).journal None tt refl;
     }

@@ -41,7 +41,7 @@ returns-in-Gc-clause-stops g c =
     let new = serving c.make_events.new.engine in
     let result = c.make_events.result in
     subst (λ (line : Line). OnStop (why result) (StopsLine line old new (why result))) (sym c.in-Gc.is)
-    (stops_events (Gc c.in-Gc.count) Collect c.in-Gc.count old new result (omega arith) refl (λ made. refl) (λ never. never) c.make_events.ensures.stays c.make_events.ensures.cut)
+    (stops_events (Gc c.in-Gc.count) Collect c.in-Gc.count old new result c.make_events.ensures.unwritten (omega arith) refl (λ made. refl) (λ never. never) c.make_events.ensures.stays c.make_events.ensures.cut)
 
 pub returns-in-Flush-clause-course : goal.returns-in-Flush-clause-course
 returns-in-Flush-clause-course g c =
@@ -56,7 +56,7 @@ returns-in-Flush-clause-stops g c =
     let new = serving c.make_events-in-Flush.new.engine in
     let result = c.make_events-in-Flush.result in
     subst (λ (line : Line). OnStop (why result) (StopsLine line old new (why result))) (sym c.in-Flush.is)
-    (stops_events (Flush c.in-Flush.count) kinds.Flush c.in-Flush.count old new result (omega arith) refl (λ made. refl) (λ never. never) c.make_events-in-Flush.ensures.stays c.make_events-in-Flush.ensures.cut)
+    (stops_events (Flush c.in-Flush.count) kinds.Flush c.in-Flush.count old new result c.make_events-in-Flush.ensures.unwritten (omega arith) refl (λ made. refl) (λ never. never) c.make_events-in-Flush.ensures.stays c.make_events-in-Flush.ensures.cut)
 
 pub returns-in-Gc-clause-sink : goal.returns-in-Gc-clause-sink
 returns-in-Gc-clause-sink g c =
@@ -70,8 +70,8 @@ returns-in-Flush-clause-sink g c =
 
 pub returns-in-Gc-clause-saved : goal.returns-in-Gc-clause-saved
 returns-in-Gc-clause-saved g c =
-    keeps_still g.K.Sink c.args.sink.now (gathered c.args.output.now) (serving c.args.engine.now).journal (serving c.make_events.new.engine).journal (why c.make_events.result) c.make_events.ensures.stays
+    keeps_still g.K.Sink c.args.sink.now (gathered c.args.output.now) (serving c.args.engine.now).journal (serving c.make_events.new.engine).journal (why c.make_events.result) c.make_events.ensures.unwritten c.make_events.ensures.stays
 
 pub returns-in-Flush-clause-saved : goal.returns-in-Flush-clause-saved
 returns-in-Flush-clause-saved g c =
-    keeps_still g.K.Sink c.args.sink.now (gathered c.args.output.now) (serving c.args.engine.now).journal (serving c.make_events-in-Flush.new.engine).journal (why c.make_events-in-Flush.result) c.make_events-in-Flush.ensures.stays
+    keeps_still g.K.Sink c.args.sink.now (gathered c.args.output.now) (serving c.args.engine.now).journal (serving c.make_events-in-Flush.new.engine).journal (why c.make_events-in-Flush.result) c.make_events-in-Flush.ensures.unwritten c.make_events-in-Flush.ensures.stays

@@ -18,6 +18,7 @@ use Rattle.pm_serial.proofs.Acknowledging.{acknowledges_none, acknowledges_run}
 use Rattle.pm_serial.proofs.Cutting.{on_stop, settle_cut, short_before, stopped_among, stopped_first}
 use Rattle.pm_serial.proofs.Ordering.{first_told, tells_run}
 use Rattle.pm_serial.proofs.Gathering.{wrote_none, wrote_run}
+use Rattle.pm_serial.proofs.OutputLemmas.Gathering.{gathered_within}
 use Rattle.pm_engine.proofs.EventsLemmas.Going.{goes_ended, goes_short, goes_still, goes_then, runs}
 use Rattle.pm_serial.proofs.run.run_with.Goals as goal
 use Rattle.pm_types.specs.Memory.{no_memory}
@@ -72,7 +73,7 @@ returns-clause-answers g c =
     (answers_ended (requests_asked lines) (events_asked lines) (steps_asked lines) old new before (why c.end.result) c.end.ensures.why part)
     (λ few. first_told lines ready new after fresh (tells few))
     (λ done few. (tells few).all done ∙ ap (λ (course : List Before). course ++ course_of 0 0 lines) fresh.course)
-    (on_stop after (λ few. stopped_among lines ready new fresh few before c.run_all-ran.ensures.answers c.run_all-ran.ensures.stops))
+    (on_stop after (λ few. stopped_among lines ready new fresh few before after c.end.ensures.why c.run_all-ran.ensures.answers c.run_all-ran.ensures.stops))
     (λ is done more client parted made few.
     let first : (serving c.take_room.new.engine).events ≡ 0 = ap (λ (it : Serving). it.events) c.take_room.ensures.serving ∙ c.requires.fresh.events in
     inr (settle_cut lines (serving c.take_room.new.engine) new before first c.run_all-ran.ensures.stops (short_before before (why c.end.result) c.end.ensures.why is) done more client parted made few))
@@ -109,3 +110,4 @@ returns-clause-saved g c =
     c.in-Ok.ensures.empty empty c.run_all-ran.ensures.saved c.end.ensures
     (wrote_run g.K.Sink.written g.K.Sink.finished g.K.Sink.count c.args.sink.now c.run_all-ran.new.sink c.end.new.sink (gathered c.in-Ok.output) (gathered c.run_all-ran.new.output) tail ready new.journal
     (why c.run_all-ran.result) (why c.end.result) c.in-Ok.ensures.empty (ap text empty) c.run_all-ran.ensures.sink c.end.ensures)
+    c.run_all-ran.ensures.sink (gathered_within c.run_all-ran.new.output)

@@ -13,7 +13,7 @@ pub returns-in-Ok-clause-tries : goal.returns-in-Ok-clause-tries
 returns-in-Ok-clause-tries g c =
     let ran = c.run_lines.ensures in
     tried g.D.Disk g.K.Sink c.args.seed c.args.turns c.in-Ok.lines.items c.args.disk c.args.source c.args.sink c.run_lines.result
-    c.in-Ok.ensures ran.serves ran.order ran.store ran.source
+    c.in-Ok.ensures ran.serves ran.order ran.store (ran.last tt) ran.source
 
 pub returns-in-Err-clause-causes : goal.returns-in-Err-clause-causes
 returns-in-Err-clause-causes g c =

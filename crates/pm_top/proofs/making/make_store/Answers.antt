@@ -5,7 +5,7 @@ use Rattle.pm_image.specs.Stands.{StandsForCopy}
 use Rattle.pm_image.proofs.BlankLaws.{blank_stands}
 use Rattle.pm_runs.specs.Ends.Causes.{ShowsCauses}
 use Rattle.pm_top.specs.Commands.{MakesStore}
-use Rattle.pm_top.proofs.NotMade.{init_causes, none_made}
+use Rattle.pm_top.proofs.NotMade.{calls_none, init_causes, none_made}
 use Rattle.pm_runs.proofs.EndsLemmas.Parts.{at_end}
 use Rattle.pm_top.proofs.making.make_store.Goals as goal
 
@@ -23,6 +23,7 @@ returns-in-Ok-clause-makes g c =
       makes = λ bytes told.
           let is = c.in-Ok.ensures.blank bytes told in
           (c.in-Ok.ensures.empty bytes told, is, λ left now. subst (λ (image : List ℕ). StandsForCopy image 0 empty_copy) (sym (c.in-Ok.ensures.only blank_store is left now)) blank_stands);
+      calls = record { made = c.in-Ok.ensures.made.done; order = c.init.ensures.order };
       leaves = c.init.ensures.leaves;
       source_stays = refl;
       sink_stays = refl;
@@ -45,6 +46,10 @@ returns-in-Err-clause-makes g c =
     at_end (λ it. MakesStore g.D.Disk c.args.disk c.args.source c.args.sink it) c.end_unopened-in-Err.result (e.detail ∙ c.not_made.ensures) e.tally e.disk e.source e.sink
     (record {
       makes = none_made g.D.Disk (g.D.Disk.count c.args.disk) (g.D.Disk.count now) c.args.disk now c.in-Err.fault f.fault f.cause f.still f.kept;
+      calls = record {
+        made = calls_none (g.D.Disk.made c.args.disk) (g.D.Disk.made now) c.in-Err.fault c.init.ensures.made.most;
+        order = c.init.ensures.order;
+      };
       leaves = c.init.ensures.leaves;
       source_stays = refl;
       sink_stays = refl;

@@ -1,4 +1,4 @@
-use Rattle.std.proofs.Common.{List, Option, refl, ap, sym, subst, ◌∙◌}
+use Rattle.std.proofs.Common.{List, None, Option, refl, ap, sym, subst, ◌∙◌}
 use Rattle.pm_types.specs.Memory.{no_memory}
 use Rattle.pm_types.specs.declared.fault.EngineFault.{EngineFault}
 use Rattle.pm_model.specs.Text.{text}
@@ -17,7 +17,7 @@ use Rattle.pm_lock.specs.Shown.{collects_in, engine_in, fault_in, flushes_in, le
 use Rattle.pm_lock.specs.Crew.Whole.{MakesAllOf}
 use Rattle.pm_runs.specs.Threads.Running.{AnswersClients}
 use Rattle.pm_runs.proofs.ThreadsLemmas.Clients.{answers_clients, answers_none_yet}
-use Rattle.pm_runs.proofs.ThreadsLemmas.Ended.{counts_known, kept_memory, kept_none, past_known, runs_known, runs_none, start_known}
+use Rattle.pm_runs.proofs.ThreadsLemmas.Ended.{counts_known, kept_memory, kept_none, kept_unwritten, past_known, runs_known, runs_none, start_known}
 use Rattle.pm_runs.proofs.threads.run.run_script.Goals as goal
 
 pub returns-in-Err-clause-answers : goal.returns-in-Err-clause-answers
@@ -106,3 +106,16 @@ pub returns-clause-sink : goal.returns-clause-sink
 returns-clause-sink g c =
     let it = serving c.in-Err-new.engine in
     wrote_none g.K.Sink.written g.K.Sink.finished g.K.Sink.count c.args.sink.now it.journal (tail_of (tally_in it)) (ap text (ap (λ (s : Serving). s.journal) c.in-Err-new.ensures.serving ∙ c.requires.fresh.journal))
+
+pub returns-in-Ok-new-clause-last : goal.returns-in-Ok-new-clause-last
+returns-in-Ok-new-clause-last g c = λ of.
+    let book = c.run_all-book.result in
+    let it = serving (engine_in book) in
+    let run = c.run_all-book.ensures in
+    let law = c.keep_its_script.ensures in
+    let none = kept_unwritten (fault_in book) (why c.end_book.result.0) c.end_book.ensures.first of in
+    let made = answers_clients (lines_in book) it (left_in book) None law.parts law.answered law.few
+    (λ done. subst (λ (lines : List Line). MakesAllOf lines it) (sym run.lines) (run.all none))
+    (collects_in book) (flushes_in book) law.steps law.events (λ is. absurd (cc is)) in
+    subst (λ (e : Engine g.row.D.Denot g.row.F.Denot g.D.Disk). AnswersClients c.args.script (serving e) None) (sym c.end_book.ensures.engine)
+    (subst (λ (lines : List Line). AnswersClients lines it None) (run.lines ∙ c.in-Ok-new.ensures.begins.lines_are) made)

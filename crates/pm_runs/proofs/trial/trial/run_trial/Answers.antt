@@ -46,3 +46,6 @@ returns-in-Ok-answer_lines-clause-sink g c =
     let step = c.in-Err-finish_trial.ensures in
     let is = digest_is c.new-replies.result c.answer_lines.new.sink (text new.journal) c.digest.result (ap (λ (s : DigestState). s.written) c.new-replies.ensures) (c.in-Ok-answer_lines.ensures.sink.all tt) c.digest.ensures in
     tried_badly g.K.Sink.written g.K.Sink.finished g.K.Sink.count c.args.sink.now c.finish_trial.new.sink (text new.journal) (tail_of (tally_in new)) (shown_digest c.digest.result) (ap shown_digest is) step.part step.cause
+
+pub returns-in-Ok-answer_lines-clause-last : goal.returns-in-Ok-answer_lines-clause-last
+returns-in-Ok-answer_lines-clause-last g c = λ of. c.in-Ok-answer_lines.ensures.answers
