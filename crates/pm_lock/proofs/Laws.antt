@@ -11,7 +11,7 @@ use Rattle.pm_script.specs.declared.line.Line.{Line}
 use Rattle.pm_script.specs.declared.line.Line.TheVariants.{Client, Gc, Flush}
 use Rattle.pm_script.specs.Script.{AreLines, first_of}
 use Rattle.pm_script.specs.Words.{IsFirst}
-use Rattle.pm_engine.proofs.Counts.{splits_rose}
+use Rattle.pm_engine.proofs.WorksLemmas.Counts.{splits_rose}
 use Rattle.pm_lock.specs.Kept.{HasCauseSince}
 
 -- a fact with one proof at most

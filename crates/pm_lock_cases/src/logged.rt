@@ -227,7 +227,7 @@ fn drawn<D: Disk, F: Drop>(book: &mut Logbook<D, F>) -> Result<u64, Fault>
     }
 }
 
-// Makes the events of the parts, each asked by a caller of its own: the first one's number is 0, each other one's is drawn.
+// Makes the events of the parts, each asked by a caller of its own: the first has number 0, each other one is drawn.
 fn push_parts<D: Disk, F: Fn(&[u64]) -> usize + Drop>(
     alloc: Global,
     book: &mut Logbook<D, F>,
@@ -284,8 +284,8 @@ fn push_logged<F: Fn(&[u64]) -> usize + Drop>(
     said
 }
 
-/// Opens a new store whose disk fails the call of this number, makes the events of these parts at its logbook, and adds what
-/// came of each, a line.
+/// Opens a new store whose disk fails the call of this number, makes the events of these parts at its logbook, and adds
+/// what came of each, a line.
 pub(crate) fn push_logbook(
     alloc: Global,
     call: u64,

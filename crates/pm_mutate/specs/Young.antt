@@ -1,5 +1,5 @@
--- Objects that come in late: an identity is given first, its object is put into a car later, and is named by a field or a
--- register then. What a world has is a premise here, and nothing that a caller must know.
+-- Objects that come in late: an identity is given first, its object is put into a car later, and is named by a field or
+-- a register then. What a world has is a premise here, and nothing that a caller must know.
 use Rattle.std.specs.Prelude.{◌≡◌, ◌≢◌, ℕ, ◌+◌, ◌<◌, ◌≤◌, ◌==◌, if◌then◌else◌, List, length, replicate, Option, Some, None, IsSome}
 use Rattle.std.specs.FinMap.{get}
 use Rattle.pm_types.specs.declared.limits.TheConstants.{FIELDS, OBJECT_BYTES, END_ID}

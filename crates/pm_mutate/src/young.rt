@@ -1,6 +1,6 @@
 //! Calls on a space for objects that come in late: `spend` gives an identity away, `admit` puts its object into a car
-//! later, and `link` and `hold` let a field or a register store an address. No condition speaks of a world: what the heap
-//! of a world has is a premise of what is said of it, since nobody knows every world that a space stands for.
+//! later, and `link` and `hold` let a field or a register store an address. No condition speaks of a world: what the
+//! heap of a world has is a premise of what is said of it, since nobody knows every world that a space stands for.
 
 ghost use Rattle.std.specs.Prelude.{◌≡◌, ◌<◌, Some, IfOk, OnOk, OnErr};
 ghost use Rattle.pm_types.specs.declared.limits.TheConstants.{CLIENTS, REGISTERS};
@@ -84,7 +84,8 @@ fn set_source<F: Drop>(space: &mut Space<F>, source: RefSource, to: Addr) -> Res
 pub fn link<F: Drop>(space: &mut Space<F>, at: Addr, index: u32, to: Addr) -> Result<(), NoMemory>
     requires stands { SourceStands (view space.old.parts) (Field at index) }
     requires live { IsLive (seen (view space.old.parts)) to }
-    ensures row { OnOk result (view space.new.parts ≡ spread (view space.old.parts) (Field at index) (Some to)) }
+    ensures row { OnOk result
+        (view space.new.parts ≡ spread (view space.old.parts) (Field at index) (Some to)) }
     ensures worlds { OnOk result (LinksToo (view space.old.parts) at index to (view space.new.parts)) }
     ensures objects { KeepsObjects (view space.old.parts) (view space.new.parts) }
     ensures err { OnErr result (view space.new.parts ≡ view space.old.parts) }
@@ -93,8 +94,8 @@ pub fn link<F: Drop>(space: &mut Space<F>, at: Addr, index: u32, to: Addr) -> Re
     set_source(space, RefSource::Field { at, index }, to)
 }
 
-/// A register stores the address of an object that stands; cars that hear of it have one more change waiting. After want
-/// of memory all is as it was.
+/// A register stores the address of an object that stands; cars that hear of it have one more change waiting. After
+/// want of memory all is as it was.
 pub fn hold<F: Drop>(
     space: &mut Space<F>,
     client: u32,
@@ -104,7 +105,8 @@ pub fn hold<F: Drop>(
     requires client { client < CLIENTS }
     requires register { register < REGISTERS }
     requires live { IsLive (seen (view space.old.parts)) at }
-    ensures row { OnOk result (view space.new.parts ≡ spread (view space.old.parts) (Handle client register) (Some at)) }
+    ensures row { OnOk result
+        (view space.new.parts ≡ spread (view space.old.parts) (Handle client register) (Some at)) }
     ensures worlds { OnOk result (HoldsToo (view space.old.parts) client register at (view space.new.parts)) }
     ensures objects { KeepsObjects (view space.old.parts) (view space.new.parts) }
     ensures err { OnErr result (view space.new.parts ≡ view space.old.parts) }

@@ -8,7 +8,7 @@ use Rattle.pm_law_saving.proofs.ServingLemmas.Splitting.{splits_once}
 use Rattle.pm_engine.specs.declared.engine.Engine.{Engine}
 use Rattle.pm_engine.specs.Shown.{disk_in, serving}
 use Rattle.pm_engine.specs.Events.Events.{FitsLine}
-use Rattle.pm_engine.proofs.Counts.{splits_rose}
+use Rattle.pm_engine.proofs.WorksLemmas.Counts.{splits_rose}
 use Rattle.pm_engine.proofs.EventsLemmas.Lines.{told_once}
 use Rattle.pm_seats.specs.Kept.{IsPaired, KeepsLogbook, StopsNow}
 

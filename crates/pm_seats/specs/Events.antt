@@ -30,8 +30,8 @@ module _ {D : Type 0} {F : Type 0} {g : Ghosts D} where
   DrawsNumber old new (Some number) = KeepsBook old new × (number ≡ next_in old) × (next_in new ≡ suc number)
   DrawsNumber old new None = (new ≡ old) × (next_in old ≡ last_number)
 
-  -- What a fault of the engine does to what is counted. Memory: nothing. Disk: one call more was answered with a fault of
-  -- the disk, whose count rose as told. Reopen: the logbook is the same value, and the count is the disk's.
+  -- What a fault of the engine does to what is counted. Memory: nothing. Disk: one call more was answered with a fault
+  -- of the disk, whose count rose as told. Reopen: the logbook is the same value, and the count is the disk's.
   abbrev pub Strikes : Logbook D F g → Logbook D F g → EngineFault → Type 0
   Strikes old new (Memory _) = numbers_in new ≡ numbers_in old
   Strikes old new (Disk before after) =
@@ -40,7 +40,8 @@ module _ {D : Type 0} {F : Type 0} {g : Ghosts D} where
   Strikes old new (Reopen count) = (new ≡ old) × (count ≡ (numbers_in old).faults)
 
   -- The engine answered this fault, of which its own record tells. The log stays.
-  pub record FailsEvent (Call : EngineFault → Type 0) (last : ℕ) (old new : Logbook D F g) (fault : EngineFault) : Type 0 where
+  pub record FailsEvent (Call : EngineFault → Type 0) (last : ℕ) (old new : Logbook D F g) (fault : EngineFault)
+      : Type 0 where
     pub within : (numbers_in old).events < last
     pub call : Call fault
     pub log : log_in new ≡ log_in old
@@ -66,16 +67,18 @@ module _ {D : Type 0} {F : Type 0} {g : Ghosts D} where
     pub within : (numbers_in old).events < last
     pub call : AnswersCollect calls (engine_in old) (engine_in new) (Ok step)
     pub log : log_in new ≡ log_in old
-    pub numbers : numbers_in new ≡ record (numbers_in old) { made = suc (numbers_in old).made; events = suc (numbers_in old).events }
+    pub numbers : numbers_in new
+        ≡ record (numbers_in old) { made = suc (numbers_in old).made; events = suc (numbers_in old).events }
 
   -- A flush event was made, of which the engine's own record tells. The log stays.
   pub record SeesFlushed (last : ℕ) (old new : Logbook D F g) (flushed : Flushed) : Type 0 where
     pub within : (numbers_in old).events < last
     pub call : AnswersFlush (engine_in old) (engine_in new) (Ok flushed)
     pub log : log_in new ≡ log_in old
-    pub numbers : numbers_in new ≡ record (numbers_in old) { flushed = suc (numbers_in old).flushed; events = suc (numbers_in old).events }
+    pub numbers : numbers_in new
+        ≡ record (numbers_in old) { flushed = suc (numbers_in old).flushed; events = suc (numbers_in old).events }
 
-  -- what is so after each event: what the engine was opened with, its chooser, the first engine and the next number stay
+  -- what stays in each event: what the engine was opened with, its chooser, the first engine and the next number
   pub record StaysTied (old new : Logbook D F g) : Type 0 where
     pub start : KeepsStart (engine_in old) (engine_in new)
     pub first : first_in new ≡ first_in old
@@ -83,26 +86,31 @@ module _ {D : Type 0} {F : Type 0} {g : Ghosts D} where
 
   abbrev pub DoesClient : ℕ → ℕ → ℕ → Cmd → Logbook D F g → Logbook D F g → Result Seen SeatFault → Type 0
   DoesClient last number client cmd old new (Ok seen) = SeesReply last number client cmd old new seen
-  DoesClient last number client cmd old new (Err (Engine fault)) = FailsEvent (λ f. AnswersClient client cmd (engine_in old) (engine_in new) (Err f)) last old new fault
+  DoesClient last number client cmd old new (Err (Engine fault)) =
+      FailsEvent (λ f. AnswersClient client cmd (engine_in old) (engine_in new) (Err f)) last old new fault
   DoesClient last number client cmd old new (Err (Spent events)) = IsSpent last old new events
 
   abbrev pub DoesCollect : Shared F (Bor (List ℕ) × Unit {0}) ℕ → ℕ → Logbook D F g → Logbook D F g → Result Step SeatFault → Type 0
   DoesCollect calls last old new (Ok step) = SeesStep calls last old new step
-  DoesCollect calls last old new (Err (Engine fault)) = FailsEvent (λ f. AnswersCollect calls (engine_in old) (engine_in new) (Err f)) last old new fault
+  DoesCollect calls last old new (Err (Engine fault)) =
+      FailsEvent (λ f. AnswersCollect calls (engine_in old) (engine_in new) (Err f)) last old new fault
   DoesCollect calls last old new (Err (Spent events)) = IsSpent last old new events
 
   abbrev pub DoesFlush : ℕ → Logbook D F g → Logbook D F g → Result Flushed SeatFault → Type 0
   DoesFlush last old new (Ok flushed) = SeesFlushed last old new flushed
-  DoesFlush last old new (Err (Engine fault)) = FailsEvent (λ f. AnswersFlush (engine_in old) (engine_in new) (Err f)) last old new fault
+  DoesFlush last old new (Err (Engine fault)) =
+      FailsEvent (λ f. AnswersFlush (engine_in old) (engine_in new) (Err f)) last old new fault
   DoesFlush last old new (Err (Spent events)) = IsSpent last old new events
 
   -- What `client` does, asked by the caller of this number, where so many events may be made.
-  pub record CallsClient (last number client : ℕ) (cmd : Cmd) (old new : Logbook D F g) (result : Result Seen SeatFault) : Type 0 where
+  pub record CallsClient (last number client : ℕ) (cmd : Cmd) (old new : Logbook D F g) (result : Result Seen SeatFault)
+      : Type 0 where
     pub tied : StaysTied old new
     pub does : DoesClient last number client cmd old new result
 
   -- What `collect` does. The calls are those of the chooser.
-  pub record CallsCollect (calls : Shared F (Bor (List ℕ) × Unit {0}) ℕ) (last : ℕ) (old new : Logbook D F g) (result : Result Step SeatFault) : Type 0 where
+  pub record CallsCollect (calls : Shared F (Bor (List ℕ) × Unit {0}) ℕ) (last : ℕ) (old new : Logbook D F g) (result : Result Step SeatFault)
+      : Type 0 where
     pub tied : StaysTied old new
     pub does : DoesCollect calls last old new result
 

@@ -27,7 +27,8 @@ StopsNow None first now = Unit {0}
 StopsNow (Some count) first now = (count ≡ now) × Rose first now
 
 -- What a logbook keeps of its engine, beside the one that it was made of, and of who made each entry.
-pub record KeepsLogbook {D : Type 0} {F : Type 0} {g : Ghosts D} (first now : Engine D F g) (callers : List ℕ) (next : ℕ) : Type 0 where
+pub record KeepsLogbook {D : Type 0} {F : Type 0} {g : Ghosts D} (first now : Engine D F g) (callers : List ℕ)
+    (next : ℕ) : Type 0 where
   -- each entry has a caller
   pub paired : IsPaired callers (serving now).journal next
   -- the engine went on from the first as a run does, which stops only where the engine is stopped

@@ -14,8 +14,8 @@ abbrev pub struck_of : Option ℕ → ℕ
 struck_of None = 0
 struck_of (Some count) = 1
 
--- What is counted of an engine and its disk's failed calls: the events of the collector; the flush events, which are what
--- is neither an entry nor the collector's; the calls that were answered with a fault of the disk; and all events.
+-- What is counted of an engine and its disk's failed calls: the events of the collector; the flush events, which are
+-- what is neither an entry nor the collector's; the calls that were answered with a fault of the disk; and all events.
 abbrev pub numbers_of : Serving → ℕ → Numbers
 numbers_of it faults = record {
   made = it.steps;
@@ -56,4 +56,5 @@ module _ {D : Type 0} {F : Type 0} {g : Ghosts D} where
     pub first : first_in book ≡ engine
     pub log : log_in book ≡ []
     pub next : next_in book ≡ 1
-    pub numbers : numbers_in book ≡ record { made = 0; flushed = 0; struck = 0; faults = g.count (disk_in engine); events = 0 }
+    pub numbers : numbers_in book
+        ≡ record { made = 0; flushed = 0; struck = 0; faults = g.count (disk_in engine); events = 0 }

@@ -5,8 +5,8 @@ ghost use Rattle.pm_seats.specs.Callers.{callers_of};
 
 use std::snapshot::Snapshot;
 
-/// The numbers of the passes whose callers made the entries of a journal, in order. It takes no memory: a snapshot has no
-/// bytes, and no call reads what it shows.
+/// The numbers of the passes whose callers made the entries of a journal, in order. It takes no memory: a snapshot has
+/// no bytes, and no call reads what it shows.
 #[derive(Drop)]
 pub enum Callers {
     /// No entry.

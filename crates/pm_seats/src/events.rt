@@ -28,8 +28,8 @@ impl<D: Disk, F: Drop> Logbook<D, F> {
     ///
     /// # Errors
     ///
-    /// `Spent` once 2^50 - 1 events were made: the engine was not asked. `Engine` as the engine answers it, and then the
-    /// log stays: `Memory`, `Disk` for `settle` alone, and `Reopen` where an earlier event answered `Disk`.
+    /// `Spent` once 2^50 - 1 events were made: the engine was not asked. `Engine` as the engine answers it, and the log
+    /// stays: `Memory`, `Disk` for `settle` alone, and `Reopen` where an earlier event answered `Disk`.
     pub fn client(
         &mut self,
         alloc: Global,
@@ -115,8 +115,8 @@ impl<D: Disk, F: Fn(&[u64]) -> usize + Drop> Logbook<D, F> {
     ///
     /// # Errors
     ///
-    /// `Spent` once 2^50 - 1 events were made: the engine was not asked. `Engine` as the engine answers it: `Memory`, and
-    /// `Reopen` where an earlier event answered `Disk`.
+    /// `Spent` once 2^50 - 1 events were made: the engine was not asked. `Engine` as the engine answers it: `Memory`,
+    /// and `Reopen` where an earlier event answered `Disk`.
     pub fn collect(&mut self, alloc: Global) -> Result<Step, SeatFault>
         requires chooser { IsChooser F.Fn (chooser (engine_in self.old)) }
         ensures call { CallsCollect F.Fn LAST_EVENT self.old self.new result }

@@ -1,5 +1,4 @@
-//! What callers with passes share: an engine that knows of each entry of its journal which caller made it, and one event of
-//! it.
+//! What callers with passes share: an engine that knows which caller made each entry of its journal, and one event of it.
 #![tactic(auto)]
 
 mod callers;

@@ -32,7 +32,7 @@ impl<D: Disk, F: Drop> Logbook<D, F> {
     ghost use Rattle.pm_seats.specs.Shown.{BeginsLogbook, callers_in, engine_in, first_in, log_in, next_in};
     ghost use Rattle.pm_seats.specs.Events.{DrawsNumber};
 
-    /// The logbook of an engine that was just opened: it has no entry, and the next pass is number 1. It takes no memory.
+    /// The logbook of an engine that was just opened: no entry, and the next pass is number 1. It takes no memory.
     pub fn new(engine: Engine<D, F>) -> Logbook<D, F>
         requires fresh { IsFresh (serving engine) }
         ensures begins { BeginsLogbook engine result }
@@ -81,8 +81,8 @@ impl<D: Disk, F: Drop> Logbook<D, F> {
         self.engine
     }
 
-    /// A law of the logbook at any time, on its log. The journal is legal from the world that was opened; each entry has a
-    /// caller, whose number was drawn; and its text is a line.
+    /// A law of the logbook at any time, on its log. The journal is legal from the world that was opened; each entry has
+    /// a caller, whose number was drawn; and its text is a line.
     pub fn keep_its_log(&self)
         ensures legal { IsLegal (opening (serving (engine_in self.now))) (serving (engine_in self.now)).journal }
         ensures paired { IsPaired (callers_in self.now) (serving (engine_in self.now)).journal (next_in self.now) }
@@ -92,7 +92,7 @@ impl<D: Disk, F: Drop> Logbook<D, F> {
     }
 
     /// A law of the logbook at any time, on its engine. It went on from the one of which the logbook was made as a run
-    /// does; where it is stopped, it has the disk's count of failed calls now, which rose since then; and its entries and
+    /// does. Where it is stopped, it has the disk's count of failed calls now, which rose since then. Its entries and
     /// the events of the collector are no more than its events, which are below 2^50.
     pub fn keep_its_engine(&self)
         ensures goes { ∥ EngineGoesOn (first_in self.now) (engine_in self.now)

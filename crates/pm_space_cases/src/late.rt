@@ -19,8 +19,8 @@ use std::alloc::Global;
 pub(crate) enum Late {
     /// `spend`: the next identity is given.
     Spend,
-    /// `admit ID N HEX`: an object of N null fields and these bytes comes in. For ID may stand `+`: the one after that of
-    /// the object that came in last.
+    /// `admit ID N HEX`: an object of N null fields and these bytes comes in. For ID may stand `+`: the one after that
+    /// of the object that came in last.
     Admit {
         id: Option<Id>,
         count: u32,

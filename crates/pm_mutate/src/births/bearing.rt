@@ -52,7 +52,8 @@ pub fn be_born<F>(parts: &mut Parts<F>, alloc: Global, object: Object) -> Result
     requires law { HeapLaw (view parts.old) }
     requires fields { length object.fields ≤ FIELDS }
     requires bytes { length object.bytes ≤ OBJECT_BYTES }
-    ensures row { MakesRow parts.old parts.new result (λ place. IsBornAt (view parts.old) object (place, view parts.new)) }
+    ensures row { MakesRow parts.old parts.new result
+        (λ place. IsBornAt (view parts.old) object (place, view parts.new)) }
     ensures room { IfOk result (λ place. HasRoom parts.new.links place.car 1) }
     ensures kept { KeepsRoom parts.old.links parts.new.links }
     ensures housed { AreHoused (sets_of parts.new.links) parts.new.trains.trains }
