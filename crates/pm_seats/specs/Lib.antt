@@ -2,3 +2,4 @@ pub mod Callers
 pub mod Kept
 pub mod Shown
 pub mod Events
+pub mod Sharing

@@ -1,4 +1,4 @@
-//! What callers with passes share: an engine that knows which caller made each entry of its journal, and one event of it.
+//! Many callers share one engine, each with a pass; it knows which caller made each entry of its journal.
 #![tactic(auto)]
 
 mod callers;
@@ -6,6 +6,7 @@ mod events;
 mod fault;
 mod limits;
 mod logbook;
+mod shared;
 mod value;
 
 pub use callers::Callers;
@@ -13,3 +14,4 @@ pub use events::Seen;
 pub use fault::SeatFault;
 pub use limits::{LAST_EVENT, limits_of_events};
 pub use logbook::Logbook;
+pub use shared::Shared;

@@ -1,8 +1,6 @@
 //! A logbook as a value that callers share.
 
-ghost use Rattle.pm_place.specs.Choosers.{IsChooser};
-ghost use Rattle.pm_engine.specs.Shown.{chooser};
-ghost use Rattle.pm_seats.specs.Shown.{engine_in, first_in, log_in, next_in, numbers_in};
+ghost use Rattle.pm_seats.specs.Shown.{first_in, log_in, next_in, numbers_in};
 
 use crate::Logbook;
 use pm_disk::Disk;
@@ -10,7 +8,7 @@ use pm_engine::Engine;
 use pm_passes::Logged;
 use pm_types::Entry;
 
-impl<D: Disk, F: Fn(&[u64]) -> usize + Drop> Logged for Logbook<D, F> {
+impl<D: Disk, F: Drop> Logged for Logbook<D, F> {
     type Entry = Entry;
 
     type Tie = Engine<D, F>;
@@ -23,7 +21,7 @@ impl<D: Disk, F: Fn(&[u64]) -> usize + Drop> Logged for Logbook<D, F> {
 
     ghost tie = { λ book. first_in book };
 
-    ghost sound = { λ book. IsChooser F.Fn (chooser (engine_in book)) };
+    ghost sound = { λ book. Unit {0} };
 
     fn draw(&mut self) -> Option<u64> {
         Logbook::draw(self)

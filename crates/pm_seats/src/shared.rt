@@ -1,0 +1,128 @@
+//! Many callers share one engine, each with a pass.
+
+ghost use Rattle.pm_engine.specs.contracts.Engine as engines;
+ghost use Rattle.pm_seats.specs.Shown.{first_in};
+ghost use Rattle.pm_seats.specs.Sharing.{IsPassOf};
+
+use crate::Logbook;
+use pm_disk::Disk;
+use pm_engine::Engine;
+use pm_passes::{Home, Pass};
+use pm_types::{Entry, NoMemory};
+use std::alloc::{AllocError, Global};
+use std::sync::Wait;
+
+// The last number, which no pass gets.
+const LAST_NUMBER: u64 = u64::MAX;
+
+/// An engine that callers share. Each has a pass, whose type names no engine: it may be kept in any struct.
+#[derive(Drop)]
+pub struct Shared<D: Disk + Drop, F: Drop> {
+    pub(crate) home: Home<Logbook<D, F>>,
+}
+
+impl<D: Disk + Drop, F: Drop> Shared<D, F> {
+    ghost use Rattle.std.specs.Prelude.{◌≡◌, ◌≤◌, IfOk, IfErr};
+    ghost use Rattle.pm_model.specs.Journal.{IsFirstPart, IsLegal};
+    ghost use Rattle.pm_saving.specs.Serving.{opening};
+    ghost use Rattle.pm_engine.specs.Shown.{disk_in, serving};
+    ghost use Rattle.pm_engine.specs.Events.Running.{IsFresh};
+    ghost use Rattle.pm_engine.specs.Events.Events.{EngineGoesOn};
+    ghost use Rattle.pm_passes.specs.Numbering.{every};
+    ghost use Rattle.pm_passes.specs.Views.{HasOwn};
+    ghost use Rattle.pm_passes.specs.Passes.{FindsNoNumber, MeetsPass, SplitsPass, view_of};
+    ghost use Rattle.pm_seats.specs.Kept.{StopsNow, stop_in};
+    ghost use Rattle.pm_seats.specs.Sharing.{IsWholeEngine, OpensPass, entries_of};
+
+    /// Shares an engine that was just opened, and gives the first pass, number 0, with all 4,294,967,296 shares.
+    ///
+    /// # Errors
+    ///
+    /// There was no memory. The engine comes back as it was.
+    pub fn open(
+        alloc: Global,
+        engine: Engine<D, F>,
+    ) -> Result<(Shared<D, F>, Pass<Entry>), (Engine<D, F>, NoMemory)>
+        requires fresh { IsFresh (serving engine) }
+        ensures pass { IfOk result (λ laid. IsPassOf (engines.the_row D.row F.row D.Disk).coded
+            laid.0.home.table.shared.table_id (first_in laid.0.home.table.shared.key.value) laid.1) }
+        ensures first { IfOk result (λ laid. first_in laid.0.home.table.shared.key.value ≡ engine) }
+        ensures view { IfOk result (λ laid. OpensPass (D.count (disk_in engine)) (view_of laid.1)) }
+        ensures refused { IfErr result (λ back. back.0 ≡ engine) }
+    {
+        let book = Logbook::new(engine);
+        match Home::open(alloc, book) {
+            Ok((home, pass)) => Ok((Shared { home }, pass)),
+            Err(book) => Err((book.into_engine(), NoMemory::from(AllocError))),
+        }
+    }
+
+    /// Splits off a pass of a number that none had, with half of the shares, rounded down. It has seen as much, and made
+    /// nothing. It waits for the turn.
+    ///
+    /// # Errors
+    ///
+    /// All numbers below 2^64 - 1 were given. The pass stays as it was.
+    pub fn split<R: Wait>(&self, rt: &R, pass: &mut Pass<Entry>) -> Result<Pass<Entry>, NoMemory>
+        requires pass { IsPassOf (engines.the_row D.row F.row D.Disk).coded
+            self.now.home.table.shared.table_id (first_in self.now.home.table.shared.key.value) pass.old }
+        requires shares { 2 ≤ (view_of pass.old).shares }
+        ensures pass { IsPassOf (engines.the_row D.row F.row D.Disk).coded
+            self.now.home.table.shared.table_id (first_in self.now.home.table.shared.key.value) pass.new }
+        ensures other { IfOk result (IsPassOf (engines.the_row D.row F.row D.Disk).coded
+            self.now.home.table.shared.table_id (first_in self.now.home.table.shared.key.value)) }
+        ensures parts { IfOk result (λ other. SplitsPass (view_of pass.old) (view_of pass.new) (view_of other)) }
+        ensures none { IfErr result (λ _. FindsNoNumber (view_of pass.old) (view_of pass.new)) }
+    {
+        match self.home.split_pass(rt, pass) {
+            Some(other) => Ok(other),
+            None => Err(NoMemory::uncountable(LAST_NUMBER)),
+        }
+    }
+
+    /// Takes another pass in, with its shares and counts, and all that it has seen and made. It waits for nobody.
+    pub fn meet(&self, into: &mut Pass<Entry>, other: Pass<Entry>)
+        requires pass { IsPassOf (engines.the_row D.row F.row D.Disk).coded
+            self.now.home.table.shared.table_id (first_in self.now.home.table.shared.key.value) into.old }
+        requires other { IsPassOf (engines.the_row D.row F.row D.Disk).coded
+            self.now.home.table.shared.table_id (first_in self.now.home.table.shared.key.value) other }
+        ensures pass { IsPassOf (engines.the_row D.row F.row D.Disk).coded
+            self.now.home.table.shared.table_id (first_in self.now.home.table.shared.key.value) into.new }
+        ensures meets { MeetsPass (view_of into.old) (view_of other) (view_of into.new) }
+    {
+        self.home.meet_pass(into, other);
+    }
+
+    /// Gives the engine up, as soon as it is this caller's turn. It went on from the first one, and its journal begins with
+    /// all that the pass has seen. Where the pass has all shares it is that, and all that is counted is the pass's own.
+    pub fn close<R: Wait>(self, rt: &R, pass: Pass<Entry>) -> Engine<D, F>
+        requires pass { IsPassOf (engines.the_row D.row F.row D.Disk).coded
+            self.home.table.shared.table_id (first_in self.home.table.shared.key.value) pass }
+        ensures goes { ∥ EngineGoesOn (first_in self.home.table.shared.key.value) result
+            (stop_in (serving result).stopped) ∥₁ }
+        ensures stopped { StopsNow (serving result).stopped
+            (D.count (disk_in (first_in self.home.table.shared.key.value))) (D.count (disk_in result)) }
+        ensures legal { IsLegal (opening (serving (first_in self.home.table.shared.key.value))) (serving result).journal }
+        ensures journal { IsFirstPart (entries_of (view_of pass).front) (serving result).journal }
+        ensures faults { (view_of pass).faults ≤ D.count (disk_in result) }
+        ensures events { (view_of pass).events ≤ (serving result).events }
+        ensures whole { (view_of pass).shares ≡ every → IsWholeEngine (view_of pass) result }
+    {
+        let book = self.home.close(rt, pass);
+        book.keep_its_log();
+        book.keep_its_engine();
+        book.into_engine()
+    }
+
+    /// A law of a pass: what it has seen is legal from the world that was opened, and has its own entries in order, and
+    /// those of each pass that was met into it.
+    pub fn keep_its_pass(&self, pass: &Pass<Entry>)
+        requires pass { IsPassOf (engines.the_row D.row F.row D.Disk).coded
+            self.now.home.table.shared.table_id (first_in self.now.home.table.shared.key.value) pass.now }
+        ensures legal { IsLegal (opening (serving (first_in self.now.home.table.shared.key.value)))
+            (entries_of (view_of pass.now).front) }
+        ensures own { ∥ HasOwn (view_of pass.now) ∥₁ }
+    {
+        pass.keeps_its_entries();
+    }
+}
