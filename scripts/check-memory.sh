@@ -13,8 +13,10 @@ set -uo pipefail
 cd "$(dirname "$0")/.." || exit 1
 export LC_ALL=C
 
-# The functions that take a library's own answer: `clap`, and the standard library's words of the command line.
-builders='crates/pm_words/src/memory.rt
+# The functions that take a library's own answer: `clap`, the standard library's words of the command line, and a table of
+# `atomic_table`, which hands its slots back and no error (`pm_passes::Home::open`).
+builders='crates/pm_seats/src/shared.rt
+crates/pm_words/src/memory.rt
 crates/pmos/src/memory.rt'
 
 # The counts that come to an end: the file, and what it counts.
@@ -22,6 +24,7 @@ counts='crates/pm_evac/src/first_rows.rt train
 crates/pm_mutate/src/births/placing.rt youngest
 crates/pm_reopen/src/opened_cars.rt last.number
 crates/pm_reopen/src/rebuild/trains.rt trains.youngest()
+crates/pm_seats/src/shared.rt LAST_NUMBER
 crates/pm_shadow/src/table.rt len as u64
 crates/pm_snap/src/table.rt given
 crates/pm_snap/src/table.rt self.used as u64'
