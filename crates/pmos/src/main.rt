@@ -132,7 +132,8 @@ fn run<
     requires other_count { ⟦<FileDisk<HostRuntime> as Disk>⟧.count other ≡ 0 }
     requires other_uncalled { ⟦<FileDisk<HostRuntime> as Disk>⟧.moment other ≡ 0 }
     ensures told { Tells E.Sink errors.old errors.new (detail_line result.detail) }
-    ensures performs { PerformsFrom ⟦<FileDisk<HostRuntime> as Disk>⟧ ⟦<StdSource<I> as Source>⟧ ⟦<StdSink<O> as Sink>⟧
+    ensures performs { PerformsFrom
+        ⟦<FileDisk<HostRuntime> as Disk>⟧ ⟦<StdSource<I> as Source>⟧ ⟦<StdSink<O> as Sink>⟧
         (λ disk. string_bytes disk.path) (new_source (I.left reader) (I.tries reader))
         (new_sink (O.written writer) (O.flushed writer) (O.tries writer)) (map (λ word. word.now) words.now) result }
 {
@@ -151,7 +152,8 @@ fn disks(
     words: &[&str],
 ) -> Result<(FileDisk<HostRuntime>, FileDisk<HostRuntime>), NoMemory>
     ensures path { IfOk result (λ disks. string_bytes disks.0.path ≡ path_in (map (λ word. word.now) words.now)) }
-    ensures other_path { IfOk result (λ disks. IsOtherPath (map (λ word. word.now) words.now) (string_bytes disks.1.path)) }
+    ensures other_path { IfOk result (λ disks.
+        IsOtherPath (map (λ word. word.now) words.now) (string_bytes disks.1.path)) }
     ensures count { IfOk result (λ disks. ⟦<FileDisk<HostRuntime> as Disk>⟧.count disks.0 ≡ 0) }
     ensures uncalled { IfOk result (λ disks. ⟦<FileDisk<HostRuntime> as Disk>⟧.moment disks.0 ≡ 0) }
     ensures other_count { IfOk result (λ disks. ⟦<FileDisk<HostRuntime> as Disk>⟧.count disks.1 ≡ 0) }
@@ -178,7 +180,8 @@ fn run_texts<R: AllocGlobal + Threads + Wait + Sync, I: InStream, O: OutStream, 
     (I, O, NoMemory),
 >
     ensures told { IfOk result (λ ended. Tells E.Sink errors.old errors.new (detail_line ended.detail)) }
-    ensures performs { IfOk result (λ ended. PerformsFrom ⟦<FileDisk<HostRuntime> as Disk>⟧ ⟦<StdSource<I> as Source>⟧ ⟦<StdSink<O> as Sink>⟧
+    ensures performs { IfOk result (λ ended. PerformsFrom
+        ⟦<FileDisk<HostRuntime> as Disk>⟧ ⟦<StdSource<I> as Source>⟧ ⟦<StdSink<O> as Sink>⟧
         (λ disk. string_bytes disk.path) (new_source (I.left reader) (I.tries reader))
         (new_sink (O.written writer) (O.flushed writer) (O.tries writer)) (map (λ word. word.now) words.now) ended) }
     ensures untold { OnErr result (errors.new ≡ errors.old) }
@@ -211,7 +214,8 @@ fn run_words<R: AllocGlobal + Threads + Wait + Sync, I: InStream, O: OutStream, 
     (I, O, NoMemory),
 >
     ensures told { IfOk result (λ ended. Tells E.Sink errors.old errors.new (detail_line ended.detail)) }
-    ensures performs { IfOk result (λ ended. PerformsFrom ⟦<FileDisk<HostRuntime> as Disk>⟧ ⟦<StdSource<I> as Source>⟧ ⟦<StdSink<O> as Sink>⟧
+    ensures performs { IfOk result (λ ended. PerformsFrom
+        ⟦<FileDisk<HostRuntime> as Disk>⟧ ⟦<StdSource<I> as Source>⟧ ⟦<StdSink<O> as Sink>⟧
         (λ disk. string_bytes disk.path) (new_source (I.left reader) (I.tries reader))
         (new_sink (O.written writer) (O.flushed writer) (O.tries writer)) (map string_bytes words.now) ended) }
     ensures untold { OnErr result (errors.new ≡ errors.old) }
@@ -238,7 +242,8 @@ fn run_all<R: AllocGlobal + Threads + Wait + Sync, I: InStream, O: OutStream, E:
     (I, O, NoMemory),
 >
     ensures told { IfOk result (λ ended. Tells E.Sink errors.old errors.new (detail_line ended.detail)) }
-    ensures performs { IfOk result (λ ended. PerformsFrom ⟦<FileDisk<HostRuntime> as Disk>⟧ ⟦<StdSource<I> as Source>⟧ ⟦<StdSink<O> as Sink>⟧
+    ensures performs { IfOk result (λ ended. PerformsFrom
+        ⟦<FileDisk<HostRuntime> as Disk>⟧ ⟦<StdSource<I> as Source>⟧ ⟦<StdSink<O> as Sink>⟧
         (λ disk. string_bytes disk.path) (new_source (I.left reader) (I.tries reader))
         (new_sink (O.written writer) (O.flushed writer) (O.tries writer))
         (words_in (λ all. map string_bytes (drop 1 (into_iter_items all))) all) ended) }
@@ -267,7 +272,8 @@ fn end<R: AllocGlobal + Threads + Wait + Sync, I: InStream, O: OutStream, E: Sin
 >
     ensures told { MatchResult result (λ ended. Tells E.Sink errors.old errors.new (detail_line ended.detail))
         (λ _. Tells E.Sink errors.old errors.new (detail_line (Memory false no_memory))) }
-    ensures performs { IfOk result (λ ended. PerformsFrom ⟦<FileDisk<HostRuntime> as Disk>⟧ ⟦<StdSource<I> as Source>⟧ ⟦<StdSink<O> as Sink>⟧
+    ensures performs { IfOk result (λ ended. PerformsFrom
+        ⟦<FileDisk<HostRuntime> as Disk>⟧ ⟦<StdSource<I> as Source>⟧ ⟦<StdSink<O> as Sink>⟧
         (λ disk. string_bytes disk.path) (new_source (I.left reader) (I.tries reader))
         (new_sink (O.written writer) (O.flushed writer) (O.tries writer))
         (words_in (λ all. map string_bytes (drop 1 (into_iter_items all))) all) ended) }
