@@ -3,6 +3,7 @@ pub mod Numerals
 pub mod NameTests
 pub mod HexDigits
 pub mod DigitPairs
+pub mod DigitWorths
 pub mod Hexes
 pub mod Steps
 pub mod ResultSteps
