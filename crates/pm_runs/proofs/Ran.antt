@@ -1,5 +1,6 @@
 -- What a run has done, in the words of its end.
 use Rattle.std.proofs.Common.{◌≡◌, inl, inr, ⊎_elim, ℕ, ◌<◌, ◌≤◌, List, [], ◌++◌, map, filter, nat_eq, Option, Some, None, IsSome, length, refl, sym, ap, subst, ◌∙◌, arith}
+use Rattle.std.proofs.Math.Nat.{min-eq_left}
 use Rattle.std.proofs.lemmas.List.{length-map, map-append}
 use Rattle.std.proofs.lemmas.List.Elements.{filter-append}
 use Rattle.std.specs.List.{AllByRecursion}
@@ -23,7 +24,7 @@ use Rattle.pm_view.specs.Bounded.{IsHonest}
 use Rattle.pm_copies.specs.Listed.{copy_in}
 use Rattle.pm_saving.specs.Paging.{left_of}
 use Rattle.pm_saving.specs.Progress.{Saving}
-use Rattle.pm_saving.specs.Serving.{Serving, just_opened, opening, world}
+use Rattle.pm_saving.specs.Serving.{Serving, just_opened, opening}
 use Rattle.pm_saving.specs.Images as images
 use Rattle.pm_saving.specs.Images.{IsTold}
 use Rattle.pm_engine.specs.declared.engine.Engine.{Engine}
@@ -34,7 +35,7 @@ use Rattle.pm_engine.specs.declared.events.stop.Stop.TheVariants.{Memory as Stop
 use Rattle.pm_engine.specs.Events.Causes as causes
 use Rattle.pm_engine.specs.Events.Causes.{IsDone, CountsDisk, OnStop}
 use Rattle.pm_serial.specs.Causes.{CountsSink}
-use Rattle.pm_script.specs.Parted.Asked.{events_asked, requests_asked}
+use Rattle.pm_script.specs.Parted.Asked.{events_asked, requests_asked, steps_asked}
 use Rattle.pm_serial.specs.Running.{AnswersLines}
 use Rattle.pm_runs.specs.Threads.Running.{AnswersClients, LeavesSome}
 use Rattle.pm_engine.specs.Events.Running.{IsFresh, RunsOnDisk}
@@ -152,23 +153,24 @@ order_served lines it tally stop a b c d is answers = record {
 }
 
 -- and by each client
-pub lines_served : (lines : List Line) (it : Serving) (tally : Tally) (stop : Option Stop) (a b c d : ℕ) → tally_of tally ≡ tally_in it
+pub lines_served : (lines : List Line) (it : Serving) (tally : Tally) (stop : Option Stop) (a b c d : ℕ) → events_asked lines ≤ greatest_count → tally_of tally ≡ tally_in it
     → AnswersLines lines it stop → ServesLines lines (ended_by stop a b c d) it.journal (Some tally)
-lines_served lines it tally stop a b c d is answers =
+lines_served lines it tally stop a b c d few is answers =
     let late = ended_late stop a b c d in
+    let few_steps : steps_asked lines ≤ greatest_count = omega (arith, few) in
     record {
       ends = late_past (ended_by stop a b c d) late;
       tried = omega (arith, late);
       parts = first_parts it.journal answers.rest (requests_asked lines) answers.served;
       serves = λ past client. ap (commands_of client) (answers.all (done_back stop a b c d past));
       long = λ past. sym (length-map it.journal _) ∙ ap length (answers.all (done_back stop a b c d past));
-      steps = λ past. ap (λ (total : Total). total.steps) is ∙ answers.steps (done_back stop a b c d past);
-      events = λ past. ap (λ (total : Total). total.events) is ∙ answers.events (done_back stop a b c d past);
+      steps = λ past. ap (λ (total : Total). total.steps) is ∙ answers.steps (done_back stop a b c d past) ∙ min-eq_left few_steps;
+      events = λ past. ap (λ (total : Total). total.events) is ∙ answers.events (done_back stop a b c d past) ∙ min-eq_left few;
     }
 
 -- all of it
-pub all_served : (lines : List Line) (it : Serving) (tally : Tally) → tally_of tally ≡ tally_in it → AnswersLines lines it None → ServesAll lines it.journal (Some tally)
-all_served lines it tally is answers = record { serves = lines_served lines it tally None 0 0 0 0 is answers; order = order_served lines it tally None 0 0 0 0 is answers }
+pub all_served : (lines : List Line) (it : Serving) (tally : Tally) → events_asked lines ≤ greatest_count → tally_of tally ≡ tally_in it → AnswersLines lines it None → ServesAll lines it.journal (Some tally)
+all_served lines it tally few is answers = record { serves = lines_served lines it tally None 0 0 0 0 few is answers; order = order_served lines it tally None 0 0 0 0 is answers }
 
 -- where the clients' commands were asked in any order
 pub clients_served : (lines : List Line) (it : Serving) (tally : Tally) (stop : Option Stop) (a b c d : ℕ) → tally_of tally ≡ tally_in it

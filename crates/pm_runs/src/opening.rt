@@ -1,6 +1,8 @@
 //! A run: the store is opened, and the lines are run over its copy.
-ghost use Rattle.std.specs.Prelude.{◌≡◌, IfSome};
+ghost use Rattle.std.specs.Prelude.{◌≡◌, ◌≤◌, IfSome};
+ghost use Rattle.pm_types.specs.Counts.{greatest_count};
 ghost use Rattle.pm_script.specs.Script.{AreLines};
+ghost use Rattle.pm_script.specs.Parted.Asked.{events_asked};
 ghost use Rattle.pm_place.specs.Choosers.{IsChooser};
 ghost use Rattle.pm_engine.specs.Shown.{chooser, disk_in, serving};
 ghost use Rattle.pm_engine.specs.Events.Running.{IsFresh};
@@ -31,6 +33,7 @@ fn run_engine<D: Disk, F: Fn(&[u64]) -> usize + Drop, S: Source, K: Sink>(
     mut sink: K,
 ) -> Alone<D, S, K>
     requires clients { AreLines lines.items }
+    requires few { events_asked lines.items ≤ greatest_count }
     requires fresh { IsFresh (serving engine) }
     requires chooser { IsChooser F.Fn (chooser engine) }
     requires count { disk_before ≡ D.count (disk_in engine) }
@@ -66,6 +69,8 @@ pub fn run_lines<D: Disk, F: Fn(&[u64]) -> usize + Drop, S: Source, K: Sink>(
     sink: K,
 ) -> Alone<D, S, K>
     requires clients { AreLines lines.items }
+    // No count comes to its end over the lines, as over those of a script.
+    requires few { events_asked lines.items ≤ greatest_count }
     requires chooser { IsChooser F.Fn place }
     ensures status { result.status ≡ status_of result.detail }
     ensures source { result.source ≡ source }

@@ -1,6 +1,5 @@
 -- How many events the lines of a script ask for: so few that no count comes to its end.
-use Rattle.std.proofs.Common.{◌≡◌, ℕ, ◌+◌, ◌*◌, ◌<◌, ◌≤◌, min, List, [], ◌∷◌, length, sym, ap, ◌∙◌, arith}
-use Rattle.std.proofs.Math.Nat.{min-eq_left}
+use Rattle.std.proofs.Common.{◌≡◌, ℕ, ◌+◌, ◌*◌, ◌<◌, ◌≤◌, List, [], ◌∷◌, length, sym, ap, ◌∙◌, arith}
 use Rattle.std.proofs.lemmas.List.Sums.{sum_by-cons}
 use Rattle.pm_types.specs.Counts.{greatest_count}
 use Rattle.pm_types.specs.declared.entry.Entry.{Entry}
@@ -53,25 +52,14 @@ few_requests (Flush count ∷ lines) = let more = few_requests lines in omega (a
 summed : (n r s f : ℕ) → n ≤ 65536 → r ≤ n → s ≤ n * 4294967295 → f ≤ n * 4294967295 → r + s + f ≤ 18446744073709551615
 summed n r s f few is_r is_s is_f = omega arith
 
-summed_steps : (n s : ℕ) → n ≤ 65536 → s ≤ n * 4294967295 → s ≤ 18446744073709551615
-summed_steps n s few is_s = omega arith
-
 -- no count comes to its end over the lines of a script
 pub few_events : (bytes : List ℕ) (lines : List Line) → IsScript bytes lines → events_asked lines ≤ greatest_count
 few_events bytes lines script =
     summed (length lines) (length (requests_asked lines)) (steps_asked lines) (flushes_asked lines) (lines_of_script bytes lines script).few (few_requests lines) (few_steps _ lines script.each) (few_flushes _ lines script.each)
 
 -- every event was made for which the lines ask
-pub made_all : (bytes : List ℕ) (lines : List Line) (journal : List Entry) (total : Total) → IsScript bytes lines → length journal ≡ length (requests_asked lines)
-    → total.steps ≡ min (steps_asked lines) greatest_count → total.events ≡ min (events_asked lines) greatest_count → MakesAll lines journal total
-made_all bytes lines journal total script long steps events =
-    let few = (lines_of_script bytes lines script).few in
-    let on_steps = few_steps _ lines script.each in
-    let on_flushes = few_flushes _ lines script.each in
+pub made_all : (lines : List Line) (journal : List Entry) (total : Total) → length journal ≡ length (requests_asked lines)
+    → total.steps ≡ steps_asked lines → total.events ≡ events_asked lines → MakesAll lines journal total
+made_all lines journal total long steps events =
     let all : length (requests_asked lines) ≡ length journal = sym long in
-    record {
-      steps = steps ∙ min-eq_left (summed_steps (length lines) (steps_asked lines) few on_steps);
-      events =
-          events ∙ min-eq_left (summed (length lines) (length (requests_asked lines)) (steps_asked lines) (flushes_asked lines) few (few_requests lines) on_steps on_flushes)
-          ∙ ap (λ (n : ℕ). n + steps_asked lines + flushes_asked lines) all;
-    }
+    record { steps = steps; events = events ∙ ap (λ (n : ℕ). n + steps_asked lines + flushes_asked lines) all }

@@ -44,10 +44,10 @@ tried_read bytes (Refused fault) tried = tt
 tried_read bytes (Memory opened _) tried = tt
 
 -- every event was made
-made : (bytes : List ℕ) (lines : List Line) (detail : Detail) (journal : List Entry) (tally : Option Tally) → IsScript bytes lines → ServesLines lines detail journal tally → IsPast the_output detail
+made : (lines : List Line) (detail : Detail) (journal : List Entry) (tally : Option Tally) → ServesLines lines detail journal tally → IsPast the_output detail
     → IfSome tally (λ it. MakesAll lines journal (tally_of it))
-made bytes lines detail journal None script serves past = tt
-made bytes lines detail journal (Some tally) script serves past = made_all bytes lines journal (tally_of tally) script (serves.long past) (serves.steps past) (serves.events past)
+made lines detail journal None serves past = tt
+made lines detail journal (Some tally) serves past = made_all lines journal (tally_of tally) (serves.long past) (serves.steps past) (serves.events past)
 
 -- the bytes are a script of these lines
 pub script_read : (bytes : List ℕ) (lines : List Line) (detail : Detail) (journal : List Entry) (tally : Option Tally) → IsScript bytes lines → ServesLines lines detail journal tally → ReadsScript bytes detail journal tally
@@ -57,7 +57,7 @@ script_read bytes lines detail journal tally script serves =
       told = λ fault is. absurd (no_fault bytes fault lines is script);
       ran = λ past. record { lines = lines; script = script; parts = serves.parts };
       serves = λ past others other client. serves.serves past client ∙ ap (λ (ls : List Line). commands_of client (requests_asked ls)) (one_reading bytes lines others script other);
-      made = λ past others other. subst (λ (ls : List Line). IfSome tally (λ it. MakesAll ls journal (tally_of it))) (one_reading bytes lines others script other) (made bytes lines detail journal tally script serves past);
+      made = λ past others other. subst (λ (ls : List Line). IfSome tally (λ it. MakesAll ls journal (tally_of it))) (one_reading bytes lines others script other) (made lines detail journal tally serves past);
     }
 
 -- and its lines were run in their order

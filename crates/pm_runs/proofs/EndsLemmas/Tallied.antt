@@ -1,6 +1,7 @@
 -- What an engine comes to, as the tally tells it.
 use Rattle.std.proofs.Common.{◌≡◌, ℕ, ◌+◌, ◌≤◌, min, List, [], ◌∷◌, length, Option, refl, sym, subst, ◌∙◌, arith}
 use Rattle.std.specs.List.{AllByRecursion, AllByRecursion-prop, AllZip}
+use Rattle.std.proofs.Math.Nat.{min-eq_left}
 use Rattle.std.proofs.Math.Logic.{∥∥₁_elim}
 use Rattle.std.proofs.Props.{props}
 use Rattle.pm_types.specs.Counts.{greatest_count}
@@ -9,18 +10,19 @@ use Rattle.pm_types.specs.declared.event.WatchLine.{WatchLine}
 use Rattle.pm_disk.specs.Disk.{IfTold}
 use Rattle.pm_model.specs.Journal.{watch_places}
 use Rattle.pm_view.specs.View.{SpaceView}
-use Rattle.pm_view.specs.Counts.{standing}
+use Rattle.pm_view.specs.Counts.{old, standing}
 use Rattle.pm_view.specs.Watches.{lines_from}
 use Rattle.pm_view.specs.Law.{HeapLaw}
 use Rattle.pm_view.specs.Bounded.{EndsLost, IsHonest}
 use Rattle.pm_law_course.proofs.CountLemmas.Few.{fewer_than_given}
+use Rattle.pm_law_bound.proofs.Begins.{old_at_most}
 use Rattle.pm_law_bound.proofs.Many.{all_least}
 use Rattle.pm_copies.specs.Opened.{IsOpenedStore}
 use Rattle.pm_saving.specs.Bounds.{KeepsBounds}
 use Rattle.pm_saving.specs.Serving.{IsServed, Serving, opening, world}
 use Rattle.pm_engine.specs.History.{HasHistory}
 use Rattle.pm_engine.specs.Shown.{tally_in}
-use Rattle.pm_runs.specs.Ends.Tallies.{ComesTo, ReachesAtMost}
+use Rattle.pm_runs.specs.Ends.Tallies.{ComesTo, CountsOld, ReachesAtMost}
 
 -- a line for each watch
 length_lines : (view : SpaceView) (number : ℕ) (watches : List Watch) → length (lines_from view number watches) ≡ length watches
@@ -48,6 +50,16 @@ pub record KeepsAll (told : Option (List ℕ)) (it : Serving) : Type 0 where
 number_told : (view : SpaceView) → HeapLaw view → standing view ≡ min (standing view) greatest_count
 number_told view law = let fewer = fewer_than_given view law in let last = law.built.next.1 in omega (arith, fewer, last)
 
+-- no more stand in some trains than in all, so their number is told too
+old_told : (view : SpaceView) → HeapLaw view → (number : ℕ) (watches : List Watch) → AllZip (CountsOld view) (lines_from view number watches) watches
+old_told view law number [] = tt
+old_told view law number (watch ∷ watches) =
+    let within = old_at_most view watch.youngest in
+    let fewer = fewer_than_given view law in
+    let last = law.built.next.1 in
+    let few : old view watch.youngest ≤ greatest_count = omega (arith, within, fewer, last) in
+    (min-eq_left few, old_told view law (number + 1) watches)
+
 least_once : (line : WatchLine) → IsProp (1052676 ≤ line.bound)
 least_once line = hlevel props
 
@@ -67,6 +79,8 @@ engine_comes told it kept honest = record {
     store = kept.store;
     gone = kept.gone;
     is_tally = refl;
+    counts = sym (number_told it.view kept.lawful);
+    counts_old = old_told it.view kept.lawful 1 it.watches;
   };
   course = kept.course;
   journal_is = refl;

@@ -1,11 +1,9 @@
 -- What was answered of each client's commands, where workers ask them in any order.
-use Rattle.std.proofs.Common.{◌≡◌, ◌⊎◌, inl, inr, ⊎_elim, ℕ, suc, zero, ◌+◌, ◌^◌, ◌<◌, ◌≤◌, List, [], ◌∷◌, ◌++◌, length, arith, Option, Some, refl, ap, sym, ◌∙◌}
+use Rattle.std.proofs.Common.{◌≡◌, ◌⊎◌, inl, inr, ⊎_elim, ℕ, suc, zero, ◌+◌, List, [], ◌∷◌, ◌++◌, length, arith, Option, Some, refl, ap, sym, ◌∙◌}
 use Rattle.std.proofs.Math.Logic.{∥∥₁_map}
-use Rattle.std.proofs.Math.Nat.{min-eq_left}
 use Rattle.std.proofs.lemmas.List.{append-nil, append_cancel_left}
 use Rattle.std.proofs.lemmas.List.Sums.{sum_by-cons}
 use Rattle.pm_types.specs.Memory.{no_memory}
-use Rattle.pm_types.specs.Counts.{greatest_count}
 use Rattle.pm_types.specs.declared.command.Cmd.{Cmd}
 use Rattle.pm_types.specs.declared.entry.Entry.{Entry}
 use Rattle.pm_types.specs.declared.fault.EngineFault.TheVariants.{Memory as NoRoom}
@@ -35,12 +33,8 @@ none_left (list ∷ lists) empty =
 none_behind : (answered left whole : List Cmd) → answered ++ left ≡ whole → answered ≡ whole → left ≡ []
 none_behind answered left whole is all = append_cancel_left answered left [] (is ∙ sym all ∙ sym (append-nil answered))
 
--- so few events are asked for that no count stands at its end
-few_enough : (n : ℕ) → n < 2 ^ 50 → n ≤ greatest_count
-few_enough n few = omega (arith, few)
-
 module _ (lines : List Line) (it : Serving) (lists : List (List Cmd)) (stop : Option Stop) (parts : (client : ℕ) → part client it.journal ++ list_of lists client ≡ commands_of client (requests_asked lines))
-    (answered : length it.journal + count_left lists ≡ length (requests_asked lines)) (few : events_asked lines < 2 ^ 50) (all : IsDone stop → MakesAllOf lines it)
+    (answered : length it.journal + count_left lists ≡ length (requests_asked lines)) (all : IsDone stop → MakesAllOf lines it)
     (collects flushes : ℕ) (steps_left : it.steps + collects ≡ steps_asked lines) (events_left : it.events + flushes ≡ length it.journal + it.steps + flushes_asked lines)
     (kept : stop ≡ Some (Memory no_memory) → ∥ HasLeft (Some (NoRoom no_memory)) it lists collects flushes ∥₁) where
   long : IsDone stop → length it.journal ≡ length (requests_asked lines)
@@ -53,9 +47,6 @@ module _ (lines : List Line) (it : Serving) (lists : List (List Cmd)) (stop : Op
       let events = (all done).events in
       let entries = long done in
       omega (arith, events, entries)
-
-  few_steps : steps_asked lines ≤ greatest_count
-  few_steps = let within = few_enough (events_asked lines) few in omega (arith, within)
 
   awaits : AwaitsClient it lists → AwaitsCommand lines it.journal (left_of it.saving.progress)
   awaits await = record {
@@ -76,8 +67,8 @@ module _ (lines : List Line) (it : Serving) (lists : List (List Cmd)) (stop : Op
     parts = λ client. (list_of lists client, parts client);
     serves = λ done. (all done).serves;
     long = long;
-    events = λ done. made done ∙ sym (min-eq_left (few_enough (events_asked lines) few));
-    steps = λ done. (all done).steps ∙ sym (min-eq_left few_steps);
+    events = made;
+    steps = λ done. (all done).steps;
     short = λ is. ∥∥₁_map (kept is) leaves_some;
   }
 

@@ -1,6 +1,6 @@
 -- What a run answers: its journal, and the events that it made.
 use Rattle.std.specs.Prelude.{◌≡◌, ◌⊎◌, false, ◌∷◌, ℕ, ◌+◌, ◌<◌, ◌≤◌, List, ◌++◌, length, Option, IfSome}
-use Rattle.pm_types.specs.Counts.{capped, greatest_count}
+use Rattle.pm_types.specs.Counts.{greatest_count}
 use Rattle.pm_types.specs.declared.entry.Entry.{Entry}
 use Rattle.pm_model.specs.declared.request.Request.{Request}
 use Rattle.pm_model.specs.World.{Copy, begin}
@@ -77,8 +77,8 @@ pub record ServesLines (lines : List Line) (detail : Detail) (journal : List Ent
   -- where it is done, it is all of each, and every event was made that the lines ask for
   pub serves : IsPast the_output detail → Serves journal (requests_asked lines)
   pub long : IsPast the_output detail → length journal ≡ length (requests_asked lines)
-  pub steps : IsPast the_output detail → IfSome tally (λ it. (tally_of it).steps ≡ capped (steps_asked lines))
-  pub events : IsPast the_output detail → IfSome tally (λ it. (tally_of it).events ≡ capped (events_asked lines))
+  pub steps : IsPast the_output detail → IfSome tally (λ it. (tally_of it).steps ≡ steps_asked lines)
+  pub events : IsPast the_output detail → IfSome tally (λ it. (tally_of it).events ≡ events_asked lines)
 
 -- All that these lines ask was answered in their order, as where the run is done.
 pub record ServesAll (lines : List Line) (journal : List Entry) (tally : Option Tally) : Type 0 where

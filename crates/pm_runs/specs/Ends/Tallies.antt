@@ -2,12 +2,16 @@
 use Rattle.std.specs.Prelude.{◌≡◌, ℕ, ◌≤◌, List, length, nat_eq, Option, None, IsSome, IfSome}
 use Rattle.std.specs.List.{AllByRecursion, AllZip, IsDistinct}
 use Rattle.pm_types.specs.declared.entry.Entry.{Entry}
+use Rattle.pm_types.specs.declared.event.Watch.{Watch}
+use Rattle.pm_types.specs.declared.event.WatchLine.{WatchLine}
 use Rattle.pm_disk.specs.Disk.{IfTold}
 use Rattle.pm_model.specs.World.{World}
 use Rattle.pm_model.specs.Journal.{after, watch_places}
 use Rattle.pm_model.specs.Reachability.{IsReachable}
 use Rattle.pm_view.specs.Represents.{IsHeld}
 use Rattle.pm_view.specs.Bounded.{EndsLost, IsHonest}
+use Rattle.pm_view.specs.View.{SpaceView}
+use Rattle.pm_view.specs.Counts.{old, standing}
 use Rattle.pm_view.specs.Law.{HeapLaw}
 use Rattle.pm_copies.specs.Opened.{IsOpenedStore}
 use Rattle.pm_saving.specs.Bounds.{KeepsBounds}
@@ -22,6 +26,10 @@ use Rattle.pm_runs.specs.Ends.Stages.{IsPast, IsBefore, the_store, the_events}
 abbrev pub ReachesAtMost : World → ℕ → Type 0
 ReachesAtMost world count =
     (ids : List ℕ) → IsDistinct nat_eq ids → AllByRecursion (IsReachable world.heap (IsHeld world)) ids → length ids ≤ count
+
+-- the line tells how many objects of the trains that stood when the watch was set stand in this space
+abbrev pub CountsOld : SpaceView → WatchLine → Watch → Type 0
+CountsOld view line watch = line.old ≡ old view watch.youngest
 
 -- It is what an engine came to that began in this world, has this journal, and serves the world at its end: so what is told
 -- of each watch is told of one space, which stands for that world. The engine came by calls from the space that the disk's
@@ -39,6 +47,9 @@ pub record IsOfEngine (told : Option (List ℕ)) (start : World) (journal : List
   -- it was set is in any car
   pub gone : AllZip (EndsLost start journal engine.view) total.lines (watch_places 0 journal)
   pub is_tally : total ≡ tally_in engine
+  -- what is told to stand stands, and no number of these is cut off
+  pub counts : total.standing ≡ standing engine.view
+  pub counts_old : AllZip (CountsOld engine.view) total.lines engine.watches
 
 -- What an engine came to that was opened in this world, of a disk that told this, and has this journal.
 pub record ComesTo (told : Option (List ℕ)) (start : World) (journal : List Entry) (total : Total) : Type 0 where

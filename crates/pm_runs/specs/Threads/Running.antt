@@ -1,7 +1,6 @@
 -- A run in threads over an engine.
 use Rattle.std.specs.Prelude.{◌≡◌, ◌⊎◌, ℕ, ◌+◌, ◌<◌, true, List, ◌∷◌, ◌++◌, Option, Some, length}
 use Rattle.pm_types.specs.Memory.{no_memory}
-use Rattle.pm_types.specs.Counts.{capped}
 use Rattle.pm_types.specs.declared.command.Cmd.{Cmd}
 use Rattle.pm_types.specs.declared.entry.Entry.{Entry}
 use Rattle.pm_model.specs.Frames.{is_settle}
@@ -38,8 +37,8 @@ pub record AnswersClients (lines : List Line) (new : Serving) (stop : Option Sto
   -- where the run is done, all of each was, and every event that the lines ask for was made, each by the call for its kind
   pub serves : IsDone stop → Serves new.journal (requests_asked lines)
   pub long : IsDone stop → length new.journal ≡ length (requests_asked lines)
-  pub events : IsDone stop → new.events ≡ capped (events_asked lines)
-  pub steps : IsDone stop → new.steps ≡ capped (steps_asked lines)
+  pub events : IsDone stop → new.events ≡ events_asked lines
+  pub steps : IsDone stop → new.steps ≡ steps_asked lines
   -- where memory ran out, an event is left in which it may: where nothing but a `settle` of a copy that was flushed whole
   -- is left, it does not run out
   pub short : stop ≡ Some (Memory no_memory) → ∥ LeavesSome lines new.journal new.steps new.events (left_of new.saving.progress) ∥₁

@@ -6,8 +6,10 @@ ghost use Rattle.pm_script.specs.declared.line.Line.{Line as Says};
 ghost use Rattle.pm_script.specs.Bad.{IsBad};
 ghost use Rattle.pm_script.specs.Reading.{Answers};
 ghost use Rattle.pm_script.specs.Script.{IsScript};
+ghost use Rattle.pm_script.specs.Parted.Asked.{events_asked};
 ghost use Rattle.pm_runs.specs.Ends.Ends.{ShowsReading, not_read};
 ghost use Rattle.pm_runs.specs.Ends.Journals.{EndsReading, StopsReading};
+ghost use Rattle.pm_types.specs.Counts.{greatest_count};
 ghost use Rattle.pm_types.specs.Memory.{no_memory};
 
 use crate::ends::Detail;
@@ -46,6 +48,8 @@ pub fn read_source<S: Source>(alloc: Global, source: &mut S) -> Result<Script, D
         → S.left source.new ≡ Some []) }
     ensures found { IfOk result (λ script. (bytes : List ℕ) → S.left source.old ≡ Some bytes
         → IsScript bytes script) }
+    // No count comes to its end over the lines of a script.
+    ensures few { IfOk result (λ script. events_asked script ≤ greatest_count) }
     ensures counted { IfOk result (λ script. S.count source.new ≡ S.count source.old) }
     ensures ends { IfErr result EndsReading }
     ensures stops { IfErr result (λ detail. (bytes : List ℕ) → S.left source.old ≡ Some bytes

@@ -24,7 +24,7 @@ returns-clause-serves g c =
     at_end (λ it. ServesLines c.args.lines.items it.detail it.journal.items it.tally) c.end_with.result {detail = ended_by stop a b x y} {disk = disk_in run.new.engine}
     (◌∙◌ {c = ended_by stop a b x y} e.detail c.ended_by-detail.ensures) e.tally (e.disk ∙ parts.ensures.disk) e.source e.sink
     (subst (λ (j : List Entry). ServesLines c.args.lines.items (ended_by stop a b x y) j (Some parts.result.2)) (sym (ap (λ v. v.items) e.journal ∙ parts.ensures.journal))
-    (lines_served c.args.lines.items (serving run.new.engine) parts.result.2 stop a b x y parts.ensures.tally run.ensures.answers))
+    (lines_served c.args.lines.items (serving run.new.engine) parts.result.2 stop a b x y c.requires.few parts.ensures.tally run.ensures.answers))
 
 pub returns-clause-order : goal.returns-clause-order
 returns-clause-order g c =
@@ -112,4 +112,4 @@ returns-clause-last g c =
     at_end (λ it. WritesLast c.args.writes → IsUnwritten it.detail → ServesAll c.args.lines.items it.journal.items it.tally) c.end_with.result {detail = ended_by stop a b x y} {disk = disk_in run.new.engine}
     (◌∙◌ {c = ended_by stop a b x y} e.detail c.ended_by-detail.ensures) e.tally (e.disk ∙ parts.ensures.disk) e.source e.sink
     (λ last unwritten. subst (λ (j : List Entry). ServesAll c.args.lines.items j (Some parts.result.2)) (sym (ap (λ v. v.items) e.journal ∙ parts.ensures.journal))
-    (all_served c.args.lines.items (serving run.new.engine) parts.result.2 parts.ensures.tally (run.ensures.last last (sink_back stop a b x y unwritten))))
+    (all_served c.args.lines.items (serving run.new.engine) parts.result.2 c.requires.few parts.ensures.tally (run.ensures.last last (sink_back stop a b x y unwritten))))

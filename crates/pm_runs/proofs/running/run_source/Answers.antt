@@ -1,4 +1,7 @@
-use Rattle.std.proofs.Common.{◌∙◌, ap, sym, subst}
+use Rattle.std.proofs.Common.{◌≤◌, ◌∙◌, List, ap, sym, subst}
+use Rattle.pm_types.specs.Counts.{greatest_count}
+use Rattle.pm_script.specs.declared.line.Line.{Line}
+use Rattle.pm_script.specs.Parted.Asked.{events_asked}
 use Rattle.pm_script.specs.Script.{IsScript}
 use Rattle.pm_runs.specs.declared.writes.Writes.TheVariants.{Replies}
 use Rattle.pm_runs.specs.Ends.Causes.{ShowsCauses}
@@ -10,6 +13,9 @@ use Rattle.pm_runs.proofs.Stores.{store_unrun}
 use Rattle.pm_runs.proofs.EndsLemmas.Scripts.{order_read, script_read, unordered}
 use Rattle.pm_runs.proofs.EndsLemmas.Unread.{causes_unread, ends_unread, reads_unread, refused_unread, script_unread, store_unread}
 use Rattle.pm_runs.proofs.running.run_source.Goals as goal
+
+pub run_lines-requires-clause-few : goal.run_lines-requires-clause-few
+run_lines-requires-clause-few g c = subst (λ (lines : List Line). events_asked lines ≤ greatest_count) (sym c.into_lines.ensures.lines) c.in-Ok.ensures.few
 
 pub returns-in-Ok-clause-runs : goal.returns-in-Ok-clause-runs
 returns-in-Ok-clause-runs g c =

@@ -2,12 +2,16 @@ use Rattle.pm_script.proofs.ScriptLaws.{lines_of_script}
 use Rattle.pm_make.specs.Made.{made_text}
 use Rattle.pm_runs.specs.Ends.Causes.{ShowsCauses}
 use Rattle.pm_top.specs.Commands.{TriesScript}
+use Rattle.pm_runs.proofs.EndsLemmas.Counted.{few_events}
 use Rattle.pm_runs.proofs.EndsLemmas.Parts.{at_end}
 use Rattle.pm_top.proofs.Performing.{tried, untouched_trial, memory_causes}
 use Rattle.pm_top.proofs.made.try_script.Goals as goal
 
 pub run_lines-requires-clause-clients : goal.run_lines-requires-clause-clients
 run_lines-requires-clause-clients g c = lines_of_script (made_text c.args.seed c.args.turns) c.in-Ok.lines.items c.in-Ok.ensures
+
+pub run_lines-requires-clause-few : goal.run_lines-requires-clause-few
+run_lines-requires-clause-few g c = few_events (made_text c.args.seed c.args.turns) c.in-Ok.lines.items c.in-Ok.ensures
 
 pub returns-in-Ok-clause-tries : goal.returns-in-Ok-clause-tries
 returns-in-Ok-clause-tries g c =

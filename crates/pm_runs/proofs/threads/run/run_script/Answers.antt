@@ -40,7 +40,7 @@ returns-in-Ok-new-clause-answers g c =
     let stop = why c.end_book.result.0 in
     let run = c.run_all-book.ensures in
     let law = c.keep_its_script.ensures in
-    let made = answers_clients (lines_in book) it (left_in book) stop law.parts law.answered law.few
+    let made = answers_clients (lines_in book) it (left_in book) stop law.parts law.answered
     (λ done. subst (λ (lines : List Line). MakesAllOf lines it) (sym run.lines) (run.all (kept_none (fault_in book) stop c.end_book.ensures.first done)))
     (collects_in book) (flushes_in book) law.steps law.events
     (λ is. subst (λ (fault : Option EngineFault). ∥ HasLeft fault it (left_in book) (collects_in book) (flushes_in book) ∥₁) (kept_memory (fault_in book) stop c.end_book.ensures.first is) c.keep_its_engine.ensures.short) in
@@ -114,7 +114,7 @@ returns-in-Ok-new-clause-last g c = λ of.
     let run = c.run_all-book.ensures in
     let law = c.keep_its_script.ensures in
     let none = kept_unwritten (fault_in book) (why c.end_book.result.0) c.end_book.ensures.first of in
-    let made = answers_clients (lines_in book) it (left_in book) None law.parts law.answered law.few
+    let made = answers_clients (lines_in book) it (left_in book) None law.parts law.answered
     (λ done. subst (λ (lines : List Line). MakesAllOf lines it) (sym run.lines) (run.all none))
     (collects_in book) (flushes_in book) law.steps law.events (λ is. absurd (cc is)) in
     subst (λ (e : Engine g.row.D.Denot g.row.F.Denot g.D.Disk). AnswersClients c.args.script (serving e) None) (sym c.end_book.ensures.engine)
