@@ -3,6 +3,7 @@
 ghost use Rattle.pm_place.specs.Choosers.{IsChooser};
 ghost use Rattle.pm_engine.specs.Shown.{chooser};
 ghost use Rattle.pm_lock.specs.Shown.{engine_in, first_in, lines_in};
+ghost use Rattle.pm_lock.specs.Turns.{StepsBook};
 
 use crate::Book;
 use pm_disk::Disk;
@@ -23,6 +24,8 @@ impl<D: Disk, F: Fn(&[u64]) -> usize + Drop> Turned for Book<D, F> {
     ghost tie = { λ book. record { engine = first_in book; script = lines_in book } };
 
     ghost sound = { λ book. IsChooser F.Fn (chooser (engine_in book)) };
+
+    ghost turn = { λ old new who turn. StepsBook F.Fn who old new turn };
 
     fn take_turn(&mut self, alloc: Global, who: u32) -> Turn {
         self.step(alloc, who)

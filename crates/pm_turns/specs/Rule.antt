@@ -3,6 +3,7 @@ use Rattle.std.specs.Prelude.{◌≡◌, ◌≢◌, ◌⊎◌, ℕ, List, [], �
 use mathlib.Core.Option.{Option, some, none}
 use Rattle.atomic_table.specs.Table.{State, Me, Step}
 use Rattle.pm_turns.specs.declared.rule.View.{View}
+use Rattle.pm_turns.specs.declared.turn.Turn.{Turn}
 use Rattle.pm_turns.specs.Views.{AllKnow, Speaks}
 
 module _ {B : Type 0} where
@@ -48,3 +49,22 @@ module _ {B T : Type 0} where
   -- the seat holds nothing any more
   abbrev pub PutsBack : Step (Opt B) → Me (Opt B) (View T) → ℕ → Me (Opt B) (View T) → Type 0
   PutsBack s old stored new = new ≡ (old.0, [])
+
+  -- A turn of this worker said so. The seat holds what the turn made of the value that it held.
+  pub record MakesTurn (turn : B → B → ℕ → Turn → Type 0) (who : ℕ) (old new : Me (Opt B) (View T)) (said : Turn)
+      : Type 0 where
+    pub before : B
+    pub after : B
+    pub held : old.1 ≡ (0, Some before) ∷ []
+    pub holds : new.1 ≡ (0, Some after) ∷ []
+    pub does : turn before after who said
+
+  -- A turn of this worker said so: one at a sound value with the tie that the seat knows, which it left sound.
+  pub record TakesTurn (tie : B → T) (sound : B → Type 0) (turn : B → B → ℕ → Turn → Type 0) (who : ℕ) (view : View T)
+      (said : Turn) : Type 0 where
+    pub before : B
+    pub after : B
+    pub tied : view.tie ≡ Some (tie before)
+    pub was_sound : sound before
+    pub is_sound : sound after
+    pub does : turn before after who said

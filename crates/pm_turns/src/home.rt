@@ -1,7 +1,7 @@
 ghost use Rattle.std.specs.Prelude.{◌≡◌, ◌<◌, true, false, [], Some, IfOk, IfErr};
 ghost use Rattle.pm_turns.specs.declared.limits.TheConstants.{WORKERS};
 ghost use Rattle.pm_turns.specs.Views.{seated};
-ghost use Rattle.pm_turns.specs.Rule.{IsIdle, Holds};
+ghost use Rattle.pm_turns.specs.Rule.{IsIdle, Holds, MakesTurn, TakesTurn};
 
 use crate::rule::{AtHome, PutBack, Sharing, TakeOut, View};
 use crate::{Turn, Turned};
@@ -90,6 +90,7 @@ impl<B: Turned + Drop> Home<B> {
         requires idle { IsIdle seat.old.me }
         ensures table { seat.new.table_id ≡ seat.old.table_id }
         ensures same { seat.new.me ≡ seat.old.me }
+        ensures does { TakesTurn B.tie B.sound B.turn who seat.old.me.0 result }
     {
         for _ in rt.forever() {
             let hold = self.turn.lock(rt);
@@ -141,6 +142,7 @@ impl<B: Turned + Drop> Home<B> {
         ensures table { seat.new.table_id ≡ seat.old.table_id }
         ensures view { seat.new.me.0 ≡ seat.old.me.0 }
         ensures holds { Holds B.tie B.sound seat.new.me }
+        ensures does { MakesTurn B.turn who seat.old.me seat.new.me result }
     {
         let slot = seat.slot_mut(&self.table.shared, 0);
         let Some(value) = slot else { unreachable!() };

@@ -56,6 +56,8 @@ impl Turned for Count {
 
     ghost sound = { λ count. count.total ≤ count.all };
 
+    ghost turn = { λ old new who said. new.total ≤ new.all };
+
     fn take_turn(&mut self, _alloc: Global, who: u32) -> Turn {
         let who = who as usize;
         if self.total == self.all {
