@@ -1,5 +1,5 @@
 -- Which text is that of a store, whatever is told of it.
-use Rattle.std.specs.Prelude.{◌≡◌, ◌⊎◌, ℕ, List, codes}
+use Rattle.std.specs.Prelude.{◌≡◌, ◌⊎◌, ◌≤◌, ℕ, List, codes, length}
 use Rattle.pm_model.specs.World.{Copy}
 use Rattle.pm_image.specs.Stands.{StandsForCopy}
 use Rattle.pm_view.specs.View.{SpaceView}
@@ -49,10 +49,11 @@ Dumps view number text = text ≡ dump_text_of (dump_of (copy_in view))
 
 -- ---- the path
 
--- the text is that of a path through the copy, from a name to the object of this identity
+-- the text is that of a path through the copy, from a name to the object of this identity, and none has fewer steps
 pub record TellsPath (copy : Copy) (id : ℕ) (text : List ℕ) : Type 0 where
   pub path : Path
   pub leads : IsPathOf copy id path
+  pub shortest : (other : Path) → IsPathOf copy id other → length path.steps ≤ length other.steps
   pub is : text ≡ path_text_of path
 
 -- the names of the copy do not reach the object of this identity, and the text says that there is no path

@@ -44,7 +44,7 @@ impl Teller for DumpText {
     }
 }
 
-/// Why an object is kept: a path from a name to it, one that was checked, or `none` where there is none.
+/// Why an object is kept: a shortest path from a name to it, one that was checked, or `none` where there is none.
 #[derive(Clone, Copy, Debug)]
 pub struct WhyText {
     /// The object's identity.
@@ -58,7 +58,7 @@ fn none_text(alloc: Global) -> Result<Vec<u8>, NoMemory>
     Ok(b"none\n".to_vec(alloc)?)
 }
 
-// The text of a path to the object of this identity, or `none`.
+// The text of a shortest path to the object of this identity, or `none`.
 fn path_or_none<F>(alloc: Global, space: &Space<F>, id: Id) -> Result<Vec<u8>, NoMemory>
     ensures { IfOk result (λ text. GivesPath id (view space.now.parts) 0 text.items) }
 {
