@@ -6,3 +6,4 @@ pub mod Slots
 pub mod First
 pub mod Gathers
 pub mod Lists
+pub mod Added

@@ -1,10 +1,11 @@
 -- A list of sources in order, as the finite map that it is seen as.
-use Rattle.std.proofs.Common.{◌≡◌, ℕ, zero, suc, ◌+◌, ◌<◌, ◌≤◌, ◌==◌, inl, inr, true, false, cond, refl, sym, ap, subst, ◌∙◌, arith, List, [], ◌∷◌, ◌++◌, length, get_or, set, drop, Some, None, Result, Ok, Err, IfOk, IfErr, append-nil}
+use Rattle.std.proofs.Common.{◌≡◌, ℕ, zero, suc, ◌+◌, ◌-◌, ◌<◌, ◌≤◌, ◌==◌, inl, inr, true, false, cond, refl, sym, ap, subst, ◌∙◌, arith, List, [], ◌∷◌, ◌++◌, length, get_or, set, drop, Some, None, Result, Ok, Err, IfOk, IfErr, append-nil}
+use Rattle.std.specs.declared.cmp.Ordering.{Ordering}
 use Rattle.std.specs.declared.cmp.Ordering.TheVariants.{Less, Equal, Greater}
 use Rattle.std.specs.Cmp.{eq_by_cmp_equiv, tied_itself}
 use Rattle.std.specs.Ordering.{is_eq, is_lt, is_le, eq_by_cmp, ordering_index, ordering_reverse}
 use Rattle.std.specs.Option.{is_some}
-use Rattle.std.specs.List.{AllByRecursion, Contains, insert, remove}
+use Rattle.std.specs.List.{AllByRecursion, Contains, insert, remove, slice_get}
 use Rattle.std.specs.List.Sorted.{IsStrictlySortedBy, IsSearchInRange, IsBinarySearchResult, IsNonDecreasingBy}
 use Rattle.std.specs.Map.{keys_of, lookup, set_value, remove_entry, update_all}
 use Rattle.std.specs.FinMap.{from_entries, empty, get, len, get-empty, get-insert, get-remove, get-from_entries, len-insert, len-empty, same_map}
@@ -102,7 +103,32 @@ first_at_gap es k at gap = record {
   above = λ i d low high. ap is_le (turned (get_or es i d).0 k (gap.above i d low high));
 }
 
+pub lesser : (o : Ordering) → is_lt o ≡ true → o ≡ Less
+lesser Less is = refl
+lesser Equal is = cc
+lesser Greater is = cc
+
+-- a source above the last one has its place behind all of them
+pub gap_behind : (es : List Entry) → IsInOrder es → (k : RefSource) (e : Entry) → slice_get es (length es - 1) ≡ Some e → source_cmp e.0 k ≡ Less → IsGap es k (length es)
+gap_behind es ordered k e last less = record {
+  within = omega arith;
+  below = λ i d low high. elim (cases_lt i (length es - 1)) [
+    | inl before ↦ sources_total.trans (get_or es i d).0 e.0 k
+        (subst (λ (x : Entry). source_cmp (get_or es i d).0 x.0 ≡ Less) (at_last d high) (less_at es i (length es - 1) d ordered before (omega (arith, high)))) less
+    | inr not_before ↦ (let same : i ≡ length es - 1 = omega (arith, high, not_before) in
+        subst (λ (x : Entry). source_cmp x.0 k ≡ Less) (sym (ap (λ n. get_or es n d) same ∙ at_last d high)) less)
+  ];
+  above = λ i d low high. absurd (omega (arith, low, high));
+}
+  where
+    at_last : {i : ℕ} (d : Entry) → i < length es → get_or es (length es - 1) d ≡ e
+    at_last d high = get_or_default es (length es - 1) d e (omega (arith, high)) ∙ get_or_from_slice_get es (length es - 1) e e last
+
 -- ---- one source more
+
+-- none at all
+pub none_listed : (es : List Entry) → es ≡ [] → from_entries {R = source_cmp} es ≡ empty
+none_listed es none = same_map sources_total sources_antisymmetric _ _ (λ q. got es q ∙ ap (lookup (is_at (source_cmp q))) none ∙ sym (get-empty source_cmp q))
 
 module _ (es : List Entry) (ordered : IsInOrder es) (k : RefSource) (at : ℕ) (slot : ℕ) where
   pub put_new : IsGap es k at → from_entries {R = source_cmp} (insert es at (k, slot)) ≡ map.insert (from_entries es) k slot

@@ -3,3 +3,4 @@ pub mod Indexed
 pub mod Gathered
 pub mod Listed
 pub mod Kept
+pub mod Entries

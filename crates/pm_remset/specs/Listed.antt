@@ -1,12 +1,15 @@
 -- Sources in a list, each with the slot that it names. No public clause cites this module.
 use Rattle.std.specs.Prelude.{◌≡◌, ℕ, ◌<◌, ◌≤◌, ◌==◌, true, cond, List, [], ◌∷◌, length, slice_index_or}
 use Rattle.std.specs.declared.cmp.Ordering.TheVariants.{Less, Greater}
+use Rattle.std.specs.Option.{is_some}
 use Rattle.std.specs.Ordering.{is_le}
+use Rattle.std.specs.FinMap.{get, insert}
 use Rattle.std.specs.List.{AllWithin}
 use Rattle.std.specs.List.Sorted.{IsStrictlySortedBy}
 use Rattle.std.specs.Map.{keys_of}
 use Rattle.pm_types.specs.declared.source.RefSource.{RefSource}
 use Rattle.pm_types.specs.Orders.{source_cmp}
+use Rattle.pm_remset.specs.Remembered.{Remembered}
 
 -- a source, and the slot that it names
 abbrev pub Entry : Type 0
@@ -37,3 +40,7 @@ pub record IsFirstFrom (es : List Entry) (source : RefSource) (at : ℕ) : Type 
 abbrev pub named : ℕ → List Entry → List RefSource
 named slot [] = []
 named slot (e ∷ es) = cond (e.1 == slot) (e.0 ∷ named slot es) (named slot es)
+
+-- a set with the source and the slot that it names, if it did not have the source
+abbrev pub with_added : Remembered → RefSource → ℕ → Remembered
+with_added set source slot = cond (is_some (get set source)) set (insert set source slot)

@@ -1,6 +1,7 @@
 //! What is remembered of a car: the places outside it that store an address in it.
 #![tactic(auto)]
 
+mod entry;
 mod gathering;
 mod law;
 mod list;

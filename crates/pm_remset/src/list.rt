@@ -1,16 +1,14 @@
 ghost use Rattle.std.specs.Prelude.{◌≡◌, IfOk, IfErr, OnOk, OnErr};
 ghost use Rattle.std.specs.FinMap as map;
 ghost use Rattle.pm_remset.specs.Gathered.{gathered};
-ghost use Rattle.pm_remset.specs.Listed.{IsInOrder, IsEntry, IsGap, IsFirstFrom};
+ghost use Rattle.pm_remset.specs.Listed.{with_added, IsInOrder, IsEntry, IsGap, IsFirstFrom};
 ghost use Rattle.pm_remset.specs.Remembered.{FindsLeastOf, FindsAtOrAfter, FindsPassing, AppendsSources};
 
+use crate::entry::Entry;
 use crate::trees::SourceTrees;
 use pm_types::{NoMemory, RefSource};
 use std::alloc::Global;
 use std::marker::Model;
-
-/// A source, and the slot that it names.
-type Entry = (RefSource, u32);
 
 /// Sources in a list, in order, seen as a finite map from sources to the slots that they name. A source is found by
 /// halving. One that comes or goes moves those behind it, so the list is for few of them.
@@ -36,13 +34,18 @@ impl Model for SourceList {
     ghost invariant = { λ it. IsInOrder it.entries.items };
 }
 
-// The place of the source's entry, or the place for one.
+// The place of the source's entry, or the place for one. One behind all of them is found at once.
 fn search(entries: &[Entry], source: RefSource) -> Result<usize, usize>
     requires { IsInOrder entries.now }
     ensures found { IfOk result (IsEntry entries.now source) }
     ensures absent { IfErr result (IsGap entries.now source) }
 {
-    entries.binary_search_by_key(&source, |entry| entry.0)
+    if let Some(last) = entries.last() {
+        if last.source() < source {
+            return Err(entries.len());
+        }
+    }
+    entries.binary_search_by_key(&source, |entry| entry.source())
 }
 
 // The place of the first entry whose source is not below this one, or the number of entries.
@@ -66,15 +69,32 @@ impl SourceList {
         }
     }
 
-    /// The list that was told of these sources, as `SourceTrees::of_told` is told of them.
-    pub(crate) fn of_told(alloc: Global, told: Vec<Entry>) -> Result<SourceList, NoMemory>
+    // Puts the source, if it is not there yet.
+    fn add(&mut self, source: RefSource, slot: u32) -> Result<(), NoMemory>
+        ensures { OnOk result (self.new ≡ with_added self.old source slot) }
+    {
+        match search(&self.entries, source) {
+            Ok(_) => Ok(()),
+            Err(at) => {
+                self.entries.insert(at, Entry::new(source, slot))?;
+                Ok(())
+            }
+        }
+    }
+
+    /// The list that was told of these sources, as `SourceTrees::of_told` is told of them. It is made from the last one
+    /// on: where they were told in the opposite order, none of them moves.
+    pub(crate) fn of_told(
+        alloc: Global,
+        mut told: Vec<(RefSource, u32)>,
+    ) -> Result<SourceList, NoMemory>
         ensures { IfOk result (λ list. list ≡ gathered told.items) }
     {
         let mut list = SourceList {
             entries: Vec::with_capacity(alloc, told.len())?,
         };
-        for (source, slot) in told {
-            list.put(source, slot)?;
+        while let Some((source, slot)) = told.pop() {
+            list.add(source, slot)?;
         }
         Ok(list)
     }
@@ -86,7 +106,7 @@ impl SourceList {
         let alloc = *self.entries.allocator();
         let mut told = Vec::with_capacity(alloc, self.entries.len())?;
         for entry in &self.entries {
-            told.push(*entry)?;
+            told.push((entry.source(), entry.slot()))?;
         }
         SourceTrees::of_told(alloc, told)
     }
@@ -105,11 +125,11 @@ impl SourceList {
     {
         match search(&self.entries, source) {
             Ok(at) => {
-                self.entries[at].1 = slot;
+                self.entries[at].set_slot(slot);
                 Ok(())
             }
             Err(at) => {
-                self.entries.insert(at, (source, slot))?;
+                self.entries.insert(at, Entry::new(source, slot))?;
                 Ok(())
             }
         }
@@ -123,7 +143,7 @@ impl SourceList {
         match search(&self.entries, source) {
             Ok(at) => {
                 let entry = self.entries.remove(at);
-                Some(entry.1)
+                Some(entry.slot())
             }
             Err(_) => None,
         }
@@ -133,9 +153,9 @@ impl SourceList {
     pub(crate) fn least_of(&self, slot: u32) -> Option<RefSource>
         ensures { FindsLeastOf self.now slot result }
     {
-        for (source, named) in &self.entries {
-            if *named == slot {
-                return Some(*source);
+        for entry in &self.entries {
+            if entry.slot() == slot {
+                return Some(entry.source());
             }
         }
         None
@@ -147,7 +167,8 @@ impl SourceList {
     {
         let at = first_from(&self.entries, from);
         if at < self.entries.len() {
-            Some(self.entries[at])
+            let entry = &self.entries[at];
+            Some((entry.source(), entry.slot()))
         } else {
             None
         }
@@ -161,9 +182,11 @@ impl SourceList {
         requires { P.IsAlwaysCallable pass }
         ensures { FindsPassing P.Fn pass self.now result }
     {
-        for (source, slot) in &self.entries {
-            if pass(*source, *slot) {
-                return Some((*source, *slot));
+        for entry in &self.entries {
+            let source = entry.source();
+            let slot = entry.slot();
+            if pass(source, slot) {
+                return Some((source, slot));
             }
         }
         None
@@ -175,11 +198,11 @@ impl SourceList {
         ensures err { OnErr result (out.new.items ≡ out.old.items) }
     {
         let before = out.len();
-        for (source, named) in &self.entries {
-            if *named != slot {
+        for entry in &self.entries {
+            if entry.slot() != slot {
                 continue;
             }
-            if let Err(failed) = out.push(*source) {
+            if let Err(failed) = out.push(entry.source()) {
                 out.truncate(before);
                 return Err(NoMemory::from(failed));
             }

@@ -3,5 +3,5 @@ use Rattle.pm_remset.proofs.Nexts.{Searched}
 use Rattle.pm_remset.proofs.list.SourceList.least_of.Given as goal
 
 -- each entry that was looked at names another slot
-abbrev pub invariant-loop-source : goal.invariant-loop-source
-invariant-loop-source l = Searched l.self (λ _ named. (named == l.slot) ≡ false) (drop l.source-index l.source-items)
+abbrev pub invariant-loop-entry : goal.invariant-loop-entry
+invariant-loop-entry l = Searched l.self (λ _ named. (named == l.slot) ≡ false) (drop l.entry-index l.entry-items)

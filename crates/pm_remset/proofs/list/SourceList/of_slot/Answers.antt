@@ -8,8 +8,8 @@ use Rattle.pm_remset.proofs.list.SourceList.of_slot.Goals as goal
 
 pub returns-clause-ok : goal.returns-clause-ok
 returns-clause-ok c =
-    let es = c.deref-source-items.result.now in
-    let same = c.deref-source-items.ensures.value in
-    let all : length es ≤ c.loop-source.source-index = search rules in
-    named_appended c.args.self.now es (ap (from_entries {R = source_cmp}) same ∙ c.self.view_is) (subst IsInOrder (sym same) c.self.invariant) c.args.slot c.args.out.now.items c.loop-source.out.items
-    (gathers_all c.args.slot c.args.out.now.items c.loop-source.out.items es _ (drop_of_length-le es all) c.loop-source.invariant)
+    let es = c.deref-entry-items.result.now in
+    let same = c.deref-entry-items.ensures.value in
+    let all : length es ≤ c.loop-entry.entry-index = search rules in
+    named_appended c.args.self.now es (ap (from_entries {R = source_cmp}) same ∙ c.self.view_is) (subst IsInOrder (sym same) c.self.invariant) c.args.slot c.args.out.now.items c.loop-entry.out.items
+    (gathers_all c.args.slot c.args.out.now.items c.loop-entry.out.items es _ (drop_of_length-le es all) c.loop-entry.invariant)

@@ -1,8 +1,11 @@
-use Rattle.std.proofs.Common.{◌≡◌}
-use Rattle.std.specs.List.{fold}
-use Rattle.pm_remset.specs.Gathered.{with_told, gathered}
+use Rattle.std.proofs.Common.{length}
+use Rattle.pm_remset.specs.Gathered.{gathered}
+use Rattle.pm_remset.proofs.Added.{IsOver}
 use Rattle.pm_remset.proofs.list.SourceList.of_told.Given as goal
 
--- told of the rest, the list is what it was to be
+-- what the list says, and what is left is told where it says nothing
 abbrev pub invariant-loop-source : goal.invariant-loop-source
-invariant-loop-source l = fold with_told l.list l.source-iterator.rest.items ≡ gathered l.fn.told.items
+invariant-loop-source l = IsOver l.list (gathered l.told.items) (gathered l.fn.told.items)
+
+abbrev pub decreases-loop-source : goal.decreases-loop-source
+decreases-loop-source l = length l.told.items

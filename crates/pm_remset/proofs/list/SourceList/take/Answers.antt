@@ -14,7 +14,7 @@ returns-in-Ok-clause-value c =
     let is : IsEntry es c.args.source c.in-Ok.at = search rules in
     let e : Entry = c.remove-entry.result in
     let was : e ≡ get_or es c.in-Ok.at e = search rules in
-    ap (λ (x : Entry). Some x.1) was ∙ sym (entry_found es c.self.invariant c.args.source c.in-Ok.at e is) ∙ sym (got es c.args.source) ∙ ap (λ s. map.get s c.args.source) c.self.view_is
+    ap Some c.slot.ensures ∙ ap (λ (x : Entry). Some x.1) was ∙ sym (entry_found es c.self.invariant c.args.source c.in-Ok.at e is) ∙ sym (got es c.args.source) ∙ ap (λ s. map.get s c.args.source) c.self.view_is
 
 pub returns-in-Ok-clause-after : goal.returns-in-Ok-clause-after
 returns-in-Ok-clause-after c =
