@@ -4,7 +4,8 @@ ghost use Rattle.std.specs.Prelude.{◌<◌, length};
 ghost use Rattle.pm_place.specs.Choosers.{IsChooser};
 
 use crate::collected::push_beside;
-use crate::opened::push_opened;
+use crate::opened::{push_next, push_opened};
+use crate::replayed::push_late;
 use crate::scripted::{Shows, push_script};
 use crate::spaced::push_counted;
 use pm_case_text::{Fault, first_word, is_silent, number, push_case, refuse};
@@ -40,9 +41,11 @@ fn shows(step: &str) -> Option<Shows> {
         "replies" => Some(Shows::Replies),
         "end" => Some(Shows::End),
         "last" => Some(Shows::Last),
+        "open" => Some(Shows::Open),
         "dump" => Some(Shows::Dump),
         "why" => Some(Shows::Why),
         "drawn" | "collected" => Some(Shows::Draws),
+        "late" => Some(Shows::Late),
         _ => None,
     }
 }
@@ -75,6 +78,7 @@ fn push_over<F: Fn(&[u64]) -> usize + Drop>(
 {
     match shows(step) {
         Some(Shows::Draws) => push_beside(space, alloc, step, text, out),
+        Some(Shows::Late) => push_late(space, alloc, text, out),
         Some(shows) => push_script(space, alloc, shows, text, out),
         None => push_told(space, alloc, step, text, out),
     }
@@ -126,6 +130,7 @@ fn push_step(alloc: Global, step: &str, text: &str, out: &mut String) -> Result<
     match step {
         "case" => push_case(text, out),
         "opened" => push_opened(alloc, text, out),
+        "next" => push_next(alloc, text, out),
         "collected" => push_drawn_by(alloc, text, out),
         _ => push_chosen(alloc, Chosen::First, step, text, out),
     }

@@ -201,8 +201,8 @@ fn tell_line<F: Fn(&[u64]) -> usize + Drop>(
     }
 }
 
-// Gives the commands of lines to both.
-fn tell_lines<F: Fn(&[u64]) -> usize + Drop>(
+/// Gives the commands of lines to both.
+pub(crate) fn tell_lines<F: Fn(&[u64]) -> usize + Drop>(
     space: &mut Space<F>,
     beside: &mut Beside,
     lines: &[Line],

@@ -1,10 +1,11 @@
 //! A store that is laid out byte by byte.
 
-ghost use Rattle.std.specs.Prelude.{◌≡◌, ◌⊎◌};
+ghost use Rattle.std.specs.Prelude.{◌≡◌, ◌⊎◌, ◌<◌, ◌≤◌};
+ghost use Rattle.pm_types.specs.declared.limits.TheConstants.{END_ID};
 
-use pm_case_text::{Fault, first_word, part, put, raw_bytes};
+use pm_case_text::{Fault, first_word, part, put, raw_bytes, refuse};
 use pm_layout::{Header, digest, write_header};
-use pm_types::PAGE_BYTES;
+use pm_types::{END_ID, PAGE_BYTES};
 use std::alloc::Global;
 
 // The place of the catalog's only page, behind those of the two headers.
@@ -77,13 +78,15 @@ fn put_catalog(disk: &mut Vec<u8>, count: u8, entries: &[u8]) -> Result<(), Faul
 }
 
 // Writes the first header: copy 5 stands behind it.
-fn put_header(disk: &mut Vec<u8>, version: u32) -> Result<(), Fault>
-    requires { (version ≡ 1) ⊎ (version ≡ 2) }
+fn put_header(disk: &mut Vec<u8>, version: u32, next: u64) -> Result<(), Fault>
+    requires version { (version ≡ 1) ⊎ (version ≡ 2) }
+    requires some { 0 < next }
+    requires last { next ≤ END_ID }
 {
     let header = write_header(&Header {
         version,
         epoch: 5,
-        next: 6,
+        next,
         first: 2,
         digest: digest(part(disk.as_slice(), CATALOG, PAGE_BYTES)?),
     });
@@ -94,9 +97,9 @@ fn put_header(disk: &mut Vec<u8>, version: u32) -> Result<(), Fault>
 // Writes the first header of the old or the new version.
 fn put_version(disk: &mut Vec<u8>, old: bool) -> Result<(), Fault> {
     if old {
-        put_header(disk, 1)
+        put_header(disk, 1, 6)
     } else {
-        put_header(disk, 2)
+        put_header(disk, 2, 6)
     }
 }
 
@@ -113,5 +116,16 @@ pub(crate) fn disk_of(alloc: Global, old: bool, text: &str) -> Result<Vec<u8>, F
     let mut disk = vec![in alloc; 0; 3 * PAGE_BYTES]?;
     lay_out(alloc, &mut disk, text)?;
     put_version(&mut disk, old)?;
+    Ok(disk)
+}
+
+/// The bytes of a store of the new version, under copy 5 and with this next identity, in which nothing stands.
+pub(crate) fn bare_disk(alloc: Global, next: u64) -> Result<Vec<u8>, Fault> {
+    if next == 0 || next > END_ID {
+        return Err(refuse("Step"));
+    }
+    let mut disk = vec![in alloc; 0; 3 * PAGE_BYTES]?;
+    put_catalog(&mut disk, 0, &[])?;
+    put_header(&mut disk, 2, next)?;
     Ok(disk)
 }

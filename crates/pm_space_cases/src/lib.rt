@@ -12,6 +12,7 @@ mod late;
 mod lines;
 mod opened;
 mod paths;
+mod replayed;
 mod scripted;
 mod searched;
 mod spaced;

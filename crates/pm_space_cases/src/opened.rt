@@ -3,7 +3,8 @@
 ghost use Rattle.std.specs.Prelude.{◌≡◌, false};
 ghost use Rattle.pm_shadow.specs.Pages.{state};
 
-use crate::laid::disk_of;
+use crate::laid::{bare_disk, disk_of};
+use crate::scripted::{Shows, push_script};
 use pm_case_text::{Fault, numbered, push_filled, push_value_line, refuse};
 use pm_disk::MemDisk;
 use pm_graphs::settled::PackedPages;
@@ -144,4 +145,32 @@ fn push_disk(alloc: Global, disk: Vec<u8>, out: &mut String) -> Result<(), Fault
 pub(crate) fn push_opened(alloc: Global, text: &str, out: &mut String) -> Result<(), Fault> {
     let (version, entries) = numbered(text)?;
     push_disk(alloc, disk_of(alloc, version == 1, entries)?, out)
+}
+
+// Opens the store behind these pages, and runs the lines over its space.
+fn push_lines(
+    alloc: Global,
+    pages: &mut Pages<MemDisk>,
+    lines: &str,
+    out: &mut String,
+) -> Result<(), Fault>
+    requires { (state pages.old).failed ≡ false }
+{
+    match open_space(alloc, pages, Placement::new(|_: &[u64]| 0)) {
+        Ok((mut space, _)) => push_script(&mut space, alloc, Shows::All, lines, out),
+        Err(fault) => push_value_line(&fault, out),
+    }
+}
+
+/// `NEXT LINES`: the lines, as those of `script`, over the space of a store with this next identity in which nothing
+/// stands.
+pub(crate) fn push_next(alloc: Global, text: &str, out: &mut String) -> Result<(), Fault> {
+    let (next, lines) = numbered(text)?;
+    match Pages::attach(
+        alloc,
+        MemDisk::new(bare_disk(alloc, next)?, Vec::new(alloc)),
+    ) {
+        Ok(mut pages) => push_lines(alloc, &mut pages, lines, out),
+        Err((_, fault)) => push_value_line(&fault, out),
+    }
 }

@@ -8,6 +8,7 @@ ghost use Rattle.pm_view.specs.Commands.{is_act};
 use crate::late::{Late, carry_late, late_of};
 use crate::lines::script_of;
 use crate::paths::{Found, push_found};
+use crate::spaced::push_open;
 use pm_case_text::{
     Fault, first_word, push_filled, push_text, push_value_line, push_words, refuse, small,
 };
@@ -35,12 +36,16 @@ pub(crate) enum Shows {
     End,
     /// The last reply.
     Last,
+    /// What the open train is at the end.
+    Open,
     /// The text of the dump at the end.
     Dump,
     /// A path to an identity at the end.
     Why,
     /// What commands that are drawn came to.
     Draws,
+    /// What commands behind late objects came to.
+    Late,
 }
 
 // Whether the events are shown.
@@ -380,6 +385,7 @@ fn push_behind<F: Drop>(
 ) -> Result<(), Fault> {
     match course.shows {
         Shows::Last => push_words(course.reply.as_str(), out),
+        Shows::Open => push_open(space, out),
         Shows::Dump => push_dump(space, alloc, out),
         Shows::Why => push_found(space, alloc, id, Found::Whole, out),
         _ => push_end(space, course, out),

@@ -50,8 +50,8 @@ fn run_times<F: Fn(&[u64]) -> usize + Drop>(
     Ok(course.refused)
 }
 
-// Adds what the open train is.
-fn push_open<F: Drop>(space: &Space<F>, out: &mut String) -> Result<(), Fault> {
+/// Adds what the open train is.
+pub(crate) fn push_open<F: Drop>(space: &Space<F>, out: &mut String) -> Result<(), Fault> {
     let trains = &space.parts.trains;
     let open = trains.youngest();
     push_filled(
