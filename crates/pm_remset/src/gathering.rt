@@ -2,6 +2,7 @@ ghost use Rattle.std.specs.Prelude.{◌≡◌, IfOk, OnOk, OnErr};
 ghost use Rattle.std.specs.FinMap as map;
 
 use crate::Remset;
+use crate::entry::Entry;
 use pm_types::{NoMemory, RefSource};
 use std::alloc::Global;
 use std::marker::Model;
@@ -10,7 +11,7 @@ use std::marker::Model;
 /// list at once. It is seen as the set, a finite map from sources to slots.
 #[derive(Drop)]
 pub struct Gathering {
-    told: Vec<(RefSource, u32)>,
+    told: Vec<Entry>,
 }
 
 impl Model for Gathering {
@@ -44,7 +45,7 @@ impl Gathering {
         ensures ok { OnOk result (self.new ≡ map.insert self.old source slot) }
         ensures err { OnErr result (self.new ≡ self.old) }
     {
-        self.told.push((source, slot))?;
+        self.told.push(Entry::new(source, slot))?;
         Ok(())
     }
 

@@ -69,14 +69,14 @@ impl SourceList {
         }
     }
 
-    // Puts the source, if it is not there yet.
-    fn add(&mut self, source: RefSource, slot: u32) -> Result<(), NoMemory>
-        ensures { OnOk result (self.new ≡ with_added self.old source slot) }
+    // Puts the entry, if there is none of its source yet.
+    fn add(&mut self, entry: Entry) -> Result<(), NoMemory>
+        ensures { OnOk result (self.new ≡ with_added self.old entry.0 entry.1) }
     {
-        match search(&self.entries, source) {
+        match search(&self.entries, entry.source()) {
             Ok(_) => Ok(()),
             Err(at) => {
-                self.entries.insert(at, Entry::new(source, slot))?;
+                self.entries.insert(at, entry)?;
                 Ok(())
             }
         }
@@ -84,17 +84,14 @@ impl SourceList {
 
     /// The list that was told of these sources, as `SourceTrees::of_told` is told of them. It is made from the last one
     /// on: where they were told in the opposite order, none of them moves.
-    pub(crate) fn of_told(
-        alloc: Global,
-        mut told: Vec<(RefSource, u32)>,
-    ) -> Result<SourceList, NoMemory>
+    pub(crate) fn of_told(alloc: Global, mut told: Vec<Entry>) -> Result<SourceList, NoMemory>
         ensures { IfOk result (λ list. list ≡ gathered told.items) }
     {
         let mut list = SourceList {
             entries: Vec::with_capacity(alloc, told.len())?,
         };
-        while let Some((source, slot)) = told.pop() {
-            list.add(source, slot)?;
+        while let Some(entry) = told.pop() {
+            list.add(entry)?;
         }
         Ok(list)
     }
@@ -106,7 +103,7 @@ impl SourceList {
         let alloc = *self.entries.allocator();
         let mut told = Vec::with_capacity(alloc, self.entries.len())?;
         for entry in &self.entries {
-            told.push((entry.source(), entry.slot()))?;
+            told.push(Entry::new(entry.source(), entry.slot()))?;
         }
         SourceTrees::of_told(alloc, told)
     }

@@ -3,6 +3,7 @@ ghost use Rattle.std.specs.FinMap as map;
 ghost use Rattle.pm_remset.specs.Gathered.{gathered};
 ghost use Rattle.pm_remset.specs.Remembered.{FindsLeastOf, FindsAtOrAfter, FindsPassing, AppendsSources};
 
+use crate::entry::Entry;
 use crate::list::SourceList;
 use crate::trees::SourceTrees;
 use pm_types::{NoMemory, RefSource};
@@ -53,7 +54,7 @@ impl Remset {
     /// The set that was told of these sources, each with the slot that it names: of a source that is told
     /// twice the last one counts. Where they are many it is made at once, not by one `put` after another: in
     /// trees whose nodes are full, and, where the list is in order or in the opposite one, with no search in it.
-    pub(crate) fn of_told(alloc: Global, told: Vec<(RefSource, u32)>) -> Result<Remset, NoMemory>
+    pub(crate) fn of_told(alloc: Global, told: Vec<Entry>) -> Result<Remset, NoMemory>
         ensures { IfOk result (λ set. set ≡ gathered told.items) }
     {
         let kept = if told.len() <= FEW {

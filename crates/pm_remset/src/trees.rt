@@ -4,6 +4,7 @@ ghost use Rattle.pm_remset.specs.Gathered.{gathered};
 ghost use Rattle.pm_remset.specs.Indexed.{IsIndexed};
 ghost use Rattle.pm_remset.specs.Remembered.{FindsLeastOf, FindsAtOrAfter, FindsPassing, AppendsSources};
 
+use crate::entry::Entry;
 use pm_types::{NoMemory, RefSource};
 use std::alloc::Global;
 use std::collections::{BTreeMap, BTreeSet};
@@ -54,13 +55,13 @@ impl SourceTrees {
     /// The set that was told of these sources, each with the slot that it names: of a source that is told
     /// twice the last one counts. It is made at once, not by one `put` after another: in trees whose nodes
     /// are full, and, where the list is in order or in the opposite one, with no search in it.
-    pub(crate) fn of_told(
-        alloc: Global,
-        told: Vec<(RefSource, u32)>,
-    ) -> Result<SourceTrees, NoMemory>
+    pub(crate) fn of_told(alloc: Global, told: Vec<Entry>) -> Result<SourceTrees, NoMemory>
         ensures { IfOk result (λ set. set ≡ gathered told.items) }
     {
-        let slots = told.into_iter().collect(alloc)?;
+        let slots = told
+            .into_iter()
+            .map(|entry: Entry| (entry.source(), entry.slot()))
+            .collect(alloc)?;
         let index = index_by_slot(alloc, &slots)?;
         Ok(SourceTrees { slots, index })
     }

@@ -8,20 +8,20 @@ use Rattle.pm_remset.proofs.list.SourceList.of_told.Goals as goal
 pub invariant_of-list : goal.invariant_of-list
 invariant_of-list c = subst IsInOrder (sym c.in_ok-with_capacity.ensures.items) none_in_order
 
-pub loop-source-init : goal.loop-source-init
-loop-source-init c = over_begins _ (gathered c.args.told.items) (none_listed c.in_ok-with_capacity.field-0.items c.in_ok-with_capacity.ensures.items)
+pub loop-entry-init : goal.loop-entry-init
+loop-entry-init c = over_begins _ (gathered c.args.told.items) (none_listed c.in_ok-with_capacity.field-0.items c.in_ok-with_capacity.ensures.items)
 
-pub loop-source-preserved : goal.loop-source-preserved
-loop-source-preserved c =
-    let e : Entry = (c.in-Some.source, c.in-Some.slot) in
+pub loop-entry-preserved : goal.loop-entry-preserved
+loop-entry-preserved c =
+    let e : Entry = c.in-Some.entry in
     let rest = gathered c.pop.new.self.items in
     let all = gathered c.args.told.items in
-    let split : c.loop-source.told.items ≡ c.pop.new.self.items ++ e ∷ [] = c.in-Some.ensures.items in
-    let over : IsOver c.loop-source.list (gathered c.loop-source.told.items) all = c.loop-source.invariant in
+    let split : c.loop-entry.told.items ≡ c.pop.new.self.items ++ e ∷ [] = c.in-Some.ensures.items in
+    let over : IsOver c.loop-entry.list (gathered c.loop-entry.told.items) all = c.loop-entry.invariant in
     subst (λ set. IsOver set rest all) (sym c.in_ok-add.ensures)
-    (over_added c.loop-source.list rest all e (subst (λ left. IsOver c.loop-source.list left all) (ap gathered split ∙ gathered_last c.pop.new.self.items e) over))
+    (over_added c.loop-entry.list rest all e (subst (λ left. IsOver c.loop-entry.list left all) (ap gathered split ∙ gathered_last c.pop.new.self.items e) over))
 
 pub returns : goal.returns
 returns c =
-    let none : c.loop-source.told.items ≡ [] = search rules in
-    over_ends c.loop-source.list (gathered c.loop-source.told.items) (gathered c.args.told.items) (ap gathered none) c.loop-source.invariant
+    let none : c.loop-entry.told.items ≡ [] = search rules in
+    over_ends c.loop-entry.list (gathered c.loop-entry.told.items) (gathered c.args.told.items) (ap gathered none) c.loop-entry.invariant

@@ -4,8 +4,8 @@ use Rattle.pm_remset.proofs.Added.{IsOver}
 use Rattle.pm_remset.proofs.list.SourceList.of_told.Given as goal
 
 -- what the list says, and what is left is told where it says nothing
-abbrev pub invariant-loop-source : goal.invariant-loop-source
-invariant-loop-source l = IsOver l.list (gathered l.told.items) (gathered l.fn.told.items)
+abbrev pub invariant-loop-entry : goal.invariant-loop-entry
+invariant-loop-entry l = IsOver l.list (gathered l.told.items) (gathered l.fn.told.items)
 
-abbrev pub decreases-loop-source : goal.decreases-loop-source
-decreases-loop-source l = length l.told.items
+abbrev pub decreases-loop-entry : goal.decreases-loop-entry
+decreases-loop-entry l = length l.told.items
