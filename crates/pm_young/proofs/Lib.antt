@@ -1,0 +1,4 @@
+pub mod Listed
+pub mod Opened
+pub mod Reached
+pub mod GoesOn

@@ -1,0 +1,17 @@
+use Rattle.std.proofs.Common.{refl, sym, ap, subst, List}
+use Rattle.std.proofs.Math.Logic.{∥∥₁_map}
+use Rattle.pm_types.specs.declared.entry.Entry.{Entry}
+use Rattle.pm_engine.proofs.WorksLemmas.Asking.{kept_journal}
+use Rattle.pm_young.specs.Halts.{stopped_by}
+use Rattle.pm_young.proofs.Opened.{within_kept}
+use Rattle.pm_young.proofs.engine.YoungEngine.reserve_entries.Goals as goal
+
+pub invariant_of-self : goal.invariant_of-self
+invariant_of-self g c =
+    let it = c.args.self.now in
+    record {
+      safe = kept_journal it.opening (stopped_by it.halted) it.works (record it.works { journal = c.reserve.new.self }) c.reserve.ensures.items refl refl refl refl refl refl refl it.safe;
+      within = λ running. within_kept it.opening it.works it.nursery c.reserve.new.self c.reserve.ensures.items (it.within running);
+      comes_in = it.comes_in;
+      counted = it.counted;
+    }

@@ -1,0 +1,5 @@
+pub mod Halts
+pub mod Entering
+pub mod Kept
+pub mod Seen
+pub mod Calls
