@@ -3,3 +3,4 @@ pub mod TrialLemmas
 pub mod EndsLemmas
 pub mod Ran
 pub mod Stores
+pub mod Openings

@@ -49,13 +49,13 @@ use Rattle.pm_runs.specs.Ends.Ends.{IsUnwritten, RanShort, stop_in, ended_by}
 use Rattle.pm_runs.specs.Ends.Stages.{IsPast, unreached, the_events, the_output}
 use Rattle.pm_runs.specs.Ends.Disks.{IsLastOf, IsOfDisk, IsOfRun}
 use Rattle.pm_runs.specs.Ends.Tallies.{ComesTo}
-use Rattle.pm_runs.specs.Engines.{RunsEngine}
+use Rattle.pm_runs.specs.Engines.{GoesFrom, RunsEngine}
 use Rattle.pm_runs.specs.Wrote.{AcknowledgesFor, Wrote}
 use Rattle.pm_runs.specs.Ends.Journals.{IsBegun, ServesAll, ServesInOrder, ServesLines}
 use Rattle.pm_runs.specs.Ends.Causes.{ShowsCauses}
 use Rattle.pm_runs.proofs.EndsLemmas.Parts.{with_parts}
 use Rattle.pm_runs.proofs.EndsLemmas.Faults.{late_past}
-use Rattle.pm_runs.proofs.EndsLemmas.Tallied.{KeepsAll, engine_comes}
+use Rattle.pm_runs.proofs.EndsLemmas.Tallied.{KeepsAll, engine_comes, total_of}
 
 -- an empty journal is legal from the world of the empty copy
 pub none_begun : IsBegun []
@@ -202,7 +202,7 @@ module _ {D F K : Type 0} {g : disk.Ghosts D} (k : sink.Ghosts K) where
       × (IsTold (g.contents (opened_disk old)) → LeavesOnly g.moment g.since (disk_in old) end (IsOfRun detail (opening (serving old)) journal))
       × (IsTold (g.contents (opened_disk old)) → (left : List ℕ) → g.image end left → IsLastOf detail (after (opening (serving old)) journal) left)
       × (journal ≡ [] → end ≡ disk_in old)
-      × ComesTo (g.contents (opened_disk old)) (opening (serving old)) journal (tally_of tally)
+      × ComesTo (GoesFrom old end) (opening (serving old)) journal (tally_of tally)
       × Wrote k writes sink last (text journal) (tail_of (tally_of tally)) (stop_in detail)
 
 module _ {D F S K : Type 0} {g : disk.Ghosts D} (k : sink.Ghosts K) where
@@ -233,12 +233,12 @@ module _ {D F S K : Type 0} {g : disk.Ghosts D} (k : sink.Ghosts K) where
       same = λ i. begin (start.opening.number i) (copy_in (start.opening.opened i))
 
       -- what it came to, from the world and of the disk that were opened
-      comes : ComesTo (g.contents (opened_disk old)) (opening (serving old)) (serving new).journal (tally_of tally)
+      comes : ComesTo (GoesFrom old (disk_in new)) (opening (serving old)) (serving new).journal (tally_of tally)
       comes =
-          let then : (g.contents (opened_disk new), opening (serving new)) ≡ (g.contents (opened_disk old), opening (serving old)) = (λ i. (g.contents (start.disk i), same i)) in
-          subst (ComesTo (g.contents (opened_disk old)) (opening (serving old)) (serving new).journal) (sym is)
-          (subst (λ (begun : Option (List ℕ) × World). ComesTo begun.0 begun.1 (serving new).journal (tally_in (serving new))) then
-          (engine_comes (g.contents (opened_disk new)) (serving new) kept (subst (λ (total : Total). AllByRecursion IsHonest total.lines) is honest)))
+          subst (ComesTo (GoesFrom old (disk_in new)) (opening (serving old)) (serving new).journal) (sym is)
+          (subst (λ (begun : World). ComesTo (GoesFrom old (disk_in new)) begun (serving new).journal (tally_in (serving new))) same
+          (engine_comes (GoesFrom old (disk_in new)) (g.contents (opened_disk new)) (serving new) kept (subst (λ (total : Total). AllByRecursion IsHonest total.lines) is honest)
+          (record { later = new; keeps = start; disk = refl; comes = total_of g (serving new) (opened_disk new) kept })))
 
       leaves : Leaves k writes old (disk_in new) tally sink last (ended_by stop a b c d) (serving new).journal
       leaves =

@@ -18,8 +18,8 @@ use Rattle.pm_runs.specs.declared.writes.Writes.{Writes}
 use Rattle.pm_runs.specs.Ends.Ends.{stop_in}
 use Rattle.pm_runs.specs.Ends.Stages.{IsPast, unreached, the_words, the_store, the_events, the_output}
 use Rattle.pm_runs.specs.Ends.Journals.{IsBegun, ServesInOrder, ServesLines}
-use Rattle.pm_runs.specs.Ends.Disks.{LeavesDisk}
-use Rattle.pm_runs.specs.Ends.Tallies.{ComesTo}
+use Rattle.pm_runs.specs.Ends.Disks.{LeavesDisk, SyncsAtMost}
+use Rattle.pm_runs.specs.Ends.Tallies.{ComesTo, IsOfEngine}
 use Rattle.pm_runs.specs.Wrote.{Wrote}
 use Rattle.pm_runs.specs.Runs.{RunsStore}
 use Rattle.pm_serial.proofs.Cutting.{on_stop}
@@ -33,10 +33,10 @@ if_there (Some tally) a = a
 
 module _ {D S K : Type 0} (d : disk.Ghosts D) (k : sink.Ghosts K) where
   -- no store was opened
-  pub store_unrun : (writes : Writes) (start end : D) (source : S) (sink : K) (it : Ended D S K) (detail : Detail) → it.journal.items ≡ []
-      → (IsPast the_store detail → ⊥) → LeavesDisk d start end detail []
-      → RunsStore d k writes start sink (with_parts it detail None end source sink)
-  store_unrun writes start end source sink it detail empty undone leaves = record {
+  pub store_unrun : {F : Type 0} (place : F) (writes : Writes) (start end : D) (source : S) (sink : K) (it : Ended D S K) (detail : Detail) → it.journal.items ≡ []
+      → (IsPast the_store detail → ⊥) → LeavesDisk d start end detail [] → SyncsAtMost d start end
+      → RunsStore d k place writes start sink (with_parts it detail None end source sink)
+  store_unrun place writes start end source sink it detail empty undone leaves synced = record {
     begun = subst IsBegun (sym empty) none_begun;
     none = empty;
     stands = λ there. absurd (cc there);
@@ -46,23 +46,25 @@ module _ {D S K : Type 0} (d : disk.Ghosts D) (k : sink.Ghosts K) where
       comes_to = tt;
     };
     leaves = subst (LeavesDisk d start end detail) (sym empty) leaves;
+    synced = synced;
     quiet = refl;
     replies = tt;
   }
 
   -- lines were run
-  pub store_run : (writes : Writes) (disk : D) (sink : K) (it : Ended D S K) (begun : IsBegun it.journal.items) → the_events < unreached it.detail
+  pub store_run : {F : Type 0} (place : F) (writes : Writes) (disk : D) (sink : K) (it : Ended D S K) (begun : IsBegun it.journal.items) → the_events < unreached it.detail
       → IsSome it.tally → ((bytes : List ℕ) → d.contents disk ≡ Some bytes → StandsForCopy bytes begun.number begun.copy)
-      → IfSome it.tally (λ tally. ComesTo (d.contents disk) (begin begun.number begun.copy) it.journal.items (tally_of tally))
+      → IfSome it.tally (λ tally. ComesTo (IsOfEngine d place disk it.disk) (begin begun.number begun.copy) it.journal.items (tally_of tally))
       → LeavesDisk d disk it.disk it.detail it.journal.items
       → IfSome it.tally (λ tally. Wrote k writes sink it.sink (text it.journal.items) (tail_of (tally_of tally)) (stop_in it.detail))
-      → RunsStore d k writes disk sink it
-  store_run writes disk sink it begun late there stands comes leaves replies = record {
+      → RunsStore d k place writes disk sink it
+  store_run place writes disk sink it begun late there stands comes leaves replies = record {
     begun = begun;
     none = told (it.journal.items ≡ []) it.tally there;
     stands = λ is. stands;
     tallies = record { opened = λ past. there; unopened = λ before. absurd (omega (arith, before, late)); comes_to = comes };
     leaves = leaves;
+    synced = told (SyncsAtMost d disk it.disk) it.tally there;
     quiet = told (it.sink ≡ sink) it.tally there;
     replies = replies;
   }

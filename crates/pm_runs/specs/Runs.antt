@@ -19,13 +19,14 @@ use Rattle.pm_runs.specs.declared.writes.Writes.TheVariants.{Replies}
 use Rattle.pm_runs.specs.Ends.Ends.{IsUnwritten, RanShort, stop_in}
 use Rattle.pm_runs.specs.Ends.Stages.{IsPast, the_words, the_script}
 use Rattle.pm_runs.specs.Ends.Journals.{IsBegun, KeepsOrder, ReadsScript}
-use Rattle.pm_runs.specs.Ends.Disks.{LeavesDisk}
+use Rattle.pm_runs.specs.Ends.Disks.{LeavesDisk, SyncsAtMost}
 use Rattle.pm_runs.specs.Ends.Tallies.{TalliesRun}
 use Rattle.pm_runs.specs.Wrote.{Wrote}
 
 module _ {D S K : Type 0} (d : disk.Ghosts D) (k : sink.Ghosts K) where
   -- What a run that writes this does to disk and sink, and what it answers, whatever it reads, in whichever order it asks.
-  pub record RunsStore (writes : Writes) (disk : D) (sink : K) (ended : Ended D S K) : Type 0 where
+  -- Its engine has this chooser.
+  pub record RunsStore {F : Type 0} (place : F) (writes : Writes) (disk : D) (sink : K) (ended : Ended D S K) : Type 0 where
     -- the journal is legal from the world of some copy, and empty where no store was opened
     pub begun : IsBegun ended.journal.items
     pub none : IfNone ended.tally (ended.journal.items ≡ [])
@@ -33,9 +34,11 @@ module _ {D S K : Type 0} (d : disk.Ghosts D) (k : sink.Ghosts K) where
     pub stands : IsSome ended.tally → (bytes : List ℕ) → d.contents disk ≡ Some bytes
         → StandsForCopy bytes begun.number begun.copy
     -- what the engine came to, from that world
-    pub tallies : TalliesRun (d.contents disk) (begin begun.number begun.copy) ended.detail ended.journal.items ended.tally
+    pub tallies : TalliesRun d place disk ended.disk (begin begun.number begun.copy) ended.detail ended.journal.items ended.tally
     -- what it does to the disk
     pub leaves : LeavesDisk d disk ended.disk ended.detail ended.journal.items
+    -- where no store was opened the disk is not called, or synced once; where one was, it was synced first
+    pub synced : IfNone ended.tally (SyncsAtMost d disk ended.disk)
     -- the sink is not called where no store was opened
     pub quiet : IfNone ended.tally (ended.sink ≡ sink)
     -- and where one was, it is what this run writes for the journal's text and for the lines behind it, by how it ended
@@ -45,7 +48,7 @@ module _ {D S K : Type 0} (d : disk.Ghosts D) (k : sink.Ghosts K) where
 module _ {D S K : Type 0} (d : disk.Ghosts D) (s : source.Ghosts S) (k : sink.Ghosts K) where
   -- What `run FILE serial` does: the source is read to its end, the script is read, the store is opened, and its lines
   -- are run in their order.
-  pub record RunsScript (disk : D) (source : S) (sink : K) (ended : Ended D S K) : Type 0 where
+  pub record RunsScript {F : Type 0} (place : F) (disk : D) (source : S) (sink : K) (ended : Ended D S K) : Type 0 where
     -- the words were read, so it ends as no other command does
     pub ends : IsPast the_words ended.detail
     -- past the script the source was read to its end
@@ -58,13 +61,13 @@ module _ {D S K : Type 0} (d : disk.Ghosts D) (s : source.Ghosts S) (k : sink.Gh
     pub order : (bytes : List ℕ) → s.left source ≡ Some bytes
         → KeepsOrder bytes ended.detail ended.journal.items ended.tally
     -- what it does to disk and sink
-    pub store : RunsStore d k Replies disk sink ended
+    pub store : RunsStore d k place Replies disk sink ended
     -- acknowledged is told: unless the sink failed, the text through each reply `saved` is finished
     pub saved : IfSome ended.tally (λ it. Acknowledges k sink ended.sink ended.journal.items (stop_in ended.detail))
 
   -- What `run FILE threads` does: the source is read to its end, the script is read, the store is opened, and each client's
   -- lines are run in their order, in threads that take turns. The journal has the commands in the order of the turns.
-  pub record RunsTogether (disk : D) (source : S) (sink : K) (ended : Ended D S K) : Type 0 where
+  pub record RunsTogether {F : Type 0} (place : F) (disk : D) (source : S) (sink : K) (ended : Ended D S K) : Type 0 where
     -- the words were read, so it ends as no other command does
     pub ends : IsPast the_words ended.detail
     -- past the script the source was read to its end
@@ -74,7 +77,7 @@ module _ {D S K : Type 0} (d : disk.Ghosts D) (s : source.Ghosts S) (k : sink.Gh
     pub script : (bytes : List ℕ) → s.left source ≡ Some bytes
         → ReadsScript bytes ended.detail ended.journal.items ended.tally
     -- what it does to disk and sink; the replies are written behind the last event
-    pub store : ∥ RunsStore d k Replies disk sink ended ∥₁
+    pub store : ∥ RunsStore d k place Replies disk sink ended ∥₁
     -- where the sink failed all was made that the script asks for, as where the run is done
     pub last : IsUnwritten ended.detail → (bytes : List ℕ) → s.left source ≡ Some bytes
         → ReadsScript bytes Fine ended.journal.items ended.tally

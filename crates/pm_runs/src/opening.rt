@@ -78,7 +78,7 @@ pub fn run_lines<D: Disk, F: Fn(&[u64]) -> usize + Drop, S: Source, K: Sink>(
     ensures order { ServesInOrder lines.items result.detail result.journal.items result.tally }
     ensures last { WritesLast writes → IsUnwritten result.detail
         → ServesAll lines.items result.journal.items result.tally }
-    ensures store { RunsStore D.Disk K.Sink writes disk sink result }
+    ensures store { RunsStore D.Disk K.Sink place writes disk sink result }
     // Acknowledged is told: unless the sink failed, the text through each reply `saved` is finished.
     ensures saved { IfSome result.tally
         (λ it. AcknowledgesFor K.Sink writes sink result.sink result.journal.items (stop_in result.detail)) }

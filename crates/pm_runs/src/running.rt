@@ -23,7 +23,7 @@ pub fn run_source<D: Disk, F: Fn(&[u64]) -> usize + Drop, S: Source, K: Sink>(
 ) -> Alone<D, S, K>
     requires chooser { IsChooser F.Fn place }
     ensures status { result.status ≡ status_of result.detail }
-    ensures runs { RunsScript D.Disk S.Source K.Sink disk source sink result }
+    ensures runs { RunsScript D.Disk S.Source K.Sink place disk source sink result }
     ensures causes { ShowsCauses D.Disk S.Source K.Sink disk source sink result }
 {
     match read_source(alloc, &mut source) {

@@ -95,7 +95,7 @@ fn open_and_run<
     ensures serves { ServesLines script result.detail result.journal.items result.tally }
     ensures last { IsUnwritten result.detail
         → ServesLines script Fine result.journal.items result.tally }
-    ensures store { ∥ RunsStore D.Disk K.Sink Replies disk sink result ∥₁ }
+    ensures store { ∥ RunsStore D.Disk K.Sink place Replies disk sink result ∥₁ }
     ensures short { RanShort result.detail → IfSome result.tally (λ it. ∥ LeavesSome script result.journal.items
         (tally_of it).steps (tally_of it).events (tally_of it).left ∥₁) }
     ensures causes { ShowsCauses D.Disk S.Source K.Sink disk source sink result }
@@ -126,7 +126,7 @@ pub fn run_together<
 ) -> Alone<D, S, K>
     requires chooser { IsChooser F.Fn place }
     ensures status { result.status ≡ status_of result.detail }
-    ensures runs { RunsTogether D.Disk S.Source K.Sink disk source sink result }
+    ensures runs { RunsTogether D.Disk S.Source K.Sink place disk source sink result }
     ensures causes { ShowsCauses D.Disk S.Source K.Sink disk source sink result }
 {
     images_since_now(&disk);

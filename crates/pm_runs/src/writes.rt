@@ -1,16 +1,14 @@
 //! What a run of lines writes.
 ghost use Rattle.std.specs.Prelude.{None};
-ghost use Rattle.pm_model.specs.Text.{text};
 ghost use Rattle.pm_script.specs.Script.{AreLines};
 ghost use Rattle.pm_place.specs.Choosers.{IsChooser};
-ghost use Rattle.pm_engine.specs.Shown.{KeepsStart, chooser, serving, tally_in};
-ghost use Rattle.pm_serial.specs.Causes.{CountsSink};
+ghost use Rattle.pm_engine.specs.Shown.{chooser, serving};
 ghost use Rattle.pm_engine.specs.Events.Causes.{why};
 ghost use Rattle.pm_serial.specs.Running.{AnswersLines};
-ghost use Rattle.pm_engine.specs.Events.Running.{IsFresh, RunsOnDisk};
+ghost use Rattle.pm_engine.specs.Events.Running.{IsFresh};
 ghost use Rattle.pm_serial.specs.Stepping.{IsOfSink};
-ghost use Rattle.pm_serial.specs.Writing.{tail_of};
-ghost use Rattle.pm_runs.specs.Wrote.{AcknowledgesFor, WritesLast, Wrote};
+ghost use Rattle.pm_serial.specs.Whole.{RunsLines};
+ghost use Rattle.pm_runs.specs.Wrote.{WritesLast, WroteLines};
 
 use crate::ends::{Engine, Stop, run_lines};
 use crate::trial::run_trial;
@@ -39,13 +37,8 @@ pub(crate) fn write_lines<D: Disk, F: Fn(&[u64]) -> usize + Drop, K: Sink>(
     requires clients { AreLines lines.items }
     requires fresh { IsFresh (serving engine.old) }
     requires chooser { IsChooser F.Fn (chooser engine.old) }
-    ensures answers { AnswersLines lines.items (serving engine.new) (why result) }
-    ensures disk { RunsOnDisk engine.old engine.new (why result) }
-    ensures wrote { Wrote K.Sink writes sink.old sink.new
-        (text (serving engine.new).journal) (tail_of (tally_in (serving engine.new))) (why result) }
-    ensures saved { AcknowledgesFor K.Sink writes sink.old sink.new (serving engine.new).journal (why result) }
-    ensures cause { CountsSink (why result) (K.count sink.old) (K.count sink.new) }
-    ensures start { KeepsStart engine.old engine.new }
+    ensures runs { RunsLines (WroteLines K.Sink writes sink.old sink.new) lines.items
+        engine.old engine.new (why result) }
     ensures last { WritesLast writes → IsOfSink (why result)
         → AnswersLines lines.items (serving engine.new) None }
 {

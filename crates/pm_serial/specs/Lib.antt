@@ -5,3 +5,4 @@ pub mod Writing
 pub mod Stepping
 pub mod Ordered
 pub mod Acknowledged
+pub mod Whole

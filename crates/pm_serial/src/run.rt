@@ -2,16 +2,14 @@
 
 ghost use Rattle.std.specs.Prelude.{◌≡◌, ◌≤◌, [], length, OnOk, IfOk};
 ghost use Rattle.pm_place.specs.Choosers.{IsChooser};
-ghost use Rattle.pm_model.specs.Text.{text};
 ghost use Rattle.pm_script.specs.Script.{AreLines};
 ghost use Rattle.pm_serial.specs.Output.Gathered.{gathered};
-ghost use Rattle.pm_engine.specs.Shown.{KeepsStart, chooser, disk_in, room, serving, tally_in};
+ghost use Rattle.pm_engine.specs.Shown.{KeepsStart, chooser, disk_in, room, serving};
 ghost use Rattle.pm_script.specs.Parted.Asked.{requests_asked};
 ghost use Rattle.pm_engine.specs.Events.Causes.{why};
-ghost use Rattle.pm_serial.specs.Acknowledged.{Acknowledges};
-ghost use Rattle.pm_serial.specs.Running.{AnswersLines};
-ghost use Rattle.pm_engine.specs.Events.Running.{IsFresh, RunsOnDisk};
-ghost use Rattle.pm_serial.specs.Writing.{WroteRun, tail_of, text_behind};
+ghost use Rattle.pm_engine.specs.Events.Running.{IsFresh};
+ghost use Rattle.pm_serial.specs.Whole.{RunsLines, WroteReplies};
+ghost use Rattle.pm_serial.specs.Writing.{tail_of, text_behind};
 
 use crate::behind::Behind;
 use crate::ending::end;
@@ -66,13 +64,8 @@ fn run_with<D: Disk, F: Fn(&[u64]) -> usize + Drop, K: Sink>(
     requires clients { AreLines lines.items }
     requires fresh { IsFresh (serving engine.old) }
     requires chooser { IsChooser F.Fn (chooser engine.old) }
-    ensures answers { AnswersLines lines.items (serving engine.new) (why result) }
-    ensures disk { RunsOnDisk engine.old engine.new (why result) }
-    ensures sink { WroteRun K.written K.finished K.count sink.old sink.new
-        (text (serving engine.new).journal) (text_behind behind (tally_in (serving engine.new))) (why result) }
-    // Unless the sink failed, the text through each `saved` is finished.
-    ensures saved { Acknowledges K.Sink sink.old sink.new (serving engine.new).journal (why result) }
-    ensures start { KeepsStart engine.old engine.new }
+    ensures { RunsLines (WroteReplies K.Sink (text_behind behind) sink.old sink.new) lines.items
+        engine.old engine.new (why result) }
 {
     engine.keep_their_images();
     let mut output = match take_room(alloc, lines.as_slice(), engine) {
@@ -101,14 +94,8 @@ pub fn run_lines<D: Disk, F: Fn(&[u64]) -> usize + Drop, K: Sink>(
     requires clients { AreLines lines.items }
     requires fresh { IsFresh (serving engine.old) }
     requires chooser { IsChooser F.Fn (chooser engine.old) }
-    ensures answers { AnswersLines lines.items (serving engine.new) (why result) }
-    // What a crash at any moment leaves, and what it leaves at the end.
-    ensures disk { RunsOnDisk engine.old engine.new (why result) }
-    ensures sink { WroteRun K.written K.finished K.count sink.old sink.new
-        (text (serving engine.new).journal) (tail_of (tally_in (serving engine.new))) (why result) }
-    // Unless the sink failed, the text through each `saved` is finished.
-    ensures saved { Acknowledges K.Sink sink.old sink.new (serving engine.new).journal (why result) }
-    ensures start { KeepsStart engine.old engine.new }
+    ensures { RunsLines (WroteReplies K.Sink tail_of sink.old sink.new) lines.items
+        engine.old engine.new (why result) }
 {
     run_with(alloc, lines, Behind::LastLines, engine, sink)
 }
@@ -128,14 +115,8 @@ pub fn answer_lines<D: Disk, F: Fn(&[u64]) -> usize + Drop, K: Sink>(
     requires clients { AreLines lines.items }
     requires fresh { IsFresh (serving engine.old) }
     requires chooser { IsChooser F.Fn (chooser engine.old) }
-    ensures answers { AnswersLines lines.items (serving engine.new) (why result) }
-    // What a crash at any moment leaves, and what it leaves at the end.
-    ensures disk { RunsOnDisk engine.old engine.new (why result) }
-    ensures sink { WroteRun K.written K.finished K.count sink.old sink.new
-        (text (serving engine.new).journal) [] (why result) }
-    // Unless the sink failed, the text through each `saved` is finished.
-    ensures saved { Acknowledges K.Sink sink.old sink.new (serving engine.new).journal (why result) }
-    ensures start { KeepsStart engine.old engine.new }
+    ensures { RunsLines (WroteReplies K.Sink (λ _. []) sink.old sink.new) lines.items
+        engine.old engine.new (why result) }
 {
     run_with(alloc, lines, Behind::Nothing, engine, sink)
 }

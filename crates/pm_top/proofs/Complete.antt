@@ -190,33 +190,33 @@ stands_done (Refused fault) a b c d e f may reading writing device source sink d
 stands_done (Memory opened _) a b c d e f may reading writing device source sink disk = inr refl
 
 module _ {D S K : Type 0} (d : disk.Ghosts D) (s : source.Ghosts S) (k : sink.Ghosts K) where
-  may_end : (command : Command) (disk : D) (source : S) (sink : K) (it : Ended D S K)
-      → Does d s k command disk source sink it → HasNeeds d s command disk source → MayEnd it.detail
-  may_end Init disk source sink it does needs = make_ends d disk it.disk it.detail does.makes needs
-  may_end Run disk source sink it does needs =
+  may_end : {F : Type 0} (place : F) (command : Command) (disk : D) (source : S) (sink : K) (it : Ended D S K)
+      → Does d s k place command disk source sink it → HasNeeds d s command disk source → MayEnd it.detail
+  may_end place Init disk source sink it does needs = make_ends d disk it.disk it.detail does.makes needs
+  may_end place Run disk source sink it does needs =
       run_ends (d.contents disk) (s.left source) needs.0 needs.1 it.detail it.journal.items does.ends
       (does.script needs.1.bytes needs.1.is_told).refused (does.store.leaves.refused needs.0.bytes needs.0.is_told)
-  may_end RunThreads disk source sink it does needs =
-      ∥∥₁_elim does.store (may_once it.detail) (λ (store : RunsStore d k Replies disk sink it).
+  may_end place RunThreads disk source sink it does needs =
+      ∥∥₁_elim does.store (may_once it.detail) (λ (store : RunsStore d k place Replies disk sink it).
       run_ends (d.contents disk) (s.left source) needs.0 needs.1 it.detail it.journal.items does.ends
       (does.script needs.1.bytes needs.1.is_told).refused (store.leaves.refused needs.0.bytes needs.0.is_told))
-  may_end Inspect disk source sink it does needs =
+  may_end place Inspect disk source sink it does needs =
       telling_ends (d.contents disk) needs it.detail does.ends (does.refused needs.bytes needs.is_told)
-  may_end Dump disk source sink it does needs =
+  may_end place Dump disk source sink it does needs =
       telling_ends (d.contents disk) needs it.detail does.ends (does.refused needs.bytes needs.is_told)
-  may_end Restore disk source sink it does needs =
+  may_end place Restore disk source sink it does needs =
       restore_ends d (s.left source) needs.1 does.dump disk it.disk it.detail does.ends (does.reads needs.1.bytes needs.1.is_told).refuses does.leaves needs.0
-  may_end (Why id) disk source sink it does needs =
+  may_end place (Why id) disk source sink it does needs =
       telling_ends (d.contents disk) needs it.detail does.ends (does.refused needs.bytes needs.is_told)
-  may_end (Make seed turns) disk source sink it does needs = make_script_ends it.detail does.ends
-  may_end (Trial seed turns) disk source sink it does needs =
+  may_end place (Make seed turns) disk source sink it does needs = make_script_ends it.detail does.ends
+  may_end place (Trial seed turns) disk source sink it does needs =
       telling_ends (d.contents disk) needs it.detail (trial_ends it.detail does.ends) (does.store.leaves.refused needs.bytes needs.is_told)
 
   -- whatever the command is
-  pub complete : (command : Command) (disk : D) (source : S) (sink : K) (it : Ended D S K)
-      → Does d s k command disk source sink it → ShowsCauses d s k disk source sink it
+  pub complete : {F : Type 0} (place : F) (command : Command) (disk : D) (source : S) (sink : K) (it : Ended D S K)
+      → Does d s k place command disk source sink it → ShowsCauses d s k disk source sink it
       → HasNeeds d s command disk source → NothingFails d s k disk source sink it → IsComplete it.detail
-  complete command disk source sink it does causes needs none =
+  complete place command disk source sink it does causes needs none =
       stands_done it.detail (s.count source) (s.count it.source) (k.count sink) (k.count it.sink) (d.count disk) (d.count it.disk)
-      (may_end command disk source sink it does needs) causes.reading causes.writing causes.device
+      (may_end place command disk source sink it does needs) causes.reading causes.writing causes.device
       none.source_stands none.sink_stands none.disk_stands

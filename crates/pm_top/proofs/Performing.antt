@@ -44,21 +44,21 @@ unread bytes journal empty = unserved bytes (Memory false no_memory) journal emp
 module _ {D S K : Type 0} (d : disk.Ghosts D) (k : sink.Ghosts K) where
   -- ---- nothing was called
 
-  untouched_store : (writes : Writes) (disk : D) (source : S) (sink : K) (it : Ended D S K) → it.journal.items ≡ []
+  untouched_store : {F : Type 0} (place : F) (writes : Writes) (disk : D) (source : S) (sink : K) (it : Ended D S K) → it.journal.items ≡ []
       → ((at : List ℕ) → d.since disk (d.moment disk) at → d.image disk at)
-      → RunsStore d k writes disk sink (with_parts it (Memory false no_memory) None disk source sink)
-  untouched_store writes disk source sink it empty now =
-      store_unrun d k writes disk disk source sink it (Memory false no_memory) empty (λ past. absurd (omega arith))
-      (uncalled_run d disk (Memory false no_memory) now (λ past. absurd (omega arith)) (λ bytes. tt))
+      → RunsStore d k place writes disk sink (with_parts it (Memory false no_memory) None disk source sink)
+  untouched_store place writes disk source sink it empty now =
+      store_unrun d k place writes disk disk source sink it (Memory false no_memory) empty (λ past. absurd (omega arith))
+      (uncalled_run d disk (Memory false no_memory) now (λ past. absurd (omega arith)) (λ bytes. tt)) (inl refl)
 
-  pub untouched_trial : (seed turns : ℕ) (disk : D) (source : S) (sink : K) (it : Ended D S K) → it.journal.items ≡ []
+  pub untouched_trial : {F : Type 0} (place : F) (seed turns : ℕ) (disk : D) (source : S) (sink : K) (it : Ended D S K) → it.journal.items ≡ []
       → ((at : List ℕ) → d.since disk (d.moment disk) at → d.image disk at)
-      → TriesScript d k seed turns disk source sink (with_parts it (Memory false no_memory) None disk source sink)
-  untouched_trial seed turns disk source sink it empty now = record {
+      → TriesScript d k place seed turns disk source sink (with_parts it (Memory false no_memory) None disk source sink)
+  untouched_trial place seed turns disk source sink it empty now = record {
     ends = tt;
     script = unread (made_text seed turns) it.journal.items empty;
     order = unordered (made_text seed turns) (Memory false no_memory) it.journal.items empty (λ past. absurd (omega (arith, past)));
-    store = untouched_store Digest disk source sink it empty now;
+    store = untouched_store place Digest disk source sink it empty now;
     last = λ unwritten. absurd unwritten;
     source_stays = refl;
   }
@@ -84,12 +84,12 @@ module _ {D S K : Type 0} (d : disk.Ghosts D) (k : sink.Ghosts K) where
 
   -- ---- a trial, from the run of its lines
 
-  pub tried : (seed turns : ℕ) (lines : List Line) (disk : D) (source : S) (sink : K) (it : Ended D S K)
+  pub tried : {F : Type 0} (place : F) (seed turns : ℕ) (lines : List Line) (disk : D) (source : S) (sink : K) (it : Ended D S K)
       → IsScript (made_text seed turns) lines → ServesLines lines it.detail it.journal.items it.tally
-      → ServesInOrder lines it.detail it.journal.items it.tally → RunsStore d k Digest disk sink it
+      → ServesInOrder lines it.detail it.journal.items it.tally → RunsStore d k place Digest disk sink it
       → (IsUnwritten it.detail → ServesAll lines it.journal.items it.tally) → it.source ≡ source
-      → TriesScript d k seed turns disk source sink it
-  tried seed turns lines disk source sink it script serves order store last stays = record {
+      → TriesScript d k place seed turns disk source sink it
+  tried place seed turns lines disk source sink it script serves order store last stays = record {
     ends = by it.detail serves.ends serves.tried;
     script = script_read (made_text seed turns) lines it.detail it.journal.items it.tally script serves;
     order = order_read (made_text seed turns) lines it.detail it.journal.items it.tally script order;
@@ -118,10 +118,10 @@ module _ {D S K : Type 0} (d : disk.Ghosts D) (k : sink.Ghosts K) where
       by (Memory opened _) past reached = tt
 
 module _ {D S K : Type 0} (d : disk.Ghosts D) (s : source.Ghosts S) (k : sink.Ghosts K) where
-  pub untouched_does : (command : Command) (disk : D) (source : S) (sink : K) (it : Ended D S K) → it.journal.items ≡ []
+  pub untouched_does : {F : Type 0} (place : F) (command : Command) (disk : D) (source : S) (sink : K) (it : Ended D S K) → it.journal.items ≡ []
       → ((at : List ℕ) → d.since disk (d.moment disk) at → d.image disk at) → SameImages (d.image disk) (d.image disk)
-      → Does d s k command disk source sink (with_parts it (Memory false no_memory) None disk source sink)
-  untouched_does Init disk source sink it empty now same = record {
+      → Does d s k place command disk source sink (with_parts it (Memory false no_memory) None disk source sink)
+  untouched_does place Init disk source sink it empty now same = record {
     makes = (refl, same);
     calls = record {
       made = record { writes = omega arith; syncs = omega arith; past = refl };
@@ -133,25 +133,25 @@ module _ {D S K : Type 0} (d : disk.Ghosts D) (s : source.Ghosts S) (k : sink.Gh
     no_event = empty;
     no_tally = refl;
   }
-  untouched_does Run disk source sink it empty now same = record {
+  untouched_does place Run disk source sink it empty now same = record {
     ends = omega arith;
     read = λ past. absurd (omega (arith, past));
     script = λ bytes told. unread bytes it.journal.items empty;
     order = λ bytes told. unordered bytes (Memory false no_memory) it.journal.items empty (λ past. absurd (omega (arith, past)));
-    store = untouched_store d k Replies disk source sink it empty now;
+    store = untouched_store d k place Replies disk source sink it empty now;
     saved = tt;
   }
-  untouched_does RunThreads disk source sink it empty now same = record {
+  untouched_does place RunThreads disk source sink it empty now same = record {
     ends = omega arith;
     read = λ past. absurd (omega (arith, past));
     script = λ bytes told. unread bytes it.journal.items empty;
-    store = ∣ untouched_store d k Replies disk source sink it empty now ∣₁;
+    store = ∣ untouched_store d k place Replies disk source sink it empty now ∣₁;
     last = λ unwritten. absurd unwritten;
     short = λ ran bytes told lines script. tt;
   }
-  untouched_does Inspect disk source sink it empty now same = untouched_telling d k Reports disk source sink it empty now
-  untouched_does Dump disk source sink it empty now same = untouched_telling d k Dumps disk source sink it empty now
-  untouched_does Restore disk source sink it empty now same = record {
+  untouched_does place Inspect disk source sink it empty now same = untouched_telling d k Reports disk source sink it empty now
+  untouched_does place Dump disk source sink it empty now same = untouched_telling d k Dumps disk source sink it empty now
+  untouched_does place Restore disk source sink it empty now same = record {
     ends = tt;
     dump = record { next = 1; objects = []; roots = [] };
     sound = λ never. absurd never;
@@ -166,8 +166,8 @@ module _ {D S K : Type 0} (d : disk.Ghosts D) (s : source.Ghosts S) (k : sink.Gh
     no_event = empty;
     no_tally = refl;
   }
-  untouched_does (Why id) disk source sink it empty now same = untouched_telling d k (GivesPath id) disk source sink it empty now
-  untouched_does (Make seed turns) disk source sink it empty now same = record {
+  untouched_does place (Why id) disk source sink it empty now same = untouched_telling d k (GivesPath id) disk source sink it empty now
+  untouched_does place (Make seed turns) disk source sink it empty now same = record {
     ends = tt;
     wrote = untouched_text k sink (made_text seed turns);
     disk_stays = refl;
@@ -175,7 +175,7 @@ module _ {D S K : Type 0} (d : disk.Ghosts D) (s : source.Ghosts S) (k : sink.Gh
     no_event = empty;
     no_tally = refl;
   }
-  untouched_does (Trial seed turns) disk source sink it empty now same = untouched_trial d k seed turns disk source sink it empty now
+  untouched_does place (Trial seed turns) disk source sink it empty now same = untouched_trial d k place seed turns disk source sink it empty now
 
   -- nothing was called
   pub memory_causes : (disk : D) (source : S) (sink : K) (it : Ended D S K) → ShowsCauses d s k disk source sink (with_parts it (Memory false no_memory) None disk source sink)

@@ -15,7 +15,6 @@ use Rattle.pm_image.specs.Stands.{StandsForCopy}
 use Rattle.pm_image.proofs.BlankLaws.{blank_stands}
 use Rattle.pm_shadow.specs.Pages.{disk_of}
 use Rattle.pm_shadow.specs.declared.pages.Pages.{Pages}
-use Rattle.pm_save.specs.declared.progress.fault.SaveFault.TheVariants as save_fault
 use Rattle.pm_dump.specs.declared.fault.DumpFault.{DumpFault}
 use Rattle.pm_dump.specs.declared.fault.DumpFault.TheVariants as dump_fault
 use Rattle.pm_dump.specs.Dump.{Dump}

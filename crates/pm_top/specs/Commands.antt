@@ -127,12 +127,12 @@ module _ {D S K : Type 0} (d : disk.Ghosts D) (k : sink.Ghosts K) where
 
   -- What `trial FILE SEED N` does: the script of this seed and of so many turns is run as `run FILE serial` does it, and
   -- the digest of the replies' text is written in place of that text. The source is not called.
-  pub record TriesScript (seed turns : ℕ) (disk : D) (source : S) (sink : K) (ended : Ended D S K) : Type 0 where
+  pub record TriesScript {F : Type 0} (place : F) (seed turns : ℕ) (disk : D) (source : S) (sink : K) (ended : Ended D S K) : Type 0 where
     pub ends : EndsTrying ended.detail
     pub script : ReadsScript (made_text seed turns) ended.detail ended.journal.items ended.tally
     -- in the order of its lines
     pub order : KeepsOrder (made_text seed turns) ended.detail ended.journal.items ended.tally
-    pub store : RunsStore d k Digest disk sink ended
+    pub store : RunsStore d k place Digest disk sink ended
     -- where the sink failed all was made that the script asks for, as where the run is done
     pub last : IsUnwritten ended.detail → ReadsScript (made_text seed turns) Fine ended.journal.items ended.tally
         × KeepsOrder (made_text seed turns) Fine ended.journal.items ended.tally
@@ -168,14 +168,14 @@ module _ {D S K : Type 0} (d : disk.Ghosts D) (s : source.Ghosts S) (k : sink.Gh
     pub no_event : ended.journal.items ≡ []
     pub no_tally : ended.tally ≡ None
 
-  -- what each command does
-  abbrev pub Does : Command → D → S → K → Ended D S K → Type 0
-  Does Init disk source sink ended = MakesStore d disk source sink ended
-  Does Run disk source sink ended = RunsScript d s k disk source sink ended
-  Does RunThreads disk source sink ended = RunsTogether d s k disk source sink ended
-  Does Inspect disk source sink ended = InspectsStore d k disk source sink ended
-  Does Dump disk source sink ended = DumpsStore d k disk source sink ended
-  Does Restore disk source sink ended = RestoresStore disk source sink ended
-  Does (Why id) disk source sink ended = TellsWhy d k id disk source sink ended
-  Does (Make seed turns) disk source sink ended = MakesScript k seed turns disk source sink ended
-  Does (Trial seed turns) disk source sink ended = TriesScript d k seed turns disk source sink ended
+  -- what each command does, with this chooser
+  abbrev pub Does : {F : Type 0} → F → Command → D → S → K → Ended D S K → Type 0
+  Does place Init disk source sink ended = MakesStore d disk source sink ended
+  Does place Run disk source sink ended = RunsScript d s k place disk source sink ended
+  Does place RunThreads disk source sink ended = RunsTogether d s k place disk source sink ended
+  Does place Inspect disk source sink ended = InspectsStore d k disk source sink ended
+  Does place Dump disk source sink ended = DumpsStore d k disk source sink ended
+  Does place Restore disk source sink ended = RestoresStore disk source sink ended
+  Does place (Why id) disk source sink ended = TellsWhy d k id disk source sink ended
+  Does place (Make seed turns) disk source sink ended = MakesScript k seed turns disk source sink ended
+  Does place (Trial seed turns) disk source sink ended = TriesScript d k place seed turns disk source sink ended

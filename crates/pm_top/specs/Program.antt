@@ -25,15 +25,15 @@ module _ {E : Type 0} (e : sink.Ghosts E) where
 
 module _ {D E S K : Type 0} (d : disk.Ghosts D) (e : disk.Ghosts E) (s : source.Ghosts S) (k : sink.Ghosts K) where
   -- The program ended so, with a status, a journal, a tally and what is left of both disks, source and sink: all holds of
-  -- this end that holds of the top call.
-  pub record Performs (words : List (List ℕ)) (disk : D) (other : E) (source : S) (sink : K) (ended : Ended D E S K) : Type 0 where
+  -- this end that holds of the top call, with this chooser.
+  pub record Performs {F : Type 0} (place : F) (words : List (List ℕ)) (disk : D) (other : E) (source : S) (sink : K) (ended : Ended D E S K) : Type 0 where
     pub is_status : ended.status ≡ status_of ended.detail
     pub usage : ended.detail ≡ Usage → SpellsNothing words
     pub refused : SpellsNothing words → (ended.detail ≡ Usage) ⊎ (ended.detail ≡ Memory false no_memory)
     pub untouched : SpellsNothing words → IsUntouched disk source sink (alone ended) × (ended.other ≡ other)
     pub causes : ShowsCauses d s k disk source sink (alone ended)
     pub other_causes : ShowsOther ended.detail (e.count other) (e.count ended.other)
-    pub does : (command : Command) → SpellsAlone words command → Does d s k command disk source sink (alone ended) × (ended.other ≡ other)
+    pub does : (command : Command) → SpellsAlone words command → Does d s k place command disk source sink (alone ended) × (ended.other ≡ other)
     pub complete : (command : Command) → SpellsAlone words command → HasNeeds d s command disk source
         → NothingFails d s k disk source sink (alone ended) → (ended.status ≡ 0) ⊎ (ended.status ≡ 7)
     pub ships : AreShip words → ShipsStore d e k disk other source sink ended

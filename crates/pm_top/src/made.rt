@@ -63,7 +63,7 @@ pub(crate) fn try_script<D: Disk, F: Fn(&[u64]) -> usize + Drop, S: Source, K: S
     requires chooser { IsChooser F.Fn place }
     ensures status { result.status ≡ status_of result.detail }
     ensures causes { ShowsCauses D.Disk S.Source K.Sink disk source sink result }
-    ensures tries { TriesScript D.Disk K.Sink seed turns disk source sink result }
+    ensures tries { TriesScript D.Disk K.Sink place seed turns disk source sink result }
 {
     match script(alloc, seed, turns) {
         Ok(lines) => run_lines(alloc, Writes::Digest, lines, disk, place, source, sink),

@@ -53,8 +53,8 @@ pub fn program<
 ) -> Ended<D, E, S, K>
     requires chooser { IsChooser F.Fn place }
     ensures told { Tells W.Sink errors.old errors.new (detail_line result.detail) }
-    ensures performs { Performs D.Disk E.Disk S.Source K.Sink (map (λ word. word.now) words.now) disk other source sink
-        result }
+    ensures performs { Performs D.Disk E.Disk S.Source K.Sink place
+        (map (λ word. word.now) words.now) disk other source sink result }
 {
     let ended = pmos(rt, words, disk, other, source, sink, place, gate);
     tell(errors, &ended.detail);

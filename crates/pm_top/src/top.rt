@@ -50,7 +50,7 @@ fn perform<
     requires chooser { IsChooser F.Fn place }
     ensures status { result.status ≡ status_of result.detail }
     ensures causes { ShowsCauses D.Disk S.Source K.Sink disk source sink result }
-    ensures does { Does D.Disk S.Source K.Sink command disk source sink result }
+    ensures does { Does D.Disk S.Source K.Sink place command disk source sink result }
 {
     match command {
         Command::Init => make_store(alloc, disk, source, sink),
@@ -140,9 +140,10 @@ pub fn pmos<
     ensures untouched { SpellsNothing (map (λ word. word.now) words.now)
         → IsUntouched disk source sink (alone result) × (result.other ≡ other) }
 
-    // What each command does. The other disk is called by none of them.
+    // What each command does. The other disk is called by none of them. The engine of a run has this chooser.
     ensures does { (command : One) → SpellsAlone (map (λ word. word.now) words.now) command
-        → Does D.Disk S.Source K.Sink command disk source sink (alone result) × (result.other ≡ other) }
+        → Does D.Disk S.Source K.Sink place command disk source sink (alone result)
+        × (result.other ≡ other) }
 
     // With what it needs a command is done, or memory ran out, unless disk, source or sink fails.
     ensures complete { (command : One) → SpellsAlone (map (λ word. word.now) words.now) command

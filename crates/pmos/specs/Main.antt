@@ -5,7 +5,8 @@ use Rattle.std.specs.Fn.{Shared}
 use Rattle.pm_disk.specs.declared.disk.Disk as disk
 use Rattle.pm_io.specs.declared.source.Source as source
 use Rattle.pm_io.specs.declared.sink.Sink as sink
-use Rattle.pm_place.specs.Choosers.{IsAsked}
+use Rattle.pm_place.specs.Choosers.{IsAsked, IsChooser}
+use Rattle.pm_words.specs.Words.{Places}
 use Rattle.pm_words.specs.declared.chosen.Chosen.{Chosen}
 use Rattle.pm_words.specs.declared.chosen.Chosen.TheVariants.{First, Last, Middle}
 use Rattle.pm_runs.specs.declared.ends.ended.Ended.{Ended}
@@ -37,9 +38,16 @@ module _ {F : Type 0} (calls : Shared F (Bor (List ℕ) × Unit {0}) ℕ) (choos
   abbrev pub Chooses : Chosen → Type 0
   Chooses chosen = (trains : Bor (List ℕ)) (index : ℕ) → IsAsked trains.now → calls.post choose (trains, tt) index → index ≡ place_in chosen (length trains.now)
 
-module _ {D S K : Type 0} (d : disk.Ghosts D) (s : source.Ghosts S) (k : sink.Ghosts K) (path : D → List ℕ) where
-  -- There are the disks of the two files that the words name, of which no call was made yet, over which, and over this source
-  -- and this sink, the program performed what the words ask for, and ended so.
+module _ {F M : Type 0} (calls : Shared F (Bor (List ℕ) × Unit {0}) ℕ) (makes : Shared M (Chosen × Unit {0}) F) (make : M) where
+  -- It may be asked for a chooser of this place, and whatever it makes is one.
+  pub record MakesChooser (chosen : Chosen) : Type 0 where
+    pub may_call : makes.pre make (chosen, tt)
+    pub is_chooser : (place : F) → makes.post make (chosen, tt) place → IsChooser calls place
+    pub chooses : (place : F) → makes.post make (chosen, tt) place → Chooses calls place chosen
+
+module _ {D F S K : Type 0} (d : disk.Ghosts D) (s : source.Ghosts S) (k : sink.Ghosts K) (calls : Shared F (Bor (List ℕ) × Unit {0}) ℕ) (path : D → List ℕ) where
+  -- There are the disks of the two files that the words name, of which no call was made yet, and the chooser of the place that
+  -- they choose, with which, and over this source and this sink, the program performed what the words ask for, and ended so.
   pub record PerformsFrom (source : S) (sink : K) (words : List (List ℕ)) (ended : Ended D D S K) : Type 0 where
     pub disk : D
     pub other : D
@@ -49,4 +57,8 @@ module _ {D S K : Type 0} (d : disk.Ghosts D) (s : source.Ghosts S) (k : sink.Gh
     pub uncalled : d.moment disk ≡ 0
     pub other_count : d.count other ≡ 0
     pub other_uncalled : d.moment other ≡ 0
-    pub performs : Performs d d s k words disk other source sink ended
+    pub chosen : Chosen
+    pub places : Places words chosen
+    pub place : F
+    pub chooses : Chooses calls place chosen
+    pub performs : Performs d d s k place words disk other source sink ended

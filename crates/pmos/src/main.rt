@@ -10,10 +10,11 @@ ghost use Rattle.pm_types.specs.Memory.{no_memory};
 ghost use Rattle.pm_io.specs.Known.{new_sink, new_source};
 ghost use Rattle.pm_place.specs.Choosers.{IsChooser};
 ghost use Rattle.pm_words.specs.Words.{Places};
+ghost use Rattle.pm_words.specs.declared.chosen.Chosen.{Chosen as Place};
 ghost use Rattle.pm_runs.specs.Ends.Ends.{detail_line};
 ghost use Rattle.pm_runs.specs.declared.ends.ended.Detail.TheVariants.{Memory};
 ghost use Rattle.pm_top.specs.Program.{Tells};
-ghost use Rattle.pmos.specs.Main.{Chooses, IsOtherPath, path_in, place_in, words_in, PerformsFrom};
+ghost use Rattle.pmos.specs.Main.{Chooses, IsOtherPath, MakesChooser, path_in, place_in, words_in, PerformsFrom};
 
 mod memory;
 
@@ -134,7 +135,7 @@ fn run<
     ensures told { Tells E.Sink errors.old errors.new (detail_line result.detail) }
     ensures performs { PerformsFrom
         ⟦<FileDisk<HostRuntime> as Disk>⟧ ⟦<StdSource<I> as Source>⟧ ⟦<StdSink<O> as Sink>⟧
-        (λ disk. string_bytes disk.path) (new_source (I.left reader) (I.tries reader))
+        F.Fn (λ disk. string_bytes disk.path) (new_source (I.left reader) (I.tries reader))
         (new_sink (O.written writer) (O.flushed writer) (O.tries writer)) (map (λ word. word.now) words.now) result }
 {
     let source = StdSource::new(reader);
@@ -165,9 +166,16 @@ fn disks(
     Ok((disk, other))
 }
 
-// Runs the program over words whose texts are lent. Where there is no memory for the files' names, reader and writer come
-// back as they were.
-fn run_texts<R: AllocGlobal + Threads + Wait + Sync, I: InStream, O: OutStream, E: Sink>(
+// Runs the program over words whose texts are lent, with the chooser of the place that they choose, which is made for it.
+// Where there is no memory for the files' names, reader and writer come back as they were.
+fn run_texts<
+    R: AllocGlobal + Threads + Wait + Sync,
+    I: InStream,
+    O: OutStream,
+    E: Sink,
+    F: Fn(&[u64]) -> usize + Drop + Send,
+    M: Fn(Chosen) -> Placement<F> + Drop,
+>(
     rt: &R,
     file: OneFile<HostRuntime>,
     other: OneFile<HostRuntime>,
@@ -175,23 +183,24 @@ fn run_texts<R: AllocGlobal + Threads + Wait + Sync, I: InStream, O: OutStream, 
     reader: I,
     writer: O,
     errors: &mut E,
+    make: M,
 ) -> Result<
     Ended<FileDisk<HostRuntime>, FileDisk<HostRuntime>, StdSource<I>, StdSink<O>>,
     (I, O, NoMemory),
 >
+    requires makes { (chosen : Place) → MakesChooser F.Fn M.Fn make chosen }
     ensures told { IfOk result (λ ended. Tells E.Sink errors.old errors.new (detail_line ended.detail)) }
     ensures performs { IfOk result (λ ended. PerformsFrom
         ⟦<FileDisk<HostRuntime> as Disk>⟧ ⟦<StdSource<I> as Source>⟧ ⟦<StdSink<O> as Sink>⟧
-        (λ disk. string_bytes disk.path) (new_source (I.left reader) (I.tries reader))
+        F.Fn (λ disk. string_bytes disk.path) (new_source (I.left reader) (I.tries reader))
         (new_sink (O.written writer) (O.flushed writer) (O.tries writer)) (map (λ word. word.now) words.now) ended) }
     ensures untold { OnErr result (errors.new ≡ errors.old) }
     ensures back { IfErr result (λ back. (back.0 ≡ reader) × (back.1 ≡ writer)) }
 {
     match disks(rt.alloc(), file, other, words) {
         Ok((disk, other)) => {
-            // Of the trains that an object may move to it picks the one that the words choose.
             let chosen = read_place(words);
-            let place = Placement::new(move |trains: &[u64]| place_of(chosen, trains));
+            let place = make(chosen);
             Ok(run(
                 rt, disk, other, words, reader, writer, errors, chosen, place,
             ))
@@ -201,7 +210,14 @@ fn run_texts<R: AllocGlobal + Threads + Wait + Sync, I: InStream, O: OutStream, 
 }
 
 // Runs the program over words.
-fn run_words<R: AllocGlobal + Threads + Wait + Sync, I: InStream, O: OutStream, E: Sink>(
+fn run_words<
+    R: AllocGlobal + Threads + Wait + Sync,
+    I: InStream,
+    O: OutStream,
+    E: Sink,
+    F: Fn(&[u64]) -> usize + Drop + Send,
+    M: Fn(Chosen) -> Placement<F> + Drop,
+>(
     rt: &R,
     file: OneFile<HostRuntime>,
     other: OneFile<HostRuntime>,
@@ -209,27 +225,45 @@ fn run_words<R: AllocGlobal + Threads + Wait + Sync, I: InStream, O: OutStream, 
     reader: I,
     writer: O,
     errors: &mut E,
+    make: M,
 ) -> Result<
     Ended<FileDisk<HostRuntime>, FileDisk<HostRuntime>, StdSource<I>, StdSink<O>>,
     (I, O, NoMemory),
 >
+    requires makes { (chosen : Place) → MakesChooser F.Fn M.Fn make chosen }
     ensures told { IfOk result (λ ended. Tells E.Sink errors.old errors.new (detail_line ended.detail)) }
     ensures performs { IfOk result (λ ended. PerformsFrom
         ⟦<FileDisk<HostRuntime> as Disk>⟧ ⟦<StdSource<I> as Source>⟧ ⟦<StdSink<O> as Sink>⟧
-        (λ disk. string_bytes disk.path) (new_source (I.left reader) (I.tries reader))
+        F.Fn (λ disk. string_bytes disk.path) (new_source (I.left reader) (I.tries reader))
         (new_sink (O.written writer) (O.flushed writer) (O.tries writer)) (map string_bytes words.now) ended) }
     ensures untold { OnErr result (errors.new ≡ errors.old) }
     ensures back { IfErr result (λ back. (back.0 ≡ reader) × (back.1 ≡ writer)) }
 {
     match texts(rt.alloc(), words) {
-        Ok(texts) => run_texts(rt, file, other, texts.as_slice(), reader, writer, errors),
+        Ok(texts) => run_texts(
+            rt,
+            file,
+            other,
+            texts.as_slice(),
+            reader,
+            writer,
+            errors,
+            make,
+        ),
         Err(refused) => Err((reader, writer, NoMemory::from(refused))),
     }
 }
 
 // Runs the program over what std gave for the words of the command line, and hands back what it left; or, where there is no
 // memory for words or names, reader and writer as they were.
-fn run_all<R: AllocGlobal + Threads + Wait + Sync, I: InStream, O: OutStream, E: Sink>(
+fn run_all<
+    R: AllocGlobal + Threads + Wait + Sync,
+    I: InStream,
+    O: OutStream,
+    E: Sink,
+    F: Fn(&[u64]) -> usize + Drop + Send,
+    M: Fn(Chosen) -> Placement<F> + Drop,
+>(
     rt: &R,
     all: io::Result<Args>,
     file: OneFile<HostRuntime>,
@@ -237,14 +271,16 @@ fn run_all<R: AllocGlobal + Threads + Wait + Sync, I: InStream, O: OutStream, E:
     reader: I,
     writer: O,
     errors: &mut E,
+    make: M,
 ) -> Result<
     Ended<FileDisk<HostRuntime>, FileDisk<HostRuntime>, StdSource<I>, StdSink<O>>,
     (I, O, NoMemory),
 >
+    requires makes { (chosen : Place) → MakesChooser F.Fn M.Fn make chosen }
     ensures told { IfOk result (λ ended. Tells E.Sink errors.old errors.new (detail_line ended.detail)) }
     ensures performs { IfOk result (λ ended. PerformsFrom
         ⟦<FileDisk<HostRuntime> as Disk>⟧ ⟦<StdSource<I> as Source>⟧ ⟦<StdSink<O> as Sink>⟧
-        (λ disk. string_bytes disk.path) (new_source (I.left reader) (I.tries reader))
+        F.Fn (λ disk. string_bytes disk.path) (new_source (I.left reader) (I.tries reader))
         (new_sink (O.written writer) (O.flushed writer) (O.tries writer))
         (words_in (λ all. map string_bytes (drop 1 (into_iter_items all))) all) ended) }
     ensures short { IfErr all (λ error. error_kind error ≡ ErrorKind.OutOfMemory → IsErr result) }
@@ -252,13 +288,29 @@ fn run_all<R: AllocGlobal + Threads + Wait + Sync, I: InStream, O: OutStream, E:
     ensures back { IfErr result (λ back. (back.0 ≡ reader) × (back.1 ≡ writer)) }
 {
     match words(rt.alloc(), all) {
-        Ok(words) => run_words(rt, file, other, words.as_slice(), reader, writer, errors),
+        Ok(words) => run_words(
+            rt,
+            file,
+            other,
+            words.as_slice(),
+            reader,
+            writer,
+            errors,
+            make,
+        ),
         Err(refused) => Err((reader, writer, refused)),
     }
 }
 
 // Runs the program, and tells how it ended, also where there is no memory for its words or for the files' names.
-fn end<R: AllocGlobal + Threads + Wait + Sync, I: InStream, O: OutStream, E: Sink>(
+fn end<
+    R: AllocGlobal + Threads + Wait + Sync,
+    I: InStream,
+    O: OutStream,
+    E: Sink,
+    F: Fn(&[u64]) -> usize + Drop + Send,
+    M: Fn(Chosen) -> Placement<F> + Drop,
+>(
     rt: &R,
     all: io::Result<Args>,
     file: OneFile<HostRuntime>,
@@ -266,21 +318,23 @@ fn end<R: AllocGlobal + Threads + Wait + Sync, I: InStream, O: OutStream, E: Sin
     reader: I,
     writer: O,
     errors: &mut E,
+    make: M,
 ) -> Result<
     Ended<FileDisk<HostRuntime>, FileDisk<HostRuntime>, StdSource<I>, StdSink<O>>,
     (I, O, NoMemory),
 >
+    requires makes { (chosen : Place) → MakesChooser F.Fn M.Fn make chosen }
     ensures told { MatchResult result (λ ended. Tells E.Sink errors.old errors.new (detail_line ended.detail))
         (λ _. Tells E.Sink errors.old errors.new (detail_line (Memory false no_memory))) }
     ensures performs { IfOk result (λ ended. PerformsFrom
         ⟦<FileDisk<HostRuntime> as Disk>⟧ ⟦<StdSource<I> as Source>⟧ ⟦<StdSink<O> as Sink>⟧
-        (λ disk. string_bytes disk.path) (new_source (I.left reader) (I.tries reader))
+        F.Fn (λ disk. string_bytes disk.path) (new_source (I.left reader) (I.tries reader))
         (new_sink (O.written writer) (O.flushed writer) (O.tries writer))
         (words_in (λ all. map string_bytes (drop 1 (into_iter_items all))) all) ended) }
     ensures short { IfErr all (λ error. error_kind error ≡ ErrorKind.OutOfMemory → IsErr result) }
     ensures back { IfErr result (λ back. (back.0 ≡ reader) × (back.1 ≡ writer)) }
 {
-    match run_all(rt, all, file, other, reader, writer, errors) {
+    match run_all(rt, all, file, other, reader, writer, errors, make) {
         Ok(ended) => Ok(ended),
         Err(back) => {
             let detail = Detail::Memory {
@@ -334,5 +388,7 @@ fn main(rt: HostRuntime) -> ExitCode {
         rt.reader(),
         io::writer(&rt),
         &mut errors,
+        // Of the trains that an object may move to it picks the one that the words choose.
+        |chosen: Chosen| Placement::new(move |trains: &[u64]| place_of(chosen, trains)),
     )))
 }

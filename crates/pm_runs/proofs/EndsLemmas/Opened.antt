@@ -5,7 +5,6 @@ use Rattle.pm_types.specs.declared.fault.OpenFault.{OpenFault}
 use Rattle.pm_types.specs.declared.fault.OpenFault.TheVariants.{NotAStore, Version, Damaged, Malformed, Disk, Memory as NoRoom}
 use Rattle.pm_disk.specs.declared.disk.Disk as disk
 use Rattle.pm_disk.specs.Disk.{LeavesOnly}
-use Rattle.pm_disk.specs.Made.{with_sync}
 use Rattle.pm_disk.proofs.RunLemmas.{started, weaker, joined}
 use Rattle.pm_model.specs.World.{World, Copy, begin}
 use Rattle.pm_model.specs.Journal.{IsLegal, after}
@@ -86,10 +85,9 @@ module _ {D : Type 0} (d : disk.Ghosts D) where
       → IsLegal (begin number copy) journal
       → (IsTold (d.contents start) → LeavesOnly d.moment d.since mid end (IsOfRun detail (begin number copy) journal))
       → (IsTold (d.contents start) → (left : List ℕ) → d.image end left → IsLastOf detail (after (begin number copy) journal) left)
-      → (journal ≡ [] → end ≡ mid) → d.made mid ≡ with_sync (d.moment start) (d.made start) → the_events < unreached detail
+      → (journal ≡ [] → end ≡ mid) → the_events < unreached detail
       → LeavesDisk d start end detail journal
-  opened_run start mid end number copy detail journal same_told leaves stands legal images last still made late = record {
-    synced = inr (record { opened = mid; made = made; idle = still });
+  opened_run start mid end number copy detail journal same_told leaves stands legal images last still late = record {
     legal = λ bytes told number_ copy_ there. subst (λ (w : World). IsLegal w journal) (same bytes told number_ copy_ there) legal;
     images = λ bytes told number_ copy_ there.
         let P : List ℕ → Type 0 = λ left. d.image start left ⊎ IsOfRun detail (begin number_ copy_) journal left in
@@ -118,10 +116,9 @@ module _ {D : Type 0} (d : disk.Ghosts D) where
 
   -- a store that was not opened
   pub refused_run : (start end : D) (detail : Detail) → (IsPast the_store detail → ⊥) → the_store < unreached detail
-      → d.contents end ≡ d.contents start → LeavesOnly d.moment d.since start end (d.image start) → d.made end ≡ with_sync (d.moment start) (d.made start)
+      → d.contents end ≡ d.contents start → LeavesOnly d.moment d.since start end (d.image start)
       → ((bytes : List ℕ) → d.contents start ≡ Some bytes → IsRefusedFor bytes detail) → LeavesDisk d start end detail []
-  refused_run start end detail none tried told leaves made refused = record {
-    synced = inr (record { opened = end; made = made; idle = λ empty. refl });
+  refused_run start end detail none tried told leaves refused = record {
     legal = λ bytes is number copy stands. tt;
     images = λ bytes is number copy stands.
         weaker d.moment d.since start end (d.image start) (λ left. d.image start left ⊎ IsOfRun detail (begin number copy) [] left)
@@ -149,6 +146,5 @@ module _ {D : Type 0} (d : disk.Ghosts D) where
         refused = λ bytes is. refused bytes;
         shut = λ bytes is fault shut. none;
         quiet = λ empty. (refl, leaves);
-        synced = inl refl;
         uncalled = λ before. refl;
       }

@@ -7,7 +7,10 @@ use Rattle.std.proofs.Props.{props}
 use Rattle.pm_types.specs.Counts.{greatest_count}
 use Rattle.pm_types.specs.declared.event.Watch.{Watch}
 use Rattle.pm_types.specs.declared.event.WatchLine.{WatchLine}
+use Rattle.pm_types.specs.declared.entry.Entry.{Entry}
+use Rattle.pm_disk.specs.declared.disk.Disk as disk
 use Rattle.pm_disk.specs.Disk.{IfTold}
+use Rattle.pm_model.specs.World.{World}
 use Rattle.pm_model.specs.Journal.{watch_places}
 use Rattle.pm_view.specs.View.{SpaceView}
 use Rattle.pm_view.specs.Counts.{old, standing}
@@ -21,8 +24,8 @@ use Rattle.pm_copies.specs.Opened.{IsOpenedStore}
 use Rattle.pm_saving.specs.Bounds.{KeepsBounds}
 use Rattle.pm_saving.specs.Serving.{IsServed, Serving, opening, world}
 use Rattle.pm_engine.specs.History.{HasHistory}
-use Rattle.pm_engine.specs.Shown.{tally_in}
-use Rattle.pm_runs.specs.Ends.Tallies.{ComesTo, CountsOld, ReachesAtMost}
+use Rattle.pm_engine.specs.Shown.{Total, tally_in}
+use Rattle.pm_runs.specs.Ends.Tallies.{ComesTo, CountsOld, IsTotalOf, ReachesAtMost}
 
 -- a line for each watch
 length_lines : (view : SpaceView) (number : ℕ) (watches : List Watch) → length (lines_from view number watches) ≡ length watches
@@ -66,10 +69,10 @@ least_once line = hlevel props
 least_bounds : (it : Serving) → ∥ KeepsBounds it ∥₁ → AllByRecursion (λ (line : WatchLine). 1052676 ≤ line.bound) (lines_from it.view 1 it.watches)
 least_bounds it known = ∥∥₁_elim known (AllByRecursion-prop (λ (line : WatchLine). 1052676 ≤ line.bound) least_once _) (λ are. all_least (opening it) it.journal it.view 1 it.watches are)
 
-pub engine_comes : (told : Option (List ℕ)) (it : Serving) → KeepsAll told it → AllByRecursion IsHonest (tally_in it).lines → ComesTo told (opening it) it.journal (tally_in it)
-engine_comes told it kept honest = record {
-  of_engine = record {
-    engine = it;
+module _ {D : Type 0} (d : disk.Ghosts D) where
+  -- it is what that engine came to
+  pub total_of : (it : Serving) (opened : D) → KeepsAll (d.contents opened) it → IsTotalOf d it opened (opening it) it.journal (tally_in it)
+  total_of it opened kept = record {
     began = refl;
     has = refl;
     served = kept.served;
@@ -81,7 +84,13 @@ engine_comes told it kept honest = record {
     is_tally = refl;
     counts = sym (number_told it.view kept.lawful);
     counts_old = old_told it.view kept.lawful 1 it.watches;
-  };
+  }
+
+-- what an engine comes to of which that is said
+pub engine_comes : (Of : World → List Entry → Total → Type 0) (told : Option (List ℕ)) (it : Serving) → KeepsAll told it → AllByRecursion IsHonest (tally_in it).lines
+    → Of (opening it) it.journal (tally_in it) → ComesTo Of (opening it) it.journal (tally_in it)
+engine_comes Of told it kept honest of_engine = record {
+  of_engine = of_engine;
   course = kept.course;
   journal_is = refl;
   entries = refl;

@@ -1,12 +1,17 @@
 -- What a trial writes, by what is put behind the line of the digest and by the run over the sink that keeps it.
-use Rattle.std.proofs.Common.{◌≡◌, ℕ, length, List, [], ◌++◌, Option, Some, None, Result, Ok, Err, OnErr, OnOk, refl, ap, sym, subst, ◌∙◌, append_assoc}
+use Rattle.std.proofs.Common.{◌≡◌, ⊎_elim, ◌<◌, arith, ℕ, length, List, [], ◌++◌, Option, Some, None, Result, Ok, Err, OnErr, OnOk, refl, ap, sym, subst, ◌∙◌, append_assoc}
 use Rattle.std.proofs.lemmas.List.{append-nil}
 use Rattle.std.proofs.lemmas.Option.{same_Some}
 use Rattle.sha2.specs.Sha256.{sha256}
-use Rattle.pm_types.specs.Counts.{Rose}
+use Rattle.pm_types.specs.Counts.{Rose, greatest_count}
+use Rattle.pm_serial.specs.Causes.{CountsSink}
 use Rattle.pm_serial.specs.Output.Writing.{GoesOn, PutsAll, PutsPart}
 use Rattle.pm_serial.proofs.OutputLemmas.Gathering.{part_behind, part_longer}
-use Rattle.pm_engine.specs.declared.events.stop.Stop.TheVariants.{Writing}
+use Rattle.pm_disk.specs.declared.disk.Disk as disk
+use Rattle.pm_engine.specs.declared.engine.Engine.{Engine}
+use Rattle.pm_engine.specs.Events.Running.{RunsOnDisk}
+use Rattle.pm_engine.specs.declared.events.stop.Stop.{Stop}
+use Rattle.pm_engine.specs.declared.events.stop.Stop.TheVariants.{Memory, Writing, Device}
 use Rattle.pm_runs.specs.Trial.Digested.{DigestState}
 use Rattle.pm_runs.specs.Trial.Trials.{WroteTrial, digest_line}
 
@@ -80,3 +85,14 @@ module _ {K : Type 0} (written : K → Option (List ℕ)) (finished count : K �
     none = λ elsewhere. absurd elsewhere;
     cause = rose;
   }
+
+  -- where it stopped before that, of a run over a sink that cannot fail
+  pub tried_none : (sink : K) (text tail : List ℕ) (stop : Stop) → CountsSink (Some stop) 0 0 → WroteTrial written finished count sink sink text tail (Some stop)
+  tried_none sink text tail (Memory _) counts = record { all = λ done. absurd done; all_finished = λ done. absurd done; part = λ of. absurd of; none = λ elsewhere. refl; cause = tt }
+  tried_none sink text tail Writing counts = absurd (⊎_elim (λ (less : 0 < 0). omega (arith, less)) (λ (both : (0 ≡ greatest_count) × (0 ≡ greatest_count)). let first = both.0 in omega (arith, first)) counts)
+  tried_none sink text tail Device counts = record { all = λ done. absurd done; all_finished = λ done. absurd done; part = λ of. absurd of; none = λ elsewhere. refl; cause = tt }
+
+module _ {D F : Type 0} {g : disk.Ghosts D} where
+  -- that the sink failed behind the last event says nothing of the disk
+  pub disk_unwritten : (old new : Engine D F g) → RunsOnDisk old new None → RunsOnDisk old new (Some Writing)
+  disk_unwritten old new ran = record { leaves = ran.leaves; last = ran.last; going = ran.going; cause = ran.cause; past = ran.past; idle = ran.idle }

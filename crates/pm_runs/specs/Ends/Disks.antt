@@ -38,12 +38,16 @@ IsRefusedFor bytes (Refused fault) = Breaks bytes fault
 IsRefusedFor bytes detail = Unit {0}
 
 module _ {D : Type 0} (d : disk.Ghosts D) where
-  -- The store is opened by one sync of the disk, which comes before any other call, and no write: then the disk was this one.
-  -- Where no command was answered it is not called any more.
-  pub record SyncsFirst (start end : D) (journal : List Entry) : Type 0 where
-    pub opened : D
+  -- The store is opened by one sync of the disk, which comes before any other call, and no write: then the disk was this
+  -- one, and told the same. Where no command was answered it is not called any more.
+  pub record SyncsFirst (start opened end : D) (journal : List Entry) : Type 0 where
     pub made : d.made opened ≡ with_sync (d.moment start) (d.made start)
+    pub told : d.contents opened ≡ d.contents start
     pub idle : journal ≡ [] → end ≡ opened
+
+  -- Where no store was opened the disk is not called, or synced once.
+  abbrev pub SyncsAtMost : D → D → Type 0
+  SyncsAtMost start end = (end ≡ start) ⊎ (d.made end ≡ with_sync (d.moment start) (d.made start))
 
   -- How a run leaves the disk, from its start to its end, by what the disk told at the start.
   pub record LeavesDisk (start end : D) (detail : Detail) (journal : List Entry) : Type 0 where
@@ -66,7 +70,5 @@ module _ {D : Type 0} (d : disk.Ghosts D) where
         → IsPast the_store detail → ⊥
     -- where no command was answered, nothing was written
     pub quiet : journal ≡ [] → (d.contents end ≡ d.contents start) × LeavesOnly d.moment d.since start end (d.image start)
-    -- it is not called, or synced first
-    pub synced : (end ≡ start) ⊎ SyncsFirst start end journal
     -- before the store it is not called
     pub uncalled : IsBefore the_store detail → end ≡ start

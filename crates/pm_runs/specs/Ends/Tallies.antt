@@ -4,6 +4,7 @@ use Rattle.std.specs.List.{AllByRecursion, AllZip, IsDistinct}
 use Rattle.pm_types.specs.declared.entry.Entry.{Entry}
 use Rattle.pm_types.specs.declared.event.Watch.{Watch}
 use Rattle.pm_types.specs.declared.event.WatchLine.{WatchLine}
+use Rattle.pm_disk.specs.declared.disk.Disk as disk
 use Rattle.pm_disk.specs.Disk.{IfTold}
 use Rattle.pm_model.specs.World.{World}
 use Rattle.pm_model.specs.Journal.{after, watch_places}
@@ -17,10 +18,12 @@ use Rattle.pm_copies.specs.Opened.{IsOpenedStore}
 use Rattle.pm_saving.specs.Bounds.{KeepsBounds}
 use Rattle.pm_saving.specs.Serving.{IsServed, Serving, opening}
 use Rattle.pm_engine.specs.History.{HasHistory}
+use Rattle.pm_engine.specs.declared.engine.Engine.{Engine}
 use Rattle.pm_engine.specs.declared.tally.Tally.{Tally}
-use Rattle.pm_engine.specs.Shown.{Total, tally_in, tally_of}
+use Rattle.pm_engine.specs.Shown.{Total, chooser, disk_in, opened_disk, serving, tally_in, tally_of}
 use Rattle.pm_runs.specs.declared.ends.ended.Detail.{Detail}
 use Rattle.pm_runs.specs.Ends.Stages.{IsPast, IsBefore, the_store, the_events}
+use Rattle.pm_runs.specs.Ends.Disks.{SyncsFirst}
 
 -- different identities that the names and registers of this world reach are no more than this number
 abbrev pub ReachesAtMost : World → ℕ → Type 0
@@ -31,30 +34,40 @@ ReachesAtMost world count =
 abbrev pub CountsOld : SpaceView → WatchLine → Watch → Type 0
 CountsOld view line watch = line.old ≡ old view watch.youngest
 
--- It is what an engine came to that began in this world, has this journal, and serves the world at its end: so what is told
--- of each watch is told of one space, which stands for that world. The engine came by calls from the space that the disk's
--- bytes were opened as, where it told them; and each watch notes the space as it was when it was set, and keeps its bound.
-pub record IsOfEngine (told : Option (List ℕ)) (start : World) (journal : List Entry) (total : Total) : Type 0 where
-  pub engine : Serving
-  pub began : opening engine ≡ start
-  pub has : engine.journal ≡ journal
-  pub served : ∥ IsServed engine ∥₁
-  pub lawful : HeapLaw engine.view
-  pub history : ∥ HasHistory engine ∥₁
-  pub bounded : ∥ KeepsBounds engine ∥₁
-  pub store : IfTold told (λ bytes. ∥ IsOpenedStore bytes engine.opened ∥₁)
-  -- where as many collections were completed since a watch was set as its bound says, nothing that the world had lost when
-  -- it was set is in any car
-  pub gone : AllZip (EndsLost start journal engine.view) total.lines (watch_places 0 journal)
-  pub is_tally : total ≡ tally_in engine
-  -- what is told to stand stands, and no number of these is cut off
-  pub counts : total.standing ≡ standing engine.view
-  pub counts_old : AllZip (CountsOld engine.view) total.lines engine.watches
+module _ {D : Type 0} (d : disk.Ghosts D) where
+  -- It is what this came to that began in this world, has this journal, and serves the world at its end: so what is told of
+  -- each watch is told of one space, which stands for that world. It came by calls from the space that the disk's bytes were
+  -- opened as, where that disk told them; and each watch notes the space as it was when it was set, and keeps its bound.
+  pub record IsTotalOf (it : Serving) (opened : D) (start : World) (journal : List Entry) (total : Total) : Type 0 where
+    pub began : opening it ≡ start
+    pub has : it.journal ≡ journal
+    pub served : ∥ IsServed it ∥₁
+    pub lawful : HeapLaw it.view
+    pub history : ∥ HasHistory it ∥₁
+    pub bounded : ∥ KeepsBounds it ∥₁
+    pub store : IfTold (d.contents opened) (λ bytes. ∥ IsOpenedStore bytes it.opened ∥₁)
+    -- where as many collections were completed since a watch was set as its bound says, nothing that the world had lost when
+    -- it was set is in any car
+    pub gone : AllZip (EndsLost start journal it.view) total.lines (watch_places 0 journal)
+    pub is_tally : total ≡ tally_in it
+    -- what is told to stand stands, and no number of these is cut off
+    pub counts : total.standing ≡ standing it.view
+    pub counts_old : AllZip (CountsOld it.view) total.lines it.watches
 
--- What an engine came to that was opened in this world, of a disk that told this, and has this journal.
-pub record ComesTo (told : Option (List ℕ)) (start : World) (journal : List Entry) (total : Total) : Type 0 where
+module _ {D F : Type 0} (d : disk.Ghosts D) (place : F) where
+  -- An engine came to it that was opened on the disk at the start, and whose disk is the one at the end: an object moves to the
+  -- train that this chooser picks.
+  pub record IsOfEngine (first last : D) (start : World) (journal : List Entry) (total : Total) : Type 0 where
+    pub engine : Engine D F d
+    pub chooses : chooser engine ≡ place
+    pub disk : disk_in engine ≡ last
+    pub syncs : SyncsFirst d first (opened_disk engine) last journal
+    pub comes : IsTotalOf d (serving engine) (opened_disk engine) start journal total
+
+-- What an engine came to of which this is said, which was opened in this world and has this journal.
+pub record ComesTo (Of : World → List Entry → Total → Type 0) (start : World) (journal : List Entry) (total : Total) : Type 0 where
   -- it is that of the engine
-  pub of_engine : IsOfEngine told start journal total
+  pub of_engine : Of start journal total
   -- it is told of this journal, with its length
   pub journal_is : total.journal ≡ journal
   pub entries : total.entries ≡ length journal
@@ -74,11 +87,12 @@ pub record ComesTo (told : Option (List ℕ)) (start : World) (journal : List En
   -- no more objects are reached in that world than stand
   pub standing : ReachesAtMost (after start journal) total.standing
 
--- The tally of a run over a disk that told this, from the world that was opened, by how it ended.
-pub record TalliesRun (told : Option (List ℕ)) (start : World) (detail : Detail) (journal : List Entry) (tally : Option Tally) : Type 0 where
-  -- past the store it is there
-  pub opened : IsPast the_store detail → IsSome tally
-  -- before the events it is not
-  pub unopened : IsBefore the_events detail → tally ≡ None
-  -- it is that of the engine
-  pub comes_to : IfSome tally (λ it. ComesTo told start journal (tally_of it))
+module _ {D F : Type 0} (d : disk.Ghosts D) (place : F) where
+  -- The tally of a run with this chooser, from this disk to that one, from the world that was opened, by how it ended.
+  pub record TalliesRun (first last : D) (start : World) (detail : Detail) (journal : List Entry) (tally : Option Tally) : Type 0 where
+    -- past the store it is there
+    pub opened : IsPast the_store detail → IsSome tally
+    -- before the events it is not
+    pub unopened : IsBefore the_events detail → tally ≡ None
+    -- it is that of the engine
+    pub comes_to : IfSome tally (λ it. ComesTo (IsOfEngine d place first last) start journal (tally_of it))

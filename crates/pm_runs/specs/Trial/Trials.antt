@@ -2,6 +2,11 @@
 use Rattle.std.specs.Prelude.{◌≡◌, ℕ, codes, List, ◌++◌, Option, Some, length}
 use Rattle.hex.specs.Hex.{encode_lower}
 use Rattle.sha2.specs.Sha256.{sha256}
+use Rattle.pm_types.specs.declared.entry.Entry.{Entry}
+use Rattle.pm_io.specs.declared.sink.Sink as sink
+use Rattle.pm_model.specs.Text.{text}
+use Rattle.pm_engine.specs.Shown.{Total}
+use Rattle.pm_serial.specs.Writing.{tail_of}
 use Rattle.pm_serial.specs.Output.Writing.{PutsAll, PutsPart}
 use Rattle.pm_engine.specs.declared.events.stop.Stop.{Stop}
 use Rattle.pm_serial.specs.Causes.{CountsSink, IsElsewhere}
@@ -28,3 +33,8 @@ pub record WroteTrial {K : Type 0} (written : K → Option (List ℕ)) (finished
   pub none : IsElsewhere stop → new ≡ old
   -- the count of failed calls rose where the run stopped for the sink
   pub cause : CountsSink stop (count old) (count new)
+
+module _ {K : Type 0} (k : sink.Ghosts K) where
+  -- the same of a journal and of what an engine came to
+  abbrev pub WroteDigest : K → K → List Entry → Total → Option Stop → Type 0
+  WroteDigest old new journal total stop = WroteTrial k.written k.finished k.count old new (text journal) (tail_of total) stop

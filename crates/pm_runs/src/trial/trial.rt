@@ -3,17 +3,17 @@
 ghost use Rattle.std.specs.Prelude.{◌≡◌, ◌++◌, [], ℕ, List, None, Some, length, OnOk, OnErr};
 ghost use Rattle.pm_types.specs.Counts.{Rose};
 ghost use Rattle.pm_place.specs.Choosers.{IsChooser};
-ghost use Rattle.pm_model.specs.Text.{text};
 ghost use Rattle.pm_script.specs.Script.{AreLines};
 ghost use Rattle.pm_serial.specs.Output.Gathered.{gathered};
 ghost use Rattle.pm_serial.specs.Output.Writing.{PutsAll, PutsPart};
-ghost use Rattle.pm_engine.specs.Shown.{KeepsStart, chooser, serving, tally_in};
+ghost use Rattle.pm_engine.specs.Shown.{chooser, serving, tally_in};
 ghost use Rattle.pm_engine.specs.Events.Causes.{why};
 ghost use Rattle.pm_serial.specs.Running.{AnswersLines};
-ghost use Rattle.pm_engine.specs.Events.Running.{IsFresh, RunsOnDisk};
+ghost use Rattle.pm_engine.specs.Events.Running.{IsFresh};
 ghost use Rattle.pm_serial.specs.Stepping.{IsOfSink};
+ghost use Rattle.pm_serial.specs.Whole.{RunsLines};
 ghost use Rattle.pm_serial.specs.Writing.{tail_of};
-ghost use Rattle.pm_runs.specs.Trial.Trials.{WroteTrial, shown_digest};
+ghost use Rattle.pm_runs.specs.Trial.Trials.{WroteDigest, shown_digest};
 
 use crate::trial::digest_sink::DigestSink;
 use crate::trial::line::digest_line;
@@ -64,12 +64,7 @@ pub fn run_trial<D: Disk, F: Fn(&[u64]) -> usize + Drop, K: Sink>(
     requires clients { AreLines lines.items }
     requires fresh { IsFresh (serving engine.old) }
     requires chooser { IsChooser F.Fn (chooser engine.old) }
-    ensures answers { AnswersLines lines.items (serving engine.new) (why result) }
-    // What a crash at any moment leaves, and what it leaves at the end.
-    ensures disk { RunsOnDisk engine.old engine.new (why result) }
-    ensures sink { WroteTrial K.written K.finished K.count sink.old sink.new
-        (text (serving engine.new).journal) (tail_of (tally_in (serving engine.new))) (why result) }
-    ensures start { KeepsStart engine.old engine.new }
+    ensures runs { RunsLines (WroteDigest K.Sink sink.old sink.new) lines.items engine.old engine.new (why result) }
     // Where the sink failed all was answered, as where the run is done: it is called behind the last event alone.
     ensures last { IsOfSink (why result) → AnswersLines lines.items (serving engine.new) None }
 {

@@ -20,5 +20,9 @@ returns-clause-performs g c = record {
   uncalled = c.requires.uncalled;
   other_count = c.requires.other_count;
   other_uncalled = c.requires.other_uncalled;
+  chosen = c.args._chosen;
+  places = c.requires.places;
+  place = c.args.place;
+  chooses = c.requires.chooses;
   performs = rw c.new-source.ensures at rw c.new-sink.ensures at c.program.ensures.performs;
 }

@@ -24,7 +24,7 @@ returns-clause-serves g c =
     at_end (λ it. ServesLines c.args.lines.items it.detail it.journal.items it.tally) c.end_with.result {detail = ended_by stop a b x y} {disk = disk_in run.new.engine}
     (◌∙◌ {c = ended_by stop a b x y} e.detail c.ended_by-detail.ensures) e.tally (e.disk ∙ parts.ensures.disk) e.source e.sink
     (subst (λ (j : List Entry). ServesLines c.args.lines.items (ended_by stop a b x y) j (Some parts.result.2)) (sym (ap (λ v. v.items) e.journal ∙ parts.ensures.journal))
-    (lines_served c.args.lines.items (serving run.new.engine) parts.result.2 stop a b x y c.requires.few parts.ensures.tally run.ensures.answers))
+    (lines_served c.args.lines.items (serving run.new.engine) parts.result.2 stop a b x y c.requires.few parts.ensures.tally run.ensures.runs.answers))
 
 pub returns-clause-order : goal.returns-clause-order
 returns-clause-order g c =
@@ -39,7 +39,7 @@ returns-clause-order g c =
     at_end (λ it. ServesInOrder c.args.lines.items it.detail it.journal.items it.tally) c.end_with.result {detail = ended_by stop a b x y} {disk = disk_in run.new.engine}
     (◌∙◌ {c = ended_by stop a b x y} e.detail c.ended_by-detail.ensures) e.tally (e.disk ∙ parts.ensures.disk) e.source e.sink
     (subst (λ (j : List Entry). ServesInOrder c.args.lines.items (ended_by stop a b x y) j (Some parts.result.2)) (sym (ap (λ v. v.items) e.journal ∙ parts.ensures.journal))
-    (order_served c.args.lines.items (serving run.new.engine) parts.result.2 stop a b x y parts.ensures.tally run.ensures.answers))
+    (order_served c.args.lines.items (serving run.new.engine) parts.result.2 stop a b x y parts.ensures.tally run.ensures.runs.answers))
 
 pub returns-clause-runs : goal.returns-clause-runs
 returns-clause-runs g c =
@@ -55,7 +55,7 @@ returns-clause-runs g c =
     at_end (λ it. RunsEngine g.K.Sink c.args.writes c.args.engine c.args.sink it) c.end_with.result {detail = ended_by stop a b x y} {disk = disk_in run.new.engine}
     (◌∙◌ {c = ended_by stop a b x y} e.detail c.ended_by-detail.ensures) e.tally (e.disk ∙ parts.ensures.disk) e.source e.sink
     (engine_run g.K.Sink c.args.writes c.args.engine run.new.engine parts.result.2 c.args.source c.args.sink run.new.sink c.end_with.result stop a b x y
-    (ap (λ v. v.items) e.journal ∙ parts.ensures.journal) run.ensures.disk run.ensures.start
+    (ap (λ v. v.items) e.journal ∙ parts.ensures.journal) run.ensures.runs.disk run.ensures.runs.start
     (record {
       served = kept.served;
       course = kept.told;
@@ -67,7 +67,7 @@ returns-clause-runs g c =
       store = kept.store;
       few = kept.few;
       gone = kept.gone;
-    }) kept.closed kept.legal parts.ensures.tally parts.ensures.honest run.ensures.wrote)
+    }) kept.closed kept.legal parts.ensures.tally parts.ensures.honest run.ensures.runs.wrote.sink)
 
 pub returns-clause-saved : goal.returns-clause-saved
 returns-clause-saved g c =
@@ -82,7 +82,7 @@ returns-clause-saved g c =
     at_end (λ it. AcknowledgesFor g.K.Sink c.args.writes c.args.sink it.sink it.journal.items (stop_in it.detail)) c.end_with.result {detail = ended_by stop a b x y} {disk = disk_in run.new.engine}
     (◌∙◌ {c = ended_by stop a b x y} e.detail c.ended_by-detail.ensures) e.tally (e.disk ∙ parts.ensures.disk) e.source e.sink
     (acknowledged g.K.Sink c.args.writes c.args.sink run.new.sink (serving run.new.engine).journal c.end_with.result.journal.items stop a b x y
-    (ap (λ v. v.items) e.journal ∙ parts.ensures.journal) run.ensures.saved)
+    (ap (λ v. v.items) e.journal ∙ parts.ensures.journal) run.ensures.runs.wrote.saved)
 
 pub returns-clause-causes : goal.returns-clause-causes
 returns-clause-causes g c =
@@ -97,7 +97,7 @@ returns-clause-causes g c =
     at_end (λ it. ShowsCauses g.D.Disk g.S.Source g.K.Sink (disk_in c.args.engine) c.args.source c.args.sink it) c.end_with.result {detail = ended_by stop a b x y} {disk = disk_in run.new.engine}
     (◌∙◌ {c = ended_by stop a b x y} e.detail c.ended_by-detail.ensures) e.tally (e.disk ∙ parts.ensures.disk) e.source e.sink
     (causes_end g.D.Disk g.S.Source g.K.Sink (disk_in c.args.engine) (disk_in run.new.engine) c.args.source c.args.sink run.new.sink c.end_with.result parts.result.2 stop a b x y
-    c.requires.count (c.faults.ensures ∙ ap g.D.Disk.count parts.ensures.disk) c.faults-sink_before.ensures c.faults-sink_after.ensures run.ensures.disk.cause run.ensures.cause run.ensures.disk.past)
+    c.requires.count (c.faults.ensures ∙ ap g.D.Disk.count parts.ensures.disk) c.faults-sink_before.ensures c.faults-sink_after.ensures run.ensures.runs.disk.cause run.ensures.runs.wrote.cause run.ensures.runs.disk.past)
 
 pub returns-clause-last : goal.returns-clause-last
 returns-clause-last g c =

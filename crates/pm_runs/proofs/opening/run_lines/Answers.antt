@@ -1,4 +1,4 @@
-use Rattle.std.proofs.Common.{◌∙◌, ap, sym, subst, ℕ, List, Option, None}
+use Rattle.std.proofs.Common.{◌∙◌, inr, ap, sym, subst, List, Option, None}
 use Rattle.std.specs.Prelude.{IfSome}
 use Rattle.pm_types.specs.declared.entry.Entry.{Entry}
 use Rattle.pm_disk.specs.Made.{Made}
@@ -6,18 +6,18 @@ use Rattle.pm_copies.specs.Listed.{copy_in}
 use Rattle.pm_saving.specs.Images.{IsTold}
 use Rattle.pm_saving.specs.Serving.{opening}
 use Rattle.pm_place.specs.Choosers.{IsChooser}
-use Rattle.pm_engine.specs.Shown.{disk_in, opened_disk, serving, tally_of}
+use Rattle.pm_engine.specs.Shown.{disk_in, opened_disk, serving}
 use Rattle.pm_engine.specs.declared.tally.Tally.{Tally}
 use Rattle.pm_runs.specs.Ends.Ends.{IsUnwritten, not_opened, stop_in}
 use Rattle.pm_runs.specs.Wrote.{AcknowledgesFor, WritesLast}
 use Rattle.pm_runs.specs.Ends.Journals.{ServesAll, ServesInOrder, ServesLines}
 use Rattle.pm_runs.specs.Ends.Causes.{ShowsCauses}
-use Rattle.pm_runs.specs.Ends.Tallies.{ComesTo}
 use Rattle.pm_runs.specs.Runs.{RunsStore}
 use Rattle.pm_runs.proofs.EndsLemmas.Parts.{at_end}
 use Rattle.pm_runs.proofs.Ran.{fresh_engine}
 use Rattle.pm_runs.proofs.EndsLemmas.Faults.{ends_open, undone_open, open_causes, causes_after}
 use Rattle.pm_runs.proofs.EndsLemmas.Opened.{opened_run, refused_run, refused_for, none_opened, tried_open, unopened_unwritten}
+use Rattle.pm_runs.proofs.Openings.{comes_opened}
 use Rattle.pm_runs.proofs.Stores.{if_there, orders_none, store_run, store_unrun, serves_none}
 use Rattle.pm_runs.proofs.opening.run_lines.Goals as goal
 
@@ -35,15 +35,15 @@ returns-in-Ok-clause-store g c =
     let engine = c.in-Ok.engine in
     let opens = c.in-Ok.ensures in
     let it = c.run_engine.result in
-    let Comes : Option (List ℕ) → Type 0 = λ told. IfSome it.tally (λ tally. ComesTo told (opening (serving engine)) it.journal.items (tally_of tally)) in
     let ran = c.run_engine.ensures.runs in
     let told_then : IsTold (g.D.Disk.contents c.args.disk) → IsTold (g.D.Disk.contents (opened_disk engine)) =
     λ told. (told.0, ap g.D.Disk.contents opens.opening ∙ opens.told ∙ told.1) in
-    store_run g.D.Disk g.K.Sink c.args.writes c.args.disk c.args.sink it
+    store_run g.D.Disk g.K.Sink c.args.place c.args.writes c.args.disk c.args.sink it
     (record { number = (serving engine).number; copy = copy_in (serving engine).opened; closed = ran.closed; legal = ran.legal })
-    ran.late ran.there opens.stands (subst Comes (ap g.D.Disk.contents opens.opening ∙ opens.told) ran.comes_to)
+    ran.late ran.there opens.stands
+    (comes_opened g.D.Disk c.args.place c.args.disk engine it.disk opens.chooser opens.opening opens.told opens.made it.tally (opening (serving engine)) it.journal.items ran.idle ran.comes_to)
     (opened_run g.D.Disk c.args.disk (disk_in engine) it.disk (serving engine).number (copy_in (serving engine).opened) it.detail it.journal.items
-    opens.told opens.leaves opens.stands ran.legal (λ told. ran.images (told_then told)) (λ told. ran.last (told_then told)) ran.idle opens.made ran.late)
+    opens.told opens.leaves opens.stands ran.legal (λ told. ran.images (told_then told)) (λ told. ran.last (told_then told)) ran.idle ran.late)
     ran.replies
 
 pub returns-in-Ok-clause-saved : goal.returns-in-Ok-clause-saved
@@ -79,10 +79,10 @@ returns-in-Err-clause-store g c =
     let it = c.end_unopened.result in
     let e = c.end_unopened.ensures in
     let f = c.in-Err in
-    at_end (λ it. RunsStore g.D.Disk g.K.Sink c.args.writes c.args.disk c.args.sink it) it (e.detail ∙ c.not_opened.ensures) e.tally e.disk e.source e.sink
-    (store_unrun g.D.Disk g.K.Sink c.args.writes c.args.disk f.disk c.args.source c.args.sink it (not_opened f.fault) e.journal (none_opened f.fault)
-    (refused_run g.D.Disk c.args.disk f.disk (not_opened f.fault) (none_opened f.fault) (tried_open f.fault) f.ensures.told f.ensures.leaves f.ensures.made
-    (λ bytes told. refused_for bytes f.fault (f.ensures.fault bytes told))))
+    at_end (λ it. RunsStore g.D.Disk g.K.Sink c.args.place c.args.writes c.args.disk c.args.sink it) it (e.detail ∙ c.not_opened.ensures) e.tally e.disk e.source e.sink
+    (store_unrun g.D.Disk g.K.Sink c.args.place c.args.writes c.args.disk f.disk c.args.source c.args.sink it (not_opened f.fault) e.journal (none_opened f.fault)
+    (refused_run g.D.Disk c.args.disk f.disk (not_opened f.fault) (none_opened f.fault) (tried_open f.fault) f.ensures.told f.ensures.leaves
+    (λ bytes told. refused_for bytes f.fault (f.ensures.fault bytes told))) (inr f.ensures.made))
 
 pub returns-in-Err-clause-causes : goal.returns-in-Err-clause-causes
 returns-in-Err-clause-causes g c =

@@ -1,4 +1,4 @@
-use Rattle.std.proofs.Common.{◌≤◌, ◌∙◌, List, ap, sym, subst}
+use Rattle.std.proofs.Common.{inl, refl, ◌≤◌, ◌∙◌, List, ap, sym, subst}
 use Rattle.pm_types.specs.Counts.{greatest_count}
 use Rattle.pm_script.specs.declared.line.Line.{Line}
 use Rattle.pm_script.specs.Parted.Asked.{events_asked}
@@ -42,15 +42,15 @@ returns-in-Err-clause-runs g c =
     let e = c.end_unopened.ensures in
     let detail = c.in-Err.detail in
     let f = c.in-Err.ensures in
-    at_end (λ it. RunsScript g.D.Disk g.S.Source g.K.Sink c.args.disk c.args.source c.args.sink it) it e.detail e.tally e.disk e.source e.sink
+    at_end (λ it. RunsScript g.D.Disk g.S.Source g.K.Sink c.args.place c.args.disk c.args.source c.args.sink it) it e.detail e.tally e.disk e.source e.sink
     (record {
       ends = ends_unread detail f.ends;
       read = λ past. absurd (script_unread detail f.ends past);
       script = λ bytes told. reads_unread bytes detail it.journal.items e.journal f.ends (f.stops bytes told);
       order = λ bytes told. unordered bytes detail it.journal.items e.journal (script_unread detail f.ends);
       store =
-          store_unrun g.D.Disk g.K.Sink Replies c.args.disk c.args.disk c.read_source.new.source c.args.sink it detail e.journal (store_unread detail f.ends)
-          (uncalled_run g.D.Disk c.args.disk detail (g.met.D.Disk.only_now c.args.disk) (store_unread detail f.ends) (λ bytes. refused_unread bytes detail f.ends));
+          store_unrun g.D.Disk g.K.Sink c.args.place Replies c.args.disk c.args.disk c.read_source.new.source c.args.sink it detail e.journal (store_unread detail f.ends)
+          (uncalled_run g.D.Disk c.args.disk detail (g.met.D.Disk.only_now c.args.disk) (store_unread detail f.ends) (λ bytes. refused_unread bytes detail f.ends)) (inl refl);
       saved = tt;
     })
 

@@ -1,4 +1,4 @@
-use Rattle.std.proofs.Common.{◌∙◌, ap, subst, List}
+use Rattle.std.proofs.Common.{inl, refl, ◌∙◌, ap, subst, List}
 use Rattle.std.specs.Prelude.{IfSome}
 use Rattle.pm_script.specs.declared.line.Line.{Line}
 use Rattle.pm_script.proofs.ScriptLaws.{one_reading}
@@ -42,14 +42,14 @@ returns-in-Err-clause-runs g c =
     let e = c.end_unopened.ensures in
     let detail = c.in-Err.detail in
     let f = c.in-Err.ensures in
-    at_end (λ it. RunsTogether g.D.Disk g.S.Source g.K.Sink c.args.disk c.args.source c.args.sink it) it e.detail e.tally e.disk e.source e.sink
+    at_end (λ it. RunsTogether g.D.Disk g.S.Source g.K.Sink c.args.place c.args.disk c.args.source c.args.sink it) it e.detail e.tally e.disk e.source e.sink
     (record {
       ends = ends_unread detail f.ends;
       read = λ past. absurd (script_unread detail f.ends past);
       script = λ bytes told. reads_unread bytes detail it.journal.items e.journal f.ends (f.stops bytes told);
       store = ∣
-          store_unrun g.D.Disk g.K.Sink Replies c.args.disk c.args.disk c.read_source.new.source c.args.sink it detail e.journal (store_unread detail f.ends)
-          (uncalled_run g.D.Disk c.args.disk detail c.images_since_now.ensures (store_unread detail f.ends) (λ bytes. refused_unread bytes detail f.ends)) ∣₁;
+          store_unrun g.D.Disk g.K.Sink c.args.place Replies c.args.disk c.args.disk c.read_source.new.source c.args.sink it detail e.journal (store_unread detail f.ends)
+          (uncalled_run g.D.Disk c.args.disk detail c.images_since_now.ensures (store_unread detail f.ends) (λ bytes. refused_unread bytes detail f.ends)) (inl refl) ∣₁;
       last = λ unwritten. absurd (unwritten_unread detail f.ends unwritten);
       short = λ ran bytes told lines script. tt;
     })

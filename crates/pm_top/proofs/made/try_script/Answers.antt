@@ -16,7 +16,7 @@ run_lines-requires-clause-few g c = few_events (made_text c.args.seed c.args.tur
 pub returns-in-Ok-clause-tries : goal.returns-in-Ok-clause-tries
 returns-in-Ok-clause-tries g c =
     let ran = c.run_lines.ensures in
-    tried g.D.Disk g.K.Sink c.args.seed c.args.turns c.in-Ok.lines.items c.args.disk c.args.source c.args.sink c.run_lines.result
+    tried g.D.Disk g.K.Sink c.args.place c.args.seed c.args.turns c.in-Ok.lines.items c.args.disk c.args.source c.args.sink c.run_lines.result
     c.in-Ok.ensures ran.serves ran.order ran.store (ran.last tt) ran.source
 
 pub returns-in-Err-clause-causes : goal.returns-in-Err-clause-causes
@@ -30,5 +30,5 @@ pub returns-in-Err-clause-tries : goal.returns-in-Err-clause-tries
 returns-in-Err-clause-tries g c =
     let it = c.end_unopened.result in
     let e = c.end_unopened.ensures in
-    at_end (λ it. TriesScript g.D.Disk g.K.Sink c.args.seed c.args.turns c.args.disk c.args.source c.args.sink it) it e.detail e.tally e.disk e.source e.sink
-    (untouched_trial g.D.Disk g.K.Sink c.args.seed c.args.turns c.args.disk c.args.source c.args.sink it e.journal (g.met.D.Disk.only_now c.args.disk))
+    at_end (λ it. TriesScript g.D.Disk g.K.Sink c.args.place c.args.seed c.args.turns c.args.disk c.args.source c.args.sink it) it e.detail e.tally e.disk e.source e.sink
+    (untouched_trial g.D.Disk g.K.Sink c.args.place c.args.seed c.args.turns c.args.disk c.args.source c.args.sink it e.journal (g.met.D.Disk.only_now c.args.disk))

@@ -23,8 +23,8 @@ returns-in-Ok-Some-Alone-clause-does g c command spells =
     let spelled : Spells words (Alone it.command) = subst (Spells words) it.field-0-0-is (subst (λ (o : Option Asked). IfSome o (Spells words)) it.field-0-is it.ensures.some) in
     let both = c.words_spell_one_command.ensures words (Alone command) (Alone it.command) spells spelled in
     let same : command ≡ it.command = cc both in (
-      subst (λ (end : OneEnd g.row.D.Denot g.row.S.Denot g.row.K.Denot). Does g.D.Disk g.S.Source g.K.Sink command c.args.disk c.args.source c.args.sink end) (sym c.beside.ensures.alone)
-          (subst (λ (asked : Command). Does g.D.Disk g.S.Source g.K.Sink asked c.args.disk c.args.source c.args.sink c.perform.result) (sym same) c.perform.ensures.does),
+      subst (λ (end : OneEnd g.row.D.Denot g.row.S.Denot g.row.K.Denot). Does g.D.Disk g.S.Source g.K.Sink c.args.place command c.args.disk c.args.source c.args.sink end) (sym c.beside.ensures.alone)
+          (subst (λ (asked : Command). Does g.D.Disk g.S.Source g.K.Sink c.args.place asked c.args.disk c.args.source c.args.sink c.perform.result) (sym same) c.perform.ensures.does),
       c.beside.ensures.other,
     )
 
@@ -38,9 +38,9 @@ returns-in-Ok-Some-Alone-clause-complete g c command spells needs none =
     let status : c.beside.result.status ≡ status_of c.beside.result.detail =
     subst (λ (end : OneEnd g.row.D.Denot g.row.S.Denot g.row.K.Denot). end.status ≡ status_of end.detail) (sym c.beside.ensures.alone) c.perform.ensures.status in
     subst (λ (n : ℕ). (n ≡ 0) ⊎ (n ≡ 7)) (sym status)
-    (complete g.D.Disk g.S.Source g.K.Sink command c.args.disk c.args.source c.args.sink _
-    (subst (λ (end : OneEnd g.row.D.Denot g.row.S.Denot g.row.K.Denot). Does g.D.Disk g.S.Source g.K.Sink command c.args.disk c.args.source c.args.sink end) (sym c.beside.ensures.alone)
-    (subst (λ (asked : Command). Does g.D.Disk g.S.Source g.K.Sink asked c.args.disk c.args.source c.args.sink c.perform.result) (sym same) c.perform.ensures.does))
+    (complete g.D.Disk g.S.Source g.K.Sink c.args.place command c.args.disk c.args.source c.args.sink _
+    (subst (λ (end : OneEnd g.row.D.Denot g.row.S.Denot g.row.K.Denot). Does g.D.Disk g.S.Source g.K.Sink c.args.place command c.args.disk c.args.source c.args.sink end) (sym c.beside.ensures.alone)
+    (subst (λ (asked : Command). Does g.D.Disk g.S.Source g.K.Sink c.args.place asked c.args.disk c.args.source c.args.sink c.perform.result) (sym same) c.perform.ensures.does))
     (subst (λ (end : OneEnd g.row.D.Denot g.row.S.Denot g.row.K.Denot). ShowsCauses g.D.Disk g.S.Source g.K.Sink c.args.disk c.args.source c.args.sink end) (sym c.beside.ensures.alone) c.perform.ensures.causes)
     needs none)
 
@@ -74,10 +74,10 @@ pub returns-in-Err-clause-does : goal.returns-in-Err-clause-does
 returns-in-Err-clause-does g c command spells =
     let it = c.end_unopened-in-Err.result in
     let e = c.end_unopened-in-Err.ensures in (
-      subst (λ (end : OneEnd g.row.D.Denot g.row.S.Denot g.row.K.Denot). Does g.D.Disk g.S.Source g.K.Sink command c.args.disk c.args.source c.args.sink end) (sym c.beside-in-Err.ensures.alone)
-          (at_end (λ end. Does g.D.Disk g.S.Source g.K.Sink command c.args.disk c.args.source c.args.sink end) it
+      subst (λ (end : OneEnd g.row.D.Denot g.row.S.Denot g.row.K.Denot). Does g.D.Disk g.S.Source g.K.Sink c.args.place command c.args.disk c.args.source c.args.sink end) (sym c.beside-in-Err.ensures.alone)
+          (at_end (λ end. Does g.D.Disk g.S.Source g.K.Sink c.args.place command c.args.disk c.args.source c.args.sink end) it
           e.detail e.tally e.disk e.source e.sink
-          (untouched_does g.D.Disk g.S.Source g.K.Sink command c.args.disk c.args.source c.args.sink it e.journal
+          (untouched_does g.D.Disk g.S.Source g.K.Sink c.args.place command c.args.disk c.args.source c.args.sink it e.journal
           c.images_since_now.ensures (record { no_more = λ image is. is; no_fewer = λ image is. is }))),
       c.beside-in-Err.ensures.other,
     )
