@@ -1,5 +1,5 @@
 -- How the copy of what was read begins.
-use Rattle.std.proofs.Common.{◌≡◌, ℕ, ◌<◌, List, map, Option, Some, None, sym, subst, ◌∙◌}
+use Rattle.std.proofs.Common.{◌≡◌, ℕ, ◌<◌, List, map, Option, Some, None, sym, ap, subst, ◌∙◌}
 use Rattle.std.specs.Prelude.{IfSome}
 use Rattle.std.specs.List.{AllByRecursion}
 use Rattle.pm_types.specs.declared.address.Addr.{Addr}
@@ -19,7 +19,7 @@ use Rattle.pm_save.specs.Progress.Kept.{IsWithin}
 use Rattle.pm_save.specs.Writer.Planned.{IsPlanned}
 use Rattle.pm_ship.specs.declared.store.StoreRead.{StoreRead}
 use Rattle.pm_ship.specs.Begun.{BeginsOffered, MayBeOffered, idle}
-use Rattle.pm_ship.specs.Cars.{cars_kept}
+use Rattle.pm_ship.specs.Cars.{cars_kept, cars_offered}
 use Rattle.pm_ship.specs.Listing.{with_trains}
 use Rattle.pm_ship.specs.Offers.{Offer}
 use Rattle.pm_ship.specs.Stores.{offered}
@@ -28,13 +28,13 @@ use Rattle.pm_ship.proofs.CountLemmas.{left_counted}
 -- what is begun with these cars and roots is the copy of what is offered
 pub begins_offered : (offer : Offer) (settled cars : List KeptPage) (old new : Saving) (placed : List PlacedCar) (names : List (List ℕ × Addr)) (next number : ℕ)
     → old ≡ idle settled → IsPlanned settled offer.list placed → names ≡ offer.roots → next ≡ offer.next → number ≡ offer.epoch → Differ (images_of settled)
-    → AreFrozen (cars_kept cars) offer.list → IsAccepted offer.list (map root_entry offer.roots) offer.next
+    → AreFrozen (cars_kept cars) offer.list → cars_kept cars ≡ cars_offered offer → IsAccepted offer.list (map root_entry offer.roots) offer.next
     → ((list : List Listed) → IsPlanned old.settled list placed → BeginsListed old new list names next number)
     → ((list : List Listed) (frozen : Cars) → IsPlanned old.settled list placed → AreFrozen frozen list → IfSome new.progress (λ progress. copy_of frozen progress ≡ copy_listed list (map root_entry names) next))
     → ((list : List Listed) (frozen : Cars) (s : State) (contents : Option (List ℕ)) → IsPlanned old.settled list placed → AreFrozen frozen list → IsAccepted list (map root_entry names) next
     → s.header.epoch < number → IsTied old None s contents → IsTied new (Some frozen) s contents)
     → BeginsOffered offer settled new cars
-begins_offered offer settled cars old new placed names next number old_is planned names_is next_is number_is differ frozen accepted begun copy tied =
+begins_offered offer settled cars old new placed names next number old_is planned names_is next_is number_is differ frozen cars_are accepted begun copy tied =
     let plan : IsPlanned old.settled offer.list placed = subst (λ (saving : Saving). IsPlanned saving.settled offer.list placed) (sym old_is) planned in
     let begins = begun offer.list plan in
     let at = subst (λ (saving : Saving). ArePlaced saving.settled offer.list begins.begun.cars) old_is begins.cars in
@@ -45,6 +45,15 @@ begins_offered offer settled cars old new placed names next number old_is planne
     record {
       progress = begins.begun;
       is_progress = begins.now;
+      begun = record {
+        number = begins.number_is ∙ number_is;
+        cars = at;
+        roots = begins.roots ∙ names_is;
+        next = begins.next_id ∙ next_is;
+        kept = begins.kept;
+        parts = begins.parts;
+      };
+      cars_are = cars_are;
       number = begins.number_is ∙ number_is;
       next = begins.next_id ∙ next_is;
       copy = is_copy ∙ (λ i. copy_listed offer.list (map root_entry (names_is i)) (next_is i));
@@ -68,3 +77,7 @@ pub frozen_offered : (first : StoreRead) (listed : List KeptPage) → MayBeOffer
 frozen_offered first listed may listed_is frozen =
     subst (λ (ks : List KeptPage). AreFrozen (cars_kept ks) (offered first).list) (sym listed_is)
     (subst (λ (all : List CarImage). AreFrozen (cars_of all) (offered first).list) may.listed frozen)
+
+-- and that are those that are offered
+pub same_offered : (first : StoreRead) (listed : List KeptPage) → MayBeOffered first → listed ≡ first.cars → cars_kept listed ≡ cars_offered (offered first)
+same_offered first listed may listed_is = ap cars_kept listed_is ∙ ap cars_of (sym may.listed)

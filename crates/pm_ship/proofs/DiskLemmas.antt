@@ -8,10 +8,11 @@ use Rattle.pm_types.specs.declared.fault.OpenFault.TheVariants as unopened
 use Rattle.pm_disk.specs.Disk.{IfTold, LeavesOnly}
 use Rattle.pm_disk.specs.declared.disk.Disk.{Ghosts}
 use Rattle.pm_disk.specs.Images.{IsBytes}
-use Rattle.pm_disk.specs.Made.{Made, MadeMore, with_sync}
+use Rattle.pm_disk.specs.Made.{Made, MadeAtMost, MadeMore, with_sync}
 use Rattle.pm_disk.proofs.RunLemmas.{joined, started, weaker}
 use Rattle.pm_model.specs.World.{Copy}
-use Rattle.pm_image.specs.Graphs.{Graph}
+use Rattle.pm_image.specs.declared.settled.KeptPage.{KeptPage}
+use Rattle.pm_image.specs.Graphs.{Graph, images_of}
 use Rattle.pm_image.specs.Opening.{Current, page_count}
 use Rattle.pm_image.specs.Stands.{Opened, StandsForCopy, copy_in, opened}
 use Rattle.pm_image.proofs.FrameLaws.{found_of}
@@ -32,11 +33,12 @@ use Rattle.pm_save.specs.Progress.Answers.{TellsOn}
 use Rattle.pm_ship.specs.declared.fault.Shipped.{Shipped}
 use Rattle.pm_ship.specs.declared.fault.ShipFault.{ShipFault}
 use Rattle.pm_ship.specs.declared.fault.ShipFault.TheVariants.{From, To, Ahead, Foreign, Disk, OtherDisk, Memory}
+use Rattle.pm_ship.specs.Counting.{IsCount}
 use Rattle.pm_ship.specs.Offers.{AreSame, IsOffered, Offer, copy_offered, offer_in}
 use Rattle.pm_ship.specs.Stores.{IsOfPage, IsStill}
 use Rattle.pm_ship.specs.Written.{MakesPages, SparesCopy}
-use Rattle.pm_ship.specs.Shipped.{GotIt, HadIt, HasShipCause, IsOfDisk, IsShipFault, IsShipped, LeavesEither, ShipsFirst, TellsFirst, UnlessOther, UnlessStopped, first_fault, standby_fault}
-use Rattle.pm_ship.specs.Disks.{BreaksRule, FindsBoth, IsFaultBetween, IsOfRule, NamesRule, OnlyReads, ShipsBetween, ShipsDisks, StandsFor, Writes, number_in}
+use Rattle.pm_ship.specs.Shipped.{GotIt, HadIt, HasShipCause, IsOfDisk, IsShipFault, IsShipped, LeavesEither, ShipsFirst, TellsFirst, UnlessOther, UnlessStopped, WritesBeside, WritesFirst, first_fault, standby_fault}
+use Rattle.pm_ship.specs.Disks.{BreaksRule, Finds, FindsBoth, IsFaultBetween, IsOfRule, NamesRule, NeedsPages, OnlyReads, ShipsBetween, ShipsDisks, StandsFor, Writes, WritesNoMore, number_in}
 use Rattle.pm_ship.proofs.HistoryLemmas.{attached_has}
 use Rattle.pm_ship.proofs.OfferedLemmas.{graph_offers}
 use Rattle.pm_ship.proofs.ShipLemmas.{unless_other, unless_stopped}
@@ -250,6 +252,8 @@ module _ {D E : Type 0} (d : Ghosts D) (e : Ghosts E) (of_first : IsDisk d) (of_
         spares = λ was one mine found. unless_other (LeavesOnly e.moment e.since other other (λ image. e.image other image ⊎ StandsFor mine image)) (first_fault fault)
             (weaker e.moment e.since other other (e.image other) (λ image. e.image other image ⊎ StandsFor mine image) none.leaves (λ image left. inl left));
         made = tt;
+        most = inl none;
+        spoils = λ apart. (none.told, none.leaves);
         told = λ bytes one. (bytes, one);
         first = record { told = told; leaves = leaves; made = inr made };
         cause = first_cause (d.count disk) (d.count end) (e.count other) fault cause;
@@ -274,6 +278,8 @@ module _ {D E : Type 0} (d : Ghosts D) (e : Ghosts E) (of_first : IsDisk d) (of_
         spares = λ was one mine found. unless_other (LeavesOnly e.moment e.since other end (λ image. e.image other image ⊎ StandsFor mine image)) answer
             (weaker e.moment e.since other end (e.image other) (λ image. e.image other image ⊎ StandsFor mine image) leaves (λ image left. inl left));
         made = tt;
+        most = inl read;
+        spoils = λ apart. (told, leaves);
         told = λ bytes one. (bytes, told ∙ one);
         first = looked_too d of_first disk from after is_from looked;
         cause = cause_is;
@@ -315,7 +321,8 @@ module _ {D E : Type 0} (d : Ghosts D) (e : Ghosts E) (of_first : IsDisk d) (of_
             both = record { theirs = theirs.0; first = theirs.1; mine = current_graph (state to) ships.mine; standby = ships.found };
             epoch = it.epoch ∙ sym theirs.3;
             stands = λ image left. subst (λ (n : ℕ). StandsForCopy image n (copy_in theirs.0)) (sym theirs.3) (subst (λ (copy : Copy). StandsForCopy image offer.epoch copy) (sym theirs.4) (it.has.stands was (is_to.told ∙ two) image left));
-            way = subst (λ (o : Offer). HadIt o (current_graph (state to) ships.mine) was now shipped.written ⊎ GotIt o (current_graph (state to) ships.mine) was now shipped.written) theirs.2 ships.way;
+            way = subst (λ (b : Bool). HadIt (offer_in theirs.0) (current_graph (state to) ships.mine) was now shipped.written ⊎ GotIt (offer_in theirs.0) (current_graph (state to) ships.mine) b was now shipped.written) (is_to.found was two).closed
+                (subst (λ (o : Offer). HadIt o (current_graph (state to) ships.mine) was now shipped.written ⊎ GotIt o (current_graph (state to) ships.mine) (state to).closed was now shipped.written) theirs.2 ships.way);
           }
 
       shipped_between : (bytes was now : List ℕ) → d.contents disk ≡ Some bytes → e.contents other ≡ Some was → e.contents (disk_of done) ≡ Some now → (result : Result Shipped ShipFault) → IfOk result (ShipsFirst from to done)
@@ -418,6 +425,40 @@ module _ {D E : Type 0} (d : Ghosts D) (e : Ghosts E) (of_first : IsDisk d) (of_
       made_between (Ok shipped) (offer, is, it) = calls_between offer shipped it
       made_between (Err fault) it = tt
 
+      -- no more than that takes
+      needs_between : (offer : Offer) → IsOffered (state from) (d.contents (disk_of from)) offer → (it : WritesBeside offer to done) → (bytes was : List ℕ) → d.contents disk ≡ Some bytes → e.contents other ≡ Some was → NeedsPages bytes was it.most.written
+      needs_between offer is it bytes was one two =
+          let theirs = offer_is offer is bytes one in
+          let mine = it.found was (is_to.told ∙ two) in
+          let later = it.later in
+          let number = theirs.3 in
+          record {
+            both = record { theirs = theirs.0; first = theirs.1; mine = current_graph (state to) mine.0; standby = mine.1 };
+            later = omega (arith, later, number);
+            count = subst (λ (o : Offer). IsCount (images_of mine.0.cars) o it.most.written) theirs.2 (subst (λ (ks : List KeptPage). IsCount (images_of ks) offer it.most.written) (sym mine.2) it.most.count);
+          }
+
+      most_between : WritesFirst from to done → OnlyReads e other (disk_of done) ⊎ WritesNoMore d e disk other (disk_of done)
+      most_between (inl still) = inl (still_too e of_other other to done is_to still)
+      most_between (inr (offer, is, it)) =
+          let all = subst (λ (m : Made). MadeAtMost (it.most.written + (shutting (state to) + 2)) (shutting (state to) + 2) m (e.made (disk_of done))) is_to.made it.most.most in
+          inr (record {
+            written = it.most.written;
+            needs = needs_between offer is it;
+            shut = shutting (state to);
+            few = shut_most (state to);
+            made = record { writes = all.writes; syncs = (let syncs = all.syncs in omega (arith, syncs)); past = all.past };
+          })
+
+      -- it stays unless both are found
+      spoils_between : WritesFirst from to done → (Finds (d.contents disk) × Finds (e.contents other) → ⊥) → (e.contents (disk_of done) ≡ e.contents other) × LeavesOnly e.moment e.since other (disk_of done) (e.image other)
+      spoils_between (inl still) apart = let read = still_too e of_other other to done is_to still in (read.told, read.leaves)
+      spoils_between (inr (offer, is, it)) apart =
+          absurd (apart (
+            (λ bytes one. let theirs = offer_is offer is bytes one in (theirs.0, theirs.1)),
+            (λ was two. let mine = it.found was (is_to.told ∙ two) in (current_graph (state to) mine.0, mine.1)),
+          ))
+
       still_between : (result : Result Shipped ShipFault) → IfErr result (λ fault. UnlessStopped fault (IsStill to done)) → IfErr result (λ fault. UnlessStopped fault (OnlyReads e other (disk_of done)))
       still_between (Ok shipped) it = tt
       still_between (Err fault) it = stopped_too (still_too e of_other other to done is_to) fault it
@@ -429,9 +470,11 @@ module _ {D E : Type 0} (d : Ghosts D) (e : Ghosts E) (of_first : IsDisk d) (of_
 
       pub both_attached : (result : Result Shipped ShipFault) → IfOk result (ShipsFirst from to done) → IfErr result (IsShipFault from to) → LeavesEither from to done → IfErr result (λ fault. UnlessStopped fault (IsStill to done))
           → IfErr result (λ fault. UnlessOther fault (SparesCopy to done)) → TellsOn (e.contents (disk_of to)) (e.contents (disk_of done))
-          → HasShipCause (d.count (disk_of from)) (d.count (disk_of after)) (e.count (disk_of to)) (e.count (disk_of done)) result
+          → HasShipCause (d.count (disk_of from)) (d.count (disk_of after)) (e.count (disk_of to)) (e.count (disk_of done)) result → WritesFirst from to done
           → ShipsDisks d e disk other (record { disk = disk_of after; other = disk_of done; shipped = result })
-      both_attached result shipped fault images still spares told cause = record {
+      both_attached result shipped fault images still spares told cause most = record {
+        most = most_between most;
+        spoils = spoils_between most;
         shipped = λ bytes was now one two three. shipped_between bytes was now one two three result shipped;
         fault = λ bytes was one two. why_between bytes was one two result fault;
         rule = ruled_between result fault;

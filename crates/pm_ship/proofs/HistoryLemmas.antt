@@ -1,5 +1,5 @@
 -- What a standby has had since it was made.
-use Rattle.std.proofs.Common.{◌≡◌, ◌⊎◌, inl, inr, ⊎_elim, ℕ, ◌<◌, ◌≤◌, nat_lt, if◌then◌else◌, Bool, true, false, List, [], ◌∷◌, Some, Result, Ok, refl, sym, ap, subst, ◌∙◌, arith}
+use Rattle.std.proofs.Common.{◌≡◌, ◌⊎◌, inl, inr, ⊎_elim, ℕ, ◌<◌, ◌≤◌, nat_lt, if◌then◌else◌, Bool, true, false, List, [], ◌∷◌, Some, Result, Ok, Err, refl, sym, ap, subst, ◌∙◌, arith}
 use Rattle.std.specs.Prelude.{Contains}
 use Rattle.std.specs.List.{AllByRecursion}
 use Rattle.pm_types.specs.declared.fault.OpenFault.{OpenFault}
@@ -13,7 +13,7 @@ use Rattle.pm_image.specs.Blank.{blank_store}
 use Rattle.pm_image.specs.CarAnswers.{AreBytes}
 use Rattle.pm_image.specs.Graphs.{copy_of as copy_of_graph, graph_of, used_pages}
 use Rattle.pm_image.specs.Opening.{Current, page_count}
-use Rattle.pm_image.specs.Stands.{StandsForCopy, pages_of}
+use Rattle.pm_image.specs.Stands.{Opened, StandsForCopy, copy_in, opened, pages_of}
 use Rattle.pm_image.proofs.BlankLaws.{blank_stands}
 use Rattle.pm_image.proofs.FrameLaws.{found_of}
 use Rattle.pm_image.proofs.StandsLaws.{one_copy}
@@ -25,7 +25,8 @@ use Rattle.pm_shadow.specs.Uses.{use_of}
 use Rattle.pm_shadow.proofs.UsedLemmas.{graph_first}
 use Rattle.pm_law_copies.proofs.GraphsLemmas.Found.{opened_spelled}
 use Rattle.pm_saving.specs.Tied.{HasCopy}
-use Rattle.pm_ship.specs.History.{AreShips, Call, Chain, Grows, IsCalled, IsJustMade, IsLookedAt, IsShip, StandsForOne, settled_by}
+use Rattle.pm_ship.specs.Disks.{Finds, FindsBoth, StandsFor, number_in}
+use Rattle.pm_ship.specs.History.{AreCommands, AreShips, Call, Chain, Command, Grows, IsCalled, IsCommand, IsJustMade, IsLookedAt, IsShip, StandsForOne, settled_at_last, settled_by}
 use Rattle.pm_ship.proofs.WriteLemmas.{stands_now}
 
 -- ---- the copies that were settled
@@ -106,6 +107,67 @@ module _ {D E : Type 0} (d : Ghosts D) (e : Ghosts E) (counts : (disk : E) (t : 
             (λ image left. inl (subst (λ (bytes : List ℕ). StandsForCopy bytes 0 empty_copy) (sym (made.only image (now image left))) blank_stands));
       } in
       (all_on [] calls start end first ships).leaves
+
+  -- ---- whole commands
+
+  standing : (chain : Chain) (disk : E) (it : HasOne chain disk) → (found : Opened) × (opened it.bytes ≡ Ok found)
+  standing chain disk it =
+      ⊎_elim (λ none. (none.found, none.is_found)) (λ one. (one.3.found, one.3.is_found)) (each_now chain disk it it.bytes (stay disk it.bytes it.told))
+
+  command_on : (command : Command d e) → IsCommand d e command → HasOne command.chain command.other → HasOne command.chain command.end.other
+  command_on command is it =
+      let after = is.ships.told it.bytes it.told in
+      record { bytes = after.0; told = after.1; leaves = by (opened is.bytes) refl }
+    where
+      chain : Chain
+      chain = command.chain
+
+      joins : (P : List ℕ → Type 0) → LeavesOnly e.moment e.since command.other command.end.other P → ((image : List ℕ) → P image → StandsForOne chain image) → LeavesOnly e.moment e.since start command.end.other (StandsForOne chain)
+      joins P run holds =
+          joined e.moment e.since start command.other command.end.other (StandsForOne chain) it.leaves
+          (weaker e.moment e.since command.other command.end.other P (StandsForOne chain) run holds)
+
+      mine_on : (found : Opened) → opened it.bytes ≡ Ok found → (image : List ℕ) → StandsFor found image → StandsForOne chain image
+      mine_on found is_found image stands =
+          only_one chain it.bytes (number_in found) (copy_in found) (each_now chain command.other it it.bytes (stay command.other it.bytes it.told))
+          (record { found = found; is_found = is_found; is_number = refl; is_copy = refl }) image stands
+
+      by : (answer : Result Opened OpenFault) → opened is.bytes ≡ answer → LeavesOnly e.moment e.since start command.end.other (StandsForOne chain)
+      by (Ok theirs) first =
+          let mine = standing chain command.other it in
+          let both : FindsBoth is.bytes it.bytes = record { theirs = theirs; first = first; mine = mine.0; standby = mine.1 } in
+          joins (λ image. e.image command.other image ⊎ (StandsFor mine.0 image ⊎ StandsFor theirs image)) (is.ships.images is.bytes it.bytes is.told it.told both)
+          (λ image either.
+          ⊎_elim (λ was. each_now chain command.other it image was)
+          (λ one.
+          ⊎_elim (λ old. mine_on mine.0 mine.1 image old)
+          (λ new. inr (
+            number_in theirs,
+            copy_in theirs,
+            is.settled (number_in theirs) (copy_in theirs) (record { found = theirs; is_found = first; is_number = refl; is_copy = refl }),
+            new,
+          )) one) either)
+      by (Err fault) refused =
+          let none : Finds (d.contents command.disk) × Finds (e.contents command.other) → ⊥ = λ found. let one = found.0 is.bytes is.told in let it_is = one.1 in absurd (cc (it_is, refused)) in
+          let spared = is.ships.spoils none in
+          joins (e.image command.other) spared.1 (λ image was. each_now chain command.other it image was)
+
+  commands_on : (chain : Chain) (commands : List (Command d e)) (before end : E) → HasOne chain before → AreCommands d e before chain commands end → HasOne (settled_at_last d e chain commands) end
+  commands_on chain [] before end it looked = looked_on chain before end it looked
+  commands_on chain (command ∷ commands) before end it (looked, grows, is, rest) =
+      commands_on command.chain commands command.end.other end
+      (command_on command is (grown_on chain command.chain command.other grows (looked_on chain before command.other it looked))) rest
+
+  -- at every moment each image stands for one of them
+  pub has_settled_at_last : ((image : List ℕ) → e.since start (e.moment start) image → e.image start image) → (bytes : List ℕ) → e.contents start ≡ Some bytes → ((image : List ℕ) → e.image start image → StandsForCopy image 0 empty_copy)
+      → (end : E) (commands : List (Command d e)) → AreCommands d e start [] commands end → LeavesOnly e.moment e.since start end (StandsForOne (settled_at_last d e [] commands))
+  has_settled_at_last now bytes told new end commands are =
+      let first : HasOne [] start = record {
+        bytes = bytes;
+        told = told;
+        leaves = started e.moment e.since start (StandsForOne []) (λ image left. inl (new image (now image left)));
+      } in
+      (commands_on [] commands start end first are).leaves
 
 -- ---- pages that were attached
 

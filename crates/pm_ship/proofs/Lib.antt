@@ -13,3 +13,4 @@ pub mod KnownLemmas
 pub mod ShipLemmas
 pub mod HistoryLemmas
 pub mod DiskLemmas
+pub mod OneLemmas

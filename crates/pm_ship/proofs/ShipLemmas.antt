@@ -9,13 +9,13 @@ use Rattle.pm_types.specs.declared.fault.OpenFault.TheVariants.{NotAStore, Versi
 use Rattle.pm_types.specs.declared.fault.OpenFault.TheVariants as unopened
 use Rattle.pm_disk.specs.Disk.{IfTold, LeavesOnly}
 use Rattle.pm_disk.specs.declared.disk.Disk.{Ghosts}
-use Rattle.pm_disk.specs.Made.{Made, MadeMore}
-use Rattle.pm_disk.proofs.RunLemmas.{joined, weaker}
+use Rattle.pm_disk.specs.Made.{Made, MadeAtMost, MadeMore}
+use Rattle.pm_disk.proofs.RunLemmas.{joined, started, weaker}
 use Rattle.pm_layout.specs.declared.header.Header.{Header}
 use Rattle.pm_model.specs.World.{Copy}
 use Rattle.pm_image.specs.declared.settled.KeptPage.{KeptPage}
 use Rattle.pm_image.specs.Graphs.{Graph, copy_of as copy_of_graph, entries_of, images_of}
-use Rattle.pm_image.specs.Stands.{StandsForCopy}
+use Rattle.pm_image.specs.Stands.{Opened, StandsForCopy}
 use Rattle.pm_image.proofs.FrameLaws.{found_of}
 use Rattle.pm_shadow.specs.State.{State, abandoned_in, known_by, other}
 use Rattle.pm_shadow.specs.Copies.{current_graph}
@@ -39,8 +39,8 @@ use Rattle.pm_ship.specs.Listing.{with_trains}
 use Rattle.pm_ship.specs.Offers.{AreSame, IsOffered, Offer, copy_offered, offer_of}
 use Rattle.pm_ship.specs.Stores.{IsKnownFrom, IsReady, IsStandby, IsStill, offered}
 use Rattle.pm_ship.specs.SameLists.{HaveSameCopy}
-use Rattle.pm_ship.specs.Written.{ChangesFew, IsLaid, LeavesEitherOf, SparesCopy}
-use Rattle.pm_ship.specs.Shipped.{IsShipFault, IsShipped, IsStandbyCause, IsStandbyFault, IsWritingFault, LeavesEither, LeavesStandby, LeavesWritten, MayGoAgain, ShipsFirst, UnlessOther, UnlessStopped, standby_fault}
+use Rattle.pm_ship.specs.Written.{IsLaid, LaysBeside, LeavesEitherOf, SparesCopy, WritesAtMost}
+use Rattle.pm_ship.specs.Shipped.{GotIt, IsShipFault, IsShipped, IsStandbyCause, IsStandbyFault, IsWritingFault, LeavesEither, LeavesStandby, LeavesWritten, MayGoAgain, ShipsFirst, UnlessOther, UnlessStopped, WritesBeside, WritesFirst, standby_fault}
 use Rattle.pm_ship.proofs.ListLemmas.{both_told, trains_counted}
 use Rattle.pm_ship.proofs.OfferedLemmas.{graph_offers, standby_list, stood_offered}
 use Rattle.pm_ship.proofs.StandbyLemmas.{ok_is}
@@ -244,6 +244,7 @@ module _ {E : Type 0} {e : Ghosts E} where
         again = unless_other (MayGoAgain before after) (standby_fault fault) (same_again before after ready looks same);
         told = λ bytes told. (bytes, looks.told ∙ told);
         cause = standby_cause (e.count (disk_of before)) (e.count (disk_of after)) fault cause;
+        most = inl (record { looks = looks; made = made; pages = inl same });
       }
 
   module _ (offer : Offer) (standby : Standby) (before mid : Pages E e) (ready : IsReady (state before) (e.contents (disk_of before))) (is : IsStandby (state before) (state mid) (e.contents (disk_of before)) standby)
@@ -256,7 +257,7 @@ module _ {E : Type 0} {e : Ghosts E} where
 
     -- it had what is offered
     pub same_leaves : (shipped : Shipped) → LeavesStandby offer before mid (Ok shipped)
-    same_leaves shipped = record { leaves = looked_either offer before mid ready.sound it; still = tt; spares = tt; again = read_again standby before mid looks is; told = tells; cause = count }
+    same_leaves shipped = record { leaves = looked_either offer before mid ready.sound it; still = tt; spares = tt; again = read_again standby before mid looks is; told = tells; cause = count; most = inl (read_still before mid looks made is.known) }
 
     -- it has another copy
     pub foreign_leaves : (number : ℕ) → LeavesStandby offer before mid (Err (Foreign number))
@@ -267,6 +268,7 @@ module _ {E : Type 0} {e : Ghosts E} where
       again = read_again standby before mid looks is;
       told = tells;
       cause = count;
+      most = inl (read_still before mid looks made is.known);
     }
 
     pub ahead_leaves : (to from : ℕ) → LeavesStandby offer before mid (Err (Ahead to from))
@@ -277,11 +279,31 @@ module _ {E : Type 0} {e : Ghosts E} where
       again = read_again standby before mid looks is;
       told = tells;
       cause = count;
+      most = inl (read_still before mid looks made is.known);
     }
 
+    -- no more calls were made than the whole takes
+    most_beside : (after : Pages E e) → (state mid).header.epoch < offer.epoch → (after ≡ mid) ⊎ WritesAtMost offer standby.settled mid after → IsStill before after ⊎ WritesBeside offer before after
+    most_beside after later (inl same) = inl (subst (IsStill before) (sym same) (read_still before mid looks made is.known))
+    most_beside after later (inr most) =
+        let one = epoch_still (state before) (state mid) is.known in
+        inr (record {
+          later = omega (arith, one, later);
+          settled = standby.settled;
+          found = λ was told. (record { catalog = is.catalog; cars = standby.settled }, is.found was told, refl);
+          most = record {
+            written = most.written;
+            count = most.count;
+            most = subst (λ (m : Made). MadeAtMost (most.written + (shutting (state before) + 2)) (shutting (state before) + 2) m (e.made (disk_of after))) made
+                (subst (λ (n : ℕ). MadeAtMost (most.written + (n + 2)) (n + 2) (e.made (disk_of mid)) (e.made (disk_of after))) (shutting_still (state before) (state mid) is.known) most.most);
+          };
+        })
+
     -- it was written
-    pub written_leaves : (after : Pages E e) (result : Result Shipped ShipFault) → LeavesWritten offer mid after result → IfErr result IsWritingFault → IfOk result (IsLaid offer standby.settled mid after) → LeavesStandby offer before after result
-    written_leaves after (Ok shipped) written stops laid = record {
+    pub written_leaves : (after : Pages E e) (result : Result Shipped ShipFault) → LeavesWritten offer mid after result → IfErr result IsWritingFault → IfOk result (IsLaid offer standby.settled mid after)
+        → (state mid).header.epoch < offer.epoch → (after ≡ mid) ⊎ WritesAtMost offer standby.settled mid after → LeavesStandby offer before after result
+    written_leaves after (Ok shipped) written stops laid later most = record {
+      most = most_beside after later most;
       leaves = both_leave offer before mid after ready.sound it written.leaves;
       still = tt;
       spares = tt;
@@ -292,7 +314,8 @@ module _ {E : Type 0} {e : Ghosts E} where
       told = λ was told. written.told was (looks.told ∙ told);
       cause = written.cause ∙ count;
     }
-    written_leaves after (Err (Memory _)) written stops laid = record {
+    written_leaves after (Err (Memory _)) written stops laid later most = record {
+      most = most_beside after later most;
       leaves = both_leave offer before mid after ready.sound it written.leaves;
       still = tt;
       spares = both_spare offer before mid after ready.sound it written.spares;
@@ -304,7 +327,8 @@ module _ {E : Type 0} {e : Ghosts E} where
       told = λ was told. written.told was (looks.told ∙ told);
       cause = written.cause ∙ count;
     }
-    written_leaves after (Err (OtherDisk b a)) written stops laid = record {
+    written_leaves after (Err (OtherDisk b a)) written stops laid later most = record {
+      most = most_beside after later most;
       leaves = both_leave offer before mid after ready.sound it written.leaves;
       still = tt;
       spares = tt;
@@ -312,11 +336,11 @@ module _ {E : Type 0} {e : Ghosts E} where
       told = λ was told. written.told was (looks.told ∙ told);
       cause = subst (λ (n : ℕ). ShowsRise b a n (e.count (disk_of after))) count written.cause;
     }
-    written_leaves after (Err (From fault)) written stops laid = absurd stops
-    written_leaves after (Err (To fault)) written stops laid = absurd stops
-    written_leaves after (Err (Ahead to from)) written stops laid = absurd stops
-    written_leaves after (Err (Foreign number)) written stops laid = absurd stops
-    written_leaves after (Err (Disk b a)) written stops laid = absurd stops
+    written_leaves after (Err (From fault)) written stops laid later most = absurd stops
+    written_leaves after (Err (To fault)) written stops laid later most = absurd stops
+    written_leaves after (Err (Ahead to from)) written stops laid later most = absurd stops
+    written_leaves after (Err (Foreign number)) written stops laid later most = absurd stops
+    written_leaves after (Err (Disk b a)) written stops laid later most = absurd stops
 
   -- ---- what was shipped
 
@@ -377,21 +401,27 @@ module _ {E : Type 0} {e : Ghosts E} where
           ships = λ was told now held. record {
             mine = graph;
             found = is.found was told;
-            way = inr (record { later = less; count = laid.count; changes = few (laid.changes graph was now (looks.told ∙ told) (is.keeps was told) held) });
+            way = inr (got_in less was now (lays was now (laid.lays graph was now (looks.told ∙ told) (is.keeps was told) held)));
           };
           behind = omega (arith, less);
           again = λ equal. absurd (omega (arith, less, equal));
           made = λ behind. more laid.made;
         }
       where
-        few : {was now : List ℕ} → ChangesFew (current_graph (state mid) graph) was now shipped.written → ChangesFew (current_graph (state before) graph) was now shipped.written
-        few changes = record {
-          pages = changes.pages;
-          count = changes.count;
-          apart = changes.apart;
-          beside = changes.beside;
-          only = λ page there apart_of. changes.only page there (λ is_other. apart_of (is_other ∙ other_still (state before) (state mid) is.known));
-        }
+        seen_still : current_graph (state mid) graph ≡ current_graph (state before) graph
+        seen_still = known_still (λ (u : State). current_graph u graph) (λ u uses. refl) (λ u. refl) (state before) (state mid) is.known
+
+        closed_still : (state mid).closed ≡ (state before).closed
+        closed_still = known_still (λ (u : State). u.closed) (λ u uses. refl) (λ u. refl) (state before) (state mid) is.known
+
+        lays : (was now : List ℕ) → LaysBeside (offered first) (current_graph (state mid) graph) (state mid).closed was now shipped.written → LaysBeside (offered first) (current_graph (state before) graph) (state before).closed was now shipped.written
+        lays was now it =
+            subst (λ (b : Bool). LaysBeside (offered first) (current_graph (state before) graph) b was now shipped.written) closed_still
+            (subst (λ (mine : Opened). LaysBeside (offered first) mine (state mid).closed was now shipped.written) seen_still it)
+
+        got_in : (state before).header.epoch < first.epoch → (was now : List ℕ) → LaysBeside (offered first) (current_graph (state before) graph) (state before).closed was now shipped.written
+            → GotIt (offered first) (current_graph (state before) graph) (state before).closed was now shipped.written
+        got_in less was now it = record { later = less; count = laid.count; changes = it.changes; lowest = it.lowest; laid = it.laid }
 
         more : MadeMore (shipped.written + (shutting (state mid) + 2)) (shutting (state mid) + 2) 0 (e.made (disk_of mid)) (e.made (disk_of after))
             → MadeMore (shipped.written + (shutting (state before) + 2)) (shutting (state before) + 2) 0 (e.made (disk_of before)) (e.made (disk_of after))
@@ -428,6 +458,18 @@ module _ {E : Type 0} {e : Ghosts E} where
       first_sound (Err (Disk b a)) why = tt
       first_sound (Err (OtherDisk b a)) why = tt
       first_sound (Err (Memory _)) why = tt
+
+    -- no more was written than that takes
+    pub first_most : (from : Pages D d) (offer : Offer) (before after : Pages E e) → IsOffered (state from) (d.contents (disk_of from)) offer → IsStill before after ⊎ WritesBeside offer before after → WritesFirst from before after
+    first_most from offer before after is (inl still) = inl still
+    first_most from offer before after is (inr most) = inr (offer, is, most)
+
+    pub uncalled_most : (from : Pages D d) (it : Pages E e) → ((left : List ℕ) → e.since (disk_of it) (e.moment (disk_of it)) left → e.image (disk_of it) left) → WritesFirst from it it
+    uncalled_most from it now = inl (record {
+      looks = record { told = refl; images = record { no_more = λ image left. left; no_fewer = λ image left. left }; leaves = started e.moment e.since (disk_of it) (e.image (disk_of it)) now };
+      made = refl;
+      pages = inl refl;
+    })
 
     -- the first store was not read, and the standby was not called
     pub uncalled_either : (from : Pages D d) (it : Pages E e) → (state it).failed ≡ false → ((left : List ℕ) → e.since (disk_of it) (e.moment (disk_of it)) left → e.image (disk_of it) left) → LeavesEither from it it

@@ -1,17 +1,21 @@
 -- What a ship from the store of one disk to that of another promises.
-use Rattle.std.specs.Prelude.{◌≡◌, ◌⊎◌, ℕ, ◌+◌, ◌<◌, ◌≤◌, List, Some, Ok, Err, IfOk, IfErr}
+use Rattle.std.specs.Prelude.{◌≡◌, ◌⊎◌, ℕ, ◌+◌, ◌<◌, ◌≤◌, Bool, not, List, Option, Some, Ok, Err, IfOk, IfErr}
 use Rattle.pm_types.specs.declared.fault.OpenFault.{OpenFault}
 use Rattle.pm_types.specs.declared.fault.OpenFault.TheVariants.{NotAStore, Version, Damaged, Malformed}
 use Rattle.pm_types.specs.declared.fault.OpenFault.TheVariants as unopened
-use Rattle.pm_disk.specs.Disk.{LeavesOnly}
+use Rattle.pm_disk.specs.Disk.{IfTold, LeavesOnly}
 use Rattle.pm_disk.specs.declared.disk.Disk.{Ghosts}
-use Rattle.pm_disk.specs.Made.{MadeMore, with_sync}
+use Rattle.pm_disk.specs.Made.{MadeAtMost, MadeMore, with_sync}
+use Rattle.pm_image.specs.Graphs.{images_of}
+use Rattle.pm_image.specs.Opening.{is_open}
 use Rattle.pm_image.specs.Stands.{Opened, StandsForCopy, copy_in, opened}
+use Rattle.pm_shadow.specs.State.{other}
 use Rattle.pm_save.specs.Progress.Answers.{TellsOn}
 use Rattle.pm_ship.specs.declared.fault.Shipped.{Shipped}
 use Rattle.pm_ship.specs.declared.fault.ShipFault.{ShipFault}
 use Rattle.pm_ship.specs.declared.fault.ShipFault.TheVariants.{From, To, Ahead, Foreign, Disk, OtherDisk, Memory}
 use Rattle.pm_ship.specs.declared.disks.ShipEnd.{ShipEnd}
+use Rattle.pm_ship.specs.Counting.{IsCount}
 use Rattle.pm_ship.specs.Offers.{AreSame, offer_in}
 use Rattle.pm_ship.specs.Shipped.{GotIt, HadIt, HasShipCause, UnlessOther, UnlessStopped}
 
@@ -31,6 +35,20 @@ pub record FindsBoth (bytes was : List ℕ) : Type 0 where
   pub first : opened bytes ≡ Ok theirs
   pub mine : Opened
   pub standby : opened was ≡ Ok mine
+
+-- opening finds a copy in the bytes, where a disk tells its contents
+abbrev pub Finds : Option (List ℕ) → Type 0
+Finds contents = IfTold contents (λ bytes. (found : Opened) × (opened bytes ≡ Ok found))
+
+-- the gate of the slot beside the current header is closed
+abbrev pub is_shut_beside : Opened → List ℕ → Bool
+is_shut_beside found bytes = not (is_open bytes (other found.current.slot))
+
+-- So many pages are to be written: the standby has an earlier copy, and lacks as many.
+pub record NeedsPages (bytes was : List ℕ) (written : ℕ) : Type 0 where
+  pub both : FindsBoth bytes was
+  pub later : number_in both.mine < number_in both.theirs
+  pub count : IsCount (images_of both.mine.graph.cars) (offer_in both.theirs) written
 
 -- ---- why nothing was shipped
 
@@ -89,7 +107,8 @@ pub record ShipsBetween (bytes was now : List ℕ) (images : List ℕ → Type 0
   pub both : FindsBoth bytes was
   pub epoch : shipped.epoch ≡ number_in both.theirs
   pub stands : (image : List ℕ) → images image → StandsFor both.theirs image
-  pub way : HadIt (offer_in both.theirs) both.mine was now shipped.written ⊎ GotIt (offer_in both.theirs) both.mine was now shipped.written
+  pub way : HadIt (offer_in both.theirs) both.mine was now shipped.written
+      ⊎ GotIt (offer_in both.theirs) both.mine (is_shut_beside both.mine was) was now shipped.written
 
 module _ {D : Type 0} (d : Ghosts D) where
   -- It was synced at most, and read then.
@@ -105,6 +124,15 @@ module _ {D : Type 0} (d : Ghosts D) where
     pub made : MadeMore (written + (shut + 2)) (shut + 3) 0 (d.made before) (d.made after)
 
 module _ {D E : Type 0} (d : Ghosts D) (e : Ghosts E) where
+  -- No more calls were made than where so many pages are written and a header, and no read past the end. Where both disks
+  -- tell their contents, so many are to be written.
+  pub record WritesNoMore (disk : D) (before after : E) : Type 0 where
+    pub written : ℕ
+    pub needs : (bytes was : List ℕ) → d.contents disk ≡ Some bytes → e.contents before ≡ Some was → NeedsPages bytes was written
+    pub shut : ℕ
+    pub few : shut ≤ 1
+    pub made : MadeAtMost (written + (shut + 2)) (shut + 3) (e.made before) (e.made after)
+
   -- what a ship does to both disks, and what it answers
   pub record ShipsDisks (disk : D) (other : E) (end : ShipEnd D E) : Type 0 where
     pub shipped : (bytes was now : List ℕ) → d.contents disk ≡ Some bytes → e.contents other ≡ Some was → e.contents end.other ≡ Some now
@@ -121,6 +149,11 @@ module _ {D E : Type 0} (d : Ghosts D) (e : Ghosts E) where
         → IfErr end.shipped (λ fault. UnlessOther fault (LeavesOnly e.moment e.since other end.other (λ image. e.image other image ⊎ StandsFor mine image)))
     -- of any disk: it was only read, or so many pages were written, and a header
     pub made : IfOk end.shipped (λ shipped. ((shipped.written ≡ 0) × OnlyReads e other end.other) ⊎ Writes e shipped.written other end.other)
+    -- whatever is answered, no more calls were made than that
+    pub most : OnlyReads e other end.other ⊎ WritesNoMore disk other end.other
+    -- unless both contents stand for copies, the standby's stay, and each image since the start is one of the start
+    pub spoils : (Finds (d.contents disk) × Finds (e.contents other) → ⊥)
+        → (e.contents end.other ≡ e.contents other) × LeavesOnly e.moment e.since other end.other (e.image other)
     pub told : TellsOn (e.contents other) (e.contents end.other)
     -- the first store's disk was only read
     pub first : OnlyReads d disk end.disk

@@ -9,6 +9,8 @@ use Rattle.pm_shadow.specs.Pages.{disk_of, state}
 use Rattle.pm_shadow.specs.declared.pages.Pages.{Pages}
 use Rattle.pm_saving.specs.Tied.{HasCopy}
 use Rattle.pm_save.specs.Progress.Answers.{TellsOn}
+use Rattle.pm_ship.specs.declared.disks.ShipEnd.{ShipEnd}
+use Rattle.pm_ship.specs.Disks.{ShipsDisks}
 use Rattle.pm_ship.specs.Shipped.{LeavesEither}
 
 -- copies that a store has settled, each under its number
@@ -72,3 +74,33 @@ module _ {D E : Type 0} (d : Ghosts D) (e : Ghosts E) where
   abbrev pub settled_by : Chain → List Call → Chain
   settled_by chain [] = chain
   settled_by chain (call ∷ calls) = settled_by call.chain calls
+
+  -- ---- whole commands
+
+  -- One command: the disks of the first store and of the standby before it, what it left of them, and the copies that the
+  -- first store had settled by then.
+  pub record Command : Type 0 where
+    pub disk : D
+    pub other : E
+    pub end : ShipEnd D E
+    pub chain : Chain
+
+  -- The first disk told its contents. Where they stand for a copy, it is one that the first store had settled.
+  pub record IsCommand (command : Command) : Type 0 where
+    pub bytes : List ℕ
+    pub told : d.contents command.disk ≡ Some bytes
+    pub settled : (number : ℕ) (copy : Copy) → StandsForCopy bytes number copy → Contains command.chain (number, copy)
+    pub ships : ShipsDisks d e command.disk command.other command.end
+
+  -- From this disk on, while the first store had settled these copies, these commands came one after another, up to that
+  -- disk.
+  abbrev pub AreCommands : E → Chain → List Command → E → Type 0
+  AreCommands start chain [] end = IsLookedAt e start end
+  AreCommands start chain (command ∷ commands) end =
+      IsLookedAt e start command.other × Grows chain command.chain × IsCommand command
+      × AreCommands command.end.other command.chain commands end
+
+  -- the copies that the first store had settled by the last of them
+  abbrev pub settled_at_last : Chain → List Command → Chain
+  settled_at_last chain [] = chain
+  settled_at_last chain (command ∷ commands) = settled_at_last command.chain commands

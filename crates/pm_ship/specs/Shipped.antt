@@ -1,5 +1,5 @@
 -- What a ship promises.
-use Rattle.std.specs.Prelude.{◌≡◌, ◌⊎◌, ℕ, ◌<◌, ◌≤◌, false, List, Option, Some, Result, MatchResult, IfErr}
+use Rattle.std.specs.Prelude.{◌≡◌, ◌⊎◌, ℕ, ◌<◌, ◌≤◌, Bool, false, List, Option, Some, Result, MatchResult, IfErr}
 use Rattle.pm_types.specs.Memory.{no_memory}
 use Rattle.pm_types.specs.Counts.{ShowsRise}
 use Rattle.pm_types.specs.declared.fault.OpenFault.{OpenFault}
@@ -8,7 +8,8 @@ use Rattle.pm_types.specs.declared.fault.OpenFault.TheVariants as unopened
 use Rattle.pm_disk.specs.Disk.{IfTold, LeavesOnly}
 use Rattle.pm_disk.specs.declared.disk.Disk.{Ghosts}
 use Rattle.pm_model.specs.World.{Copy}
-use Rattle.pm_image.specs.Graphs.{Graph, images_of}
+use Rattle.pm_image.specs.declared.settled.KeptPage.{KeptPage}
+use Rattle.pm_image.specs.Graphs.{Graph, images_of, used_pages}
 use Rattle.pm_image.specs.Stands.{Opened, StandsForCopy}
 use Rattle.pm_shadow.specs.State.{State}
 use Rattle.pm_shadow.specs.Copies.{current_graph}
@@ -26,7 +27,7 @@ use Rattle.pm_ship.specs.declared.fault.ShipFault.TheVariants.{From, To, Ahead, 
 use Rattle.pm_ship.specs.Counting.{IsCount}
 use Rattle.pm_ship.specs.Offers.{AreSame, IsFound, IsOffered, Offer, offer_in, offer_of}
 use Rattle.pm_ship.specs.Stores.{IsReady, IsRefusedSo, IsStill}
-use Rattle.pm_ship.specs.Written.{ChangesFew, HasOffered, LeavesEitherOf, MakesPages, SparesCopy}
+use Rattle.pm_ship.specs.Written.{AreLowestBeside, ChangesFew, HasOffered, IsLaidOn, LeavesEitherOf, MakesPages, SparesCopy, WritesAtMost}
 
 -- ---- Ok
 
@@ -37,17 +38,22 @@ pub record HadIt (offer : Offer) (mine : Opened) (was now : List ℕ) (written :
   pub none : written ≡ 0
   pub still : now ≡ was
 
--- it had an earlier copy: those pages were written that it lacked, beside that copy, and a header
-pub record GotIt (offer : Offer) (mine : Opened) (was now : List ℕ) (written : ℕ) : Type 0 where
+-- It had an earlier copy: those pages were written that it lacked, beside that copy, and a header. The gate of the other
+-- slot was closed before, or was not.
+pub record GotIt (offer : Offer) (mine : Opened) (closed : Bool) (was now : List ℕ) (written : ℕ) : Type 0 where
   pub later : mine.current.header.epoch < offer.epoch
   pub count : IsCount (images_of mine.graph.cars) offer written
   pub changes : ChangesFew mine was now written
+  -- the pages are the lowest that the standby's copy does not use, in this order
+  pub lowest : AreLowestBeside (used_pages mine.graph) changes.pages
+  -- and the bytes are those before with what is offered on them
+  pub laid : IsLaidOn offer mine closed changes.pages was now
 
 -- The one or the other, where this graph is what opening found in the bytes before.
 pub record Ships (offer : Offer) (s : State) (was now : List ℕ) (written : ℕ) : Type 0 where
   pub mine : Graph
   pub found : IsFound s was mine
-  pub way : HadIt offer (current_graph s mine) was now written ⊎ GotIt offer (current_graph s mine) was now written
+  pub way : HadIt offer (current_graph s mine) was now written ⊎ GotIt offer (current_graph s mine) s.closed was now written
 
 module _ {E : Type 0} {e : Ghosts E} where
   -- What is offered is the standby's copy now.
@@ -192,6 +198,13 @@ module _ {E : Type 0} {e : Ghosts E} where
   abbrev pub MayGoAgain : Pages E e → Pages E e → Type 0
   MayGoAgain before after = (was : List ℕ) → e.contents (disk_of before) ≡ Some was → IsReady (state after) (e.contents (disk_of after))
 
+  -- The standby was found, with an earlier copy than what is offered, and no more calls were made than the whole takes.
+  pub record WritesBeside (offer : Offer) (before after : Pages E e) : Type 0 where
+    pub later : (state before).header.epoch < offer.epoch
+    pub settled : List KeptPage
+    pub found : IfTold (e.contents (disk_of before)) (λ was. (mine : Graph) × IsFound (state before) was mine × (mine.cars ≡ settled))
+    pub most : WritesAtMost offer settled before after
+
   -- What writing leaves: at every moment between each image stands for its copy or for what is offered, and for its copy
   -- alone where memory ran out.
   pub record LeavesWritten (offer : Offer) (before after : Pages E e) (result : Result Shipped ShipFault) : Type 0 where
@@ -209,6 +222,7 @@ module _ {E : Type 0} {e : Ghosts E} where
     pub again : UnlessFails result (MayGoAgain before after)
     pub told : TellsOn (e.contents (disk_of before)) (e.contents (disk_of after))
     pub cause : ShowsStandby before after result
+    pub most : IsStill before after ⊎ WritesBeside offer before after
 
 -- ---- both stores
 
@@ -222,6 +236,13 @@ module _ {D E : Type 0} {d : Ghosts D} {e : Ghosts E} where
   abbrev pub IsFaultBeside : Pages D d → Pages E e → ShipFault → Type 0
   IsFaultBeside from to fault =
       (offer : Offer) × IsOffered (state from) (d.contents (disk_of from)) offer × IsStandbyFault offer (state to) (e.contents (disk_of to)) fault
+
+  -- Whatever is answered: nothing was written, and not even a sync was made; or what the first store has was written, with
+  -- no more calls than the whole takes.
+  abbrev pub WritesFirst : Pages D d → Pages E e → Pages E e → Type 0
+  WritesFirst from before after =
+      IsStill before after
+      ⊎ ((offer : Offer) × IsOffered (state from) (d.contents (disk_of from)) offer × WritesBeside offer before after)
 
   -- why nothing was shipped
   abbrev pub IsShipFault : Pages D d → Pages E e → ShipFault → Type 0

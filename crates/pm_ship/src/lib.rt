@@ -16,6 +16,8 @@ mod store;
 
 pub use disks::{ShipEnd, ship_disks};
 pub use fault::{ShipFault, Shipped};
-pub use history::{a_standby_has_a_settled_copy, attached_pages_have_their_copy};
+pub use history::{
+    a_ship_leaves_one_store, a_standby_has_a_settled_copy, attached_pages_have_their_copy,
+};
 pub use listed_cars::ListedCars;
 pub use shipping::ship;

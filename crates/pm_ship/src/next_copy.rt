@@ -1,5 +1,5 @@
 //! The copy of what was read, beside that of a standby.
-ghost use Rattle.std.specs.Prelude.{◌≡◌, ◌<◌, None, IfOk, IfErr};
+ghost use Rattle.std.specs.Prelude.{◌≡◌, ◌⊎◌, ◌<◌, None, IfOk, IfErr};
 ghost use Rattle.pm_image.specs.Graphs.{images_of};
 ghost use Rattle.pm_copies.specs.Accepted.{Differ};
 ghost use Rattle.pm_save.specs.Writer.Planned.{IsIndex};
@@ -8,7 +8,7 @@ ghost use Rattle.pm_shadow.specs.Pages.{state, disk_of};
 ghost use Rattle.pm_saving.specs.Tied.{IsTied};
 ghost use Rattle.pm_ship.specs.Begun.{BeginsOffered, MayBeOffered, idle};
 ghost use Rattle.pm_ship.specs.Stores.{offered};
-ghost use Rattle.pm_ship.specs.Written.{IsLaid};
+ghost use Rattle.pm_ship.specs.Written.{IsLaid, WritesAtMost};
 ghost use Rattle.pm_ship.specs.Shipped.{IsWritingFault, LeavesWritten, saving_fault};
 
 use crate::placed_cars::place_cars;
@@ -83,6 +83,7 @@ pub(crate) fn write_copy<E: Disk>(
     ensures laid { IfOk result (IsLaid (offered first) standby.settled to.old to.new) }
     ensures fault { IfErr result IsWritingFault }
     ensures leaves { LeavesWritten (offered first) to.old to.new result }
+    ensures most { (to.new ≡ to.old) ⊎ WritesAtMost (offered first) standby.settled to.old to.new }
 {
     let begun = begin(alloc, first, standby);
     let (mut writer, cars) = match begun {

@@ -7,7 +7,7 @@ ghost use Rattle.pm_ship.specs.Begun.{MayBeOffered};
 ghost use Rattle.pm_ship.specs.SameLists.{Stands};
 ghost use Rattle.pm_ship.specs.Stores.{IsReady, IsStill, offered};
 ghost use Rattle.pm_ship.specs.Written.{SparesCopy};
-ghost use Rattle.pm_ship.specs.Shipped.{HasShipCause, IsShipFault, IsShipped, IsStandbyFault, LeavesEither, LeavesStandby, MayGoAgain, ShipsFirst, UnlessFails, UnlessOther, UnlessStopped, first_fault, standby_fault};
+ghost use Rattle.pm_ship.specs.Shipped.{HasShipCause, IsShipFault, IsShipped, IsStandbyFault, LeavesEither, LeavesStandby, MayGoAgain, ShipsFirst, UnlessFails, UnlessOther, UnlessStopped, WritesFirst, first_fault, standby_fault};
 
 use crate::next_copy::write_copy;
 use crate::same_lists::have_same_lists;
@@ -136,6 +136,8 @@ pub fn ship<D: Disk, E: Disk>(
     // The same pages may be shipped to again, unless their disk failed.
     ensures again { UnlessFails result (MayGoAgain to.old to.new) }
     ensures told { TellsOn (E.contents (disk_of to.old)) (E.contents (disk_of to.new)) }
+    // Whatever is answered, no more calls of the standby's disk were made than shipping takes.
+    ensures most { WritesFirst from.old to.old to.new }
     // The first store was only looked at.
     ensures first { Looked from.old from.new }
     ensures cause { HasShipCause (D.count (disk_of from.old)) (D.count (disk_of from.new)) (E.count (disk_of to.old))

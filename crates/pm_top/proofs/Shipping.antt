@@ -69,6 +69,8 @@ module _ {D E : Type 0} (d : disk.Ghosts D) (e : disk.Ghosts E) where
     still = tt;
     spares = λ was one mine found. started e.moment e.since other (λ image. e.image other image ⊎ StandsFor mine image) (λ image left. inl (there image left));
     made = tt;
+    most = inl (record { told = refl; leaves = started e.moment e.since other (e.image other) there; made = inl refl });
+    spoils = λ apart. (refl, started e.moment e.since other (e.image other) there);
     told = λ bytes told. (bytes, told);
     first = record { told = refl; leaves = started d.moment d.since disk (d.image disk) here; made = inl refl };
     cause = record { first = refl; standby = refl };

@@ -14,7 +14,9 @@ mod standby;
 mod telling;
 mod top;
 
-pub use laws::{a_run_stays_closed, ends_lie_between_stages};
+pub use laws::{
+    a_run_stays_closed, a_standby_that_was_made_has_a_settled_copy, ends_lie_between_stages,
+};
 pub use pm_runs::{Alone, Detail, Ended, detail_text};
 pub use shell::{program, tell};
 pub use top::pmos;

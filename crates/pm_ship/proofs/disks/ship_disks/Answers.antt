@@ -36,4 +36,4 @@ returns g c =
     c.ship-shipped.ensures.first c.args.other c.in-Ok-attach.to c.ship-shipped.new.to
     (record { found = c.in-Ok-attach.ensures.found; fresh = c.in-Ok-attach.ensures.state; count = c.in-Ok-attach.ensures.count; told = c.in-Ok-attach.ensures.told; leaves = c.in-Ok-attach.ensures.leaves; made = c.in-Ok-attach.ensures.made })
     c.ship-shipped.result c.ship-shipped.ensures.shipped c.ship-shipped.ensures.fault c.ship-shipped.ensures.images c.ship-shipped.ensures.still c.ship-shipped.ensures.spares c.ship-shipped.ensures.told
-    c.ship-shipped.ensures.cause))
+    c.ship-shipped.ensures.cause c.ship-shipped.ensures.most))

@@ -35,6 +35,7 @@ pub returns-in-Earlier-clause-leaves : goal.returns-in-Earlier-clause-leaves
 returns-in-Earlier-clause-leaves g c =
     written_leaves (offered c.args.first) c.in-Ok.standby c.args.to.now c.read_standby.new.pages c.requires.ready c.in-Ok.ensures.read c.read_standby.ensures.looks c.read_standby.ensures.made
     c.in-Ok.ensures.count c.write_copy.new.to c.write_copy.result c.write_copy.ensures.leaves c.write_copy.ensures.fault c.write_copy.ensures.laid
+    (subst (λ (h : Header). h.epoch < c.args.first.epoch) c.header.ensures c.in-Earlier.ensures) c.write_copy.ensures.most
 
 pub returns-in-Same-clause-shipped : goal.returns-in-Same-clause-shipped
 returns-in-Same-clause-shipped g c =
