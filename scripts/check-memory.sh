@@ -14,8 +14,8 @@ cd "$(dirname "$0")/.." || exit 1
 export LC_ALL=C
 
 # The functions that take a library's own answer: `clap`, the standard library's words of the command line, and a table of
-# `atomic_table`, which hands its slots back and no error (`pm_passes::Home::open`).
-builders='crates/pm_seats/src/shared.rt
+# `atomic_table`, which hands its slots back and no error.
+builders='crates/pm_passes/src/memory.rt
 crates/pm_words/src/memory.rt
 crates/pmos/src/memory.rt'
 
@@ -49,7 +49,7 @@ check() {
             function without_types(line) {
                 gsub(/From<Alloc(Error|Failed<[A-Za-z<>, ]*>)>/, "", line)
                 gsub(/: *Alloc(Error|Failed<[A-Za-z<>, ]*>)/, "", line)
-                gsub(/, *AllocError *>/, "", line)
+                gsub(/, *AllocError *\)? *>/, "", line)
                 gsub(/, *AllocFailed<[A-Za-z<>, ]*> *>/, "", line)
                 return line
             }
@@ -93,11 +93,14 @@ try() {
         printf 'use std::alloc::{AllocError, AllocFailed};\n\n%s\n' "$1" >"$work/crates/pm_planted/src/lib.rt"
         check "$work" >/dev/null
     }
-    plant 'fn grow(e: AllocError) -> Result<(), AllocError> { Err(e) } // AllocError' || {
-        echo "check-memory: a type is taken for a fault"
-        status=1
-    }
-    for line in '    Err(AllocError)?;' 'Err(AllocFailed { value })' 'let e = AllocError;' \
+    for line in 'fn grow(e: AllocError) -> Result<(), AllocError> { Err(e) } // AllocError' \
+        'fn lay(value: u8, e: AllocError) -> Result<(), (u8, AllocError)> { Err((value, e)) }'; do
+        plant "$line" || {
+            echo "check-memory: a type is taken for a fault: $line"
+            status=1
+        }
+    done
+    for line in '    Err(AllocError)?;' 'Err((value, AllocError))' 'Err(AllocFailed { value })' 'let e = AllocError;' \
         'return Err(NoMemory::uncountable(u64::MAX));' 'Err(NoMemory::from(AllocError))' \
         'use std::alloc::{AllocError as Refused, Global};'; do
         if plant "$line"; then

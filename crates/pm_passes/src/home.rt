@@ -1,12 +1,13 @@
 ghost use Rattle.std.specs.Prelude.{◌≡◌, ◌≤◌, true, false, [], ◌∷◌, Some, IfOk, IfErr, IfSome, IfNone};
 
+use crate::memory::out_of_memory;
 use crate::rule::{
     Entering, Looking, Meeting, OneLog, Parting, PutBack, PutBackTelling, PutBackUnseen, TakeOut,
 };
 use crate::value::Logged;
 use crate::view::View;
-use atomic_table::{Refused, Seat, Table};
-use std::alloc::Global;
+use atomic_table::{Seat, Table};
+use std::alloc::{AllocError, Global};
 use std::snapshot::Snapshot;
 use std::sync::{Mutex, MutexGuard, Wait};
 
@@ -33,18 +34,19 @@ impl<B: Logged + Drop> Home<B> {
     ghost use Rattle.pm_passes.specs.Passes.{IsWhole, MeetsPass};
 
     // Lays the value into a table, and gives the seat of the first pass, which has all shares. Where there is no memory
-    // the value comes back.
-    pub(crate) fn new(alloc: Global, value: B) -> Result<(Home<B>, PassSeat<B>), B>
+    // the value comes back, with the evidence of that.
+    pub(crate) fn new(alloc: Global, value: B) -> Result<(Home<B>, PassSeat<B>), (B, AllocError)>
         requires new { IsNew B.Logged value }
         ensures seat { IfOk result (λ laid. laid.1.table_id ≡ laid.0.table.shared.table_id) }
         ensures key { IfOk result (λ laid. laid.0.table.shared.key.value ≡ value) }
         ensures knows { IfOk result (λ laid. laid.1.me
             ≡ (first_pass (B.numbers value) (B.Tie.row.coded.code (B.tie value)), [])) }
-        ensures refused { IfErr result (λ back. back ≡ value) }
+        ensures refused { IfErr result (λ back. back.0 ≡ value) }
     {
         let about = Snapshot::of(&value);
-        let Ok(mut slots) = Vec::with_capacity(alloc, 1) else {
-            return Err(value);
+        let mut slots = match Vec::with_capacity(alloc, 1) {
+            Ok(slots) => slots,
+            Err(refused) => return Err((value, refused)),
         };
         slots.push_reserved(Some(value));
         match Table::new(alloc, &[1, 0], slots, &about) {
@@ -52,12 +54,7 @@ impl<B: Logged + Drop> Home<B> {
                 let turn = Mutex::new(());
                 Ok((Home { table, turn }, seat))
             }
-            Err(Refused { mut slots }) => {
-                let Some(Some(value)) = slots.pop() else {
-                    unreachable!()
-                };
-                Err(value)
-            }
+            Err(refused) => Err(out_of_memory(refused)),
         }
     }
 

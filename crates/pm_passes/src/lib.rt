@@ -2,6 +2,7 @@
 #![tactic(auto)]
 
 mod home;
+mod memory;
 mod pass;
 mod rule;
 mod service;

@@ -2,7 +2,7 @@ use crate::home::{Hold, Home, PassSeat};
 use crate::pass::Pass;
 use crate::value::Logged;
 use atomic_table::Badge;
-use std::alloc::Global;
+use std::alloc::{AllocError, Global};
 use std::mem;
 use std::sync::Wait;
 
@@ -16,16 +16,19 @@ impl<B: Logged + Drop> Home<B> {
     ghost use Rattle.pm_passes.specs.Steps.{HasLog, IsHolding, IsIdle, IsNew};
     ghost use Rattle.pm_passes.specs.Passes.{FindsNoNumber, IsAmong, IsReadyPass, IsWhole, MeetsPass, SplitsPass, view_of};
 
-    /// Lays a new value into a table, and gives the first pass, of number 0. Where there is no memory for that the value
-    /// comes back.
-    pub fn open(alloc: Global, value: B) -> Result<(Home<B>, Pass<B::Entry>), B>
+    /// Lays a new value into a table, and gives the first pass, of number 0.
+    ///
+    /// # Errors
+    ///
+    /// There was no memory for that: the value comes back, with the evidence.
+    pub fn open(alloc: Global, value: B) -> Result<(Home<B>, Pass<B::Entry>), (B, AllocError)>
         requires new { IsNew B.Logged value }
         ensures pass { IfOk result (λ laid. IsAmong laid.0.table.shared.table_id
             (B.Tie.row.coded.code (B.tie laid.0.table.shared.key.value)) laid.1) }
         ensures key { IfOk result (λ laid. laid.0.table.shared.key.value ≡ value) }
         ensures view { IfOk result (λ laid. view_of laid.1
             ≡ first_pass (B.numbers value) (B.Tie.row.coded.code (B.tie value))) }
-        ensures refused { IfErr result (λ back. back ≡ value) }
+        ensures refused { IfErr result (λ back. back.0 ≡ value) }
     {
         let (home, seat) = Home::new(alloc, value)?;
         let pass = Pass {

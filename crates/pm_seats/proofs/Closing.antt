@@ -1,48 +1,23 @@
 -- The engine that is given up, and what a pass has seen of it.
-use Rattle.std.proofs.Common.{◌≡◌, ◌⊎◌, ℕ, ◌+◌, ◌-◌, ◌≤◌, List, [], ◌∷◌, length, map, zip, Some, None, Option as Opt, arith, refl, ap, sym, subst, ◌∙◌}
-use Rattle.std.proofs.Math.Logic.{∥∥₁_map}
+use Rattle.std.proofs.Common.{◌≡◌, ◌⊎◌, ℕ, ◌+◌, ◌-◌, ◌≤◌, List, [], length, map, Some, None, Option as Opt, arith, refl, ap, sym, subst, ◌∙◌}
 use Rattle.std.proofs.lemmas.List.{map-append}
 use Rattle.pm_types.specs.declared.entry.Entry.{Entry}
 use Rattle.pm_disk.specs.declared.disk.Disk.{Ghosts}
 use Rattle.pm_model.specs.Journal.{IsFirstPart, IsLegal}
-use Rattle.pm_model.specs.World.{World}
-use Rattle.pm_saving.specs.Serving.{KeepsOpening, Serving, opening}
+use Rattle.pm_saving.specs.Serving.{opening}
 use Rattle.pm_engine.specs.declared.engine.Engine.{Engine}
 use Rattle.pm_engine.specs.declared.events.stop.Stop.{Stop}
 use Rattle.pm_engine.specs.Shown.{serving}
 use Rattle.pm_engine.specs.Events.Events.{EngineGoesOn}
-use Rattle.pm_engine.proofs.WorksLemmas.Asking.{splits_legal}
 use Rattle.pm_passes.specs.declared.view.View.{View}
 use Rattle.pm_passes.specs.Views.{IsOf, StartsWith, calls_by}
 use Rattle.pm_seats.specs.declared.logbook.Logbook.{Logbook}
 use Rattle.pm_seats.specs.Kept.{IsPaired}
 use Rattle.pm_seats.specs.Shown.{callers_in, engine_in, first_in, log_in, next_in, numbers_in, struck_of}
 use Rattle.pm_seats.specs.Sharing.{IsWholeEngine, entries_of}
+use Rattle.pm_seats.proofs.Answered.{log_legal, second_parts}
 
-module _ {X Y : Type 0} where
-  -- pairs have their second parts
-  second_parts : (xs : List X) (ys : List Y) → length xs ≡ length ys → map (λ (p : X × Y). p.1) (zip xs ys) ≡ ys
-  second_parts [] [] same = refl
-  second_parts [] (y ∷ ys) same = absurd (omega (arith, same))
-  second_parts (x ∷ xs) [] same = absurd (omega (arith, same))
-  second_parts (x ∷ xs) (y ∷ ys) same = ap (λ l. y ∷ l) (second_parts xs ys (omega (arith, same)))
-
--- the world that was opened is the same
-same_opening : (old new : Serving) → KeepsOpening old new → opening new ≡ opening old
-same_opening old new keeps = λ i. opening (record old { number = keeps.number i; opened = keeps.opened i })
-
-module _ {D : Type 0} {F : Type 0} {g : Ghosts D} where
-  -- the log is legal from the world of the first engine
-  log_legal : (first : Engine D F g) (book : Logbook D F g) (stop : Opt Stop) → first_in book ≡ first → ∥ EngineGoesOn (first_in book) (engine_in book) stop ∥₁ → IsLegal (opening (serving (engine_in book))) (serving (engine_in book)).journal
-      → length (callers_in book) ≡ length (serving (engine_in book)).journal → IsLegal (opening (serving first)) (entries_of (log_in book))
-  log_legal first book stop tied goes legal each =
-      let journal = (serving (engine_in book)).journal in
-      let at_first : IsLegal (opening (serving (first_in book))) journal =
-      splits_legal (opening (serving (first_in book))) journal
-      (∥∥₁_map goes (λ on. subst (λ (w : World). IsLegal w journal) (same_opening (serving (first_in book)) (serving (engine_in book)) on.start.opening) legal)) in
-      subst (λ (l : List Entry). IsLegal (opening (serving first)) l) (sym (second_parts (callers_in book) journal each)) (subst (λ (e : Engine D F g). IsLegal (opening (serving e)) journal) tied at_first)
-
-first_part : (log front : List (ℕ × Entry)) → StartsWith log front → IsFirstPart (entries_of front) (entries_of log)
+pub first_part : (log front : List (ℕ × Entry)) → StartsWith log front → IsFirstPart (entries_of front) (entries_of log)
 first_part log front starts = (entries_of starts.0, sym (ap (λ (l : List (ℕ × Entry)). entries_of l) starts.1 ∙ map-append (λ (x : ℕ × Entry). x.1) front starts.0))
 
 -- no call was answered with a fault of the disk where the engine is not stopped

@@ -2,5 +2,9 @@ pub mod Pairs
 pub mod Laws
 pub mod Keeping
 pub mod Telling
+pub mod Changes
+pub mod Answered
+pub mod Passing
 pub mod Closing
+pub mod Turning
 pub mod Crosses

@@ -18,6 +18,10 @@ use Rattle.pm_seats.specs.declared.fault.SeatFault.TheVariants.{Engine, Spent}
 use Rattle.pm_seats.specs.declared.logbook.Logbook.{Logbook}
 use Rattle.pm_seats.specs.Shown.{callers_in, engine_in, first_in, log_in, next_in, numbers_in}
 
+-- what is known of the calls of a chooser
+abbrev pub Calls : Type 0 → Type 1
+Calls F = Shared F (Bor (List ℕ) × Unit {0}) ℕ
+
 module _ {D : Type 0} {F : Type 0} {g : Ghosts D} where
   -- the logbook but for the number of the next pass stays
   pub record KeepsBook (old new : Logbook D F g) : Type 0 where
@@ -63,7 +67,7 @@ module _ {D : Type 0} {F : Type 0} {g : Ghosts D} where
     pub numbers : numbers_in new ≡ record (numbers_in old) { events = suc (numbers_in old).events }
 
   -- An event of the collector was made, of which the engine's own record tells. The log stays.
-  pub record SeesStep (calls : Shared F (Bor (List ℕ) × Unit {0}) ℕ) (last : ℕ) (old new : Logbook D F g) (step : Step) : Type 0 where
+  pub record SeesStep (calls : Calls F) (last : ℕ) (old new : Logbook D F g) (step : Step) : Type 0 where
     pub within : (numbers_in old).events < last
     pub call : AnswersCollect calls (engine_in old) (engine_in new) (Ok step)
     pub log : log_in new ≡ log_in old
@@ -90,7 +94,7 @@ module _ {D : Type 0} {F : Type 0} {g : Ghosts D} where
       FailsEvent (λ f. AnswersClient client cmd (engine_in old) (engine_in new) (Err f)) last old new fault
   DoesClient last number client cmd old new (Err (Spent events)) = IsSpent last old new events
 
-  abbrev pub DoesCollect : Shared F (Bor (List ℕ) × Unit {0}) ℕ → ℕ → Logbook D F g → Logbook D F g → Result Step SeatFault → Type 0
+  abbrev pub DoesCollect : Calls F → ℕ → Logbook D F g → Logbook D F g → Result Step SeatFault → Type 0
   DoesCollect calls last old new (Ok step) = SeesStep calls last old new step
   DoesCollect calls last old new (Err (Engine fault)) =
       FailsEvent (λ f. AnswersCollect calls (engine_in old) (engine_in new) (Err f)) last old new fault
@@ -109,7 +113,7 @@ module _ {D : Type 0} {F : Type 0} {g : Ghosts D} where
     pub does : DoesClient last number client cmd old new result
 
   -- What `collect` does. The calls are those of the chooser.
-  pub record CallsCollect (calls : Shared F (Bor (List ℕ) × Unit {0}) ℕ) (last : ℕ) (old new : Logbook D F g) (result : Result Step SeatFault)
+  pub record CallsCollect (calls : Calls F) (last : ℕ) (old new : Logbook D F g) (result : Result Step SeatFault)
       : Type 0 where
     pub tied : StaysTied old new
     pub does : DoesCollect calls last old new result

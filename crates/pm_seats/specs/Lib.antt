@@ -3,3 +3,4 @@ pub mod Kept
 pub mod Shown
 pub mod Events
 pub mod Sharing
+pub mod Turns

@@ -2,11 +2,13 @@
 #![tactic(auto)]
 
 mod callers;
+mod collecting;
 mod events;
 mod fault;
 mod limits;
 mod logbook;
 mod shared;
+mod turns;
 mod value;
 
 pub use callers::Callers;

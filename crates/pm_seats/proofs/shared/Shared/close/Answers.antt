@@ -1,4 +1,4 @@
-use Rattle.pm_seats.specs.Shown.{first_in}
+use Rattle.pm_seats.specs.Sharing.{first_engine}
 use Rattle.pm_seats.proofs.Closing.{closes_first, closes_legal, closes_whole}
 use Rattle.pm_seats.proofs.shared.Shared.close.Goals as goal
 
@@ -8,9 +8,9 @@ returns-clause-legal g c =
 
 pub returns-clause-journal : goal.returns-clause-journal
 returns-clause-journal g c =
-    closes_first (first_in c.args.self.home.table.shared.key.value) c.close-book.result c.into_engine.result c.into_engine.ensures c.keep_its_log.ensures.paired _ c.close-book.ensures.log
+    closes_first (first_engine c.args.self) c.close-book.result c.into_engine.result c.into_engine.ensures c.keep_its_log.ensures.paired _ c.close-book.ensures.log
 
 pub returns-clause-whole : goal.returns-clause-whole
 returns-clause-whole g c = λ all.
     let whole = c.close-book.ensures.whole all in
-    closes_whole (first_in c.args.self.home.table.shared.key.value) c.close-book.result c.into_engine.result c.into_engine.ensures c.keep_its_log.ensures.paired _ whole.log_is whole.made whole.flushed whole.struck whole.covers c.keep_its_engine.ensures.counted
+    closes_whole (first_engine c.args.self) c.close-book.result c.into_engine.result c.into_engine.ensures c.keep_its_log.ensures.paired _ whole.log_is whole.made whole.flushed whole.struck whole.covers c.keep_its_engine.ensures.counted
