@@ -1,4 +1,10 @@
 pub mod Listed
+pub mod Admitted
+pub mod Linked
+pub mod Holding
+pub mod Escaped
+pub mod Carried
 pub mod Opened
+pub mod Sound
 pub mod Reached
 pub mod GoesOn

@@ -1,9 +1,12 @@
 -- Lists of identities that ascend, and what stands at a place of a list.
-use Rattle.std.proofs.Common.{◌≡◌, ◌⊎◌, ⊎_elim, inl, inr, ℕ, zero, suc, ◌+◌, ◌<◌, ◌≤◌, Bool, true, false, ◌||◌, nat_eq, List, [], ◌∷◌, ◌++◌, length, take, get_or, Option, Some, None, refl, sym, ap, subst, ◌∙◌, arith}
+use Rattle.std.proofs.Common.{◌≡◌, ◌⊎◌, ⊎_elim, inl, inr, ℕ, zero, suc, ◌+◌, ◌<◌, ◌≤◌, Bool, true, false, ◌||◌, nat_eq, List, [], ◌∷◌, ◌++◌, length, take, get_or, Some, Ok, Err, refl, sym, ap, subst, ◌∙◌, arith}
 use Rattle.std.specs.List.{slice_get}
+use Rattle.std.specs.List.Sorted.{IsBinarySearchResult}
+use Rattle.std.specs.Ordering.{nat_cmp}
 use Rattle.std.proofs.lemmas.Bool.{false_from_ne_true}
 use Rattle.std.proofs.lemmas.Bool.Decides.{nat_tests}
 use Rattle.std.proofs.lemmas.List.{get_or-take, length-take-le}
+use Rattle.std.proofs.lemmas.List.Sorted.{searched}
 use Rattle.std.proofs.lemmas.Map.Keys.{below_from_sorted}
 use native.Mathlib.Decide.{dec_lt}
 use Rattle.pm_nursery.specs.Escaping.{IsAscending}
@@ -110,3 +113,25 @@ pushed_at [] x y zero is = inr (refl, cc)
 pushed_at [] x y (suc k) is = cc
 pushed_at (z ∷ xs) x y zero is = inl is
 pushed_at (z ∷ xs) x y (suc k) is = ⊎_elim (λ it. inl it) (λ it. inr (omega (arith, it.0), it.1)) (pushed_at xs x y k is)
+
+-- ---- what a search finds
+
+no_fall : (ids : List ℕ) → IsAscending ids → (i j : ℕ) → i ≤ j → j < length ids → get_or ids i 0 ≤ get_or ids j 0
+no_fall ids up i j order inside = by (dec_lt i j)
+  where
+    by : Dec (i < j) → get_or ids i 0 ≤ get_or ids j 0
+    by (yes less) = let below = below_from_sorted ids i j 0 up less inside in omega (arith, below)
+    by (no not) = let same : i ≡ j = grind (arith, not, order) in subst (λ k. get_or ids i 0 ≤ get_or ids k 0) same (omega arith)
+
+pub search_finds : (ids : List ℕ) (id i : ℕ) → IsAscending ids → IsBinarySearchResult (λ y. nat_cmp y id) ids (Ok i) → (i < length ids) × (get_or ids i 0 ≡ id)
+search_finds ids id i up is = searched ids id (Ok i) is (no_fall ids up)
+
+pub search_misses : (ids : List ℕ) (id i : ℕ) → IsAscending ids → among ids id ≡ true → IsBinarySearchResult (λ y. nat_cmp y id) ids (Err i) → ⊥
+search_misses ids id i up inside is =
+    let none = searched ids id (Err i) is (no_fall ids up) in
+    let at = among_place ids id inside in
+    by at.0 (dec_lt at.0 i) at.1 at.2 none.1 none.2
+  where
+    by : (k : ℕ) → Dec (k < i) → k < length ids → get_or ids k 0 ≡ id → ((k : ℕ) → k < i → get_or ids k 0 < id) → ((k : ℕ) → i ≤ k → k < length ids → id < get_or ids k 0) → ⊥
+    by k (yes before) within here below above = let less = below k before in omega (arith, less, here)
+    by k (no not) within here below above = let over : i ≤ k = grind (arith, not) in let more = above k over within in omega (arith, more, here)

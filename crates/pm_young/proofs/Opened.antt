@@ -1,5 +1,5 @@
 -- What holds of an engine with a nursery once it was opened, and once its journal has more room.
-use Rattle.std.proofs.Common.{◌≡◌, ℕ, true, nat_eq, List, [], None, sym, ap, subst, inl}
+use Rattle.std.proofs.Common.{◌≡◌, ℕ, nat_eq, List, [], None, sym, ap, subst, inl}
 use Rattle.std.specs.Option.{IsSome}
 use Rattle.std.specs.Ordering.{nat_cmp}
 use Rattle.std.specs.FinMap.{get, get-empty}
@@ -21,7 +21,6 @@ use Rattle.pm_engine.specs.declared.works.works.Works.{Works}
 use Rattle.pm_engine.specs.Works.Seen.{IsCrashSafe, seen}
 use Rattle.pm_engine.specs.Works.Working.{view_in}
 use Rattle.pm_nursery.specs.Young.{NurseryView, IsYoung, no_nursery}
-use Rattle.pm_nursery.specs.Sweeping.{among}
 use Rattle.pm_law_young.proofs.Owned.{opening_young}
 use Rattle.pm_young.specs.Entering.{IsPresent, KeepsEntered}
 use Rattle.pm_young.specs.Kept.{StandsYoung}

@@ -5,7 +5,7 @@ use Rattle.std.specs.FinMap.{get}
 use Rattle.std.proofs.Math.Logic.{∥∥₁_map}
 use Rattle.pm_disk.specs.declared.disk.Disk.{Ghosts}
 use Rattle.pm_model.specs.Heap.{Holds}
-use Rattle.pm_model.specs.World.{World, Roots}
+use Rattle.pm_model.specs.World.{World}
 use Rattle.pm_model.specs.Reachability.{IsReachable}
 use Rattle.pm_model.proofs.Reaching.{reachable_next, along}
 use Rattle.pm_view.specs.Counts.{IsStanding}

@@ -13,7 +13,8 @@ use Rattle.pm_engine.specs.Works.Seen.{seen}
 
 -- The space stands for a world within, which stands with the nursery for the world at the journal's end, and has each
 -- object of the world that was opened.
-pub record StandsYoung {D F : Type 0} {g : Ghosts D} (start : Start D F g) (works : Works D F g) (nursery : NurseryView) : Type 0 where
+pub record StandsYoung {D F : Type 0} {g : Ghosts D} (start : Start D F g) (works : Works D F g)
+    (nursery : NurseryView) : Type 0 where
   pub within : World
   pub represents : Represents (view_in works) within
   pub young : IsYoung within nursery (world (seen start None works))

@@ -14,10 +14,10 @@ use pm_engine::works::{Start, Works};
 use pm_nursery::Nursery;
 use pm_types::{Entry, Id, NoMemory};
 
-/// What an engine works with, and a nursery: objects that no name and no object in a car names yet, and the registers that
-/// hold one. The space stands for less than the world at the journal's end: for the world within, without the young
-/// objects. Once a call has answered that the disk failed or that memory ran out, every further one answers `Reopen`: the
-/// store has to be opened again. Its journal and what a crash leaves are sound also then.
+/// What an engine works with, and a nursery: objects that no name and no object in a car names yet, and the registers
+/// that hold one. The space stands for less than the world at the journal's end: for the world within, without the
+/// young objects. Once a call has answered that the disk failed or that memory ran out, every further one answers
+/// `Reopen`: the store has to be opened again. Its journal and what a crash leaves are sound also then.
 #[derive(Drop)]
 pub struct YoungEngine<D: Disk, F> {
     pub(crate) works: Works<D, F>,
@@ -44,8 +44,8 @@ impl<D: Disk, F: Drop> YoungEngine<D, F> {
     ghost use Rattle.pm_saving.specs.Images.{IsSettledCopy, IsTold, KeepsImages};
     ghost use Rattle.pm_view.specs.Counts.{IsStanding, standing};
     ghost use Rattle.pm_types.specs.Counts.{capped};
-    ghost use Rattle.pm_young.specs.Seen.{KeepsStart, KeepsYoung, disk_in, entered_in, halt_in, opened_count, opened_disk, room};
-    ghost use Rattle.pm_young.specs.Seen.{serving, young_in};
+    ghost use Rattle.pm_young.specs.Seen.{KeepsStart, KeepsYoung, disk_in, entered_in, halt_in};
+    ghost use Rattle.pm_young.specs.Seen.{opened_count, opened_disk, room, serving, young_in};
 
     /// What was asked and answered since the opening, in order.
     pub fn journal(&self) -> &[Entry]
@@ -114,10 +114,11 @@ impl<D: Disk, F: Drop> YoungEngine<D, F> {
     }
 
     /// A law of the engine at any time, also after want of memory: in the world that was opened whatever is named is an
-    /// object, the journal is legal from it, and each image since then is one that may be; while no call has answered that
-    /// the disk failed, each image now stands for the last acknowledged copy. Of each entry it is told what had been made
-    /// before it. The disk's count of failed calls is the one at the opening or more. What is in a car was in one at the
-    /// opening or entered; and while every call is answered, what the world's names and registers reach stands or is young.
+    /// object, the journal is legal from it, and each image since then is one that may be; while no call has answered
+    /// that the disk failed, each image now stands for the last acknowledged copy. Of each entry it is told what had
+    /// been made before it. The disk's count of failed calls is the one at the opening or more. What is in a car was in
+    /// one at the opening or entered; and while every call is answered, what the world's names and registers reach
+    /// stands or is young.
     pub fn keep_their_images(&self)
         ensures closed { IsClosed (opening (serving self.now)) }
         ensures legal { IsLegal (opening (serving self.now)) (serving self.now).journal }

@@ -17,8 +17,8 @@ pub fn a_young_engine_goes_on<D: Disk, F: Drop>()
         → YoungGoesOn one three }
 {}
 
-/// A law of what died young: an identity that was given, is neither young nor entered and is in no car of the space that
-/// was opened is in no car ever after, standing or not.
+/// A law of what died young: an identity that was given, is neither young nor entered and is in no car of the space
+/// that was opened is in no car ever after, standing or not.
 pub fn what_died_young_never_comes_in<D: Disk, F: Drop>()
     ensures { (it later : YoungEngine D F D.Disk) (id : ℕ) → YoungGoesOn it later → id < (serving it).view.next
         → get (young_in it).objects id ≡ None → among (entered_in it) id ≡ false

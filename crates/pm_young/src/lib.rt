@@ -1,10 +1,13 @@
-//! An engine with a nursery: objects are born young, outside the cars, and come into one where a sweep finds them reached.
+//! An engine with a nursery: objects are born young, outside the cars, and come into one where a sweep finds them
+//! reached.
 #![tactic(auto)]
 
 mod engine;
+mod escape;
 mod halt;
 mod laws;
 mod open;
+mod sweep;
 
 pub use engine::YoungEngine;
 pub use halt::{Halt, HaltCause};

@@ -19,8 +19,8 @@ impl<D: Disk, F: Drop> YoungEngine<D, F> {
     ghost use Rattle.pm_reopen.specs.Refused.{IsOpenFault, IsRefusal};
 
     /// Opens the copy for which the bytes of a disk stand: its world has no register, no watch and no copy in progress,
-    /// nothing is young, and nothing has entered. The disk is synced once, before it is read, and nothing is written. An object moves to the train that the chooser
-    /// of `place` picks.
+    /// nothing is young, and nothing has entered. The disk is synced once, before it is read, and nothing is written.
+    /// An object moves to the train that the chooser of `place` picks.
     ///
     /// # Errors
     ///

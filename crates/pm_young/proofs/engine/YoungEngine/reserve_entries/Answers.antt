@@ -1,6 +1,4 @@
-use Rattle.std.proofs.Common.{refl, sym, ap, subst, List}
-use Rattle.std.proofs.Math.Logic.{∥∥₁_map}
-use Rattle.pm_types.specs.declared.entry.Entry.{Entry}
+use Rattle.std.proofs.Common.{refl}
 use Rattle.pm_engine.proofs.WorksLemmas.Asking.{kept_journal}
 use Rattle.pm_young.specs.Halts.{stopped_by}
 use Rattle.pm_young.proofs.Opened.{within_kept}

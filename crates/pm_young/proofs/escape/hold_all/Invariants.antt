@@ -1,0 +1,10 @@
+use Rattle.pm_space.specs.Shown.{view, KeepsRest}
+use Rattle.pm_young.proofs.Holding.{HoldingAll}
+use Rattle.pm_young.proofs.escape.hold_all.Given as goal
+
+-- the registers that name one of so many hold it
+abbrev pub invariant-loop-index : goal.invariant-loop-index
+invariant-loop-index g l = record {
+  so_far : HoldingAll (view l.fn.space.parts) (view l.space.parts) l.nursery.registers l.ids l.index;
+  rest : KeepsRest l.fn.space.parts l.space.parts;
+}
