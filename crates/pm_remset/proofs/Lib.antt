@@ -1,5 +1,4 @@
 pub mod Sources
-pub mod Puts
 pub mod Finds
 pub mod Nexts
 pub mod Slots
@@ -7,3 +6,9 @@ pub mod First
 pub mod Gathers
 pub mod Lists
 pub mod Added
+pub mod Groups
+pub mod Naming
+pub mod Regrouped
+pub mod Least
+pub mod Searches
+pub mod Collects

@@ -6,17 +6,14 @@ use Rattle.std.specs.Cmp.{tied_itself, Equal-is}
 use Rattle.std.specs.List.{AllByRecursion}
 use Rattle.std.specs.List.Sorted.{IsStrictlySortedBy}
 use Rattle.std.specs.Map.{lookup, keys_of}
-use Rattle.std.specs.FinMap.{from_entries, get}
-use Rattle.std.specs.BTreeMap.{BTreeMap, is_at, IsOrdered}
+use Rattle.std.specs.FinMap.{get}
+use Rattle.std.specs.BTreeMap.{is_at}
 use Rattle.std.proofs.lemmas.Bool.{cases_Bool}
 use Rattle.std.proofs.lemmas.Map.Keys.{sorted_head, sorted_tail}
 use Rattle.pm_types.specs.declared.source.RefSource.{RefSource}
-use Rattle.pm_types.specs.contracts.source.RefSourceOrd.TheImpl.{ghosts}
 use Rattle.pm_types.specs.Orders.{source_cmp}
 use Rattle.pm_types.proofs.Orders.{sources_total, sources_antisymmetric}
 use Rattle.pm_remset.specs.Remembered.{Fact, Remembered, EachEntry, IsFirstEntry}
-use Rattle.pm_types.proofs.Shown.{get_shown}
-use Rattle.pm_remset.proofs.Sources.{derived_is}
 
 -- a source that is below another, which is below all keys, is below all keys
 pub below_all : (x y : RefSource) (ks : List RefSource) → source_cmp x y ≡ Less → AllByRecursion (λ k. source_cmp y k ≡ Less) ks → AllByRecursion (λ k. source_cmp x k ≡ Less) ks
@@ -34,16 +31,6 @@ module _ (set : Remembered) (fails : Fact) where
     pub ordered : IsStrictlySortedBy source_cmp (keys_of left)
     pub left_there : (q : RefSource) (at : ℕ) → lookup (is_at (source_cmp q)) left ≡ Some at → get set q ≡ Some at
     pub others_failed : (q : RefSource) (at : ℕ) → get set q ≡ Some at → fails q at ⊎ (lookup (is_at (source_cmp q)) left ≡ Some at)
-
-  -- before the search
-  pub search_begins : (slots : BTreeMap RefSource ℕ) → from_entries {R = source_cmp} slots.entries ≡ set → IsOrdered ghosts.cmp slots → (left : List (RefSource × ℕ)) → left ≡ slots.entries → Searched left
-  search_begins slots seen ordered left all =
-      let got : (q : RefSource) → get set q ≡ lookup (is_at (source_cmp q)) left = λ q. ap (λ s. get s q) (sym seen) ∙ get_shown sources_total slots q ∙ ap (lookup (is_at (source_cmp q))) (sym all) in
-      record {
-        ordered = subst (λ es. IsStrictlySortedBy source_cmp (keys_of es)) (sym all) (subst (λ R. IsOrdered R slots) derived_is ordered);
-        left_there = λ q at is. got q ∙ is;
-        others_failed = λ q at is. inr (sym (got q) ∙ is);
-      }
 
   module _ (left : List (RefSource × ℕ)) (e : RefSource × ℕ) (rest : List (RefSource × ℕ)) (begins : left ≡ e ∷ rest) (searched : Searched left) where
     rises : IsStrictlySortedBy source_cmp (e.0 ∷ keys_of rest)

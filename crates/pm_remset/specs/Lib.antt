@@ -4,3 +4,4 @@ pub mod Gathered
 pub mod Listed
 pub mod Kept
 pub mod Entries
+pub mod Grouped

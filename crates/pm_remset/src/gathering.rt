@@ -50,7 +50,7 @@ impl Gathering {
     }
 
     /// The set, made at once. Its time grows with the calls that told it, times the logarithm of their
-    /// number; where they told sources in order, or in the opposite order, only its index is sorted.
+    /// number.
     ///
     /// # Errors
     ///

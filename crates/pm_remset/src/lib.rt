@@ -3,6 +3,7 @@
 
 mod entry;
 mod gathering;
+mod group;
 mod law;
 mod list;
 mod remset;

@@ -1,6 +1,7 @@
 ghost use Rattle.std.specs.Prelude.{◌≡◌, IfOk, IfErr, OnOk, OnErr};
 ghost use Rattle.std.specs.FinMap as map;
 ghost use Rattle.pm_remset.specs.Gathered.{gathered};
+ghost use Rattle.pm_remset.specs.Grouped.{names};
 ghost use Rattle.pm_remset.specs.Listed.{with_added, IsInOrder, IsEntry, IsGap, IsFirstFrom};
 ghost use Rattle.pm_remset.specs.Remembered.{FindsLeastOf, FindsAtOrAfter, FindsPassing, AppendsSources};
 
@@ -23,6 +24,7 @@ impl Model for SourceList {
     ghost use Rattle.std.specs.Coded.{coded_ℕ};
     ghost use Rattle.pm_types.specs.contracts.source.RefSource as source;
     ghost use Rattle.pm_types.specs.Orders.{source_cmp};
+    ghost use Rattle.pm_remset.specs.Grouped.{names};
     ghost use Rattle.pm_remset.specs.Listed.{IsInOrder};
 
     ghost Value = { map.FinMap source_cmp ℕ };
@@ -132,6 +134,35 @@ impl SourceList {
         }
     }
 
+    /// Lets the source name the slot, and answers which one it named. After want of memory all is as it was.
+    pub(crate) fn exchange(&mut self, source: RefSource, slot: u32) -> Result<Option<u32>, NoMemory>
+        ensures old { IfOk result (λ old. old ≡ map.get self.old source) }
+        ensures ok { OnOk result (self.new ≡ map.insert self.old source slot) }
+        ensures err { OnErr result (self.new ≡ self.old) }
+    {
+        match search(&self.entries, source) {
+            Ok(at) => {
+                let old = self.entries[at].slot();
+                self.entries[at].set_slot(slot);
+                Ok(Some(old))
+            }
+            Err(at) => {
+                self.entries.insert(at, Entry::new(source, slot))?;
+                Ok(None)
+            }
+        }
+    }
+
+    /// Whether a source names the slot. Each entry may be looked at.
+    pub(crate) fn names(&self, slot: u32) -> bool
+        ensures { result ≡ names slot self.now }
+    {
+        match self.least_of(slot) {
+            Some(_) => true,
+            None => false,
+        }
+    }
+
     /// As of `Remset`.
     pub(crate) fn take(&mut self, source: RefSource) -> Option<u32>
         ensures value { result ≡ map.get self.old source }
@@ -174,10 +205,10 @@ impl SourceList {
     /// As of `Remset`.
     pub(crate) fn next_where<P: Fn(RefSource, u32) -> bool + Drop>(
         &self,
-        pass: P,
+        pass: &P,
     ) -> Option<(RefSource, u32)>
-        requires { P.IsAlwaysCallable pass }
-        ensures { FindsPassing P.Fn pass self.now result }
+        requires { P.IsAlwaysCallable pass.now }
+        ensures { FindsPassing P.Fn pass.now self.now result }
     {
         for entry in &self.entries {
             let source = entry.source();

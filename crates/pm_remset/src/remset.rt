@@ -52,8 +52,7 @@ impl Remset {
     }
 
     /// The set that was told of these sources, each with the slot that it names: of a source that is told
-    /// twice the last one counts. Where they are many it is made at once, not by one `put` after another: in
-    /// trees whose nodes are full, and, where the list is in order or in the opposite one, with no search in it.
+    /// twice the last one counts.
     pub(crate) fn of_told(alloc: Global, told: Vec<Entry>) -> Result<Remset, NoMemory>
         ensures { IfOk result (λ set. set ≡ gathered told.items) }
     {
@@ -144,8 +143,8 @@ impl Remset {
         ensures { FindsPassing P.Fn pass self.now result }
     {
         match &self.kept {
-            Kept::Few(list) => list.next_where(pass),
-            Kept::Many(trees) => trees.next_where(pass),
+            Kept::Few(list) => list.next_where(&pass),
+            Kept::Many(trees) => trees.next_where(&pass),
         }
     }
 

@@ -1,22 +1,26 @@
 ghost use Rattle.std.specs.Prelude.{◌≡◌, IfOk, OnOk, OnErr};
 ghost use Rattle.std.specs.FinMap as map;
 ghost use Rattle.pm_remset.specs.Gathered.{gathered};
-ghost use Rattle.pm_remset.specs.Indexed.{IsIndexed};
+ghost use Rattle.pm_remset.specs.Grouped.{HasNoGroup};
 ghost use Rattle.pm_remset.specs.Remembered.{FindsLeastOf, FindsAtOrAfter, FindsPassing, AppendsSources};
 
 use crate::entry::Entry;
+use crate::group::{group_of, put_in, take_from};
+use crate::list::SourceList;
 use pm_types::{NoMemory, RefSource};
 use std::alloc::Global;
 use std::collections::{BTreeMap, BTreeSet};
 use std::marker::Model;
 
-/// Sources in trees, seen as a finite map from sources to the slots that they name. Each of its calls but `len`,
-/// `of_told` and `next_where` takes time by the logarithm of their number, beside what it answers.
+/// Many sources in groups, seen as a finite map from sources to the slots that they name. A group stands together in
+/// the order of sources, and is a list. A tree has the groups by their names. An index has each slot beside each group
+/// with a source that names it.
 #[derive(Drop)]
 pub(crate) struct SourceTrees {
-    slots: BTreeMap<RefSource, u32>,
-    // Each slot beside each source that names it.
+    groups: BTreeMap<RefSource, SourceList>,
     index: BTreeSet<(u32, RefSource)>,
+    count: u64,
+    alloc: Global,
 }
 
 impl Model for SourceTrees {
@@ -25,52 +29,72 @@ impl Model for SourceTrees {
     ghost use Rattle.std.specs.Coded.{coded_ℕ};
     ghost use Rattle.pm_types.specs.contracts.source.RefSource as source;
     ghost use Rattle.pm_types.specs.Orders.{source_cmp};
-    ghost use Rattle.pm_remset.specs.Indexed.{IsIndexed};
+    ghost use Rattle.pm_remset.specs.Grouped.{AreGrouped, joined};
 
     ghost Value = { map.FinMap source_cmp ℕ };
 
     ghost coded = { map.code source.the_row.coded coded_ℕ };
 
-    ghost view = { λ it. map.from_entries it.slots.entries };
+    ghost view = { λ it. joined it.groups.entries };
 
-    ghost invariant = { λ it. IsIndexed it.slots it.index };
-}
-
-// The index of the sources that these are.
-fn index_by_slot(
-    alloc: Global,
-    slots: &BTreeMap<RefSource, u32>,
-) -> Result<BTreeSet<(u32, RefSource)>, NoMemory>
-    ensures { IfOk result (λ index. IsIndexed slots.now index) }
-{
-    let mut pairs = Vec::with_capacity(alloc, slots.len())?;
-    for (source, slot) in slots {
-        pairs.push((*slot, *source))?;
-    }
-    let index = pairs.into_iter().collect(alloc)?;
-    Ok(index)
+    ghost invariant = { λ it. AreGrouped it.groups it.index it.count };
 }
 
 impl SourceTrees {
+    // No source.
+    fn new(alloc: Global) -> SourceTrees
+        ensures { result ≡ map.empty }
+    {
+        SourceTrees {
+            groups: BTreeMap::new(alloc),
+            index: BTreeSet::new(alloc),
+            count: 0,
+            alloc,
+        }
+    }
+
     /// The set that was told of these sources, each with the slot that it names: of a source that is told
-    /// twice the last one counts. It is made at once, not by one `put` after another: in trees whose nodes
-    /// are full, and, where the list is in order or in the opposite one, with no search in it.
+    /// twice the last one counts.
     pub(crate) fn of_told(alloc: Global, told: Vec<Entry>) -> Result<SourceTrees, NoMemory>
         ensures { IfOk result (λ set. set ≡ gathered told.items) }
     {
-        let slots = told
-            .into_iter()
-            .map(|entry: Entry| (entry.source(), entry.slot()))
-            .collect(alloc)?;
-        let index = index_by_slot(alloc, &slots)?;
-        Ok(SourceTrees { slots, index })
+        let mut set = SourceTrees::new(alloc);
+        for entry in told {
+            set.put(entry.source(), entry.slot())?;
+        }
+        Ok(set)
     }
 
     /// How many sources are remembered.
     pub(crate) fn len(&self) -> u64
         ensures { result ≡ map.len self.now }
     {
-        self.slots.len() as u64
+        self.count
+    }
+
+    // Puts the first source of a group.
+    fn put_first(&mut self, source: RefSource, slot: u32) -> Result<(), NoMemory>
+        requires { HasNoGroup self.old source }
+        ensures ok { OnOk result (self.new ≡ map.insert self.old source slot) }
+        ensures err { OnErr result (self.new ≡ self.old) }
+    {
+        if self.count == u64::MAX {
+            return Err(NoMemory::uncountable(self.count));
+        }
+        let group = group_of(source);
+        let mut list = SourceList::new(self.alloc);
+        list.put(source, slot)?;
+        self.index.insert((slot, group))?;
+        match self.groups.insert(group, list) {
+            Ok(_) => {
+                self.count += 1;
+                Ok(())
+            }
+            Err(failed) => {
+                self.index.remove(&(slot, group));
+                Err(NoMemory::from(failed))
+            }
+        }
     }
 
     /// Remembers that the source names the slot, in place of the slot that it named before. After want of
@@ -79,18 +103,28 @@ impl SourceTrees {
         ensures ok { OnOk result (self.new ≡ map.insert self.old source slot) }
         ensures err { OnErr result (self.new ≡ self.old) }
     {
-        self.index.insert((slot, source))?;
-        match self.slots.insert(source, slot) {
-            Ok(None) => Ok(()),
-            Ok(Some(old)) if old != slot => {
-                self.index.remove(&(old, source));
-                Ok(())
-            }
-            Ok(Some(_)) => Ok(()),
-            Err(failed) => {
-                self.index.remove(&(slot, source));
-                Err(NoMemory::from(failed))
-            }
+        if self.count == u64::MAX {
+            return Err(NoMemory::uncountable(self.count));
+        }
+        let group = group_of(source);
+        let Some(list) = self.groups.get_mut(&group) else {
+            return self.put_first(source, slot);
+        };
+        if put_in(list, &mut self.index, group, source, slot)? {
+            self.count += 1;
+        }
+        Ok(())
+    }
+
+    // Lets the group go, if it has no source.
+    fn let_go(&mut self, group: RefSource)
+        ensures { self.new ≡ self.old }
+    {
+        let Some(list) = self.groups.get(&group) else {
+            return;
+        };
+        if list.len() == 0 {
+            self.groups.remove(&group);
         }
     }
 
@@ -100,8 +134,14 @@ impl SourceTrees {
         ensures value { result ≡ map.get self.old source }
         ensures after { self.new ≡ map.remove self.old source }
     {
-        let named = self.slots.remove(&source)?;
-        self.index.remove(&(named, source));
+        let group = group_of(source);
+        let list = self.groups.get_mut(&group)?;
+        let named = take_from(list, &mut self.index, group, source)?;
+        let was_last = list.len() == 0;
+        self.count -= 1;
+        if was_last {
+            self.let_go(group);
+        }
         Some(named)
     }
 
@@ -110,7 +150,7 @@ impl SourceTrees {
         ensures { FindsLeastOf self.now slot result }
     {
         match self.index.range((slot, RefSource::Root(0))..).next() {
-            Some((found, source)) if *found == slot => Some(*source),
+            Some((found, group)) if *found == slot => self.groups.get(group)?.least_of(slot),
             Some(_) => None,
             None => None,
         }
@@ -121,24 +161,26 @@ impl SourceTrees {
     pub(crate) fn at_or_after(&self, from: RefSource) -> Option<(RefSource, u32)>
         ensures { FindsAtOrAfter self.now from result }
     {
-        match self.slots.range(from..).next() {
-            Some((source, slot)) => Some((*source, *slot)),
-            None => None,
+        for (_name, list) in self.groups.range(group_of(from)..) {
+            if let Some(found) = list.at_or_after(from) {
+                return Some(found);
+            }
         }
+        None
     }
 
     /// The least source at which the test answers true, and the slot that it names, or `None` where it
     /// answers false at all.
     pub(crate) fn next_where<P: Fn(RefSource, u32) -> bool + Drop>(
         &self,
-        pass: P,
+        pass: &P,
     ) -> Option<(RefSource, u32)>
-        requires { P.IsAlwaysCallable pass }
-        ensures { FindsPassing P.Fn pass self.now result }
+        requires { P.IsAlwaysCallable pass.now }
+        ensures { FindsPassing P.Fn pass.now self.now result }
     {
-        for (source, slot) in &self.slots {
-            if pass(*source, *slot) {
-                return Some((*source, *slot));
+        for (_name, list) in &self.groups {
+            if let Some(found) = list.next_where(pass) {
+                return Some(found);
             }
         }
         None
@@ -151,13 +193,15 @@ impl SourceTrees {
         ensures err { OnErr result (out.new.items ≡ out.old.items) }
     {
         let before = out.len();
-        for (found, source) in self.index.range((slot, RefSource::Root(0))..) {
+        for (found, group) in self.index.range((slot, RefSource::Root(0))..) {
             if *found != slot {
                 return Ok(());
             }
-            if let Err(failed) = out.push(*source) {
-                out.truncate(before);
-                return Err(NoMemory::from(failed));
+            if let Some(list) = self.groups.get(group) {
+                if let Err(failed) = list.of_slot(slot, out) {
+                    out.truncate(before);
+                    return Err(failed);
+                }
             }
         }
         Ok(())

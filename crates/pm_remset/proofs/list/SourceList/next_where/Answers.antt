@@ -9,7 +9,7 @@ use Rattle.pm_remset.proofs.list.SourceList.next_where.Goals as goal
 pub loop-entry-init : goal.loop-entry-init
 loop-entry-init g c =
     let same = c.deref-entry-items.ensures.value in
-    listed_begins c.args.self.now (λ source slot. g.P.Fn.post c.args.pass (source, (slot, tt)) false) c.deref-entry-items.result.now
+    listed_begins c.args.self.now (λ source slot. g.P.Fn.post c.args.pass.now (source, (slot, tt)) false) c.deref-entry-items.result.now
     (ap (from_entries {R = source_cmp}) same ∙ c.self.view_is) (subst IsInOrder (sym same) c.self.invariant)
 
 pub returns-then-pass : goal.returns-then-pass
@@ -21,10 +21,10 @@ returns-then-pass g c =
     let within : c.loop-entry.entry-index < length es = search rules in
     let source : c.source-source.result ≡ e.0 = c.source-source.ensures ∙ ap (λ (x : Entry). x.0) is in
     let slot : c.slot-slot.result ≡ e.1 = c.slot-slot.ensures ∙ ap (λ (x : Entry). x.1) is in
-    subst (λ (x : Entry). IsFirstEntry (λ source slot. g.P.Fn.post c.args.pass (source, (slot, tt)) true) (λ source slot. g.P.Fn.post c.args.pass (source, (slot, tt)) false) c.args.self.now x.0 x.1)
+    subst (λ (x : Entry). IsFirstEntry (λ source slot. g.P.Fn.post c.args.pass.now (source, (slot, tt)) true) (λ source slot. g.P.Fn.post c.args.pass.now (source, (slot, tt)) false) c.args.self.now x.0 x.1)
     (λ i. (sym source i, sym slot i))
-    (looks_found c.args.self.now (λ source slot. g.P.Fn.post c.args.pass (source, (slot, tt)) false) es c.loop-entry.entry-index c.loop-entry.invariant d within
-    (λ source slot. g.P.Fn.post c.args.pass (source, (slot, tt)) true) (subst (λ (x : Entry). g.P.Fn.post c.args.pass (x.0, (x.1, tt)) true) (λ i. (source i, slot i)) c.if-pass.ensures))
+    (looks_found c.args.self.now (λ source slot. g.P.Fn.post c.args.pass.now (source, (slot, tt)) false) es c.loop-entry.entry-index c.loop-entry.invariant d within
+    (λ source slot. g.P.Fn.post c.args.pass.now (source, (slot, tt)) true) (subst (λ (x : Entry). g.P.Fn.post c.args.pass.now (x.0, (x.1, tt)) true) (λ i. (source i, slot i)) c.if-pass.ensures))
 
 pub loop-entry-preserved : goal.loop-entry-preserved
 loop-entry-preserved g c =
@@ -35,5 +35,5 @@ loop-entry-preserved g c =
     let within : c.loop-entry.entry-index < length es = search rules in
     let source : c.source-source.result ≡ e.0 = c.source-source.ensures ∙ ap (λ (x : Entry). x.0) is in
     let slot : c.slot-slot.result ≡ e.1 = c.slot-slot.ensures ∙ ap (λ (x : Entry). x.1) is in
-    looks_on c.args.self.now (λ source slot. g.P.Fn.post c.args.pass (source, (slot, tt)) false) es c.loop-entry.entry-index c.loop-entry.invariant d within
-    (subst (λ (x : Entry). g.P.Fn.post c.args.pass (x.0, (x.1, tt)) false) (λ i. (source i, slot i)) c.if-pass.ensures)
+    looks_on c.args.self.now (λ source slot. g.P.Fn.post c.args.pass.now (source, (slot, tt)) false) es c.loop-entry.entry-index c.loop-entry.invariant d within
+    (subst (λ (x : Entry). g.P.Fn.post c.args.pass.now (x.0, (x.1, tt)) false) (λ i. (source i, slot i)) c.if-pass.ensures)
