@@ -24,6 +24,8 @@ use Rattle.pm_nursery.proofs.Changed.{among-more}
 use Rattle.pm_nursery.proofs.Parts.{found_of, passes}
 use Rattle.pm_young.specs.Entering.{MayComeIn}
 use Rattle.pm_young.specs.Bringing.{AddsThese, ArePlaces, BringsBlank, BringsOne, Enters, MayAllComeIn, blank}
+use Rattle.pm_young.specs.Rows.{AreBorn, IsBornBlank}
+use Rattle.pm_young.proofs.Rows.{born_next}
 use Rattle.pm_young.proofs.Listed.{among_next, among_now, among_still, among_here, not_before, pushed_at, same_id}
 
 -- ---- a map in which one identity has another value
@@ -143,6 +145,7 @@ pub record Admitting (v u : SpaceView) (objects : Heap) (ids before later : List
   pub many : length places ≡ i
   pub places_are : ArePlaces u ids places
   pub entered : Enters v u before later (take i ids)
+  pub rows : AreBorn v objects (take i ids) places u
 
 pub admitting_none : (v u : SpaceView) (objects : Heap) (ids before later : List ℕ) (places : List Addr) → u ≡ v → places ≡ [] → later ≡ before → Admitting v u objects ids before later places 0
 admitting_none v u objects ids before later places same none still = record {
@@ -150,13 +153,14 @@ admitting_none v u objects ids before later places same none still = record {
   many = ap length none;
   places_are = λ at id a here is. absurd (let gone = ap (λ (xs : List Addr). slice_get xs at) none in cc (gone, is));
   entered = record { entered = still ∙ sym (append-nil before); adds = adds_none v u same };
+  rows = subst (λ (ps : List Addr). AreBorn v objects [] ps u) (sym none) same;
 }
 
 pub admitting_more : (v u w : SpaceView) (objects : Heap) (ids before later more : List ℕ) (places pushed : List Addr) (i : ℕ) → i < length ids → (place : Addr)
-    → AddsObject u w (get_or ids i 0) place → w.next ≡ u.next → BringsOne u objects (get_or ids i 0) w → IsSome (get objects (get_or ids i 0)) → IsAscending ids
+    → AddsObject u w (get_or ids i 0) place → w.next ≡ u.next → BringsOne u objects (get_or ids i 0) w → IsBornBlank u (get_or ids i 0) (get objects (get_or ids i 0)) place w → IsSome (get objects (get_or ids i 0)) → IsAscending ids
     → more ≡ later ++ get_or ids i 0 ∷ [] → pushed ≡ places ++ place ∷ []
     → Admitting v u objects ids before later places i → Admitting v w objects ids before more pushed (i + 1)
-admitting_more v u w objects ids before later more places pushed i inside place adds next one young up noted put so_far = record {
+admitting_more v u w objects ids before later more places pushed i inside place adds next one born young up noted put so_far = record {
   worlds = brings_more v u w ids i inside place adds objects young up so_far.worlds one;
   many = ap length put ∙ length_push places place ∙ ap (λ n. n + 1) so_far.many;
   places_are = subst (ArePlaces w ids) (sym put) (places_more v u w ids i inside place adds places so_far.many so_far.places_are);
@@ -164,6 +168,7 @@ admitting_more v u w objects ids before later more places pushed i inside place 
     entered = noted ∙ ap (λ (xs : List ℕ). xs ++ get_or ids i 0 ∷ []) so_far.entered.entered ∙ append_assoc before (take i ids) (get_or ids i 0 ∷ []) ∙ ap (λ (xs : List ℕ). before ++ xs) (sym (take_more ids i 0 inside));
     adds = adds_more v u w ids i inside place adds so_far.entered.adds next;
   };
+  rows = born_next v u w objects ids i places pushed place inside put so_far.rows born;
 }
 
 pub may_come_next : (v u : SpaceView) (objects : Heap) (ids before later : List ℕ) (places : List Addr) (i : ℕ) → i < length ids → IsAscending ids → MayAllComeIn v ids
@@ -182,3 +187,6 @@ room_first before now ids capacity same enough = subst (λ (xs : List ℕ). leng
 pub on_err : {A E P : Type 0} (r : Result A E) → P → OnErr r P
 on_err (Ok x) it = tt
 on_err (Err e) it = it
+
+pub admitted_rows : (v u : SpaceView) (objects : Heap) (ids before later : List ℕ) (places : List Addr) (i : ℕ) → length ids ≤ i → Admitting v u objects ids before later places i → AreBorn v objects ids places u
+admitted_rows v u objects ids before later places i few so_far = subst (λ (xs : List ℕ). AreBorn v objects xs places u) (take_all i ids few) so_far.rows

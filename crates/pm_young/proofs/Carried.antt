@@ -14,6 +14,7 @@ use Rattle.pm_nursery.specs.Young.{NurseryView, IsHeldYoung, IsNursery}
 use Rattle.pm_nursery.specs.Escaping.{IsAscending}
 use Rattle.pm_nursery.specs.Sweeping.{among, AreReached, AreYoung}
 use Rattle.pm_young.specs.Bringing.{AreFirstReached, BringsIn, CarriesPart, CarriesReached, Enters, EntersPart, HoldsWithin, MayAllComeIn, MayYoungComeIn, StandsApart, StandsWithout}
+use Rattle.pm_young.specs.Rows.{ComeByRows}
 use Rattle.pm_young.proofs.Admitted.{adds_none}
 use Rattle.pm_young.proofs.Listed.{among_here, among_place, among_take}
 
@@ -98,9 +99,9 @@ carries_none view nursery before = record {
 -- ---- whatever is answered
 
 pub carries_if : {A E : Type 0} (r : Result A E) (view after : SpaceView) (nursery : NurseryView) (before later ids : List ℕ) → IsAscending ids → AreReached nursery ids
-    → OnOk r (BringsIn view nursery ids after) → OnOk r (Enters view after before later ids) → OnOk r (CarriesReached view nursery before after later)
-carries_if (Ok x) view after nursery before later ids up reached brings enters = record { ids = ids; ascending = up; reached = reached; brings = brings; enters = enters }
-carries_if (Err e) view after nursery before later ids up reached brings enters = tt
+    → OnOk r (BringsIn view nursery ids after) → OnOk r (ComeByRows view nursery ids after) → OnOk r (Enters view after before later ids) → OnOk r (CarriesReached view nursery before after later)
+carries_if (Ok x) view after nursery before later ids up reached brings rows enters = record { ids = ids; ascending = up; reached = reached; brings = brings; rows = rows; enters = enters }
+carries_if (Err e) view after nursery before later ids up reached brings rows enters = tt
 
 pub carries_part_if : {A E : Type 0} (r : Result A E) (view after : SpaceView) (nursery : NurseryView) (before later ids : List ℕ) → IsAscending ids → AreReached nursery ids
     → OnErr r (EntersPart view after before later ids) → OnErr r (CarriesPart view nursery before after later)

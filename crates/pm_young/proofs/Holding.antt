@@ -9,6 +9,7 @@ use Rattle.std.proofs.lemmas.List.Elements.{Contains-append_cases, Contains-appe
 use Rattle.pm_types.specs.Orders.{place_cmp}
 use Rattle.pm_types.proofs.Orders.{places_total, places_antisymmetric}
 use Rattle.pm_types.specs.declared.address.Addr.{Addr}
+use Rattle.pm_types.specs.declared.source.RefSource.TheVariants.{Handle}
 use Rattle.pm_model.specs.Heap.{Heap}
 use Rattle.pm_model.specs.World.{World, Registers, holding}
 use Rattle.pm_model.proofs.Maps.{insert_here, insert_other}
@@ -17,12 +18,15 @@ use Rattle.pm_view.specs.View.{SpaceView}
 use Rattle.pm_view.specs.Counts.{IsStandingAt}
 use Rattle.pm_view.specs.Objects.{KeepsObjects}
 use Rattle.pm_view.specs.Represents.{Represents}
+use Rattle.pm_view.specs.Rows.{spread}
 use Rattle.pm_mutate.specs.Young.{HoldsToo}
 use Rattle.pm_nursery.specs.Holding.{AreHolders}
 use Rattle.pm_nursery.specs.Young.{NurseryView, IsNursery, IsRegister}
 use Rattle.pm_nursery.specs.Sweeping.{among, carried}
 use Rattle.pm_nursery.proofs.Changed.{among-more}
 use Rattle.pm_young.specs.Bringing.{BringsHeld, BringsHolders, ComesHeld, HasAll}
+use Rattle.pm_young.specs.Rows.{IsNowHeld, with_holders}
+use Rattle.pm_young.proofs.Rows.{holders_more}
 use Rattle.pm_young.proofs.Linked.{keeps_itself, keeps_on}
 use Rattle.pm_young.proofs.Listed.{among_here, same_id, itself}
 
@@ -35,19 +39,21 @@ pub record HeldBy (world : World) (so_far : List (ℕ × (ℕ × ℕ))) (id : �
   pub others : (place : ℕ × ℕ) → (Contains so_far (id, place) → ⊥) → get later.registers place ≡ get world.registers place
 
 -- What holds once so many of the registers that name the object hold it.
-pub record HoldingOne (v u : SpaceView) (id : ℕ) (whole left : List (ℕ × (ℕ × ℕ))) : Type 0 where
+pub record HoldingOne (v u : SpaceView) (id : ℕ) (at : Addr) (whole left : List (ℕ × (ℕ × ℕ))) : Type 0 where
   pub so_far : List (ℕ × (ℕ × ℕ))
   pub parted : so_far ++ left ≡ whole
   pub worlds : (world : World) → Represents v world → IsSome (get world.heap id) → (later : World) × Represents u later × HeldBy world so_far id later
   pub keeps : KeepsObjects v u
+  pub row : u ≡ with_holders v at so_far
   pub next : u.next ≡ v.next
 
-pub holding_none : (v : SpaceView) (id : ℕ) (whole : List (ℕ × (ℕ × ℕ))) → HoldingOne v v id whole whole
-holding_none v id whole = record {
+pub holding_none : (v : SpaceView) (id : ℕ) (at : Addr) (whole : List (ℕ × (ℕ × ℕ))) → HoldingOne v v id at whole whole
+holding_none v id at whole = record {
   so_far = [];
   parted = refl;
   worlds = λ world stands some. (world, stands, record { rest = refl; held = λ place within. absurd (in_none (id, place) within); others = λ place not. refl });
   keeps = keeps_itself v;
+  row = refl;
   next = refl;
 }
 
@@ -55,7 +61,7 @@ either_way : (b : Bool) (id : ℕ) (old : Option ℕ) → old ≡ Some id → co
 either_way true id old is = refl
 either_way false id old is = is
 
-module _ (v u w : SpaceView) (id : ℕ) (whole left : List (ℕ × (ℕ × ℕ))) (holder : ℕ × (ℕ × ℕ)) (same : holder.0 ≡ id) (so_far : HoldingOne v u id whole (holder ∷ left)) where
+module _ (v u w : SpaceView) (id : ℕ) (at : Addr) (whole left : List (ℕ × (ℕ × ℕ))) (holder : ℕ × (ℕ × ℕ)) (same : holder.0 ≡ id) (so_far : HoldingOne v u id at whole (holder ∷ left)) where
   abbrev more : List (ℕ × (ℕ × ℕ))
   more = so_far.so_far ++ holder ∷ []
 
@@ -77,8 +83,8 @@ module _ (v u w : SpaceView) (id : ℕ) (whole left : List (ℕ × (ℕ × ℕ))
         ∙ was.others place (λ before. not (Contains-append_left so_far.so_far (holder ∷ []) (id, place) before));
   }
 
-  pub holding_more : (at : Addr) → IsStandingAt u id at → HoldsToo u holder.1.0 holder.1.1 at w → KeepsObjects u w → w.next ≡ u.next → HoldingOne v w id whole left
-  holding_more at here holds keeps next = record {
+  pub holding_more : IsStandingAt u id at → HoldsToo u holder.1.0 holder.1.1 at w → w ≡ spread u (Handle holder.1.0 holder.1.1) (Some at) → KeepsObjects u w → w.next ≡ u.next → HoldingOne v w id at whole left
+  holding_more here holds row keeps next = record {
     so_far = more;
     parted = append_assoc so_far.so_far (holder ∷ []) left ∙ so_far.parted;
     worlds = λ world stands some.
@@ -86,20 +92,21 @@ module _ (v u w : SpaceView) (id : ℕ) (whole left : List (ℕ × (ℕ × ℕ))
         let heap : was.0.heap ≡ world.heap = ap (λ (x : World). x.heap) was.2.rest in
         (holding was.0 holder.1.0 holder.1.1 id, holds was.0 id was.1 here.here (subst (λ (h : Heap). IsSome (get h id)) (sym heap) some), holds_more world was.0 was.2);
     keeps = keeps_on v u w so_far.keeps keeps;
+    row = row ∙ ap (λ (x : SpaceView). spread x (Handle holder.1.0 holder.1.1) (Some at)) so_far.row ∙ sym (holders_more v at so_far.so_far holder);
     next = next ∙ so_far.next;
   }
 
 -- the next of those that are left is one of all
-pub next_of_all : (v u : SpaceView) (id : ℕ) (whole left : List (ℕ × (ℕ × ℕ))) (holder : ℕ × (ℕ × ℕ)) → HoldingOne v u id whole (holder ∷ left) → Contains whole holder
-next_of_all v u id whole left holder so_far = subst (λ (xs : List (ℕ × (ℕ × ℕ))). Contains xs holder) so_far.parted (Contains-append_right so_far.so_far (holder ∷ left) holder (at_first holder left))
+pub next_of_all : (v u : SpaceView) (id : ℕ) (at : Addr) (whole left : List (ℕ × (ℕ × ℕ))) (holder : ℕ × (ℕ × ℕ)) → HoldingOne v u id at whole (holder ∷ left) → Contains whole holder
+next_of_all v u id at whole left holder so_far = subst (λ (xs : List (ℕ × (ℕ × ℕ))). Contains xs holder) so_far.parted (Contains-append_right so_far.so_far (holder ∷ left) holder (at_first holder left))
 
 -- its register is one of a client
 pub is_register : (nursery : NurseryView) → IsNursery nursery → (id : ℕ) (whole : List (ℕ × (ℕ × ℕ))) → AreHolders nursery.registers id whole → (holder : ℕ × (ℕ × ℕ)) → Contains whole holder → (holder.0 ≡ id) × IsRegister holder.1
 is_register nursery sound id whole all holder within = let is = all.each holder within in (is.0, sound.places holder.1 id is.1)
 
 -- all of them hold it
-pub holding_ends : (v u : SpaceView) (registers : Registers) (id : ℕ) (whole left : List (ℕ × (ℕ × ℕ))) → left ≡ [] → AreHolders registers id whole → HoldingOne v u id whole left → BringsHolders v registers id u
-holding_ends v u registers id whole left none all so_far = λ world stands some.
+pub holding_ends : (v u : SpaceView) (registers : Registers) (id : ℕ) (at : Addr) (whole left : List (ℕ × (ℕ × ℕ))) → left ≡ [] → AreHolders registers id whole → HoldingOne v u id at whole left → BringsHolders v registers id u
+holding_ends v u registers id at whole left none all so_far = λ world stands some.
     let later = so_far.worlds world stands some in
     let is_whole : so_far.so_far ≡ whole = sym (append-nil so_far.so_far) ∙ ap (λ (xs : List (ℕ × (ℕ × ℕ))). so_far.so_far ++ xs) (sym none) ∙ so_far.parted in
     let was : HeldBy world whole id later.0 = subst (λ (xs : List (ℕ × (ℕ × ℕ))). HeldBy world xs id later.0) is_whole later.2 in
@@ -116,6 +123,12 @@ holding_ends v u registers id whole left none all so_far = λ world stands some.
         pick false other = was.others place (λ within. let here = (all.each (id, place) within).1 in
             let one : y ≡ id = (let two : Some y ≡ Some id = sym is ∙ here in cc two) in
             let never : nat_eq id y ≡ true = subst (λ n. nat_eq id n ≡ true) (sym one) (itself id) in cc (never, other))
+
+-- by their rows
+pub holding_row : (v u : SpaceView) (registers : Registers) (id : ℕ) (at : Addr) (whole left : List (ℕ × (ℕ × ℕ))) → left ≡ [] → AreHolders registers id whole → HoldingOne v u id at whole left → IsNowHeld v registers id at u
+holding_row v u registers id at whole left none all so_far =
+    let is_whole : so_far.so_far ≡ whole = sym (append-nil so_far.so_far) ∙ ap (λ (xs : List (ℕ × (ℕ × ℕ))). so_far.so_far ++ xs) (sym none) ∙ so_far.parted in
+    (whole, all, so_far.row ∙ ap (with_holders v at) is_whole)
 
 -- ---- object after object
 

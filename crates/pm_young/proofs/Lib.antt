@@ -1,4 +1,5 @@
 pub mod Listed
+pub mod Rows
 pub mod Admitted
 pub mod Linked
 pub mod Holding

@@ -320,8 +320,8 @@ value_at read fields n value same inside is = (
 )
 
 -- the place of the identity at this place of the list
-pub place_at : (v : SpaceView) (ids : List ℕ) (places : List Addr) (i : ℕ) (d : Addr) → ArePlaces v ids places → length places ≡ length ids → i < length ids → IsStandingAt v (get_or ids i 0) (get_or places i d)
-place_at v ids places i d are many inside =
+pub stands_there : (v : SpaceView) (ids : List ℕ) (places : List Addr) (i : ℕ) (d : Addr) → ArePlaces v ids places → length places ≡ length ids → i < length ids → IsStandingAt v (get_or ids i 0) (get_or places i d)
+stands_there v ids places i d are many inside =
     are i (get_or ids i 0) (get_or places i d) (slice_get-get_or ids i 0 inside) (slice_get-get_or places i d (subst (λ n. i < n) (sym many) inside))
 
 -- places stay where objects do

@@ -16,6 +16,7 @@ use Rattle.pm_nursery.specs.Young.{NurseryView, IsHeldYoung}
 use Rattle.pm_nursery.specs.Escaping.{IsAscending}
 use Rattle.pm_nursery.specs.Sweeping.{among, carried, AreReached, ComesIn}
 use Rattle.pm_young.specs.Entering.{IsPresent, MayComeIn}
+use Rattle.pm_young.specs.Rows.{ComeByRows}
 
 -- ---- worlds
 
@@ -182,6 +183,7 @@ pub record CarriesReached (view : SpaceView) (nursery : NurseryView) (before : L
   pub ascending : IsAscending ids
   pub reached : AreReached nursery ids
   pub brings : BringsIn view nursery ids after
+  pub rows : ComeByRows view nursery ids after
   pub enters : Enters view after before later ids
 
 -- a first part of them did

@@ -12,6 +12,7 @@ use Rattle.pm_young.specs.declared.engine.YoungEngine.{YoungEngine}
 use Rattle.pm_young.specs.declared.halt.Halt.{Halt}
 use Rattle.pm_young.specs.declared.halt.HaltCause.TheVariants as causes
 use Rattle.pm_young.specs.Entering.{AreFirstKept, AreKept, IsPresent}
+use Rattle.pm_young.specs.Rows.{ComeByRows}
 use Rattle.pm_young.specs.Seen.{disk_in, entered_in, halt_in, pages_in, room, serving, young_in}
 
 -- journal, course, watches and copies stay, and no event of the collector was made
@@ -40,7 +41,8 @@ module _ {D : Type 0} {F : Type 0} {g : Ghosts D} where
     pub next : (serving old).view.next ≤ (serving new).view.next
 
   -- A sweep was made: what entered grew by the ascending list of exactly the young identities that the world's names
-  -- and registers reach, nothing is young any more, and one event more was made, which is none of the collector.
+  -- and registers reach, which came in by their rows; nothing is young any more; and one event more was made, which is
+  -- none of the collector.
   pub record HasSwept (old new : YoungEngine D F g) : Type 0 where
     pub running : halt_in old ≡ None
     pub runs : halt_in new ≡ None
@@ -49,6 +51,7 @@ module _ {D : Type 0} {F : Type 0} {g : Ghosts D} where
     pub ids : List ℕ
     pub kept : ∥ AreKept (world (serving old)) (young_in old) ids ∥₁
     pub entered : entered_in new ≡ entered_in old ++ ids
+    pub rows : ComeByRows (serving old).view (young_in old) ids (serving new).view
     pub young : young_in new ≡ no_nursery
 
   -- Memory ran out in a sweep: what entered grew by a first part of that list, each of which is in a car; nothing is

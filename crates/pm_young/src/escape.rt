@@ -12,6 +12,8 @@ ghost use Rattle.pm_young.specs.Bringing.{ArePlaces, BringsBlank, BringsFields, 
 ghost use Rattle.pm_young.specs.Bringing.{BringsOne, BringsWhole, Enters, EntersPart, HoldsWithin, IsPlaceOf};
 ghost use Rattle.pm_young.specs.Bringing.{CarriesPart, CarriesReached, MayAllComeIn, MayYoungComeIn, StandsApart};
 ghost use Rattle.pm_young.specs.Bringing.{StandsBlank, StandsBlankAt, StandsWithout};
+ghost use Rattle.pm_young.specs.Rows.{AreBorn, AreNowHeld, ComeByRows, IsBornBlank, IsNowHeld, fields_of, place_at};
+ghost use Rattle.pm_young.specs.Rows.{placed_among, with_all_links, with_links};
 
 use pm_mutate::{admit, hold, link};
 use pm_nursery::Nursery;
@@ -32,6 +34,8 @@ fn admit_one<F: Drop>(
     ensures worlds { OnOk result
         (BringsOne (view space.old.parts) nursery.now.objects id (view space.new.parts)) }
     ensures objects { IfOk result (λ place. AddsObject (view space.old.parts) (view space.new.parts) id place) }
+    ensures row { IfOk result (λ place. IsBornBlank (view space.old.parts) id (get nursery.now.objects id) place
+        (view space.new.parts)) }
     ensures next { (view space.new.parts).next ≡ (view space.old.parts).next }
     ensures err { OnErr result (view space.new.parts ≡ view space.old.parts) }
     ensures rest { KeepsRest space.old.parts space.new.parts }
@@ -59,6 +63,8 @@ fn admit_all<F: Drop>(
         (BringsBlank (view space.old.parts) nursery.now.objects ids.now (view space.new.parts)) }
     ensures as_many { IfOk result (λ places. length places.items ≡ length ids.now) }
     ensures places { IfOk result (λ places. ArePlaces (view space.new.parts) ids.now places.items) }
+    ensures rows { IfOk result (λ places. AreBorn (view space.old.parts) nursery.now.objects ids.now places.items
+        (view space.new.parts)) }
     ensures enters { OnOk result
         (Enters (view space.old.parts) (view space.new.parts) entered.old.items entered.new.items ids.now) }
     ensures part { OnErr result
@@ -105,6 +111,9 @@ fn link_one<F: Drop>(
     requires stands { ∥ StandsBlankAt (view space.old.parts) nursery.now.objects ids.now index ∥₁ }
     ensures worlds { OnOk result
         (BringsFields (view space.old.parts) nursery.now.objects ids.now index (view space.new.parts)) }
+    ensures row { OnOk result (view space.new.parts ≡ with_links (view space.old.parts)
+        (placed_among ids.now places.now) (place_at places.now index) 0
+        (fields_of (get nursery.now.objects (slice_index ids.now index)))) }
     ensures objects { KeepsObjects (view space.old.parts) (view space.new.parts) }
     ensures next { (view space.new.parts).next ≡ (view space.old.parts).next }
     ensures rest { KeepsRest space.old.parts space.new.parts }
@@ -141,6 +150,8 @@ fn link_all<F: Drop>(
     requires stands { ∥ StandsBlank (view space.old.parts) nursery.now.objects ids.now ∥₁ }
     ensures worlds { OnOk result
         (BringsWhole (view space.old.parts) nursery.now.objects ids.now (view space.new.parts)) }
+    ensures rows { OnOk result (view space.new.parts ≡ with_all_links (view space.old.parts) nursery.now.objects
+        (placed_among ids.now places.now) ids.now places.now) }
     ensures objects { KeepsObjects (view space.old.parts) (view space.new.parts) }
     ensures next { (view space.new.parts).next ≡ (view space.old.parts).next }
     ensures rest { KeepsRest space.old.parts space.new.parts }
@@ -161,6 +172,7 @@ fn hold_one<F: Drop>(
     requires place { IsStandingAt (view space.old.parts) id at }
     ensures worlds { OnOk result
         (BringsHolders (view space.old.parts) nursery.now.registers id (view space.new.parts)) }
+    ensures row { OnOk result (IsNowHeld (view space.old.parts) nursery.now.registers id at (view space.new.parts)) }
     ensures objects { KeepsObjects (view space.old.parts) (view space.new.parts) }
     ensures next { (view space.new.parts).next ≡ (view space.old.parts).next }
     ensures rest { KeepsRest space.old.parts space.new.parts }
@@ -183,11 +195,13 @@ fn hold_all<F: Drop>(
     requires places { ArePlaces (view space.old.parts) ids.now places.now }
     ensures worlds { OnOk result
         (BringsHeld (view space.old.parts) nursery.now.registers ids.now (view space.new.parts)) }
+    ensures rows { OnOk result
+        (AreNowHeld (view space.old.parts) nursery.now.registers ids.now places.now (view space.new.parts)) }
     ensures objects { KeepsObjects (view space.old.parts) (view space.new.parts) }
     ensures next { (view space.new.parts).next ≡ (view space.old.parts).next }
     ensures rest { KeepsRest space.old.parts space.new.parts }
 {
-    for index in 0..ids.len() {
+    for index in 0..places.len() {
         hold_one(space, nursery, ids[index], places[index])?;
     }
     Ok(())
@@ -210,6 +224,7 @@ fn escape<F: Drop>(
     requires stands { ∥ StandsWithout (view space.old.parts) ids.now ∥₁ }
     ensures worlds { OnOk result
         (BringsIn (view space.old.parts) nursery.now ids.now (view space.new.parts)) }
+    ensures rows { OnOk result (ComeByRows (view space.old.parts) nursery.now ids.now (view space.new.parts)) }
     ensures enters { OnOk result
         (Enters (view space.old.parts) (view space.new.parts) entered.old.items entered.new.items ids.now) }
     ensures part { OnErr result

@@ -3,7 +3,7 @@ use Rattle.std.proofs.lemmas.Grind.{common_steps}
 use Rattle.pm_view.specs.View.{SpaceView}
 use Rattle.pm_space.specs.Shown.{view}
 use Rattle.pm_young.specs.Bringing.{Enters, EntersPart}
-use Rattle.pm_young.proofs.Admitted.{adds_none, admitted_all, admitting_more, admitting_none, may_come_next, on_err}
+use Rattle.pm_young.proofs.Admitted.{adds_none, admitted_all, admitted_rows, admitting_more, admitting_none, may_come_next, on_err}
 use Rattle.pm_young.proofs.Listed.{among_here}
 use Rattle.pm_young.proofs.escape.admit_all.Goals as goal
 
@@ -42,7 +42,7 @@ pub loop-id-preserved : goal.loop-id-preserved
 loop-id-preserved g c = record {
   so_far =
       admitting_more (view c.args.space.now.parts) (view c.loop-id.space.parts) (view c.admit_one.new.space.parts) c.args.nursery.now.objects c.args.ids.now c.args.entered.now.items c.loop-id.entered.items c.push_reserved.new.self.items
-      c.loop-id.places.items c.push_reserved-in-loop-id.new.self.items c.loop-id.id-index c.loop-id-test.true c.in_ok-place.place c.in_ok-place.ensures.objects c.admit_one.ensures.next c.in_ok-place.ensures.worlds
+      c.loop-id.places.items c.push_reserved-in-loop-id.new.self.items c.loop-id.id-index c.loop-id-test.true c.in_ok-place.place c.in_ok-place.ensures.objects c.admit_one.ensures.next c.in_ok-place.ensures.worlds c.in_ok-place.ensures.row
       (c.requires.young (get_or c.args.ids.now c.loop-id.id-index 0) (among_here c.args.ids.now c.loop-id.id-index c.loop-id-test.true)) c.requires.ascending
       c.push_reserved.ensures.items c.push_reserved-in-loop-id.ensures.items c.loop-id.invariant.so_far;
   rest = record { frozen = c.admit_one.ensures.rest.frozen ∙ c.loop-id.invariant.rest.frozen; place = c.admit_one.ensures.rest.place ∙ c.loop-id.invariant.rest.place };
@@ -53,3 +53,7 @@ loop-id-preserved g c = record {
 pub returns-clause-worlds : goal.returns-clause-worlds
 returns-clause-worlds g c =
     admitted_all (view c.args.space.now.parts) (view c.loop-id.space.parts) c.args.nursery.now.objects c.args.ids.now c.args.entered.now.items c.loop-id.entered.items c.loop-id.places.items c.loop-id.id-index c.loop-id-test.false c.loop-id.invariant.so_far
+
+pub returns-clause-rows : goal.returns-clause-rows
+returns-clause-rows g c =
+    admitted_rows (view c.args.space.now.parts) (view c.loop-id.space.parts) c.args.nursery.now.objects c.args.ids.now c.args.entered.now.items c.loop-id.entered.items c.loop-id.places.items c.loop-id.id-index c.loop-id-test.false c.loop-id.invariant.so_far

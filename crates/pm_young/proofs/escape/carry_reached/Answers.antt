@@ -28,7 +28,7 @@ escape-requires-clause-stands g c =
 pub returns-clause-ok : goal.returns-clause-ok
 returns-clause-ok g c =
     carries_if c.escape.result (view c.args.space.now.parts) (view c.escape.new.space.parts) c.args.nursery.now c.args.entered.now.items c.escape.new.entered.items c.as_slice.result.now
-    (subst IsAscending (sym c.as_slice.ensures.value) c.in_ok-ids.ensures.ascending) (subst (AreReached c.args.nursery.now) (sym c.as_slice.ensures.value) c.in_ok-ids.ensures.reached) c.escape.ensures.worlds c.escape.ensures.enters
+    (subst IsAscending (sym c.as_slice.ensures.value) c.in_ok-ids.ensures.ascending) (subst (AreReached c.args.nursery.now) (sym c.as_slice.ensures.value) c.in_ok-ids.ensures.reached) c.escape.ensures.worlds c.escape.ensures.rows c.escape.ensures.enters
 
 pub returns-clause-part : goal.returns-clause-part
 returns-clause-part g c =

@@ -5,6 +5,6 @@ use Rattle.pm_young.proofs.escape.hold_one.Given as goal
 -- so many of the registers hold it
 abbrev pub invariant-loop-client : goal.invariant-loop-client
 invariant-loop-client g l = record {
-  so_far : HoldingOne (view l.fn.space.parts) (view l.space.parts) l.id l.initial.client-iterator l.client-iterator;
+  so_far : HoldingOne (view l.fn.space.parts) (view l.space.parts) l.id l.at l.initial.client-iterator l.client-iterator;
   rest : KeepsRest l.fn.space.parts l.space.parts;
 }

@@ -79,6 +79,7 @@ returns-in-Ok-clause-call g c =
         ids = carries.ids;
         kept = are_kept it.opening it.works space it.works.events it.nursery c.sound.ensures carries.ids carries.ascending carries.reached within;
         entered = carries.enters.entered;
+        rows = carries.rows;
         young = c.drop_all.ensures;
       };
       fails = tt;
