@@ -22,6 +22,7 @@ crates/pmos/src/memory.rt'
 # The counts that come to an end: the file, and what it counts.
 counts='crates/pm_evac/src/first_rows.rt train
 crates/pm_mutate/src/births/placing.rt youngest
+crates/pm_remset/src/trees.rt self.count
 crates/pm_reopen/src/opened_cars.rt last.number
 crates/pm_reopen/src/rebuild/trains.rt trains.youngest()
 crates/pm_seats/src/shared.rt LAST_NUMBER
