@@ -2,6 +2,7 @@
 
 use crate::logged::push_logbook;
 use crate::opened::push_opened;
+use crate::shared::push_passes;
 use crate::spelling::workers;
 use crate::threaded::push_threads;
 use pm_case_text::{
@@ -116,6 +117,24 @@ fn push_logbook_text(alloc: Global, text: &str, out: &mut String) -> Result<(), 
     push_logbook(alloc, call.saturating_add(opening(alloc)?), parts, out)
 }
 
+// `N : TEXT`: shares an engine over a disk that fails call N behind those of the opening, or none where N is 0, and makes
+// what the step says.
+fn push_passes_text<R: Wait>(
+    rt: &R,
+    alloc: Global,
+    way: &str,
+    text: &str,
+    out: &mut String,
+) -> Result<(), Fault> {
+    let (call, text) = parted(text)?;
+    let call = number(call)?;
+    if call == 0 {
+        return push_passes(rt, alloc, 0, way, text, out);
+    }
+    let call = call.saturating_add(opening(alloc)?);
+    push_passes(rt, alloc, call, way, text, out)
+}
+
 // A step: its first word, and what follows.
 fn push_step<R: Threads + Wait + Sync>(
     rt: &R,
@@ -130,6 +149,7 @@ fn push_step<R: Threads + Wait + Sync>(
         "threads" | "alone" | "between" => push_threads(rt, alloc, 0, text, step, out),
         "threads-fail" => push_failing_threads(rt, alloc, text, out),
         "logbook" => push_logbook_text(alloc, text, out),
+        "passes" | "met" | "unmet" | "split" => { push_passes_text(rt, alloc, step, text, out) }
         _ => Err(refuse("no such step")),
     }
 }

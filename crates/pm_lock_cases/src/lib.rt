@@ -1,5 +1,5 @@
-//! The cases of the part `lock`: turns of a book over an engine on a disk in memory, one after another and in threads, and
-//! events of a logbook.
+//! The cases of the part `lock`: turns of a book over an engine on a disk in memory, one after another and in threads;
+//! events of a logbook; and calls of callers with passes.
 //! `docs/TESTS.md` says how a case is written.
 #![tactic(auto)]
 
@@ -7,6 +7,7 @@ mod case;
 mod logged;
 mod opened;
 mod served;
+mod shared;
 mod spelling;
 mod threaded;
 mod turned;

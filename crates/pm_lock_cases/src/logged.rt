@@ -18,8 +18,8 @@ use pm_types::{CLIENTS, Cmd};
 use std::alloc::Global;
 use std::fmt::Debug;
 
-// Adds what an event answered.
-fn push_answer<T: Debug>(answer: &T, out: &mut String) -> Result<(), Fault> {
+/// Adds what an event answered.
+pub(crate) fn push_answer<T: Debug>(answer: &T, out: &mut String) -> Result<(), Fault> {
     push_value(answer, out)?;
     push_words(" / ", out)
 }
