@@ -20,6 +20,8 @@ pub(crate) enum Part {
     Space,
     /// The engine, and a standby.
     Engine,
+    /// The engine with a nursery.
+    Young,
     /// Turns of a book.
     Lock,
     /// Workers that meet.
@@ -37,6 +39,7 @@ fn part_of(name: &str) -> Result<Part, Fault> {
         "files" => Ok(Part::Files),
         "space" => Ok(Part::Space),
         "engine" => Ok(Part::Engine),
+        "young" => Ok(Part::Young),
         "lock" => Ok(Part::Lock),
         "meeting" => Ok(Part::Meeting),
         "program" => Ok(Part::Program),
@@ -58,6 +61,7 @@ pub(crate) struct Cases {
     disks: pm_disk_cases::Case,
     files: pm_disk_cases::file_cases::Case,
     engine: pm_engine_cases::Case,
+    young: pm_young_cases::Case,
     program: Case,
 }
 
@@ -70,6 +74,7 @@ impl Cases {
             disks: pm_disk_cases::Case::new(alloc),
             files: pm_disk_cases::file_cases::Case::new(rt),
             engine: pm_engine_cases::Case::new(alloc)?,
+            young: pm_young_cases::Case::new(alloc)?,
             program: Case::new(alloc)?,
         })
     }
@@ -96,6 +101,7 @@ impl Cases {
             Part::Files => self.files.take(line, out),
             Part::Space => pm_space_cases::take(alloc, line, out),
             Part::Engine => self.engine.take(alloc, line, out),
+            Part::Young => self.young.take(alloc, line, out),
             Part::Lock => pm_lock_cases::take(rt, alloc, line, out),
             Part::Meeting => pm_case_runs::meeting_cases::take(rt, line, out),
             Part::Program => self.program.take(rt, line, out),

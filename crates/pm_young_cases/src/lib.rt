@@ -1,0 +1,9 @@
+//! The cases of the part `young`: an engine with a nursery, on a disk in memory. `docs/TESTS.md` says how a case is
+//! written.
+#![tactic(auto)]
+
+mod case;
+mod running;
+mod storing;
+
+pub use case::Case;
