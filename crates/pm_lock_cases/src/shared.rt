@@ -1,4 +1,4 @@
-//! Calls of callers with passes, one after another and in threads.
+//! Calls of callers with passes, one after another.
 
 ghost use Rattle.std.specs.Prelude.{IfOk};
 ghost use Rattle.pm_place.specs.Choosers.{IsChooser};
