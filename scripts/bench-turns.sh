@@ -290,7 +290,7 @@ fn main(rt: HostRuntime) -> io::Result<()> {
             let pass = spread(&rt, &home, pass, callers, calls);
             home.close(&rt, pass)
         }
-        Err(load) => load,
+        Err((load, _)) => load,
     };
     println!(rt; "{} entries, sum {}", load.entries, load.sum)?;
     Ok(())

@@ -1,5 +1,5 @@
 -- A logbook in turn: taken out, changed by an event, and put back.
-use Rattle.std.proofs.Common.{◌≡◌, ℕ, ◌+◌, ◌-◌, ◌<◌, ◌≤◌, ◌^◌, true, false, List, [], ◌∷◌, ◌++◌, length, length-append, Some, Option as Opt, Result, Ok, Err, MatchResult, arith, refl, ap, sym, subst, ◌∙◌}
+use Rattle.std.proofs.Common.{◌≡◌, ℕ, ◌+◌, ◌<◌, ◌≤◌, ◌^◌, true, false, List, [], ◌∷◌, ◌++◌, length, length-append, Some, Option as Opt, Result, Ok, Err, MatchResult, arith, refl, ap, sym, subst, ◌∙◌}
 use Rattle.std.proofs.Math.Logic.{∥∥₁_map}
 use base.Stored.{Coded, Gv, Gv-set}
 use Rattle.atomic_table.specs.Table.{Me, rest}

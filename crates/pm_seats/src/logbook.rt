@@ -23,6 +23,7 @@ pub struct Logbook<D: Disk, F> {
 impl<D: Disk, F: Drop> Logbook<D, F> {
     ghost use Rattle.std.specs.Prelude.{◌≡◌, ◌+◌, ◌<◌, ◌≤◌, ◌^◌, length};
     ghost use Rattle.std.specs.List.{AllByRecursion};
+    ghost use Rattle.std.specs.Thread.{IsSend};
     ghost use Rattle.pm_model.specs.Journal.{IsLegal};
     ghost use Rattle.pm_saving.specs.Serving.{opening};
     ghost use Rattle.pm_engine.specs.Shown.{disk_in, serving};
@@ -31,6 +32,7 @@ impl<D: Disk, F: Drop> Logbook<D, F> {
     ghost use Rattle.pm_seats.specs.Kept.{IsPaired, StopsNow, stop_in};
     ghost use Rattle.pm_seats.specs.Shown.{BeginsLogbook, callers_in, engine_in, first_in, log_in, next_in};
     ghost use Rattle.pm_seats.specs.Events.{DrawsNumber};
+    ghost use Rattle.pm_seats.specs.contracts.logbook.Logbook as logbooks;
 
     /// The logbook of an engine that was just opened: no entry, and the next pass is number 1. It takes no memory.
     pub fn new(engine: Engine<D, F>) -> Logbook<D, F>
@@ -102,5 +104,10 @@ impl<D: Disk, F: Drop> Logbook<D, F> {
         ensures counted { length (serving (engine_in self.now)).journal + (serving (engine_in self.now)).steps
             ≤ (serving (engine_in self.now)).events }
         ensures few { (serving (engine_in self.now)).events < 2 ^ 50 }
+    {}
+
+    /// A law of threads: it crosses threads where its disk and its chooser do.
+    pub fn keep_its_threads(&self)
+        ensures { IsSend D.row → IsSend F.row → IsSend (logbooks.the_row D.row F.row D.Disk) }
     {}
 }

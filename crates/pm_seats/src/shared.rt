@@ -1,6 +1,7 @@
 //! Many callers share one engine, each with a pass.
 
 ghost use Rattle.pm_engine.specs.contracts.Engine as engines;
+ghost use Rattle.pm_seats.specs.contracts.shared.Shared as sharing;
 
 use crate::{Logbook, SeatFault, Seen};
 use atomic_table::Badge;
@@ -26,6 +27,7 @@ pub struct Shared<D: Disk + Drop, F: Drop> {
 
 impl<D: Disk + Drop, F: Drop> Shared<D, F> {
     ghost use Rattle.std.specs.Prelude.{◌≡◌, ◌≤◌, ◌<◌, false, IfOk, IfErr, MatchResult};
+    ghost use Rattle.std.specs.Thread.{IsSend, IsSync};
     ghost use Rattle.pm_types.specs.declared.limits.TheConstants.{CLIENTS};
     ghost use Rattle.pm_model.specs.Frames.{is_settle};
     ghost use Rattle.pm_model.specs.Journal.{IsFirstPart, IsLegal};
@@ -182,4 +184,9 @@ impl<D: Disk + Drop, F: Drop> Shared<D, F> {
     {
         pass.keeps_its_entries();
     }
+
+    /// A law of threads: callers in threads of their own may share it, where its disk and its chooser may cross threads.
+    pub fn keep_its_threads(&self)
+        ensures { IsSend D.row → IsSend F.row → IsSync (sharing.the_row D.row F.row D.Disk) }
+    {}
 }

@@ -1,6 +1,5 @@
 use Rattle.std.proofs.Common.{Ok, Err, ap, arith, refl, ◌∙◌}
 use Rattle.pm_engine.specs.contracts.Engine as engines
-use Rattle.pm_passes.specs.Views.{given}
 use Rattle.pm_seats.specs.declared.limits.TheConstants.{LAST_EVENT}
 use Rattle.pm_seats.specs.Events.{CallsClient}
 use Rattle.pm_seats.specs.Sharing.{first_engine}
