@@ -57,7 +57,7 @@ module _ (D F : RattleType) (g : Ghosts D.Denot) (d : IsSend D) (f : IsSend F) w
 
   -- an engine
   pub engine_fields : IsSend (engine.the_field D F g).row
-  engine_fields = struct_send (shape (engine.the_type D F g)) (works_fields, (start_fields, (search (crossing.crosses, sendable) depth 20, tt)))
+  engine_fields = struct_send (shape (engine.the_type D F g)) (works_fields, (start_fields, (search (crossing.crosses, sendable) depth 20, (search (crossing.crosses, sendable) depth 20, tt))))
 
   pub engine_send : IsSend (engine.the_row D F g)
   engine_send = recorded_send (engine.the_field D F g).row _ _ (engine.the_type D F g).to_one engine_fields

@@ -19,7 +19,7 @@ use Rattle.pm_engine.proofs.WorksLemmas.Crashing.{settled_images, settled_number
 
 module _ {D : Type 0} {F : Type 0} {g : Ghosts D} (old : Engine D F g) (new : Works D F g) (sound : ∥ IsSound old.opening old.stopped new ∥₁) (bounded : ∥ KeepsBounds (seen old.opening old.stopped new) ∥₁) (counted : old.opening.count ≤ g.count (disk_at new)) (past : ∥ HasHistory (seen old.opening old.stopped new) ∥₁) (none : old.stopped ≡ None) (client : ℕ) (cmd : Cmd) where
   pub settled_all : (reply : Reply) → Serves client cmd (seen old.opening old.stopped old.works) (seen old.opening old.stopped new) reply → Answers client cmd old.works new reply
-      → SettlesAs old (record { works = new; opening = old.opening; stopped = old.stopped; sound = sound; bounded = bounded; counted = counted; past = past }) reply
+      → SettlesAs old (record { works = new; opening = old.opening; stopped = old.stopped; unmade = old.unmade; sound = sound; bounded = bounded; counted = counted; past = past }) reply
   settled_all (Saved number) serves is =
       let start = old.opening in
       let serves0 = subst (λ (o : Option ℕ). Serves client cmd (seen start o old.works) (seen start o new) (Saved number)) none serves in
@@ -34,7 +34,7 @@ module _ {D : Type 0} {F : Type 0} {g : Ghosts D} (old : Engine D F g) (new : Wo
 
 module _ {D : Type 0} {F : Type 0} {g : Ghosts D} (old : Engine D F g) (new : Works D F g) (sound : ∥ IsSound old.opening old.stopped new ∥₁) (bounded : ∥ KeepsBounds (seen old.opening old.stopped new) ∥₁) (counted : old.opening.count ≤ g.count (disk_at new)) (past : ∥ HasHistory (seen old.opening old.stopped new) ∥₁) (client : ℕ) where
   abbrev now : Engine D F g
-  now = record { works = new; opening = old.opening; stopped = old.stopped; sound = sound; bounded = bounded; counted = counted; past = past }
+  now = record { works = new; opening = old.opening; stopped = old.stopped; unmade = old.unmade; sound = sound; bounded = bounded; counted = counted; past = past }
 
   drops_pages : (reply : Reply) → Unsaves client old.works new reply → DropsPages old now reply
   drops_pages (Dropped number) is = record { pages = is.pages; disk = is.disk }

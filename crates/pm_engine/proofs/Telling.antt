@@ -37,6 +37,7 @@ module _ {D : Type 0} {F : Type 0} {g : Ghosts D} (it : Engine D F g) (count : â
     work = omega arith;
     bound = kept_still (serving it).view (serving it).view refl;
     room = omega arith;
+    unmade = refl;
   }
 
   pub flush_reopens : AnswersFlush it it (Err (Reopen count))
@@ -54,6 +55,7 @@ module _ {D : Type 0} {F : Type 0} {g : Ghosts D} (it : Engine D F g) (count : â
     made = none_made 1 0 (g.made (disk_in it));
     past = refl;
     room = omega arith;
+    unmade = refl;
   }
 
   pub collect_reopens : (calls : Shared F (Bor (List â„•) Ã— Unit {0}) â„•) â†’ AnswersCollect calls it it (Err (Reopen count))
@@ -68,4 +70,5 @@ module _ {D : Type 0} {F : Type 0} {g : Ghosts D} (it : Engine D F g) (count : â
     memory = tt;
     short = tt;
     room = omega arith;
+    unmade = refl;
   }

@@ -1,5 +1,5 @@
 -- What the calls of an engine do, beside its journal.
-use Rattle.std.specs.Prelude.{◌≡◌, ◌⊎◌, ℕ, ◌+◌, ◌<◌, ◌≤◌, true, false, List, None, Result, MatchResult, IfOk, IfErr, OnOk}
+use Rattle.std.specs.Prelude.{◌≡◌, ◌⊎◌, ℕ, ◌+◌, ◌<◌, ◌≤◌, true, false, List, Option, Some, None, Result, MatchResult, IfOk, IfErr, OnOk}
 use Rattle.std.specs.Borrow.{Bor}
 use Rattle.std.specs.Fn.{Shared}
 use Rattle.pm_types.specs.declared.command.Cmd.{Cmd}
@@ -31,9 +31,11 @@ use Rattle.pm_saving.specs.Events.{Collects, FailsAs, Flushes, Serves}
 use Rattle.pm_saving.specs.Images as images
 use Rattle.pm_saving.specs.Images.{IsTold}
 use Rattle.pm_engine.specs.declared.engine.Engine.{Engine}
+use Rattle.pm_engine.specs.declared.unmade.Unmade.{Unmade}
+use Rattle.pm_engine.specs.declared.unmade.Unmade.TheVariants.{OfClient, OfCollector, OfFlusher}
 use Rattle.pm_engine.specs.Works.Acting.{ChangesSpace}
 use Rattle.pm_engine.specs.Works.Copies.{KeepsCopies, MayStand}
-use Rattle.pm_engine.specs.Shown.{chooser, disk_in, opened_disk, pages_in, room, serving}
+use Rattle.pm_engine.specs.Shown.{chooser, disk_in, opened_disk, pages_in, room, serving, unmade_in}
 
 -- the fault is none of the disk
 abbrev pub IsNoDisk : EngineFault → Type 0
@@ -46,6 +48,12 @@ abbrev pub IfMemory : Type 0 → EngineFault → Type 0
 IfMemory P (Memory _) = P
 IfMemory P (Disk before after) = Unit {0}
 IfMemory P (Reopen count) = Unit {0}
+
+-- At want of memory this event is noted, and nothing else notes any.
+abbrev pub Notes : Unmade → Option Unmade → Option Unmade → EngineFault → Type 0
+Notes event old new (Memory _) = new ≡ Some event
+Notes event old new (Disk before after) = new ≡ old
+Notes event old new (Reopen count) = new ≡ old
 
 -- P holds, unless an earlier call had answered that the disk failed
 abbrev pub UnlessReopen : Type 0 → EngineFault → Type 0
@@ -170,6 +178,8 @@ module _ {D : Type 0} {F : Type 0} {g : Ghosts D} where
     pub bound : KeepsWatches (serving old).view (serving new).view
     -- an entry takes the room of one
     pub room : MatchResult result (λ _. room old ≤ room new + 1) (λ _. room old ≤ room new)
+    -- at want of memory it is noted that this client's command was not made, and nothing else is
+    pub unmade : MatchResult result (λ _. unmade_in new ≡ unmade_in old) (Notes (OfClient client) (unmade_in old) (unmade_in new))
 
   -- What `flush` does, whatever it answers.
   pub record AnswersFlush (old new : Engine D F g) (result : Result Flushed EngineFault) : Type 0 where
@@ -199,6 +209,8 @@ module _ {D : Type 0} {F : Type 0} {g : Ghosts D} where
     pub past : ReadsWithin old new
     -- there is room for as many entries
     pub room : room old ≤ room new
+    -- at want of memory it is noted that an event of the flusher was not made, and nothing else is
+    pub unmade : MatchResult result (λ _. unmade_in new ≡ unmade_in old) (Notes OfFlusher (unmade_in old) (unmade_in new))
 
   -- What `collect` does, whatever it answers. The calls are those of the chooser.
   pub record AnswersCollect (calls : Shared F (Bor (List ℕ) × Unit {0}) ℕ) (old new : Engine D F g) (result : Result Step EngineFault) : Type 0 where
@@ -221,3 +233,5 @@ module _ {D : Type 0} {F : Type 0} {g : Ghosts D} where
     pub short : IfErr result (IfMemory (TakesMemory (next_row (serving old).view)))
     -- there is room for as many entries
     pub room : room old ≤ room new
+    -- at want of memory it is noted that an event of the collector was not made, and nothing else is
+    pub unmade : MatchResult result (λ _. unmade_in new ≡ unmade_in old) (Notes OfCollector (unmade_in old) (unmade_in new))

@@ -1,5 +1,5 @@
 -- What contracts see of an engine.
-use Rattle.std.specs.Prelude.{◌≡◌, ℕ, List, length}
+use Rattle.std.specs.Prelude.{◌≡◌, ℕ, List, length, Option, None}
 use Rattle.pm_types.specs.declared.entry.Entry.{Entry}
 use Rattle.pm_types.specs.declared.event.WatchLine.{WatchLine}
 use Rattle.pm_disk.specs.declared.disk.Disk.{Ghosts}
@@ -12,6 +12,7 @@ use Rattle.pm_save.specs.Shown.{saving}
 use Rattle.pm_saving.specs.Serving.{Before, KeepsOpening, Serving}
 use Rattle.pm_engine.specs.declared.engine.Engine.{Engine}
 use Rattle.pm_engine.specs.declared.tally.Tally.{Tally}
+use Rattle.pm_engine.specs.declared.unmade.Unmade.{Unmade}
 use Rattle.pm_engine.specs.Works.Course.{told_before}
 use Rattle.pm_engine.specs.Works.Working.{disk_at, place_in, room_in, state_in}
 use Rattle.pm_engine.specs.Works.Seen.{disk_then, seen}
@@ -39,6 +40,10 @@ module _ {D : Type 0} {F : Type 0} {g : Ghosts D} where
   abbrev pub room : Engine D F g → ℕ
   room it = room_in it.works
 
+  -- the event for which a call last answered that memory ran out, if one did
+  abbrev pub unmade_in : Engine D F g → Option Unmade
+  unmade_in it = it.unmade
+
   -- the chooser of the space
   abbrev pub chooser : Engine D F g → F
   chooser it = place_in it.works
@@ -63,6 +68,8 @@ pub record Total : Type 0 where
   pub journal : List Entry
   pub course : List Before
   pub left : ℕ
+  -- and the event for which memory ran out last
+  pub unmade : Option Unmade
 
 abbrev pub tally_of : Tally → Total
 tally_of it = record {
@@ -75,9 +82,10 @@ tally_of it = record {
   journal = it.journal.value.items;
   course = told_before it.course;
   left = left_of (saving it.saver.value).progress;
+  unmade = it.unmade;
 }
 
--- what an engine comes to
+-- what comes of what an engine serves, with no event noted
 abbrev pub tally_in : Serving → Total
 tally_in it = record {
   entries = length it.journal;
@@ -89,4 +97,9 @@ tally_in it = record {
   journal = it.journal;
   course = it.course;
   left = left_of it.saving.progress;
+  unmade = None;
 }
+
+-- what an engine comes to: the same, with the event that it noted
+abbrev pub total_in : {D F : Type 0} {g : Ghosts D} → Engine D F g → Total
+total_in it = record (tally_in (serving it)) { unmade = unmade_in it }

@@ -4,8 +4,8 @@ ghost use Rattle.std.specs.Prelude.{◌≡◌, false, IfOk, OnErr};
 ghost use Rattle.pm_types.specs.declared.limits.TheConstants.{CLIENTS};
 ghost use Rattle.pm_model.specs.Frames.{is_settle};
 
-use crate::Engine;
 use crate::works::SaveFault;
+use crate::{Engine, Unmade};
 use pm_disk::Disk;
 use pm_types::{Cmd, EngineFault, NoMemory, Reply};
 use std::alloc::Global;
@@ -43,7 +43,10 @@ impl<D: Disk, F: Drop> Engine<D, F> {
             Some(count) => Err(EngineFault::Reopen { count }),
             None => match kept(alloc, cmd) {
                 Ok(cmd) => self.ask(alloc, client, cmd),
-                Err(refused) => Err(EngineFault::Memory(refused)),
+                Err(refused) => {
+                    self.unmade = Some(Unmade::OfClient(client));
+                    Err(EngineFault::Memory(refused))
+                }
             },
         }
     }
@@ -75,7 +78,10 @@ impl<D: Disk, F: Drop> Engine<D, F> {
         let before = self.works.pages.faults();
         match self.works.answer(alloc, client, cmd) {
             Ok(reply) => Ok(reply),
-            Err(SaveFault::Memory(refused)) => Err(EngineFault::Memory(refused)),
+            Err(SaveFault::Memory(refused)) => {
+                self.unmade = Some(Unmade::OfClient(client));
+                Err(EngineFault::Memory(refused))
+            }
             Err(SaveFault::Disk) => {
                 let after = self.works.pages.faults();
                 self.stopped = Some(after);

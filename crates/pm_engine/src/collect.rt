@@ -2,7 +2,7 @@
 
 ghost use Rattle.std.specs.Prelude.{◌≡◌, None};
 
-use crate::Engine;
+use crate::{Engine, Unmade};
 use pm_disk::Disk;
 use pm_types::{EngineFault, Step};
 use std::alloc::Global;
@@ -38,7 +38,10 @@ impl<D: Disk, F: Fn(&[u64]) -> usize + Drop> Engine<D, F> {
     {
         match self.works.collect(alloc) {
             Ok(step) => Ok(step),
-            Err(refused) => Err(EngineFault::Memory(refused)),
+            Err(refused) => {
+                self.unmade = Some(Unmade::OfCollector);
+                Err(EngineFault::Memory(refused))
+            }
         }
     }
 }

@@ -7,8 +7,8 @@ ghost use Rattle.pm_engine.specs.Works.Working.{disk_at};
 ghost use Rattle.pm_engine.specs.Works.Seen.{seen};
 ghost use Rattle.pm_engine.specs.Sound.{IsSound};
 
-use crate::Tally;
 use crate::works::{Start, WATCH_ROOM, Works, tell_watches};
+use crate::{Tally, Unmade};
 use arrayvec::ArrayVec;
 use pm_disk::Disk;
 use pm_space::Space;
@@ -24,6 +24,9 @@ pub struct Engine<D: Disk, F> {
     pub(crate) opening: Start<D, F>,
     /// Where a call has answered that the disk failed: the count of failed calls then.
     pub(crate) stopped: Option<u64>,
+    /// The event for which a call last answered that memory ran out. It stands beside what the engine serves, which is as
+    /// it was then.
+    pub(crate) unmade: Option<Unmade>,
     ghost sound: { ∥ IsSound opening stopped works ∥₁ },
     ghost bounded: { ∥ KeepsBounds (seen opening stopped works) ∥₁ },
     ghost counted: { opening.count ≤ D.count (disk_at works) },
@@ -50,7 +53,7 @@ impl<D: Disk, F: Drop> Engine<D, F> {
     ghost use Rattle.pm_types.specs.Counts.{capped};
     ghost use Rattle.pm_space.specs.Shown.{view};
     ghost use Rattle.pm_engine.specs.Shown.{KeepsStart, disk_in, opened_count, opened_disk, room, serving};
-    ghost use Rattle.pm_engine.specs.Shown.{tally_in, tally_of};
+    ghost use Rattle.pm_engine.specs.Shown.{tally_of, total_in, unmade_in};
 
     /// What was asked and answered since the opening, in order.
     pub fn journal(&self) -> &[Entry]
@@ -116,6 +119,7 @@ impl<D: Disk, F: Drop> Engine<D, F> {
         ensures serving { serving self.new ≡ serving self.old }
         ensures disk { disk_in self.new ≡ disk_in self.old }
         ensures start { KeepsStart self.old self.new }
+        ensures unmade { unmade_in self.new ≡ unmade_in self.old }
         ensures room { OnOk result (n ≤ room self.new) }
         // There is room for as many as before; where it fails so many had no room, and as many have as before.
         ensures grows { room self.old ≤ room self.new }
@@ -132,11 +136,11 @@ impl<D: Disk, F: Drop> Engine<D, F> {
     pub fn into_parts(self) -> (D, Vec<Entry>, Tally, Space<F>)
         ensures disk { result.0 ≡ disk_in self }
         ensures journal { result.1.items ≡ (serving self).journal }
-        ensures tally { tally_of result.2 ≡ tally_in (serving self) }
+        ensures tally { tally_of result.2 ≡ total_in self }
         ensures honest { AllByRecursion IsHonest (tally_of result.2).lines }
         ensures heap { view result.3.parts ≡ (serving self).view }
     {
-        let Engine { works, .. } = self;
+        let Engine { works, unmade, .. } = self;
         let entries = works.journal.len() as u64;
         let standing = works.space.standing();
         let tally = Tally {
@@ -149,6 +153,7 @@ impl<D: Disk, F: Drop> Engine<D, F> {
             journal: Snapshot::of(&works.journal),
             course: works.course,
             saver: Snapshot::of(&works.saver),
+            unmade,
         };
         (works.pages.into_disk(), works.journal, tally, works.space)
     }

@@ -2,8 +2,8 @@
 
 ghost use Rattle.std.specs.Prelude.{◌≡◌, None};
 
-use crate::Engine;
 use crate::works::SaveFault;
+use crate::{Engine, Unmade};
 use pm_disk::Disk;
 use pm_types::{EngineFault, Flushed};
 use std::alloc::Global;
@@ -37,7 +37,10 @@ impl<D: Disk, F: Drop> Engine<D, F> {
         let before = self.works.pages.faults();
         match self.works.flush(alloc) {
             Ok(flushed) => Ok(flushed),
-            Err(SaveFault::Memory(refused)) => Err(EngineFault::Memory(refused)),
+            Err(SaveFault::Memory(refused)) => {
+                self.unmade = Some(Unmade::OfFlusher);
+                Err(EngineFault::Memory(refused))
+            }
             Err(SaveFault::Disk) => {
                 let after = self.works.pages.faults();
                 self.stopped = Some(after);

@@ -9,8 +9,10 @@ pub mod events;
 mod flush;
 mod open;
 mod tally;
+mod unmade;
 pub mod works;
 
 pub use crate::works::SaveFault;
 pub use engine::Engine;
 pub use tally::Tally;
+pub use unmade::Unmade;

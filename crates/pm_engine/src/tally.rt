@@ -2,6 +2,7 @@
 
 ghost use Rattle.std.specs.Prelude.{◌≡◌};
 
+use crate::Unmade;
 use crate::works::{Course, Saver, WATCH_ROOM};
 use arrayvec::ArrayVec;
 use pm_types::{Entry, WatchLine};
@@ -22,6 +23,8 @@ pub struct Tally {
     pub(crate) course: Course,
     /// The saver, with the copy in progress.
     pub(crate) saver: Snapshot<Saver>,
+    /// The event for which memory ran out last, if it did.
+    pub(crate) unmade: Option<Unmade>,
 }
 
 impl Tally {
@@ -60,6 +63,13 @@ impl Tally {
         ensures { result.now ≡ (tally_of self.now).lines }
     {
         self.lines.as_slice()
+    }
+
+    /// The event for which memory ran out last, if it did.
+    pub fn unmade(&self) -> Option<Unmade>
+        ensures { result ≡ (tally_of self.now).unmade }
+    {
+        self.unmade
     }
 
     /// How many objects stand.

@@ -1,5 +1,6 @@
 -- Facts of a book that hold as soon as it is known that they hold in some way.
-use Rattle.std.proofs.Common.{◌≡◌, ℕ, ◌<◌, ◌≤◌, List, Option, Some, None}
+use Rattle.std.proofs.Common.{◌≡◌, ◌⊎◌, inl, inr, ℕ, ◌<◌, ◌≤◌, Bool, true, false, List, Option, Some, None, refl}
+use Rattle.std.specs.Coded.{Coded, Coded-set, code_by, coded_bool, coded_option, coded_ℕ, coded⊎}
 use Rattle.std.specs.List.{AllByRecursion-prop}
 use Rattle.std.proofs.Math.Logic.{∥∥₁_elim, ∥∥₁_map}
 use Rattle.std.proofs.Props.{props}
@@ -12,7 +13,9 @@ use Rattle.pm_script.specs.declared.line.Line.TheVariants.{Client, Gc, Flush}
 use Rattle.pm_script.specs.Script.{AreLines, first_of}
 use Rattle.pm_script.specs.Words.{IsFirst}
 use Rattle.pm_engine.proofs.WorksLemmas.Counts.{splits_rose}
-use Rattle.pm_lock.specs.Kept.{HasCauseSince}
+use Rattle.pm_engine.specs.declared.unmade.Unmade.{Unmade}
+use Rattle.pm_engine.specs.declared.unmade.Unmade.TheVariants.{OfClient, OfCollector, OfFlusher}
+use Rattle.pm_lock.specs.Kept.{HasCauseSince, UnlessMemory}
 
 -- a fact with one proof at most
 pub splits_once : {A : Type 0} → IsProp A → ∥ A ∥₁ → A
@@ -54,3 +57,33 @@ splits_cause (Some (Disk before after)) opened first now known = (
   ),
 )
 splits_cause (Some (Reopen count)) opened first now known = absurd (∥∥₁_elim known ⊥_prop (λ is. is))
+
+-- ---- the event for which memory ran out
+
+-- whose event it is, as a number or a truth value, and back
+abbrev whose : Unmade → ℕ ⊎ Bool
+whose (OfClient client) = inl client
+whose OfCollector = inr true
+whose OfFlusher = inr false
+
+abbrev of_whom : ℕ ⊎ Bool → Unmade
+of_whom (inl client) = OfClient client
+of_whom (inr true) = OfCollector
+of_whom (inr false) = OfFlusher
+
+same_event : (event : Unmade) → of_whom (whose event) ≡ event
+same_event (OfClient client) = refl
+same_event OfCollector = refl
+same_event OfFlusher = refl
+
+unmade_code : Coded Unmade
+unmade_code = code_by (ℕ ⊎ Bool) (coded⊎ coded_ℕ coded_bool) whose of_whom same_event
+
+unmade_once : (one other : Option Unmade) → IsProp (one ≡ other)
+unmade_once one other = Coded-set (coded_option unmade_code) one other
+
+pub splits_unmade : (fault : Option EngineFault) (now first : Option Unmade) → ∥ UnlessMemory fault (now ≡ first) ∥₁ → UnlessMemory fault (now ≡ first)
+splits_unmade None now first known = splits_once (unmade_once now first) known
+splits_unmade (Some (Memory _)) now first known = tt
+splits_unmade (Some (Disk before after)) now first known = splits_once (unmade_once now first) known
+splits_unmade (Some (Reopen count)) now first known = splits_once (unmade_once now first) known

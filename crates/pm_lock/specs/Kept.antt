@@ -1,5 +1,5 @@
 -- What the type of a book keeps.
-use Rattle.std.specs.Prelude.{◌≡◌, ◌⊎◌, ℕ, ◌+◌, ◌^◌, ◌<◌, ◌≤◌, true, List, ◌∷◌, ◌++◌, length, Option, Some, None, option_map}
+use Rattle.std.specs.Prelude.{◌≡◌, ℕ, ◌+◌, ◌^◌, ◌<◌, ◌≤◌, true, List, ◌∷◌, ◌++◌, length, Option, Some, None, option_map}
 use Rattle.std.specs.List.{AllByRecursion}
 use Rattle.pm_types.specs.Counts.{ShowsRise}
 use Rattle.pm_types.specs.declared.command.Cmd.{Cmd}
@@ -14,7 +14,9 @@ use Rattle.pm_script.specs.Parted.Asked.{events_asked, flushes_asked, requests_a
 use Rattle.pm_script.specs.Parted.Lists.{count_left, list_of}
 use Rattle.pm_saving.specs.Serving.{Serving}
 use Rattle.pm_engine.specs.declared.engine.Engine.{Engine}
-use Rattle.pm_engine.specs.Shown.{disk_in, opened_count, room, serving}
+use Rattle.pm_engine.specs.Shown.{disk_in, opened_count, room, serving, unmade_in}
+use Rattle.pm_engine.specs.declared.unmade.Unmade.{Unmade}
+use Rattle.pm_engine.specs.declared.unmade.Unmade.TheVariants.{OfClient, OfCollector, OfFlusher}
 use Rattle.pm_engine.specs.declared.events.stop.Stop.{Stop}
 use Rattle.pm_engine.specs.Events.Causes.{stop_of}
 use Rattle.pm_engine.specs.Events.Events.{EngineGoesOn, FitsLine, IsUnfinished}
@@ -55,21 +57,34 @@ HasCauseSince (Some (Memory _)) opened first now = Unit {0}
 HasCauseSince (Some (Disk before after)) opened first now = (opened ≤ before) × ShowsRise before after first now
 HasCauseSince (Some (Reopen count)) opened first now = ⊥
 
--- a client's command is left; where it is to settle, something of the copy in progress is left to be written
-pub record AwaitsClient (it : Serving) (lists : List (List Cmd)) : Type 0 where
-  pub client : ℕ
+-- a command of this client is left; where it is to settle, something of the copy in progress is left to be written
+pub record AwaitsClient (client : ℕ) (it : Serving) (lists : List (List Cmd)) : Type 0 where
   pub cmd : Cmd
   pub rest : List Cmd
   pub next : list_of lists client ≡ cmd ∷ rest
   pub unfinished : is_settle cmd ≡ true → IsUnfinished it
 
--- Where Memory is kept, an event is left in which memory may run out. So it does not in `settle` once all of the copy was
+-- the event that was not made is left
+abbrev pub AwaitsEvent : Option Unmade → Serving → List (List Cmd) → ℕ → ℕ → Type 0
+AwaitsEvent None it lists collects flushes = ⊥
+AwaitsEvent (Some (OfClient client)) it lists collects flushes = AwaitsClient client it lists
+AwaitsEvent (Some OfCollector) it lists collects flushes = 0 < collects
+AwaitsEvent (Some OfFlusher) it lists collects flushes = 0 < flushes
+
+-- Where Memory is kept, the event for which the engine answered it is left. So it is no `settle` once all of the copy was
 -- flushed.
-abbrev pub HasLeft : Option EngineFault → Serving → List (List Cmd) → ℕ → ℕ → Type 0
-HasLeft None it lists collects flushes = Unit {0}
-HasLeft (Some (Memory _)) it lists collects flushes = (0 < collects) ⊎ ((0 < flushes) ⊎ AwaitsClient it lists)
-HasLeft (Some (Disk before after)) it lists collects flushes = Unit {0}
-HasLeft (Some (Reopen count)) it lists collects flushes = Unit {0}
+abbrev pub HasLeft : Option EngineFault → Option Unmade → Serving → List (List Cmd) → ℕ → ℕ → Type 0
+HasLeft None unmade it lists collects flushes = Unit {0}
+HasLeft (Some (Memory _)) unmade it lists collects flushes = AwaitsEvent unmade it lists collects flushes
+HasLeft (Some (Disk before after)) unmade it lists collects flushes = Unit {0}
+HasLeft (Some (Reopen count)) unmade it lists collects flushes = Unit {0}
+
+-- this holds, unless Memory is kept
+abbrev pub UnlessMemory : Option EngineFault → Type 0 → Type 0
+UnlessMemory None P = P
+UnlessMemory (Some (Memory _)) P = Unit {0}
+UnlessMemory (Some (Disk before after)) P = P
+UnlessMemory (Some (Reopen count)) P = P
 
 module _ {D : Type 0} {F : Type 0} {g : Ghosts D} where
   -- The engine of a book, beside the one that it was made of, by what is kept and what is left.
@@ -82,8 +97,10 @@ module _ {D : Type 0} {F : Type 0} {g : Ghosts D} where
     pub cause : HasCauseSince fault (opened_count first) (g.count (disk_in first)) (g.count (disk_in now))
     -- there is room for the entries of all commands that are left
     pub room : count_left lists ≤ room now
-    -- where memory ran out, something is left in which it may
-    pub short : HasLeft fault (serving now) lists collects flushes
+    -- where memory ran out, the event that the engine noted is left
+    pub short : HasLeft fault (unmade_in now) (serving now) lists collects flushes
+    -- where it did not, the engine noted none since
+    pub unmade : UnlessMemory fault (unmade_in now ≡ unmade_in first)
 
   -- What a book keeps.
   pub record KeepsBook (lines : List Line) (first now : Engine D F g) (lists : List (List Cmd)) (collects flushes : ℕ) (fault : Option EngineFault) : Type 0 where

@@ -39,10 +39,11 @@ impl<D: Disk, F: Drop> Book<D, F> {
     ghost use Rattle.pm_saving.specs.Bounds.{KeepsBounds};
     ghost use Rattle.pm_saving.specs.Serving.{opening, world};
     ghost use Rattle.pm_saving.specs.Images.{IsSettledCopy, IsTold};
-    ghost use Rattle.pm_engine.specs.Shown.{KeepsStart, disk_in, opened_count, opened_disk, room, serving};
+    ghost use Rattle.pm_engine.specs.Shown.{KeepsStart, disk_in, opened_count, opened_disk, room, serving, unmade_in};
+    ghost use Rattle.pm_engine.specs.History.{HasHistory};
     ghost use Rattle.pm_engine.specs.Events.Running.{IsFresh};
     ghost use Rattle.pm_engine.specs.Events.Events.{EngineGoesOn, FitsLine};
-    ghost use Rattle.pm_lock.specs.Kept.{HasCauseSince, HasLeft, stop_kept, stopped_by};
+    ghost use Rattle.pm_lock.specs.Kept.{HasCauseSince, HasLeft, UnlessMemory, stop_kept, stopped_by};
     ghost use Rattle.pm_lock.specs.Shown.{BeginsBook, collects_in, engine_in, fault_in, first_in, flushes_in};
     ghost use Rattle.pm_lock.specs.Shown.{left_in, lines_in};
 
@@ -62,6 +63,7 @@ impl<D: Disk, F: Drop> Book<D, F> {
         ensures serving { IfErr result (λ back. serving back.0 ≡ serving engine) }
         ensures disk { IfErr result (λ back. disk_in back.0 ≡ disk_in engine) }
         ensures start { IfErr result (λ back. KeepsStart engine back.0) }
+        ensures unmade { IfErr result (λ back. unmade_in back.0 ≡ unmade_in engine) }
     {
         engine.keep_their_images();
         let first = Snapshot::of(&engine);
@@ -133,15 +135,20 @@ impl<D: Disk, F: Drop> Book<D, F> {
 
     /// A law of the book at any time, on its engine. It went on from the one of which the book was made as a run does; it
     /// is stopped exactly where a Disk is kept, whose count rose as told; there is room for the entry of each command that
-    /// is left; and where Memory is kept, something is left in which memory may run out. Each watch keeps its bound.
+    /// is left. Where Memory is kept, the event is left for which the engine noted that memory ran out; where it is not,
+    /// the engine noted none in the book. It came by calls from one that was just opened, which tells what it made and in
+    /// which order. Each watch keeps its bound.
     pub fn keep_its_engine(&self)
         ensures goes { ∥ EngineGoesOn (first_in self.now) (engine_in self.now) (stop_kept (fault_in self.now)) ∥₁ }
         ensures stopped { (serving (engine_in self.now)).stopped ≡ stopped_by (fault_in self.now) }
         ensures cause { HasCauseSince (fault_in self.now) (opened_count (first_in self.now))
             (D.count (disk_in (first_in self.now))) (D.count (disk_in (engine_in self.now))) }
         ensures room { count_left (left_in self.now) ≤ room (engine_in self.now) }
-        ensures short { ∥ HasLeft (fault_in self.now) (serving (engine_in self.now)) (left_in self.now)
-            (collects_in self.now) (flushes_in self.now) ∥₁ }
+        ensures short { ∥ HasLeft (fault_in self.now) (unmade_in (engine_in self.now)) (serving (engine_in self.now))
+            (left_in self.now) (collects_in self.now) (flushes_in self.now) ∥₁ }
+        ensures unmade { UnlessMemory (fault_in self.now)
+            (unmade_in (engine_in self.now) ≡ unmade_in (first_in self.now)) }
+        ensures history { ∥ HasHistory (serving (engine_in self.now)) ∥₁ }
         ensures bounds { ∥ KeepsBounds (serving (engine_in self.now)) ∥₁ }
     {
         self.engine.keep_their_images();

@@ -1,5 +1,5 @@
 -- What a run has done, in the words of its end.
-use Rattle.std.proofs.Common.{◌≡◌, inl, inr, ⊎_elim, ℕ, ◌<◌, ◌≤◌, List, [], ◌++◌, map, filter, nat_eq, Option, Some, None, IsSome, length, refl, sym, ap, subst, ◌∙◌, arith}
+use Rattle.std.proofs.Common.{◌≡◌, inl, inr, ⊎_elim, ℕ, ◌<◌, ◌≤◌, List, [], ◌++◌, map, filter, nat_eq, Option, Some, None, IfSome, IsSome, length, refl, sym, ap, subst, ◌∙◌, arith}
 use Rattle.std.proofs.Math.Nat.{min-eq_left}
 use Rattle.std.proofs.lemmas.List.{length-map, map-append}
 use Rattle.std.proofs.lemmas.List.Elements.{filter-append}
@@ -29,7 +29,8 @@ use Rattle.pm_saving.specs.Images as images
 use Rattle.pm_saving.specs.Images.{IsTold}
 use Rattle.pm_engine.specs.declared.engine.Engine.{Engine}
 use Rattle.pm_engine.specs.declared.tally.Tally.{Tally}
-use Rattle.pm_engine.specs.Shown.{KeepsStart, Total, disk_in, opened_disk, serving, tally_in, tally_of}
+use Rattle.pm_engine.specs.Shown.{KeepsStart, Total, disk_in, opened_disk, serving, tally_in, tally_of, total_in, unmade_in}
+use Rattle.pm_engine.specs.declared.unmade.Unmade.{Unmade}
 use Rattle.pm_engine.specs.declared.events.stop.Stop.{Stop}
 use Rattle.pm_engine.specs.declared.events.stop.Stop.TheVariants.{Memory as StopMemory, Writing as StopWriting, Device as StopDevice}
 use Rattle.pm_engine.specs.Events.Causes as causes
@@ -37,7 +38,8 @@ use Rattle.pm_engine.specs.Events.Causes.{IsDone, CountsDisk, OnStop}
 use Rattle.pm_serial.specs.Causes.{CountsSink}
 use Rattle.pm_script.specs.Parted.Asked.{events_asked, requests_asked, steps_asked}
 use Rattle.pm_serial.specs.Running.{AnswersLines}
-use Rattle.pm_runs.specs.Threads.Running.{AnswersClients, LeavesSome}
+use Rattle.pm_runs.specs.Threads.Running.{AnswersClients, LeavesEvent}
+use Rattle.pm_runs.specs.Threads.Ordered.{AnswersInSomeOrder, ServesInSomeOrder, StopsAt}
 use Rattle.pm_engine.specs.Events.Running.{IsFresh, RunsOnDisk}
 use Rattle.pm_serial.specs.Writing.{tail_of}
 use Rattle.pm_serial.specs.Ordered.{StopsAmong, course_of}
@@ -55,7 +57,7 @@ use Rattle.pm_runs.specs.Ends.Journals.{IsBegun, ServesAll, ServesInOrder, Serve
 use Rattle.pm_runs.specs.Ends.Causes.{ShowsCauses}
 use Rattle.pm_runs.proofs.EndsLemmas.Parts.{with_parts}
 use Rattle.pm_runs.proofs.EndsLemmas.Faults.{late_past}
-use Rattle.pm_runs.proofs.EndsLemmas.Tallied.{KeepsAll, engine_comes, total_of}
+use Rattle.pm_runs.proofs.EndsLemmas.Tallied.{KeepsAll, engine_comes, noting, total_of}
 
 -- an empty journal is legal from the world of the empty copy
 pub none_begun : IsBegun []
@@ -134,9 +136,9 @@ short_back (Some StopWriting) a b c d ran = absurd ran
 short_back (Some StopDevice) a b c d ran = absurd ran
 
 -- what was answered, in the order of the lines
-pub order_served : (lines : List Line) (it : Serving) (tally : Tally) (stop : Option Stop) (a b c d : ℕ) → tally_of tally ≡ tally_in it
+pub order_served : (lines : List Line) (it : Serving) (unmade : Option Unmade) (tally : Tally) (stop : Option Stop) (a b c d : ℕ) → tally_of tally ≡ noting it unmade
     → AnswersLines lines it stop → ServesInOrder lines (ended_by stop a b c d) it.journal (Some tally)
-order_served lines it tally stop a b c d is answers = record {
+order_served lines it unmade tally stop a b c d is answers = record {
   rest = answers.rest;
   served = answers.served;
   all = λ past. answers.all (done_back stop a b c d past);
@@ -153,9 +155,9 @@ order_served lines it tally stop a b c d is answers = record {
 }
 
 -- and by each client
-pub lines_served : (lines : List Line) (it : Serving) (tally : Tally) (stop : Option Stop) (a b c d : ℕ) → events_asked lines ≤ greatest_count → tally_of tally ≡ tally_in it
+pub lines_served : (lines : List Line) (it : Serving) (unmade : Option Unmade) (tally : Tally) (stop : Option Stop) (a b c d : ℕ) → events_asked lines ≤ greatest_count → tally_of tally ≡ noting it unmade
     → AnswersLines lines it stop → ServesLines lines (ended_by stop a b c d) it.journal (Some tally)
-lines_served lines it tally stop a b c d few is answers =
+lines_served lines it unmade tally stop a b c d few is answers =
     let late = ended_late stop a b c d in
     let few_steps : steps_asked lines ≤ greatest_count = omega (arith, few) in
     record {
@@ -169,13 +171,13 @@ lines_served lines it tally stop a b c d few is answers =
     }
 
 -- all of it
-pub all_served : (lines : List Line) (it : Serving) (tally : Tally) → events_asked lines ≤ greatest_count → tally_of tally ≡ tally_in it → AnswersLines lines it None → ServesAll lines it.journal (Some tally)
-all_served lines it tally few is answers = record { serves = lines_served lines it tally None 0 0 0 0 few is answers; order = order_served lines it tally None 0 0 0 0 is answers }
+pub all_served : (lines : List Line) (it : Serving) (unmade : Option Unmade) (tally : Tally) → events_asked lines ≤ greatest_count → tally_of tally ≡ noting it unmade → AnswersLines lines it None → ServesAll lines it.journal (Some tally)
+all_served lines it unmade tally few is answers = record { serves = lines_served lines it unmade tally None 0 0 0 0 few is answers; order = order_served lines it unmade tally None 0 0 0 0 is answers }
 
 -- where the clients' commands were asked in any order
-pub clients_served : (lines : List Line) (it : Serving) (tally : Tally) (stop : Option Stop) (a b c d : ℕ) → tally_of tally ≡ tally_in it
-    → AnswersClients lines it stop → ServesLines lines (ended_by stop a b c d) it.journal (Some tally)
-clients_served lines it tally stop a b c d is answers =
+pub clients_served : (lines : List Line) (it : Serving) (unmade : Option Unmade) (tally : Tally) (stop : Option Stop) (a b c d : ℕ) → tally_of tally ≡ noting it unmade
+    → AnswersClients lines it unmade stop → ServesLines lines (ended_by stop a b c d) it.journal (Some tally)
+clients_served lines it unmade tally stop a b c d is answers =
     let late = ended_late stop a b c d in
     record {
       ends = late_past (ended_by stop a b c d) late;
@@ -187,12 +189,29 @@ clients_served lines it tally stop a b c d is answers =
       events = λ past. ap (λ (total : Total). total.events) is ∙ answers.events (done_back stop a b c d past);
     }
 
--- where memory ran out an event is left in which it may
-pub clients_short : (lines : List Line) (it : Serving) (journal : List Entry) (tally : Tally) (stop : Option Stop) (a b c d : ℕ) → tally_of tally ≡ tally_in it → journal ≡ it.journal
-    → AnswersClients lines it stop → RanShort (ended_by stop a b c d) → ∥ LeavesSome lines journal (tally_of tally).steps (tally_of tally).events (tally_of tally).left ∥₁
-clients_short lines it journal tally stop a b c d is is_journal answers ran =
-    subst (λ (total : Total). ∥ LeavesSome lines journal total.steps total.events total.left ∥₁) (sym is)
-    (subst (λ (j : List Entry). ∥ LeavesSome lines j it.steps it.events (left_of it.saving.progress) ∥₁) (sym is_journal) (answers.short (short_back stop a b c d ran)))
+-- where memory ran out the event that was noted is left
+pub clients_short : (lines : List Line) (it : Serving) (unmade : Option Unmade) (journal : List Entry) (tally : Tally) (stop : Option Stop) (a b c d : ℕ) → tally_of tally ≡ noting it unmade → journal ≡ it.journal
+    → AnswersClients lines it unmade stop → RanShort (ended_by stop a b c d) → ∥ LeavesEvent (tally_of tally).unmade lines journal (tally_of tally).steps (tally_of tally).events (tally_of tally).left ∥₁
+clients_short lines it unmade journal tally stop a b c d is is_journal answers ran =
+    subst (λ (total : Total). ∥ LeavesEvent total.unmade lines journal total.steps total.events total.left ∥₁) (sym is)
+    (subst (λ (j : List Entry). ∥ LeavesEvent unmade lines j it.steps it.events (left_of it.saving.progress) ∥₁) (sym is_journal) (answers.short (short_back stop a b c d ran)))
+
+-- where it did not none was noted
+pub clients_noted : (lines : List Line) (it : Serving) (unmade : Option Unmade) (tally : Tally) (stop : Option Stop) (a b c d : ℕ) → tally_of tally ≡ noting it unmade
+    → AnswersClients lines it unmade stop → (RanShort (ended_by stop a b c d) → ⊥) → (tally_of tally).unmade ≡ None
+clients_noted lines it unmade tally stop a b c d is answers whole =
+    ap (λ (total : Total). total.unmade) is ∙ answers.noted (λ short. whole (subst (λ (why : Option Stop). RanShort (ended_by why a b c d)) (sym short) tt))
+
+-- what was answered is what the lines ask in some order
+pub clients_order : (lines : List Line) (it : Serving) (unmade : Option Unmade) (tally : Tally) (stop : Option Stop) (a b c d : ℕ) → tally_of tally ≡ noting it unmade
+    → AnswersInSomeOrder lines it unmade stop → ServesInSomeOrder lines (ended_by stop a b c d) it.journal (Some tally)
+clients_order lines it unmade tally stop a b c d is answers = record {
+  other = answers.other;
+  is_order = answers.is_order;
+  as_many = answers.as_many;
+  serves = order_served answers.other it unmade tally stop a b c d is answers.answers;
+  stops = subst (λ (total : Total). IfSome total.unmade (StopsAt answers.other total.events)) (sym is) answers.stops;
+}
 
 module _ {D F K : Type 0} {g : disk.Ghosts D} (k : sink.Ghosts K) where
   -- what a run over this engine leaves that ended so, by its journal
@@ -211,7 +230,7 @@ module _ {D F S K : Type 0} {g : disk.Ghosts D} (k : sink.Ghosts K) where
       (stop : Option Stop) (a b c d : ℕ)
       → it.journal.items ≡ (serving new).journal → RunsOnDisk old new stop → KeepsStart old new
       → KeepsAll (g.contents (opened_disk new)) (serving new) → IsClosed (opening (serving new)) → IsLegal (opening (serving new)) (serving new).journal
-      → tally_of tally ≡ tally_in (serving new)
+      → tally_of tally ≡ total_in new
       → AllByRecursion IsHonest (tally_of tally).lines
       → Wrote k writes sink last (text (serving new).journal) (tail_of (tally_in (serving new))) stop
       → RunsEngine k writes old sink (with_parts it (ended_by stop a b c d) (Some tally) (disk_in new) source last)
@@ -236,9 +255,9 @@ module _ {D F S K : Type 0} {g : disk.Ghosts D} (k : sink.Ghosts K) where
       comes : ComesTo (GoesFrom old (disk_in new)) (opening (serving old)) (serving new).journal (tally_of tally)
       comes =
           subst (ComesTo (GoesFrom old (disk_in new)) (opening (serving old)) (serving new).journal) (sym is)
-          (subst (λ (begun : World). ComesTo (GoesFrom old (disk_in new)) begun (serving new).journal (tally_in (serving new))) same
-          (engine_comes (GoesFrom old (disk_in new)) (g.contents (opened_disk new)) (serving new) kept (subst (λ (total : Total). AllByRecursion IsHonest total.lines) is honest)
-          (record { later = new; keeps = start; disk = refl; comes = total_of g (serving new) (opened_disk new) kept })))
+          (subst (λ (begun : World). ComesTo (GoesFrom old (disk_in new)) begun (serving new).journal (total_in new)) same
+          (engine_comes (GoesFrom old (disk_in new)) (g.contents (opened_disk new)) (serving new) (unmade_in new) kept (subst (λ (total : Total). AllByRecursion IsHonest total.lines) is honest)
+          (record { later = new; keeps = start; disk = refl; comes = total_of new kept })))
 
       leaves : Leaves k writes old (disk_in new) tally sink last (ended_by stop a b c d) (serving new).journal
       leaves =

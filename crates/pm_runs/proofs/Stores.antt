@@ -19,6 +19,7 @@ use Rattle.pm_runs.specs.Ends.Ends.{stop_in}
 use Rattle.pm_runs.specs.Ends.Stages.{IsPast, unreached, the_words, the_store, the_events, the_output}
 use Rattle.pm_runs.specs.Ends.Journals.{IsBegun, ServesInOrder, ServesLines}
 use Rattle.pm_runs.specs.Ends.Disks.{LeavesDisk, SyncsAtMost}
+use Rattle.pm_runs.specs.Threads.Ordered.{ServesInSomeOrder}
 use Rattle.pm_runs.specs.Ends.Tallies.{ComesTo, IsOfEngine}
 use Rattle.pm_runs.specs.Wrote.{Wrote}
 use Rattle.pm_runs.specs.Runs.{RunsStore}
@@ -94,4 +95,14 @@ orders_none lines detail undone = record {
   all_ordered = λ past few. tt;
   short = λ ran done more client parted few. tt;
   stopped = on_stop (stop_in detail) (λ few. tt);
+}
+
+-- in any order
+pub some_order_none : (lines : List Line) (detail : Detail) → (IsPast the_output detail → ⊥) → ServesInSomeOrder lines detail [] None
+some_order_none lines detail undone = record {
+  other = lines;
+  is_order = record { clients = λ client. refl; steps = refl; flushes = refl };
+  as_many = refl;
+  serves = orders_none lines detail undone;
+  stops = tt;
 }

@@ -1,2 +1,4 @@
 pub mod Clients
 pub mod Ended
+pub mod Left
+pub mod Ordered

@@ -27,7 +27,7 @@ module _ {D F : Type 0} {g : Ghosts D} where
     pub later : Engine D F g
     pub keeps : KeepsStart engine later
     pub disk : disk_in later ≡ last
-    pub comes : IsTotalOf g (serving later) (opened_disk later) start journal total
+    pub comes : IsTotalOf later start journal total
 
 module _ {D F S K : Type 0} {g : Ghosts D} (k : sink.Ghosts K) where
   -- By how it ended: from the world that was opened, over this engine, on its disk. What is said of images is said of a

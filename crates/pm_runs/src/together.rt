@@ -1,11 +1,12 @@
 //! A run in threads: the source is read, the store is opened, and workers take turns at an engine over its copy.
-ghost use Rattle.std.specs.Prelude.{◌≡◌, List, ℕ, IfSome};
+ghost use Rattle.std.specs.Prelude.{◌≡◌, List, ℕ, None, IfSome};
 ghost use Rattle.pm_place.specs.Choosers.{IsChooser};
-ghost use Rattle.pm_engine.specs.Shown.{chooser, disk_in, serving, tally_of};
+ghost use Rattle.pm_engine.specs.Shown.{chooser, disk_in, serving, tally_of, unmade_in};
 ghost use Rattle.pm_engine.specs.Events.Running.{IsFresh};
 ghost use Rattle.pm_runs.specs.declared.ends.ended.Detail.TheVariants.{Fine};
 ghost use Rattle.pm_runs.specs.declared.writes.Writes.TheVariants.{Replies};
-ghost use Rattle.pm_runs.specs.Threads.Running.{LeavesSome};
+ghost use Rattle.pm_runs.specs.Threads.Running.{LeavesEvent};
+ghost use Rattle.pm_runs.specs.Threads.Ordered.{ServesInSomeOrder};
 ghost use Rattle.pm_runs.specs.Ends.Ends.{IsUnwritten, RanShort, status_of};
 ghost use Rattle.pm_runs.specs.Ends.Journals.{ServesLines};
 ghost use Rattle.pm_runs.specs.Ends.Causes.{ShowsCauses};
@@ -48,6 +49,7 @@ fn run_engine<
     gate: &G,
 ) -> Alone<D, S, K>
     requires fresh { IsFresh (serving engine) }
+    requires unmade { unmade_in engine ≡ None }
     requires chooser { IsChooser F.Fn (chooser engine) }
     requires count { disk_before ≡ D.count (disk_in engine) }
     ensures status { result.status ≡ status_of result.detail }
@@ -56,8 +58,10 @@ fn run_engine<
     ensures last { IsUnwritten result.detail
         → ServesLines script Fine result.journal.items result.tally }
     ensures runs { ∥ RunsEngine K.Sink Replies engine sink result ∥₁ }
-    ensures short { RanShort result.detail → IfSome result.tally (λ it. ∥ LeavesSome script result.journal.items
-        (tally_of it).steps (tally_of it).events (tally_of it).left ∥₁) }
+    ensures short { RanShort result.detail → IfSome result.tally (λ it. ∥ LeavesEvent (tally_of it).unmade script
+        result.journal.items (tally_of it).steps (tally_of it).events (tally_of it).left ∥₁) }
+    ensures order { ∥ ServesInSomeOrder script result.detail result.journal.items result.tally ∥₁ }
+    ensures noted { (RanShort result.detail → ⊥) → IfSome result.tally (λ it. (tally_of it).unmade ≡ None) }
     ensures causes { ShowsCauses D.Disk S.Source K.Sink (disk_in engine) source sink result }
 {
     let sink_before = sink.faults();
@@ -96,8 +100,10 @@ fn open_and_run<
     ensures last { IsUnwritten result.detail
         → ServesLines script Fine result.journal.items result.tally }
     ensures store { ∥ RunsStore D.Disk K.Sink place Replies disk sink result ∥₁ }
-    ensures short { RanShort result.detail → IfSome result.tally (λ it. ∥ LeavesSome script result.journal.items
-        (tally_of it).steps (tally_of it).events (tally_of it).left ∥₁) }
+    ensures short { RanShort result.detail → IfSome result.tally (λ it. ∥ LeavesEvent (tally_of it).unmade script
+        result.journal.items (tally_of it).steps (tally_of it).events (tally_of it).left ∥₁) }
+    ensures order { ∥ ServesInSomeOrder script result.detail result.journal.items result.tally ∥₁ }
+    ensures noted { (RanShort result.detail → ⊥) → IfSome result.tally (λ it. (tally_of it).unmade ≡ None) }
     ensures causes { ShowsCauses D.Disk S.Source K.Sink disk source sink result }
 {
     let before = disk.faults();

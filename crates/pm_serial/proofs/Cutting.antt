@@ -126,7 +126,7 @@ stops_lines lines done rest line old mid new stop parted part stops = record {
 -- ---- the whole run
 
 -- of two ways to part lines at one, of which these events come before, there is one
-same_line : (done more others rest : List Line) (line asked : Line) (made : ℕ) → done ++ line ∷ more ≡ others ++ asked ∷ rest → made < events_of line → 0 < events_of asked → events_asked done + made ≡ events_asked others → line ≡ asked
+pub same_line : (done more others rest : List Line) (line asked : Line) (made : ℕ) → done ++ line ∷ more ≡ others ++ asked ∷ rest → made < events_of line → 0 < events_of asked → events_asked done + made ≡ events_asked others → line ≡ asked
 same_line [] more [] rest line asked made is within some count = cc
 same_line [] more (other ∷ others) rest line asked made is within some count =
     let head : line ≡ other = cc in

@@ -6,3 +6,4 @@ pub mod Gathering
 pub mod Ordering
 pub mod Acknowledging
 pub mod Stopping
+pub mod Making

@@ -78,7 +78,7 @@ events_append one two =
     omega (arith, requests, steps, flushes)
 
 -- what is made before the commands of lines that come behind others
-course_append : (steps events : ℕ) (one two : List Line) → course_of steps events (one ++ two) ≡ course_of steps events one ++ course_of (steps + steps_asked one) (events + events_asked one) two
+pub course_append : (steps events : ℕ) (one two : List Line) → course_of steps events (one ++ two) ≡ course_of steps events one ++ course_of (steps + steps_asked one) (events + events_asked one) two
 course_append steps events [] two = (λ i. course_of (none steps i) (none events i) two)
   where
     none : (n : ℕ) → n ≡ n + 0

@@ -6,3 +6,4 @@ pub mod Stepping
 pub mod Ordered
 pub mod Acknowledged
 pub mod Whole
+pub mod Made

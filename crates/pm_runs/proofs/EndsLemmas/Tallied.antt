@@ -24,7 +24,9 @@ use Rattle.pm_copies.specs.Opened.{IsOpenedStore}
 use Rattle.pm_saving.specs.Bounds.{KeepsBounds}
 use Rattle.pm_saving.specs.Serving.{IsServed, Serving, opening, world}
 use Rattle.pm_engine.specs.History.{HasHistory}
-use Rattle.pm_engine.specs.Shown.{Total, tally_in}
+use Rattle.pm_engine.specs.declared.engine.Engine.{Engine}
+use Rattle.pm_engine.specs.declared.unmade.Unmade.{Unmade}
+use Rattle.pm_engine.specs.Shown.{Total, opened_disk, serving, tally_in, total_in}
 use Rattle.pm_runs.specs.Ends.Tallies.{ComesTo, CountsOld, IsTotalOf, ReachesAtMost}
 
 -- a line for each watch
@@ -69,10 +71,10 @@ least_once line = hlevel props
 least_bounds : (it : Serving) → ∥ KeepsBounds it ∥₁ → AllByRecursion (λ (line : WatchLine). 1052676 ≤ line.bound) (lines_from it.view 1 it.watches)
 least_bounds it known = ∥∥₁_elim known (AllByRecursion-prop (λ (line : WatchLine). 1052676 ≤ line.bound) least_once _) (λ are. all_least (opening it) it.journal it.view 1 it.watches are)
 
-module _ {D : Type 0} (d : disk.Ghosts D) where
+module _ {D F : Type 0} {d : disk.Ghosts D} where
   -- it is what that engine came to
-  pub total_of : (it : Serving) (opened : D) → KeepsAll (d.contents opened) it → IsTotalOf d it opened (opening it) it.journal (tally_in it)
-  total_of it opened kept = record {
+  pub total_of : (engine : Engine D F d) → KeepsAll (d.contents (opened_disk engine)) (serving engine) → IsTotalOf engine (opening (serving engine)) (serving engine).journal (total_in engine)
+  total_of engine kept = let it = serving engine in record {
     began = refl;
     has = refl;
     served = kept.served;
@@ -81,15 +83,19 @@ module _ {D : Type 0} (d : disk.Ghosts D) where
     bounded = kept.bounded;
     store = kept.store;
     gone = kept.gone;
-    is_tally = refl;
+    is_total = refl;
     counts = sym (number_told it.view kept.lawful);
     counts_old = old_told it.view kept.lawful 1 it.watches;
   }
 
+-- what comes of what an engine serves, with the event that it noted
+abbrev pub noting : Serving → Option Unmade → Total
+noting it unmade = record (tally_in it) { unmade = unmade }
+
 -- what an engine comes to of which that is said
-pub engine_comes : (Of : World → List Entry → Total → Type 0) (told : Option (List ℕ)) (it : Serving) → KeepsAll told it → AllByRecursion IsHonest (tally_in it).lines
-    → Of (opening it) it.journal (tally_in it) → ComesTo Of (opening it) it.journal (tally_in it)
-engine_comes Of told it kept honest of_engine = record {
+pub engine_comes : (Of : World → List Entry → Total → Type 0) (told : Option (List ℕ)) (it : Serving) (unmade : Option Unmade) → KeepsAll told it → AllByRecursion IsHonest (tally_in it).lines
+    → Of (opening it) it.journal (noting it unmade) → ComesTo Of (opening it) it.journal (noting it unmade)
+engine_comes Of told it unmade kept honest of_engine = record {
   of_engine = of_engine;
   course = kept.course;
   journal_is = refl;

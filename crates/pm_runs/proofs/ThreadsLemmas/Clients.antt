@@ -1,5 +1,5 @@
 -- What was answered of each client's commands, where workers ask them in any order.
-use Rattle.std.proofs.Common.{◌≡◌, inl, inr, ⊎_elim, ℕ, suc, zero, ◌+◌, List, [], ◌∷◌, ◌++◌, length, arith, Option, Some, refl, ap, sym, ◌∙◌}
+use Rattle.std.proofs.Common.{◌≡◌, ℕ, suc, zero, ◌+◌, List, [], ◌∷◌, ◌++◌, length, arith, Option, Some, None, refl, ap, sym, subst, ◌∙◌}
 use Rattle.std.proofs.Math.Logic.{∥∥₁_map}
 use Rattle.std.proofs.lemmas.List.{append-nil, append_cancel_left}
 use Rattle.std.proofs.lemmas.List.Sums.{sum_by-cons}
@@ -13,12 +13,14 @@ use Rattle.pm_script.specs.Parted.Asked.{events_asked, flushes_asked, requests_a
 use Rattle.pm_script.specs.Parted.Lists.{count_left, list_of}
 use Rattle.pm_saving.specs.Paging.{left_of}
 use Rattle.pm_saving.specs.Serving.{Serving}
+use Rattle.pm_engine.specs.declared.unmade.Unmade.{Unmade}
+use Rattle.pm_engine.specs.declared.unmade.Unmade.TheVariants.{OfClient, OfCollector, OfFlusher}
 use Rattle.pm_engine.specs.declared.events.stop.Stop.{Stop}
 use Rattle.pm_engine.specs.declared.events.stop.Stop.TheVariants.{Memory}
 use Rattle.pm_engine.specs.Events.Causes.{IsDone}
 use Rattle.pm_lock.specs.Kept.{AwaitsClient, HasLeft}
 use Rattle.pm_lock.specs.Crew.Whole.{MakesAllOf}
-use Rattle.pm_runs.specs.Threads.Running.{AnswersClients, AwaitsCommand, LeavesSome}
+use Rattle.pm_runs.specs.Threads.Running.{AnswersClients, AwaitsCommand, LeavesEvent}
 
 -- where no client has a command left there is none
 none_left : (lists : List (List Cmd)) → ((client : ℕ) → list_of lists client ≡ []) → count_left lists ≡ 0
@@ -36,7 +38,7 @@ none_behind answered left whole is all = append_cancel_left answered left [] (is
 module _ (lines : List Line) (it : Serving) (lists : List (List Cmd)) (stop : Option Stop) (parts : (client : ℕ) → part client it.journal ++ list_of lists client ≡ commands_of client (requests_asked lines))
     (answered : length it.journal + count_left lists ≡ length (requests_asked lines)) (all : IsDone stop → MakesAllOf lines it)
     (collects flushes : ℕ) (steps_left : it.steps + collects ≡ steps_asked lines) (events_left : it.events + flushes ≡ length it.journal + it.steps + flushes_asked lines)
-    (kept : stop ≡ Some (Memory no_memory) → ∥ HasLeft (Some (NoRoom no_memory)) it lists collects flushes ∥₁) where
+    (unmade : Option Unmade) (kept : stop ≡ Some (Memory no_memory) → ∥ HasLeft (Some (NoRoom no_memory)) unmade it lists collects flushes ∥₁) (none : (stop ≡ Some (Memory no_memory) → ⊥) → unmade ≡ None) where
   long : IsDone stop → length it.journal ≡ length (requests_asked lines)
   long done =
       let none = none_left lists (λ client. none_behind (part client it.journal) (list_of lists client) (commands_of client (requests_asked lines)) (parts client) ((all done).serves client)) in
@@ -48,37 +50,50 @@ module _ (lines : List Line) (it : Serving) (lists : List (List Cmd)) (stop : Op
       let entries = long done in
       omega (arith, events, entries)
 
-  awaits : AwaitsClient it lists → AwaitsCommand lines it.journal (left_of it.saving.progress)
-  awaits await = record {
-    client = await.client;
+  awaits : (client : ℕ) → AwaitsClient client it lists → AwaitsCommand client lines it.journal (left_of it.saving.progress)
+  awaits client await = record {
     cmd = await.cmd;
     rest = await.rest;
-    next = ap (λ (list : List Cmd). part await.client it.journal ++ list) (sym await.next) ∙ parts await.client;
+    next = ap (λ (list : List Cmd). part client it.journal ++ list) (sym await.next) ∙ parts client;
     unfinished = await.unfinished;
   }
 
-  leaves_some : HasLeft (Some (NoRoom no_memory)) it lists collects flushes → LeavesSome lines it.journal it.steps it.events (left_of it.saving.progress)
-  leaves_some left =
-      inr (⊎_elim (λ some. inl (omega (arith, some, steps_left)))
-      (λ other. inr (⊎_elim (λ some. inl (omega (arith, some, events_left))) (λ await. inr (awaits await)) other)) left)
+  leaves_event : (event : Option Unmade) → HasLeft (Some (NoRoom no_memory)) event it lists collects flushes → LeavesEvent event lines it.journal it.steps it.events (left_of it.saving.progress)
+  leaves_event None left = absurd left
+  leaves_event (Some (OfClient client)) left = awaits client left
+  leaves_event (Some OfCollector) left = omega (arith, left, steps_left)
+  leaves_event (Some OfFlusher) left = omega (arith, left, events_left)
 
-  pub answers_clients : AnswersClients lines it stop
+  pub answers_clients : AnswersClients lines it unmade stop
   answers_clients = record {
     parts = λ client. (list_of lists client, parts client);
     serves = λ done. (all done).serves;
     long = long;
     events = made;
     steps = λ done. (all done).steps;
-    short = λ is. ∥∥₁_map (kept is) leaves_some;
+    short = λ is. ∥∥₁_map (kept is) (leaves_event unmade);
+    noted = none;
   }
 
+-- where all was made nothing is left
+pub nothing_left : (lines : List Line) (it : Serving) (lists : List (List Cmd)) (collects flushes : ℕ) → ((client : ℕ) → part client it.journal ++ list_of lists client ≡ commands_of client (requests_asked lines))
+    → it.steps + collects ≡ steps_asked lines → it.events + flushes ≡ length it.journal + it.steps + flushes_asked lines → MakesAllOf lines it → ((client : ℕ) → list_of lists client ≡ []) × (collects ≡ 0) × (flushes ≡ 0)
+nothing_left lines it lists collects flushes parts steps_left events_left all =
+    let steps = all.steps in
+    let events = all.events in (
+      (λ client. none_behind (part client it.journal) (list_of lists client) (commands_of client (requests_asked lines)) (parts client) (all.serves client)),
+      omega (arith, steps, steps_left),
+      omega (arith, steps, events, events_left),
+    )
+
 -- nothing was answered
-pub answers_none_yet : (lines : List Line) (it : Serving) (stop : Stop) → it.journal ≡ [] → it.events ≡ 0 → AnswersClients lines it (Some stop)
-answers_none_yet lines it stop empty none = record {
+pub answers_none_yet : (lines : List Line) (it : Serving) (unmade : Option Unmade) (stop : Stop) → it.journal ≡ [] → it.events ≡ 0 → unmade ≡ None → AnswersClients lines it unmade (Some stop)
+answers_none_yet lines it unmade stop empty none noted = record {
   parts = λ client. (commands_of client (requests_asked lines), ap (λ (j : List Entry). part client j ++ commands_of client (requests_asked lines)) empty);
   serves = λ done. absurd done;
   long = λ done. absurd done;
   events = λ done. absurd done;
   steps = λ done. absurd done;
-  short = λ is. ∣ inl none ∣₁;
+  short = λ is. ∣ subst (λ (event : Option Unmade). LeavesEvent event lines it.journal it.steps it.events (left_of it.saving.progress)) (sym noted) none ∣₁;
+  noted = λ _. noted;
 }

@@ -13,6 +13,7 @@ use Rattle.pm_saving.specs.Serving.{Serving, opening, world}
 use Rattle.pm_saving.specs.Images.{IsOfRun, IsSettledCopy, IsTold}
 use Rattle.pm_engine.specs.declared.engine.Engine.{Engine}
 use Rattle.pm_engine.specs.Shown.{KeepsStart, disk_in, opened_disk, serving}
+use Rattle.pm_engine.specs.declared.unmade.Unmade.{Unmade}
 use Rattle.pm_engine.specs.declared.events.stop.Stop.{Stop}
 use Rattle.pm_engine.specs.declared.events.stop.Stop.TheVariants.{Memory, Writing}
 use Rattle.pm_engine.specs.Events.Causes.{CountsDisk, IsDone}
@@ -20,7 +21,7 @@ use Rattle.pm_engine.specs.Events.Events.{EngineGoesOn}
 use Rattle.pm_engine.specs.Events.Running.{IsFresh, RunsOnDisk}
 use Rattle.pm_serial.specs.Stepping.{IsOfSink}
 use Rattle.pm_engine.proofs.EventsLemmas.Going.{goes_ended, goes_first, runs}
-use Rattle.pm_lock.specs.Kept.{HasCauseSince, stop_kept}
+use Rattle.pm_lock.specs.Kept.{HasCauseSince, UnlessMemory, stop_kept}
 
 -- the end of a run stops it only where nothing else did
 abbrev Ends : Option Stop → Option Stop → Type 0
@@ -54,6 +55,13 @@ kept_memory None after why is = ⊎_elim (λ same. absurd (cc (same, is))) (λ b
 kept_memory (Some (NoRoom _)) after why is = refl
 kept_memory (Some (Disk before now)) after why is = ⊎_elim (λ same. absurd (cc (same, is))) (λ both. absurd (cc both.0)) why
 kept_memory (Some (Reopen count)) after why is = ⊎_elim (λ same. absurd (cc (same, is))) (λ both. absurd (cc both.0)) why
+
+-- one that memory did not run out of has noted no event
+pub noted_none : (fault : Option EngineFault) (after : Option Stop) (unmade first : Option Unmade) → Ends (stop_kept fault) after → UnlessMemory fault (unmade ≡ first) → first ≡ None → (after ≡ Some (Memory no_memory) → ⊥) → unmade ≡ None
+noted_none None after unmade first why noted none whole = noted ∙ none
+noted_none (Some (NoRoom _)) after unmade first why noted none whole = absurd (⊎_elim whole (λ both. cc both.0) why)
+noted_none (Some (Disk before now)) after unmade first why noted none whole = noted ∙ none
+noted_none (Some (Reopen count)) after unmade first why noted none whole = noted ∙ none
 
 counts_ended : (before after : Option Stop) (was now : ℕ) → Ends before after → CountsDisk before was now → CountsDisk after was now
 counts_ended before after was now why counts =

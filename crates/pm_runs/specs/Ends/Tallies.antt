@@ -16,11 +16,11 @@ use Rattle.pm_view.specs.Counts.{old, standing}
 use Rattle.pm_view.specs.Law.{HeapLaw}
 use Rattle.pm_copies.specs.Opened.{IsOpenedStore}
 use Rattle.pm_saving.specs.Bounds.{KeepsBounds}
-use Rattle.pm_saving.specs.Serving.{IsServed, Serving, opening}
+use Rattle.pm_saving.specs.Serving.{IsServed, opening}
 use Rattle.pm_engine.specs.History.{HasHistory}
 use Rattle.pm_engine.specs.declared.engine.Engine.{Engine}
 use Rattle.pm_engine.specs.declared.tally.Tally.{Tally}
-use Rattle.pm_engine.specs.Shown.{Total, chooser, disk_in, opened_disk, serving, tally_in, tally_of}
+use Rattle.pm_engine.specs.Shown.{Total, chooser, disk_in, opened_disk, serving, tally_of, total_in}
 use Rattle.pm_runs.specs.declared.ends.ended.Detail.{Detail}
 use Rattle.pm_runs.specs.Ends.Stages.{IsPast, IsBefore, the_store, the_events}
 use Rattle.pm_runs.specs.Ends.Disks.{SyncsFirst}
@@ -34,25 +34,26 @@ ReachesAtMost world count =
 abbrev pub CountsOld : SpaceView → WatchLine → Watch → Type 0
 CountsOld view line watch = line.old ≡ old view watch.youngest
 
-module _ {D : Type 0} (d : disk.Ghosts D) where
-  -- It is what this came to that began in this world, has this journal, and serves the world at its end: so what is told of
+module _ {D F : Type 0} {d : disk.Ghosts D} where
+  -- It is what this engine came to that began in this world, has this journal, and serves the world at its end: so what is told of
   -- each watch is told of one space, which stands for that world. It came by calls from the space that the disk's bytes were
   -- opened as, where that disk told them; and each watch notes the space as it was when it was set, and keeps its bound.
-  pub record IsTotalOf (it : Serving) (opened : D) (start : World) (journal : List Entry) (total : Total) : Type 0 where
-    pub began : opening it ≡ start
-    pub has : it.journal ≡ journal
-    pub served : ∥ IsServed it ∥₁
-    pub lawful : HeapLaw it.view
-    pub history : ∥ HasHistory it ∥₁
-    pub bounded : ∥ KeepsBounds it ∥₁
-    pub store : IfTold (d.contents opened) (λ bytes. ∥ IsOpenedStore bytes it.opened ∥₁)
+  pub record IsTotalOf (engine : Engine D F d) (start : World) (journal : List Entry) (total : Total) : Type 0 where
+    pub began : opening (serving engine) ≡ start
+    pub has : (serving engine).journal ≡ journal
+    pub served : ∥ IsServed (serving engine) ∥₁
+    pub lawful : HeapLaw (serving engine).view
+    pub history : ∥ HasHistory (serving engine) ∥₁
+    pub bounded : ∥ KeepsBounds (serving engine) ∥₁
+    pub store : IfTold (d.contents (opened_disk engine)) (λ bytes. ∥ IsOpenedStore bytes (serving engine).opened ∥₁)
     -- where as many collections were completed since a watch was set as its bound says, nothing that the world had lost when
     -- it was set is in any car
-    pub gone : AllZip (EndsLost start journal it.view) total.lines (watch_places 0 journal)
-    pub is_tally : total ≡ tally_in it
+    pub gone : AllZip (EndsLost start journal (serving engine).view) total.lines (watch_places 0 journal)
+    -- with the event that it noted when a call last answered that memory ran out
+    pub is_total : total ≡ total_in engine
     -- what is told to stand stands, and no number of these is cut off
-    pub counts : total.standing ≡ standing it.view
-    pub counts_old : AllZip (CountsOld it.view) total.lines it.watches
+    pub counts : total.standing ≡ standing (serving engine).view
+    pub counts_old : AllZip (CountsOld (serving engine).view) total.lines (serving engine).watches
 
 module _ {D F : Type 0} (d : disk.Ghosts D) (place : F) where
   -- An engine came to it that was opened on the disk at the start, and whose disk is the one at the end: an object moves to the
@@ -62,7 +63,7 @@ module _ {D F : Type 0} (d : disk.Ghosts D) (place : F) where
     pub chooses : chooser engine ≡ place
     pub disk : disk_in engine ≡ last
     pub syncs : SyncsFirst d first (opened_disk engine) last journal
-    pub comes : IsTotalOf d (serving engine) (opened_disk engine) start journal total
+    pub comes : IsTotalOf engine start journal total
 
 -- What an engine came to of which this is said, which was opened in this world and has this journal.
 pub record ComesTo (Of : World → List Entry → Total → Type 0) (start : World) (journal : List Entry) (total : Total) : Type 0 where

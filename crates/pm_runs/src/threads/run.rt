@@ -4,7 +4,7 @@ ghost use Rattle.std.specs.Prelude.{◌≡◌, ◌⊎◌, ℕ, List, [], None, S
 ghost use Rattle.pm_place.specs.Choosers.{IsChooser};
 ghost use Rattle.pm_model.specs.Text.{text};
 ghost use Rattle.pm_serial.specs.Output.Gathered.{gathered};
-ghost use Rattle.pm_engine.specs.Shown.{KeepsStart, chooser, disk_in, serving, tally_in};
+ghost use Rattle.pm_engine.specs.Shown.{KeepsStart, chooser, disk_in, serving, tally_in, unmade_in};
 ghost use Rattle.pm_engine.specs.declared.events.stop.Stop.TheVariants.{Writing};
 ghost use Rattle.pm_engine.specs.Events.Causes.{CountsDisk, why};
 ghost use Rattle.pm_engine.specs.Events.Running.{IsFresh, RunsOnDisk};
@@ -13,6 +13,7 @@ ghost use Rattle.pm_serial.specs.Writing.{WroteRun, tail_of};
 ghost use Rattle.pm_lock.specs.Kept.{stop_kept};
 ghost use Rattle.pm_lock.specs.Shown.{engine_in, fault_in};
 ghost use Rattle.pm_runs.specs.Threads.Running.{AnswersClients};
+ghost use Rattle.pm_runs.specs.Threads.Ordered.{AnswersInSomeOrder};
 
 use pm_disk::Disk;
 use pm_io::Sink;
@@ -93,8 +94,12 @@ pub fn run_script<
     gate: &G,
 ) -> (Result<(), Stop>, Engine<D, F>)
     requires fresh { IsFresh (serving engine) }
+    // No call of it has answered that memory ran out.
+    requires unmade { unmade_in engine ≡ None }
     requires chooser { IsChooser F.Fn (chooser engine) }
-    ensures answers { AnswersClients script (serving result.1) (why result.0) }
+    ensures answers { AnswersClients script (serving result.1) (unmade_in result.1) (why result.0) }
+    // What was made is what the lines ask in some order, one line behind another.
+    ensures order { ∥ AnswersInSomeOrder script (serving result.1) (unmade_in result.1) (why result.0) ∥₁ }
     // What a crash at any moment leaves, and what it leaves at the end.
     ensures disk { ∥ RunsOnDisk engine result.1 (why result.0) ∥₁ }
     ensures sink { WroteRun K.written K.finished K.count sink.old sink.new
@@ -103,7 +108,8 @@ pub fn run_script<
     ensures past { (D.made (disk_in result.1)).past ≡ (D.made (disk_in engine)).past }
     ensures start { ∥ KeepsStart engine result.1 ∥₁ }
     // Where the sink failed all was answered, as where the run is done: it is called behind the last event alone.
-    ensures last { IsOfSink (why result.0) → AnswersClients script (serving result.1) None }
+    ensures last { IsOfSink (why result.0)
+        → AnswersClients script (serving result.1) (unmade_in result.1) None }
 {
     engine.keep_their_images();
     images_since_now(&engine);

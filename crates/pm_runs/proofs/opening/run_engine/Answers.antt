@@ -1,6 +1,6 @@
 use Rattle.std.proofs.Common.{◌∙◌, ap, sym, subst, List, Some}
 use Rattle.pm_types.specs.declared.entry.Entry.{Entry}
-use Rattle.pm_engine.specs.Shown.{disk_in, serving}
+use Rattle.pm_engine.specs.Shown.{disk_in, serving, unmade_in}
 use Rattle.pm_engine.specs.Events.Causes.{why}
 use Rattle.pm_runs.specs.Ends.Ends.{IsUnwritten, ended_by, stop_in}
 use Rattle.pm_runs.specs.Wrote.{AcknowledgesFor, WritesLast}
@@ -24,7 +24,7 @@ returns-clause-serves g c =
     at_end (λ it. ServesLines c.args.lines.items it.detail it.journal.items it.tally) c.end_with.result {detail = ended_by stop a b x y} {disk = disk_in run.new.engine}
     (◌∙◌ {c = ended_by stop a b x y} e.detail c.ended_by-detail.ensures) e.tally (e.disk ∙ parts.ensures.disk) e.source e.sink
     (subst (λ (j : List Entry). ServesLines c.args.lines.items (ended_by stop a b x y) j (Some parts.result.2)) (sym (ap (λ v. v.items) e.journal ∙ parts.ensures.journal))
-    (lines_served c.args.lines.items (serving run.new.engine) parts.result.2 stop a b x y c.requires.few parts.ensures.tally run.ensures.runs.answers))
+    (lines_served c.args.lines.items (serving run.new.engine) (unmade_in run.new.engine) parts.result.2 stop a b x y c.requires.few parts.ensures.tally run.ensures.runs.answers))
 
 pub returns-clause-order : goal.returns-clause-order
 returns-clause-order g c =
@@ -39,7 +39,7 @@ returns-clause-order g c =
     at_end (λ it. ServesInOrder c.args.lines.items it.detail it.journal.items it.tally) c.end_with.result {detail = ended_by stop a b x y} {disk = disk_in run.new.engine}
     (◌∙◌ {c = ended_by stop a b x y} e.detail c.ended_by-detail.ensures) e.tally (e.disk ∙ parts.ensures.disk) e.source e.sink
     (subst (λ (j : List Entry). ServesInOrder c.args.lines.items (ended_by stop a b x y) j (Some parts.result.2)) (sym (ap (λ v. v.items) e.journal ∙ parts.ensures.journal))
-    (order_served c.args.lines.items (serving run.new.engine) parts.result.2 stop a b x y parts.ensures.tally run.ensures.runs.answers))
+    (order_served c.args.lines.items (serving run.new.engine) (unmade_in run.new.engine) parts.result.2 stop a b x y parts.ensures.tally run.ensures.runs.answers))
 
 pub returns-clause-runs : goal.returns-clause-runs
 returns-clause-runs g c =
@@ -112,4 +112,4 @@ returns-clause-last g c =
     at_end (λ it. WritesLast c.args.writes → IsUnwritten it.detail → ServesAll c.args.lines.items it.journal.items it.tally) c.end_with.result {detail = ended_by stop a b x y} {disk = disk_in run.new.engine}
     (◌∙◌ {c = ended_by stop a b x y} e.detail c.ended_by-detail.ensures) e.tally (e.disk ∙ parts.ensures.disk) e.source e.sink
     (λ last unwritten. subst (λ (j : List Entry). ServesAll c.args.lines.items j (Some parts.result.2)) (sym (ap (λ v. v.items) e.journal ∙ parts.ensures.journal))
-    (all_served c.args.lines.items (serving run.new.engine) parts.result.2 c.requires.few parts.ensures.tally (run.ensures.last last (sink_back stop a b x y unwritten))))
+    (all_served c.args.lines.items (serving run.new.engine) (unmade_in run.new.engine) parts.result.2 c.requires.few parts.ensures.tally (run.ensures.last last (sink_back stop a b x y unwritten))))

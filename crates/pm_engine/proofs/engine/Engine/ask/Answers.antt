@@ -1,4 +1,4 @@
-use Rattle.std.proofs.Common.{◌≡◌, ℕ, true, false, Some, Result, Err, OnErr, sym, ap, subst, ◌∙◌}
+use Rattle.std.proofs.Common.{◌≡◌, ℕ, true, false, Some, Result, Err, OnErr, sym, ap, subst, ◌∙◌, refl}
 use Rattle.pm_types.specs.Memory.{no_memory}
 use Rattle.pm_types.specs.declared.reply.Reply.{Reply}
 use Rattle.pm_types.specs.declared.fault.EngineFault.TheVariants.{Memory}
@@ -47,8 +47,8 @@ invariant_of-self g c =
           (ask_serves self.opening self.stopped self.works c.requires.running (safe self.sound) new c.args.client c.args.cmd c.in-Ok.reply (agrees self.opening self.stopped self.works new self.sound c.args.client c.args.cmd c.in-Ok.reply c.in-Ok.ensures.answers) told c.in-Ok.ensures.answers) c.in-Ok.ensures.answers self.past;
     }
 
-pub invariant_of-self-in-Memory-1 : goal.invariant_of-self-in-Memory-1
-invariant_of-self-in-Memory-1 g c =
+pub invariant_of-self-in-Err-Memory : goal.invariant_of-self-in-Err-Memory
+invariant_of-self-in-Err-Memory g c =
     let self = c.args.self.now in
     let new = c.answer.new.self in
     let so = subst (λ (fault : SaveFault). IfMemory (LastsSo self.works new) fault) c.in-Err-Memory.field-0-is c.in-Err-Memory.ensures.fails.memory in
@@ -113,6 +113,7 @@ returns-in-Ok-clause-call g c =
       work = work_of c.args.client c.args.cmd self.works new c.in-Ok.reply c.in-Ok.ensures.answers;
       bound = kept_of c.args.client c.args.cmd self.works new c.in-Ok.reply c.in-Ok.ensures.answers;
       room = room_of c.args.client c.args.cmd self.works new c.in-Ok.reply c.in-Ok.ensures.answers;
+      unmade = refl;
     }
 
 pub returns-in-Err-Memory-clause-call : goal.returns-in-Err-Memory-clause-call
@@ -142,6 +143,7 @@ returns-in-Err-Memory-clause-call g c =
       work = still_works (view_in self.works) (view_in new) (raises c.args.cmd) arm.ensures.fails.rests.view;
       bound = kept_still (view_in self.works) (view_in new) arm.ensures.fails.rests.view;
       room = arm.ensures.fails.rests.nothing.room;
+      unmade = refl;
     }
 
 pub returns-in-Err-Disk-clause-call : goal.returns-in-Err-Disk-clause-call
@@ -177,4 +179,5 @@ returns-in-Err-Disk-clause-call g c =
       work = still_works (view_in self.works) (view_in new) (raises c.args.cmd) arm.ensures.fails.rests.view;
       bound = kept_still (view_in self.works) (view_in new) arm.ensures.fails.rests.view;
       room = arm.ensures.fails.rests.nothing.room;
+      unmade = refl;
     }

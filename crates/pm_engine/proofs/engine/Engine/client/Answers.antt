@@ -51,4 +51,5 @@ returns-in-Err-clause-call g c =
       work = omega arith;
       bound = kept_still (serving self).view (serving self).view refl;
       room = omega arith;
+      unmade = refl;
     }

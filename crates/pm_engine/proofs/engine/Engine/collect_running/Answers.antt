@@ -1,4 +1,4 @@
-use Rattle.std.proofs.Common.{ap, arith}
+use Rattle.std.proofs.Common.{ap, arith, refl}
 use Rattle.pm_law_bound.proofs.Many.{kept_still}
 use Rattle.pm_engine.specs.Works.Working.{disk_at, place_in, view_in}
 use Rattle.pm_engine.proofs.engine.Engine.collect_running.Goals as goal
@@ -26,6 +26,19 @@ invariant_of-self g c =
       past = past_tried self.opening self.stopped self.works new g.F.Fn c.collect.result c.collect.ensures.event c.collect.ensures.collects c.collect.ensures.err self.past;
     }
 
+pub invariant_of-self-in-Err : goal.invariant_of-self-in-Err
+invariant_of-self-in-Err g c =
+    let self = c.args.self.now in
+    let new = c.collect.new.self in
+    record {
+      sound = sound_tried self.opening self.stopped self.works new self.sound self.stopped
+          (tried_sound self.opening self.stopped self.works new c.requires.running (safe self.sound) c.collect.result c.collect.ensures.collects c.collect.ensures.err c.collect.ensures.pages c.collect.ensures.tied
+          (g.met.D.Disk.counts_now (disk_at new)) (g.met.D.Disk.only_now (disk_at self.works))) c.collect.result c.collect.ensures.collects c.collect.ensures.err c.collect.ensures.worlds;
+      bounded = bounds_tried self.opening self.stopped self.works new g.F.Fn c.collect.result c.collect.ensures.counted c.collect.ensures.event c.collect.ensures.collects c.collect.ensures.err self.bounded;
+      counted = counted_still self.opening.count (g.D.Disk.count (disk_at self.works)) (g.D.Disk.count (disk_at new)) self.counted (ap g.D.Disk.count (same_disk self.works new c.collect.ensures.pages));
+      past = past_tried self.opening self.stopped self.works new g.F.Fn c.collect.result c.collect.ensures.event c.collect.ensures.collects c.collect.ensures.err self.past;
+    }
+
 pub returns-in-Ok-clause-call : goal.returns-in-Ok-clause-call
 returns-in-Ok-clause-call g c =
     let self = c.args.self.now in
@@ -41,6 +54,7 @@ returns-in-Ok-clause-call g c =
       memory = tt;
       short = tt;
       room = let same = c.collect.ensures.room in omega (arith, same);
+      unmade = refl;
     }
 
 pub returns-in-Err-clause-call : goal.returns-in-Err-clause-call
@@ -59,4 +73,5 @@ returns-in-Err-clause-call g c =
       memory = left_alone self.opening self.stopped self.works new c.in-Err.ensures.err;
       short = c.in-Err.ensures.short;
       room = let same = c.collect.ensures.room in omega (arith, same);
+      unmade = refl;
     }

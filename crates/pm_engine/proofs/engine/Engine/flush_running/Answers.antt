@@ -1,4 +1,4 @@
-use Rattle.std.proofs.Common.{ℕ, Some, ap, subst, arith}
+use Rattle.std.proofs.Common.{ℕ, Some, ap, subst, arith, refl}
 use Rattle.pm_save.specs.declared.progress.fault.SaveFault.{SaveFault}
 use Rattle.pm_save.specs.Progress.Answers.{IfMemory, IsFaultOf}
 use Rattle.pm_engine.specs.Works.Working.{IsAsItWas, IsTiedIn, LastsIn, disk_at}
@@ -27,8 +27,8 @@ invariant_of-self g c =
       past = past_flushed self.opening self.stopped self.works new c.in-Ok.flushed (stored self.opening self.stopped self.works c.requires.running (safe self.sound)).tied c.in-Ok.ensures.flushes self.past;
     }
 
-pub invariant_of-self-in-Memory-1 : goal.invariant_of-self-in-Memory-1
-invariant_of-self-in-Memory-1 g c =
+pub invariant_of-self-in-Err-Memory : goal.invariant_of-self-in-Err-Memory
+invariant_of-self-in-Err-Memory g c =
     let self = c.args.self.now in
     let new = c.flush.new.self in
     let tied = subst (λ (fault : SaveFault). IfMemory (IsTiedIn new) fault) c.in-Err-Memory.field-0-is c.in-Err-Memory.ensures.tied in
@@ -73,6 +73,7 @@ returns-in-Ok-clause-call g c =
       made = c.in-Ok.ensures.causes.made;
       past = c.in-Ok.ensures.causes.made.past;
       room = let same = c.flush.ensures.room in omega (arith, same);
+      unmade = refl;
     }
 
 pub returns-in-Err-Memory-clause-call : goal.returns-in-Err-Memory-clause-call
@@ -96,6 +97,7 @@ returns-in-Err-Memory-clause-call g c =
       made = arm.ensures.causes.made;
       past = arm.ensures.causes.made.past;
       room = let same = c.flush.ensures.room in omega (arith, same);
+      unmade = refl;
     }
 
 pub returns-in-Err-Disk-clause-call : goal.returns-in-Err-Disk-clause-call
@@ -123,4 +125,5 @@ returns-in-Err-Disk-clause-call g c =
       made = arm.ensures.causes.made;
       past = arm.ensures.causes.made.past;
       room = let same = c.flush.ensures.room in omega (arith, same);
+      unmade = refl;
     }

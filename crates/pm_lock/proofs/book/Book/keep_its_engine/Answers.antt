@@ -1,7 +1,7 @@
 use Rattle.std.specs.Coded.{Coded-set, coded_ℕ, coded_option}
 use Rattle.std.proofs.Math.Logic.{∥∥₁_map}
-use Rattle.pm_engine.specs.Shown.{disk_in, opened_count}
-use Rattle.pm_lock.proofs.Laws.{splits_cause, splits_once, within_once}
+use Rattle.pm_engine.specs.Shown.{disk_in, opened_count, unmade_in}
+use Rattle.pm_lock.proofs.Laws.{splits_cause, splits_once, splits_unmade, within_once}
 use Rattle.pm_lock.proofs.book.Book.keep_its_engine.Goals as goal
 
 pub returns-clause-goes : goal.returns-clause-goes
@@ -20,3 +20,8 @@ returns-clause-room g c = splits_once (within_once _ _) (∥∥₁_map c.args.se
 
 pub returns-clause-short : goal.returns-clause-short
 returns-clause-short g c = ∥∥₁_map c.args.self.now.kept (λ is. is.engine.short)
+
+pub returns-clause-unmade : goal.returns-clause-unmade
+returns-clause-unmade g c =
+    let self = c.args.self.now in
+    splits_unmade self.fault (unmade_in self.engine) (unmade_in self.first.value) (∥∥₁_map self.kept (λ is. is.engine.unmade))

@@ -29,5 +29,6 @@ invariant_of-result g c =
           (script_begun lines (serving now) lists c.collects_asked-collects.result c.flushes_asked-flushes.result fresh c.as_slice.ensures.few split.each all (omega (arith, all, few)) c.collects_asked-collects.ensures.all c.collects_asked-collects.ensures.few
           c.flushes_asked-flushes.ensures.all c.flushes_asked-flushes.ensures.few)
           (goes_still engine now reserved.start reserved.grows reserved.serving reserved.disk c.requires.fresh.stopped law.legal (law.settled c.requires.fresh.stopped) (g.met.D.Disk.only_now (disk_in engine)))
+          reserved.unmade
           (omega (arith, asked, all, within));
     }

@@ -1,7 +1,8 @@
 use Rattle.std.proofs.Common.{arith}
 use Rattle.pm_script.specs.Parted.Left.{lists_in}
 use Rattle.pm_script.specs.Parted.Lists.{count_left, list_of}
-use Rattle.pm_engine.specs.Shown.{serving}
+use Rattle.pm_engine.specs.Shown.{serving, unmade_in}
+use Rattle.pm_engine.specs.declared.unmade.Unmade.TheVariants.{OfClient}
 use Rattle.pm_lock.proofs.Engines.{book_answered, book_failed, left_client, one_left, popped_fewer, popped_next}
 use Rattle.pm_lock.proofs.Turning.{not_collector, not_flusher, steps_finished}
 use Rattle.pm_lock.proofs.book.Book.step_client.Goals as goal
@@ -30,7 +31,7 @@ invariant_of-self-in-Ok g c =
     let later = lists_in c.pop.new.self in
     record {
       kept =
-          book_answered self.script.value self.first.value self.engine c.ask.new.engine (lists_in self.parts) self.collects self.flushes self.fault c.requires.running self.kept later c.args.client cmd c.in-Ok.ensures.adds c.in-Ok.ensures.engine c.requires.client
+          book_answered self.script.value self.first.value self.engine c.ask.new.engine (lists_in self.parts) self.collects self.flushes self.fault c.requires.running self.kept later c.args.client cmd c.in-Ok.ensures.adds c.in-Ok.ensures.engine c.in-Ok.ensures.call.unmade c.requires.client
           (popped_next c.pop.result (list_of (lists_in self.parts) c.args.client) (list_of later c.args.client) some.0 cmd popped.none popped.some some.1) popped.others
           (popped_fewer c.pop.result (list_of (lists_in self.parts) c.args.client) some.0 cmd (count_left later) (count_left (lists_in self.parts)) popped.none some.1 popped.fewer);
     }
@@ -42,5 +43,6 @@ invariant_of-self-in-Err g c =
     record {
       kept =
           book_failed self.script.value self.first.value self.engine c.ask.new.engine (lists_in self.parts) self.collects self.flushes self.fault c.requires.running self.kept c.in-Err.fault c.in-Err.ensures.call.fails c.keep_their_images.ensures.counted c.in-Err.ensures.engine
-          (left_client (serving self.engine) (serving c.ask.new.engine) (lists_in self.parts) self.collects self.flushes c.args.client c.in-Some.cmd.now some.0 c.in-Err.fault some.1 c.in-Err.ensures.short);
+          (left_client (serving self.engine) (serving c.ask.new.engine) (lists_in self.parts) self.collects self.flushes c.args.client c.in-Some.cmd.now some.0 c.in-Err.fault (unmade_in self.engine) (unmade_in c.ask.new.engine) some.1 c.in-Err.ensures.short c.in-Err.ensures.call.unmade)
+          (OfClient c.args.client) c.in-Err.ensures.call.unmade;
     }
