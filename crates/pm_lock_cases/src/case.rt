@@ -119,7 +119,7 @@ fn push_logbook_text(alloc: Global, text: &str, out: &mut String) -> Result<(), 
 
 // `N : TEXT`: shares an engine over a disk that fails call N behind those of the opening, or none where N is 0, and makes
 // what the step says.
-fn push_passes_text<R: Wait>(
+fn push_passes_text<R: Threads + Wait + Sync>(
     rt: &R,
     alloc: Global,
     way: &str,
@@ -149,7 +149,9 @@ fn push_step<R: Threads + Wait + Sync>(
         "threads" | "alone" | "between" => push_threads(rt, alloc, 0, text, step, out),
         "threads-fail" => push_failing_threads(rt, alloc, text, out),
         "logbook" => push_logbook_text(alloc, text, out),
-        "passes" | "met" | "unmet" | "split" => { push_passes_text(rt, alloc, step, text, out) }
+        "passes" | "met" | "unmet" | "split" | "together" => {
+            push_passes_text(rt, alloc, step, text, out)
+        }
         _ => Err(refuse("no such step")),
     }
 }

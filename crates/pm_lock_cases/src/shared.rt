@@ -1,6 +1,8 @@
 //! Calls of callers with passes, one after another.
 
-ghost use Rattle.std.specs.Prelude.{IfOk};
+ghost use Rattle.std.specs.Prelude.{◌<◌, IfOk};
+ghost use Rattle.std.specs.Thread.{IsSync};
+ghost use Rattle.pm_types.specs.declared.limits.TheConstants.{CLIENTS};
 ghost use Rattle.pm_place.specs.Choosers.{IsChooser};
 ghost use Rattle.pm_engine.specs.Shown.{chooser, serving};
 ghost use Rattle.pm_engine.specs.Events.Running.{IsFresh};
@@ -16,12 +18,13 @@ use pm_disk::Disk;
 use pm_engine::Engine;
 use pm_passes::Pass;
 use pm_place::Placement;
-use pm_script::Line;
+use pm_script::{Line, Script};
 use pm_seats::{SeatFault, Seen, Shared};
 use pm_types::{CLIENTS, Cmd, Entry};
 use std::alloc::Global;
 use std::fmt::Debug;
 use std::sync::Wait;
+use std::thread::{Threads, join};
 
 // Adds what an event answered, or why it was not made.
 fn push_came<T: Debug, E: Debug>(answer: &Result<T, E>, out: &mut String) -> Result<(), Fault> {
@@ -274,6 +277,57 @@ fn split_times<D: Disk + Drop, F: Drop, R: Wait>(
     Ok(())
 }
 
+// Calls a command so often.
+fn call_often<D: Disk + Drop, F: Drop, R: Wait>(
+    rt: &R,
+    alloc: Global,
+    shared: &Shared<D, F>,
+    mut pass: Pass<Entry>,
+    client: u32,
+    cmd: &Cmd,
+    count: u32,
+) -> Pass<Entry>
+    requires client { client < CLIENTS }
+    requires pass { IsPassOf (engines.the_row D.row F.row D.Disk).coded shared.now pass }
+    ensures { IsPassOf (engines.the_row D.row F.row D.Disk).coded shared.now result }
+{
+    for _ in 0..count {
+        let _answer = shared.call(rt, alloc, &mut pass, client, cmd);
+    }
+    pass
+}
+
+// Two passes call a command so often, as clients 1 and 2, each in a thread of its own. They come back as one.
+fn call_together<D: Disk + Drop + Send, F: Drop + Send, R: Threads + Wait + Sync>(
+    rt: &R,
+    alloc: Global,
+    shared: &Shared<D, F>,
+    one: Pass<Entry>,
+    two: Pass<Entry>,
+    cmd: &Cmd,
+    count: u32,
+) -> Pass<Entry>
+    requires one { IsPassOf (engines.the_row D.row F.row D.Disk).coded shared.now one }
+    requires two { IsPassOf (engines.the_row D.row F.row D.Disk).coded shared.now two }
+    ensures { IsPassOf (engines.the_row D.row F.row D.Disk).coded shared.now result }
+{
+    let (mut one, two) = join(
+        rt,
+        || -> Pass<Entry>
+            requires crosses { IsSync R.row }
+            requires pass { IsPassOf (engines.the_row D.row F.row D.Disk).coded shared.now one }
+            ensures pass { IsPassOf (engines.the_row D.row F.row D.Disk).coded shared.entry.now result }
+        { call_often(rt, alloc, shared, one, 1, cmd, count) },
+        || -> Pass<Entry>
+            requires crosses { IsSync R.row }
+            requires pass { IsPassOf (engines.the_row D.row F.row D.Disk).coded shared.now two }
+            ensures pass { IsPassOf (engines.the_row D.row F.row D.Disk).coded shared.entry.now result }
+        { call_often(rt, alloc, shared, two, 2, cmd, count) },
+    );
+    shared.meet(rt, &mut one, two);
+    one
+}
+
 // Splits so many passes off, lets them go, and closes with what is left.
 fn push_split<D: Disk + Drop, F: Drop, R: Wait>(
     rt: &R,
@@ -290,13 +344,60 @@ fn push_split<D: Disk + Drop, F: Drop, R: Wait>(
     push_closed(rt, alloc, shared, first, out)
 }
 
+// Adds of how many entries each of these clients is the one that asked.
+fn push_clients(journal: &[Entry], out: &mut String) -> Result<(), Fault> {
+    let one = journal.iter().filter(|entry| entry.client == 1).count() as u64;
+    let two = journal.iter().filter(|entry| entry.client == 2).count() as u64;
+    push_filled("% of client 1, % of client 2: ", &[one, two], out)
+}
+
+// Adds what an engine that two clients asked has come to.
+fn push_both<D: Disk + Drop, F: Drop>(
+    alloc: Global,
+    engine: &Engine<D, F>,
+    out: &mut String,
+) -> Result<(), Fault> {
+    push_clients(engine.journal(), out)?;
+    push_engine(alloc, engine, out)
+}
+
+// Two passes call a command so often, each in a thread of its own, and what they come to is closed.
+fn push_together<D: Disk + Drop + Send, F: Drop + Send, R: Threads + Wait + Sync>(
+    rt: &R,
+    alloc: Global,
+    shared: Shared<D, F>,
+    first: Pass<Entry>,
+    cmd: &Cmd,
+    count: u32,
+    out: &mut String,
+) -> Result<(), Fault>
+    requires { IsPassOf (engines.the_row D.row F.row D.Disk).coded shared first }
+{
+    let mut first = first;
+    let other = split_off(rt, &shared, &mut first)?;
+    let first = call_together(rt, alloc, &shared, first, other, cmd, count);
+    push_filled("% shares: ", &[first.shares()], out)?;
+    let engine = shared.close(rt, first);
+    let said = push_both(alloc, &engine, out);
+    drop(disk_of(engine));
+    said
+}
+
+// The command of a script of one line.
+fn only_command(script: &Script) -> Result<&Cmd, Fault> {
+    match script.as_slice().first() {
+        Some(Line::Client { cmd, .. }) => Ok(cmd),
+        _ => Err(refuse("no command")),
+    }
+}
+
 // The texts on both sides of a ` : `.
 fn two_texts(text: &str) -> Result<(&str, &str), Fault> {
     text.split_once(" : ").ok_or(refuse("no such step"))
 }
 
 // Makes what a step says with an engine that is shared, and adds what came of it.
-fn push_way<D: Disk + Drop, F: Fn(&[u64]) -> usize + Drop, R: Wait>(
+fn push_way<D: Disk + Drop + Send, F: Fn(&[u64]) -> usize + Drop + Send, R: Threads + Wait + Sync>(
     rt: &R,
     alloc: Global,
     shared: Shared<D, F>,
@@ -321,6 +422,12 @@ fn push_way<D: Disk + Drop, F: Fn(&[u64]) -> usize + Drop, R: Wait>(
                 out,
             )
         }
+        "together" => {
+            let (count, line) = two_texts(text)?;
+            let script = script(alloc, line)?;
+            let cmd = only_command(&script)?;
+            push_together(rt, alloc, shared, first, cmd, small(count)?, out)
+        }
         _ => {
             let (zero, others) = two_texts(text)?;
             let (one, two) = two_texts(others)?;
@@ -330,7 +437,11 @@ fn push_way<D: Disk + Drop, F: Fn(&[u64]) -> usize + Drop, R: Wait>(
 }
 
 // Shares an engine, makes what a step says, and adds what came of it.
-fn push_shared<D: Disk + Drop, F: Fn(&[u64]) -> usize + Drop, R: Wait>(
+fn push_shared<
+    D: Disk + Drop + Send,
+    F: Fn(&[u64]) -> usize + Drop + Send,
+    R: Threads + Wait + Sync,
+>(
     rt: &R,
     alloc: Global,
     engine: Engine<D, F>,
@@ -356,8 +467,9 @@ fn push_shared<D: Disk + Drop, F: Fn(&[u64]) -> usize + Drop, R: Wait>(
 ///   other, and make those of theirs; all meet, and the first one closes;
 /// - `met` or `unmet`, and two scripts: a pass makes the events of the first one; another is split from it, and makes those
 ///   of the second; it is met, or let go, and the first one closes;
-/// - `split`, and a number: so many passes are split from one, which closes.
-pub(crate) fn push_passes<R: Wait>(
+/// - `split`, and a number: so many passes are split from one, which closes;
+/// - `together`, a number and a line: two passes call its command so often, as clients 1 and 2, each in a thread.
+pub(crate) fn push_passes<R: Threads + Wait + Sync>(
     rt: &R,
     alloc: Global,
     call: u64,
