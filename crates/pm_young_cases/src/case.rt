@@ -1,7 +1,7 @@
 //! A case: its steps, one a line.
 
-use crate::running::push_run;
-use crate::storing::store_of;
+use crate::lines::push_run;
+use crate::store::store_of;
 use pm_case_text::{Count, Fault, first_word, is_silent, patch, push_case, refuse, written_out};
 use std::alloc::Global;
 

@@ -3,7 +3,7 @@
 #![tactic(auto)]
 
 mod case;
-mod running;
-mod storing;
+mod lines;
+mod store;
 
 pub use case::Case;
