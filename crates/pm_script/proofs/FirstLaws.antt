@@ -5,6 +5,8 @@ use Rattle.std.proofs.lemmas.Fmt.{decimal_digit}
 use Rattle.std.specs.Option.{option_map}
 use Rattle.std.specs.List.{find}
 use Rattle.std.specs.Cmp.Lexicographic.{pointwise, bytes_decides}
+use Rattle.pm_script.specs.declared.verb.Dialect.{Dialect}
+use Rattle.pm_script.specs.declared.verb.Dialect.TheVariants as dialect
 use Rattle.pm_script.specs.declared.verb.Verb.{Verb}
 use Rattle.pm_script.specs.declared.verb.Verb.TheVariants as verb
 use Rattle.pm_script.specs.declared.verb.First.{First}
@@ -50,17 +52,27 @@ passes : {X : Type 0} (p : X → Bool) (xs : List X) (x : X) → find p xs ≡ S
 passes p [] x is = absurd cc
 passes p (y ∷ xs) x is = found_by p y x xs (p y) refl is (passes p xs x)
 
-pub verb_found : (f : First) (word : List ℕ) (v : Verb) → verb_at f word ≡ Some v → (word ≡ word_of v) × (belongs f v ≡ true)
+pub verb_found : (d : Dialect) (f : First) (word : List ℕ) (v : Verb) → verb_at d f word ≡ Some v → (word ≡ word_of v) × (belongs d f v ≡ true)
 unfolding verb_at
-verb_found f word v is =
-    let both = passes (λ verb. pointwise ◌==◌ word (word_of verb) && belongs f verb) verbs v is in
-    ((bytes_decides word (word_of v)).0 (first_true (pointwise ◌==◌ word (word_of v)) (belongs f v) both), second_true (pointwise ◌==◌ word (word_of v)) (belongs f v) both)
+verb_found d f word v is =
+    let both = passes (λ verb. pointwise ◌==◌ word (word_of verb) && belongs d f verb) verbs v is in
+    ((bytes_decides word (word_of v)).0 (first_true (pointwise ◌==◌ word (word_of v)) (belongs d f v) both), second_true (pointwise ◌==◌ word (word_of v)) (belongs d f v) both)
 
-pub verb_again : (f : First) (v : Verb) → belongs f v ≡ true → verb_at f (word_of v) ≡ Some v
+pub verb_again : (d : Dialect) (f : First) (v : Verb) → belongs d f v ≡ true → verb_at d f (word_of v) ≡ Some v
 unfolding verb_at
-verb_again (first.Client c) verb.Gc may = absurd cc
-verb_again (first.Client c) verb.Flush may = absurd cc
-verb_again (first.Client c) v may = refl
-verb_again first.Bang verb.Gc may = refl
-verb_again first.Bang verb.Flush may = refl
-verb_again first.Bang v may = absurd cc
+verb_again dialect.Plain (first.Client c) verb.Gc may = absurd cc
+verb_again dialect.Plain (first.Client c) verb.Flush may = absurd cc
+verb_again dialect.Plain (first.Client c) verb.Young may = absurd cc
+verb_again dialect.Plain (first.Client c) v may = refl
+verb_again dialect.Plain first.Bang verb.Gc may = refl
+verb_again dialect.Plain first.Bang verb.Flush may = refl
+verb_again dialect.Plain first.Bang v may = absurd cc
+verb_again dialect.Young (first.Client c) verb.Gc may = absurd cc
+verb_again dialect.Young (first.Client c) verb.Flush may = absurd cc
+verb_again dialect.Young (first.Client c) verb.Young may = absurd cc
+verb_again dialect.Young (first.Client c) verb.Watch may = absurd cc
+verb_again dialect.Young (first.Client c) v may = refl
+verb_again dialect.Young first.Bang verb.Gc may = refl
+verb_again dialect.Young first.Bang verb.Flush may = refl
+verb_again dialect.Young first.Bang verb.Young may = refl
+verb_again dialect.Young first.Bang v may = absurd cc

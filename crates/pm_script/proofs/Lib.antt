@@ -12,9 +12,13 @@ pub mod FirstLaws
 pub mod SaidLaws
 pub mod PlainWords
 pub mod BodyLaws
-pub mod ScriptLaws
 pub mod CauseLaws
+pub mod Readings
+pub mod Faults
+pub mod Dialects
+pub mod ScriptLaws
 pub mod BadLaws
+pub mod YoungLaws
 pub mod SpellingLaws
 pub mod TextLemmas
 pub mod CutLemmas

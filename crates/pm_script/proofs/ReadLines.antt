@@ -7,57 +7,57 @@ use Rattle.std.specs.List.{slice_split, onto_first}
 use Rattle.std.specs.Cmp.Lexicographic.{pointwise}
 use Rattle.pm_types.specs.Results.{◌>>=◌}
 use Rattle.pm_types.proofs.Fronts.{with_front, regroup}
+use Rattle.pm_script.specs.declared.fault.Cause.{Cause}
 use Rattle.pm_script.specs.declared.fault.ScriptFault.{ScriptFault}
 use Rattle.pm_script.specs.declared.fault.ScriptFault.TheVariants as fault
-use Rattle.pm_script.specs.declared.line.Line.{Line}
 use Rattle.pm_script.specs.Lines.{lines_of, is_silent}
-use Rattle.pm_script.specs.Reading.{Stops, line_at, numbered, lines_at}
+use Rattle.pm_script.specs.Reading.{Stops, numbered, lines_at}
 
 -- the parts between newlines
 abbrev pub parts : List ℕ → List (List ℕ)
 parts bytes = slice_split (λ b. nat_eq b 10) bytes
 
-turn : (left more : List (List ℕ)) (m : ℕ) (body : List ℕ) → left ≡ body ∷ more
-    → lines_at m left ≡ (if is_silent body then lines_at (m + 1) more else (numbered m (line_at body) >>= λ line. lines_at (m + 1) more >>= λ lines. Ok (line ∷ lines)))
-turn left more m body is = ap (lines_at m) is
+turn : {L : Type 0} (read : List ℕ → Result L Cause) (left more : List (List ℕ)) (m : ℕ) (body : List ℕ) → left ≡ body ∷ more
+    → lines_at read m left ≡ (if is_silent body then lines_at read (m + 1) more else (numbered m (read body) >>= λ line. lines_at read (m + 1) more >>= λ lines. Ok (line ∷ lines)))
+turn read left more m body is = ap (lines_at read m) is
 
 -- a line that says nothing is passed over
-pub passed_over : (front : List Line) (left more : List (List ℕ)) (all : Result (List Line) ScriptFault) (m : ℕ) (body : List ℕ) → left ≡ body ∷ more → is_silent body ≡ true
-    → with_front front (lines_at m left) ≡ all → with_front front (lines_at (m + 1) more) ≡ all
-passed_over front left more all m body is silent so =
-    sym (ap (with_front front) (turn left more m body is ∙ ap (λ b. if b then lines_at (m + 1) more else (numbered m (line_at body) >>= λ line. lines_at (m + 1) more >>= λ lines. Ok (line ∷ lines))) silent)) ∙ so
+pub passed_over : {L : Type 0} (read : List ℕ → Result L Cause) (front : List L) (left more : List (List ℕ)) (all : Result (List L) ScriptFault) (m : ℕ) (body : List ℕ) → left ≡ body ∷ more → is_silent body ≡ true
+    → with_front front (lines_at read m left) ≡ all → with_front front (lines_at read (m + 1) more) ≡ all
+passed_over read front left more all m body is silent so =
+    sym (ap (with_front front) (turn read left more m body is ∙ ap (λ b. if b then lines_at read (m + 1) more else (numbered m (read body) >>= λ line. lines_at read (m + 1) more >>= λ lines. Ok (line ∷ lines))) silent)) ∙ so
 
-spoken_turn : (front : List Line) (left more : List (List ℕ)) (all : Result (List Line) ScriptFault) (m : ℕ) (body : List ℕ) → left ≡ body ∷ more → is_silent body ≡ false
-    → with_front front (lines_at m left) ≡ all → with_front front (numbered m (line_at body) >>= λ line. lines_at (m + 1) more >>= λ lines. Ok (line ∷ lines)) ≡ all
-spoken_turn front left more all m body is spoken so =
-    sym (ap (with_front front) (turn left more m body is ∙ ap (λ b. if b then lines_at (m + 1) more else (numbered m (line_at body) >>= λ line. lines_at (m + 1) more >>= λ lines. Ok (line ∷ lines))) spoken)) ∙ so
+spoken_turn : {L : Type 0} (read : List ℕ → Result L Cause) (front : List L) (left more : List (List ℕ)) (all : Result (List L) ScriptFault) (m : ℕ) (body : List ℕ) → left ≡ body ∷ more → is_silent body ≡ false
+    → with_front front (lines_at read m left) ≡ all → with_front front (numbered m (read body) >>= λ line. lines_at read (m + 1) more >>= λ lines. Ok (line ∷ lines)) ≡ all
+spoken_turn read front left more all m body is spoken so =
+    sym (ap (with_front front) (turn read left more m body is ∙ ap (λ b. if b then lines_at read (m + 1) more else (numbered m (read body) >>= λ line. lines_at read (m + 1) more >>= λ lines. Ok (line ∷ lines))) spoken)) ∙ so
 
 -- one line more
-pub line_more : (front : List Line) (line : Line) (left more : List (List ℕ)) (all : Result (List Line) ScriptFault) (m : ℕ) (body : List ℕ) → left ≡ body ∷ more → is_silent body ≡ false
-    → with_front front (lines_at m left) ≡ all → numbered m (line_at body) ≡ Ok line → with_front (front ++ line ∷ []) (lines_at (m + 1) more) ≡ all
-line_more front line left more all m body is spoken so read =
-    sym (regroup front line (lines_at (m + 1) more))
-    ∙ ap (λ (r : Result Line ScriptFault). with_front front (r >>= λ line. lines_at (m + 1) more >>= λ lines. Ok (line ∷ lines))) (sym read)
-    ∙ spoken_turn front left more all m body is spoken so
+pub line_more : {L : Type 0} (read : List ℕ → Result L Cause) (front : List L) (line : L) (left more : List (List ℕ)) (all : Result (List L) ScriptFault) (m : ℕ) (body : List ℕ) → left ≡ body ∷ more → is_silent body ≡ false
+    → with_front front (lines_at read m left) ≡ all → numbered m (read body) ≡ Ok line → with_front (front ++ line ∷ []) (lines_at read (m + 1) more) ≡ all
+line_more {L} read front line left more all m body is spoken so told =
+    sym (regroup front line (lines_at read (m + 1) more))
+    ∙ ap (λ (r : Result L ScriptFault). with_front front (r >>= λ line. lines_at read (m + 1) more >>= λ lines. Ok (line ∷ lines))) (sym told)
+    ∙ spoken_turn read front left more all m body is spoken so
 
-stopped : (front : List Line) (left more : List (List ℕ)) (all : Result (List Line) ScriptFault) (m : ℕ) (body : List ℕ) (f : ScriptFault) → left ≡ body ∷ more → is_silent body ≡ false
-    → with_front front (lines_at m left) ≡ all → numbered m (line_at body) ≡ Err f → all ≡ Err f
-stopped front left more all m body f is spoken so read =
-    sym (spoken_turn front left more all m body is spoken so)
-    ∙ ap (λ (r : Result Line ScriptFault). with_front front (r >>= λ line. lines_at (m + 1) more >>= λ lines. Ok (line ∷ lines))) read
+stopped : {L : Type 0} (read : List ℕ → Result L Cause) (front : List L) (left more : List (List ℕ)) (all : Result (List L) ScriptFault) (m : ℕ) (body : List ℕ) (f : ScriptFault) → left ≡ body ∷ more → is_silent body ≡ false
+    → with_front front (lines_at read m left) ≡ all → numbered m (read body) ≡ Err f → all ≡ Err f
+stopped {L} read front left more all m body f is spoken so told =
+    sym (spoken_turn read front left more all m body is spoken so)
+    ∙ ap (λ (r : Result L ScriptFault). with_front front (r >>= λ line. lines_at read (m + 1) more >>= λ lines. Ok (line ∷ lines))) told
 
 -- a bad line ends all
-pub bad_ends : (f : ScriptFault) (front : List Line) (left more : List (List ℕ)) (all : Result (List Line) ScriptFault) (m : ℕ) (body : List ℕ) → left ≡ body ∷ more → is_silent body ≡ false
-    → with_front front (lines_at m left) ≡ all → Stops {X = Line} f (numbered m (line_at body)) → Stops {X = List Line} f all
-bad_ends (fault.Line number cause) front left more all m body is spoken so read = stopped front left more all m body (fault.Line number cause) is spoken so read
-bad_ends fault.TooManyLines front left more all m body is spoken so read = stopped front left more all m body fault.TooManyLines is spoken so read
-bad_ends fault.TooLong front left more all m body is spoken so read = stopped front left more all m body fault.TooLong is spoken so read
-bad_ends (fault.Memory _) front left more all m body is spoken so read = tt
+pub bad_ends : {L : Type 0} (read : List ℕ → Result L Cause) (f : ScriptFault) (front : List L) (left more : List (List ℕ)) (all : Result (List L) ScriptFault) (m : ℕ) (body : List ℕ) → left ≡ body ∷ more → is_silent body ≡ false
+    → with_front front (lines_at read m left) ≡ all → Stops {X = L} f (numbered m (read body)) → Stops {X = List L} f all
+bad_ends read (fault.Line number cause) front left more all m body is spoken so told = stopped read front left more all m body (fault.Line number cause) is spoken so told
+bad_ends read fault.TooManyLines front left more all m body is spoken so told = stopped read front left more all m body fault.TooManyLines is spoken so told
+bad_ends read fault.TooLong front left more all m body is spoken so told = stopped read front left more all m body fault.TooLong is spoken so told
+bad_ends read (fault.Memory _) front left more all m body is spoken so told = tt
 
 -- all lines are read
-pub lines_done : (front : List Line) (left : List (List ℕ)) (all : Result (List Line) ScriptFault) (m : ℕ) → left ≡ [] → with_front front (lines_at m left) ≡ all → all ≡ Ok front
-lines_done front left all m is so =
-    sym so ∙ ap (λ bodies. with_front front (lines_at m bodies)) is ∙ ap (λ (ls : List Line). Ok ls) (append-nil front)
+pub lines_done : {L : Type 0} (read : List ℕ → Result L Cause) (front : List L) (left : List (List ℕ)) (all : Result (List L) ScriptFault) (m : ℕ) → left ≡ [] → with_front front (lines_at read m left) ≡ all → all ≡ Ok front
+lines_done {L} read front left all m is so =
+    sym so ∙ ap (λ bodies. with_front front (lines_at read m bodies)) is ∙ ap (λ (ls : List L). Ok ls) (append-nil front)
 
 -- a newline at the end ends the last line
 newline_last : (xs : List ℕ) → lines_of (xs ++ 10 ∷ []) ≡ parts xs

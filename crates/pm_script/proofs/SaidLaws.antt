@@ -2,6 +2,7 @@
 use Rattle.std.proofs.Common.{◌≡◌, ℕ, suc, true, List, [], ◌∷◌, length, map, refl, ap}
 use Rattle.pm_types.specs.declared.command.Cmd.{Cmd}
 use Rattle.pm_types.specs.declared.command.Cmd.TheVariants as cmd
+use Rattle.pm_script.specs.declared.verb.Dialect.TheVariants as dialect
 use Rattle.pm_script.specs.declared.verb.First.TheVariants as first
 use Rattle.pm_script.specs.declared.line.Line.{Line}
 use Rattle.pm_script.specs.declared.line.Line.TheVariants as line
@@ -18,12 +19,12 @@ line_kinds (line.Client c command) = command_kinds command
 line_kinds (line.Gc count) = refl
 line_kinds (line.Flush count) = refl
 
-command_belongs : (command : Cmd) (c : ℕ) → belongs (first.Client c) (command_said command).0 ≡ true
+command_belongs : (command : Cmd) (c : ℕ) → belongs dialect.Plain (first.Client c) (command_said command).0 ≡ true
 command_belongs cmd.Save c = refl
 command_belongs command c = refl
 
--- and its word may stand after its first
-pub line_belongs : (l : Line) → belongs (first_of l) (said l).0 ≡ true
+-- and its word may stand after its first, in a script
+pub line_belongs : (l : Line) → belongs dialect.Plain (first_of l) (said l).0 ≡ true
 line_belongs (line.Client c command) = command_belongs command c
 line_belongs (line.Gc count) = refl
 line_belongs (line.Flush count) = refl

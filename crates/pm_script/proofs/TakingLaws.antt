@@ -11,6 +11,8 @@ use Rattle.pm_script.specs.declared.fault.Cause.{Cause}
 use Rattle.pm_script.specs.declared.fault.Cause.TheVariants as cause
 use Rattle.pm_types.specs.declared.caused.Fault.{Fault}
 use Rattle.pm_types.specs.declared.caused.Fault.TheVariants.{Bad, Memory}
+use Rattle.pm_script.specs.declared.verb.Dialect.{Dialect}
+use Rattle.pm_script.specs.declared.verb.Dialect.TheVariants as dialect
 use Rattle.pm_script.specs.declared.verb.Verb.{Verb}
 use Rattle.pm_script.specs.declared.verb.Verb.TheVariants as verb
 use Rattle.pm_script.specs.declared.verb.First.{First}
@@ -18,13 +20,17 @@ use Rattle.pm_script.specs.declared.verb.First.TheVariants as first
 use Rattle.pm_script.specs.declared.verb.Kind.{Kind}
 use Rattle.pm_script.specs.declared.line.Line.{Line}
 use Rattle.pm_script.specs.declared.line.Line.TheVariants as line
+use Rattle.pm_script.specs.declared.line.YoungLine.{YoungLine}
+use Rattle.pm_script.specs.declared.line.YoungLine.TheVariants as young
 use Rattle.pm_script.specs.Lines.{parts_in}
 use Rattle.pm_script.specs.Words.{kinds, belongs, Value, kind_of, kind_cause, IsSpelled, AreSpelled}
 use Rattle.pm_script.specs.Script.{command_said, said, first_of}
+use Rattle.pm_script.specs.Young.{young_said, young_first_of}
 use Rattle.pm_script.specs.Bad.{IsOfKind, IsFirstWrong}
 use Rattle.pm_script.specs.Values.{verb_at}
-use Rattle.pm_script.specs.Taking.{taken, command_at, events_at, asked_at}
+use Rattle.pm_script.specs.Taking.{Asked, taken, command_at, events_at, asked_at, young_asked_at}
 use Rattle.pm_script.specs.Reading.{Gives, Takes, counted_at, said_at}
+use Rattle.pm_script.proofs.SaidLaws.{line_kinds, line_belongs}
 use Rattle.pm_script.proofs.ValueLaws.{IsReader, registers, numbers, hexes, names}
 
 with_rest : {X : Type 0} (r : Result X (Fault Cause)) (o : Option X) (why : Cause) (rest : List (List ℕ)) → Gives r (ok_or o why) → Takes r (ok_or o why >>= λ x. Ok (x, rest)) rest
@@ -38,21 +44,21 @@ pub takes : {X : Type 0} (r : Result X (Fault Cause)) (read : List ℕ → Optio
 takes r read why words word rest is given = subst (λ (ws : List (List ℕ)). Takes r (taken read why ws) rest) (sym is) (with_rest r (read word) why rest given)
 
 -- the words spell values of the kinds, and what was read says these
-record IsRead {X : Type 0} (ks : List Kind) (words : List (List ℕ)) (read : Result X Cause) (says : X → List Value → Type 0) : Type 0 where
-  made : X
-  values : List Value
-  ok : read ≡ Ok made
-  so : says made values
-  are_kinds : map kind_of values ≡ ks
-  spelled : AreSpelled values words
+pub record IsRead {X : Type 0} (ks : List Kind) (words : List (List ℕ)) (read : Result X Cause) (says : X → List Value → Type 0) : Type 0 where
+  pub made : X
+  pub values : List Value
+  pub ok : read ≡ Ok made
+  pub so : says made values
+  pub are_kinds : map kind_of values ≡ ks
+  pub spelled : AreSpelled values words
 
 -- one of them is wrong, and the first such is told
-record IsWrong {X : Type 0} (ks : List Kind) (words : List (List ℕ)) (read : Result X Cause) : Type 0 where
-  why : Cause
-  err : read ≡ Err why
-  wrong : IsFirstWrong ks words why
+pub record IsWrong {X : Type 0} (ks : List Kind) (words : List (List ℕ)) (read : Result X Cause) : Type 0 where
+  pub why : Cause
+  pub err : read ≡ Err why
+  pub wrong : IsFirstWrong ks words why
 
-abbrev Judged : {X : Type 0} → List Kind → List (List ℕ) → Result X Cause → (X → List Value → Type 0) → Type 0
+abbrev pub Judged : {X : Type 0} → List Kind → List (List ℕ) → Result X Cause → (X → List Value → Type 0) → Type 0
 Judged ks words read says = IsRead ks words read says ⊎ IsWrong ks words read
 
 one_more : {X : Type 0} (k : Kind) (ks : List Kind) (v : Value) (word : List ℕ) (ws : List (List ℕ)) (read : Result X Cause) (says : X → List Value → Type 0)
@@ -84,7 +90,7 @@ done x [] says long so = inl (record { made = x; values = []; ok = refl; so = so
 done x (word ∷ words) says long so = absurd (omega (arith, long))
 
 -- where the words are as many as stand after such a verb
-command_judged : (client : ℕ) (v : Verb) (words : List (List ℕ)) → belongs (first.Client client) v ≡ true → length words ≡ length (kinds v) → Judged (kinds v) words (command_at v words) (λ cmd vs. command_said cmd ≡ (v, vs))
+command_judged : (client : ℕ) (v : Verb) (words : List (List ℕ)) → belongs dialect.Plain (first.Client client) v ≡ true → length words ≡ length (kinds v) → Judged (kinds v) words (command_at v words) (λ cmd vs. command_said cmd ≡ (v, vs))
 unfolding command_at
 command_judged client verb.New words may long = next registers words _ long (λ a ws long. next numbers ws _ long (λ b ws long. next hexes ws _ long (λ c ws long. done (cmd.New a b c) ws _ long refl)))
 command_judged client verb.Load words may long = next registers words _ long (λ a ws long. next registers ws _ long (λ b ws long. next numbers ws _ long (λ c ws long. done (cmd.Load a b c) ws _ long refl)))
@@ -106,29 +112,30 @@ command_judged client verb.Swap words may long = next registers words _ long (λ
 command_judged client verb.Unsave words may long = done cmd.Unsave words _ long refl
 command_judged client verb.Gc words may long = absurd cc
 command_judged client verb.Flush words may long = absurd cc
+command_judged client verb.Young words may long = absurd cc
 
 -- the line is said by this first word, this verb and these values
-pub record Says (f : First) (v : Verb) (line : Line) (values : List Value) : Type 0 where
+pub record Says {L : Type 0} (first_of : L → First) (said : L → Verb × List Value) (f : First) (v : Verb) (line : L) (values : List Value) : Type 0 where
   pub first : first_of line ≡ f
-  pub said : said line ≡ (v, values)
+  pub said_so : said line ≡ (v, values)
 
-as_line : (client : ℕ) (v : Verb) (ks : List Kind) (words : List (List ℕ)) (read : Result Cmd Cause) → Judged ks words read (λ cmd vs. command_said cmd ≡ (v, vs)) → Judged ks words (read >>= λ cmd. Ok (line.Client client cmd)) (Says (first.Client client) v)
+as_line : (client : ℕ) (v : Verb) (ks : List Kind) (words : List (List ℕ)) (read : Result Cmd Cause) → Judged ks words read (λ cmd vs. command_said cmd ≡ (v, vs)) → Judged ks words (read >>= λ cmd. Ok (line.Client client cmd)) (Says first_of said (first.Client client) v)
 as_line client v ks words read (inl is) =
     inl (record {
       made = line.Client client is.made;
       values = is.values;
       ok = ap (λ (r : Result Cmd Cause). r >>= λ cmd. Ok (line.Client client cmd)) is.ok;
-      so = record { first = refl; said = is.so };
+      so = record { first = refl; said_so = is.so };
       are_kinds = is.are_kinds;
       spelled = is.spelled;
     })
 as_line client v ks words read (inr is) = inr (record { why = is.why; err = ap (λ (r : Result Cmd Cause). r >>= λ cmd. Ok (line.Client client cmd)) is.err; wrong = is.wrong })
 
-asked_judged : (f : First) (v : Verb) (words : List (List ℕ)) → belongs f v ≡ true → length words ≡ length (kinds v) → Judged (kinds v) words (asked_at f v words) (Says f v)
+pub asked_judged : (f : First) (v : Verb) (words : List (List ℕ)) → belongs dialect.Plain f v ≡ true → length words ≡ length (kinds v) → Judged (kinds v) words (asked_at f v words) (Says first_of said f v)
 unfolding asked_at events_at
 asked_judged (first.Client client) v words may long = as_line client v (kinds v) words (command_at v words) (command_judged client v words may long)
-asked_judged first.Bang verb.Gc words may long = next numbers words _ long (λ a ws long. done (line.Gc a) ws _ long (record { first = refl; said = refl }))
-asked_judged first.Bang verb.Flush words may long = next numbers words _ long (λ a ws long. done (line.Flush a) ws _ long (record { first = refl; said = refl }))
+asked_judged first.Bang verb.Gc words may long = next numbers words _ long (λ a ws long. done (line.Gc a) ws _ long (record { first = refl; said_so = refl }))
+asked_judged first.Bang verb.Flush words may long = next numbers words _ long (λ a ws long. done (line.Flush a) ws _ long (record { first = refl; said_so = refl }))
 asked_judged first.Bang v words may long = absurd cc
 
 none_wrong : (values : List Value) (words : List (List ℕ)) (c : Cause) → AreSpelled values words → IsFirstWrong (map kind_of values) words c → ⊥
@@ -146,34 +153,43 @@ one_wrong (k ∷ ks) (word ∷ words) c d (inr (one, later)) (inl (other, not)) 
 one_wrong (k ∷ ks) (word ∷ words) c d (inr (one, later)) (inr (two, last)) = one_wrong ks words c d later last
 
 -- what is read of the words that say a line
-pub record IsTold (f : First) (v : Verb) (words : List (List ℕ)) (line : Line) : Type 0 where
+pub record IsTold {L : Type 0} (first_of : L → First) (said : L → Verb × List Value) (f : First) (v : Verb) (words : List (List ℕ)) (line : L) : Type 0 where
   pub values : List Value
-  pub says : Says f v line values
+  pub says : Says first_of said f v line values
   pub spelled : AreSpelled values words
 
-told_by : (f : First) (v : Verb) (words : List (List ℕ)) (line : Line) → Judged (kinds v) words (asked_at f v words) (Says f v) → asked_at f v words ≡ Ok line → IsTold f v words line
-told_by f v words line (inl it) is = let same : it.made ≡ line = ok_same _ _ (sym it.ok ∙ is) in record { values = it.values; says = subst (λ (l : Line). Says f v l it.values) same it.so; spelled = it.spelled }
-told_by f v words line (inr it) is = absurd (let bad : ◌≡◌ {A = Result Line Cause} (Err it.why) (Ok line) = sym it.err ∙ is in cc bad)
+-- a grammar of lines: what is read of the words behind a verb that belongs there is told right, and what a line says is read as it
+pub record IsGrammar {L : Type 0} (d : Dialect) (asked : Asked L) (first_of : L → First) (said : L → Verb × List Value) : Type 0 where
+  pub judged : (f : First) (v : Verb) (words : List (List ℕ)) → belongs d f v ≡ true → length words ≡ length (kinds v) → Judged (kinds v) words (asked f v words) (Says first_of said f v)
+  pub again : (l : L) (words : List (List ℕ)) → AreSpelled (said l).1 words → asked (first_of l) (said l).0 words ≡ Ok l
+  pub of_kinds : (l : L) → map kind_of (said l).1 ≡ kinds (said l).0
+
+told_by : {L : Type 0} (first_of : L → First) (said : L → Verb × List Value) (f : First) (v : Verb) (words : List (List ℕ)) (read : Result L Cause) (line : L) → Judged (kinds v) words read (Says first_of said f v) → read ≡ Ok line → IsTold first_of said f v words line
+told_by {L} first_of said f v words read line (inl it) is = let same : it.made ≡ line = ok_same _ _ (sym it.ok ∙ is) in record { values = it.values; says = subst (λ (l : L). Says first_of said f v l it.values) same it.so; spelled = it.spelled }
+told_by {L} first_of said f v words read line (inr it) is = absurd (let bad : ◌≡◌ {A = Result L Cause} (Err it.why) (Ok line) = sym it.err ∙ is in cc bad)
 
 -- words that are read as a line spell it
-pub told_found : (f : First) (v : Verb) (words : List (List ℕ)) (line : Line) → belongs f v ≡ true → length words ≡ length (kinds v) → asked_at f v words ≡ Ok line → IsTold f v words line
-told_found f v words line may long is = told_by f v words line (asked_judged f v words may long) is
+pub told_found : {L : Type 0} {d : Dialect} {asked : Asked L} {first_of : L → First} {said : L → Verb × List Value} → IsGrammar d asked first_of said → (f : First) (v : Verb) (words : List (List ℕ)) (line : L)
+    → belongs d f v ≡ true → length words ≡ length (kinds v) → asked f v words ≡ Ok line → IsTold first_of said f v words line
+told_found {asked = asked} {first_of = first_of} {said = said} g f v words line may long is = told_by first_of said f v words (asked f v words) line (g.judged f v words may long) is
 
-wrong_by : (f : First) (v : Verb) (words : List (List ℕ)) (c : Cause) → Judged (kinds v) words (asked_at f v words) (Says f v) → asked_at f v words ≡ Err c → IsFirstWrong (kinds v) words c
-wrong_by f v words c (inl it) is = absurd (let bad : ◌≡◌ {A = Result Line Cause} (Ok it.made) (Err c) = sym it.ok ∙ is in cc bad)
-wrong_by f v words c (inr it) is = let same : it.why ≡ c = err_same {A = Line} _ _ (sym it.err ∙ is) in subst (λ (c : Cause). IsFirstWrong (kinds v) words c) same it.wrong
+wrong_by : {L : Type 0} (says : L → List Value → Type 0) (ks : List Kind) (words : List (List ℕ)) (read : Result L Cause) (c : Cause) → Judged ks words read says → read ≡ Err c → IsFirstWrong ks words c
+wrong_by {L} says ks words read c (inl it) is = absurd (let bad : ◌≡◌ {A = Result L Cause} (Ok it.made) (Err c) = sym it.ok ∙ is in cc bad)
+wrong_by {L} says ks words read c (inr it) is = let same : it.why ≡ c = err_same {A = L} _ _ (sym it.err ∙ is) in subst (λ (c : Cause). IsFirstWrong ks words c) same it.wrong
 
 -- the cause that is told is that of the first wrong word
-pub wrong_found : (f : First) (v : Verb) (words : List (List ℕ)) (c : Cause) → belongs f v ≡ true → length words ≡ length (kinds v) → asked_at f v words ≡ Err c → IsFirstWrong (kinds v) words c
-wrong_found f v words c may long is = wrong_by f v words c (asked_judged f v words may long) is
+pub wrong_found : {L : Type 0} {d : Dialect} {asked : Asked L} {first_of : L → First} {said : L → Verb × List Value} → IsGrammar d asked first_of said → (f : First) (v : Verb) (words : List (List ℕ)) (c : Cause)
+    → belongs d f v ≡ true → length words ≡ length (kinds v) → asked f v words ≡ Err c → IsFirstWrong (kinds v) words c
+wrong_found {asked = asked} {first_of = first_of} {said = said} g f v words c may long is = wrong_by (Says first_of said f v) (kinds v) words (asked f v words) c (g.judged f v words may long) is
 
-again_by : (f : First) (v : Verb) (words : List (List ℕ)) (c : Cause) → Judged (kinds v) words (asked_at f v words) (Says f v) → IsFirstWrong (kinds v) words c → asked_at f v words ≡ Err c
-again_by f v words c (inl it) wrong = absurd (none_wrong it.values words c it.spelled (subst (λ (ks : List Kind). IsFirstWrong ks words c) (sym it.are_kinds) wrong))
-again_by f v words c (inr it) wrong = it.err ∙ ap Err (one_wrong (kinds v) words it.why c it.wrong wrong)
+again_by : {L : Type 0} (says : L → List Value → Type 0) (ks : List Kind) (words : List (List ℕ)) (read : Result L Cause) (c : Cause) → Judged ks words read says → IsFirstWrong ks words c → read ≡ Err c
+again_by says ks words read c (inl it) wrong = absurd (none_wrong it.values words c it.spelled (subst (λ (ks : List Kind). IsFirstWrong ks words c) (sym it.are_kinds) wrong))
+again_by says ks words read c (inr it) wrong = it.err ∙ ap Err (one_wrong ks words it.why c it.wrong wrong)
 
 -- and that of the first wrong word is told
-pub wrong_again : (f : First) (v : Verb) (words : List (List ℕ)) (c : Cause) → belongs f v ≡ true → length words ≡ length (kinds v) → IsFirstWrong (kinds v) words c → asked_at f v words ≡ Err c
-wrong_again f v words c may long wrong = again_by f v words c (asked_judged f v words may long) wrong
+pub wrong_again : {L : Type 0} {d : Dialect} {asked : Asked L} {first_of : L → First} {said : L → Verb × List Value} → IsGrammar d asked first_of said → (f : First) (v : Verb) (words : List (List ℕ)) (c : Cause)
+    → belongs d f v ≡ true → length words ≡ length (kinds v) → IsFirstWrong (kinds v) words c → asked f v words ≡ Err c
+wrong_again {asked = asked} {first_of = first_of} {said = said} g f v words c may long wrong = again_by (Says first_of said f v) (kinds v) words (asked f v words) c (g.judged f v words may long) wrong
 
 -- the words spell these values
 record Spell (values : List Value) (words : List (List ℕ)) : Type 0 where
@@ -216,19 +232,68 @@ line_again (line.Flush count) words are = again numbers count words _ are (λ ws
 pub told_again : (l : Line) (words : List (List ℕ)) → AreSpelled (said l).1 words → asked_at (first_of l) (said l).0 words ≡ Ok l
 told_again l words are = line_again l words (record { each = are })
 
-named : (f : First) (v : Verb) (words : List (List ℕ)) (word : List ℕ) (rest : List (List ℕ)) → words ≡ word ∷ rest → verb_at f word ≡ Some v → said_at f words ≡ counted_at f v rest
+-- the lines of a script
+pub plain_grammar : IsGrammar dialect.Plain asked_at first_of said
+plain_grammar = record { judged = asked_judged; again = told_again; of_kinds = line_kinds }
+
+young_line : (f : First) (v : Verb) (ks : List Kind) (words : List (List ℕ)) (read : Result Line Cause) → Judged ks words read (Says first_of said f v) → Judged ks words (read >>= λ line. Ok (young.Base line)) (Says young_first_of young_said f v)
+young_line f v ks words read (inl is) =
+    inl (record {
+      made = young.Base is.made;
+      values = is.values;
+      ok = ap (λ (r : Result Line Cause). r >>= λ line. Ok (young.Base line)) is.ok;
+      so = record { first = is.so.first; said_so = is.so.said_so };
+      are_kinds = is.are_kinds;
+      spelled = is.spelled;
+    })
+young_line f v ks words read (inr is) = inr (record { why = is.why; err = ap (λ (r : Result Line Cause). r >>= λ line. Ok (young.Base line)) is.err; wrong = is.wrong })
+
+young_judged : (f : First) (v : Verb) (words : List (List ℕ)) → belongs dialect.Young f v ≡ true → length words ≡ length (kinds v) → Judged (kinds v) words (young_asked_at f v words) (Says young_first_of young_said f v)
+unfolding young_asked_at
+young_judged (first.Client c) verb.Young words may long = absurd cc
+young_judged first.Bang verb.Young words may long = done young.Young words _ long (record { first = refl; said_so = refl })
+young_judged f verb.Watch words may long = absurd cc
+young_judged f v words may long = young_line f v (kinds v) words (asked_at f v words) (asked_judged f v words may long)
+
+-- what names no sweep is read as in a script
+base_read : (f : First) (v : Verb) (words : List (List ℕ)) → belongs dialect.Plain f v ≡ true → young_asked_at f v words ≡ (asked_at f v words >>= λ line. Ok (young.Base line))
+unfolding young_asked_at
+base_read f verb.Young words may = absurd cc
+base_read f v words may = refl
+
+young_again : (l : YoungLine) (words : List (List ℕ)) → AreSpelled (young_said l).1 words → young_asked_at (young_first_of l) (young_said l).0 words ≡ Ok l
+unfolding young_asked_at
+young_again young.Young words are = refl
+young_again (young.Base l) words are =
+    base_read (first_of l) (said l).0 words (line_belongs l) ∙ ap (λ (r : Result Line Cause). r >>= λ line. Ok (young.Base line)) (told_again l words are)
+
+young_kinds : (l : YoungLine) → map kind_of (young_said l).1 ≡ kinds (young_said l).0
+young_kinds young.Young = refl
+young_kinds (young.Base l) = line_kinds l
+
+-- the lines of a script for a run with a nursery
+pub young_grammar : IsGrammar dialect.Young young_asked_at young_first_of young_said
+young_grammar = record { judged = young_judged; again = young_again; of_kinds = young_kinds }
+
+named : {L : Type 0} (d : Dialect) (asked : Asked L) (f : First) (v : Verb) (words : List (List ℕ)) (word : List ℕ) (rest : List (List ℕ)) → words ≡ word ∷ rest → verb_at d f word ≡ Some v → said_at d asked f words ≡ counted_at asked f v rest
 unfolding said_at
-named f v words word rest is names = ap (said_at f) is ∙ ap (λ (o : Option Verb). ok_or o cause.Word >>= λ v. counted_at f v rest) names
+named d asked f v words word rest is names = ap (said_at d asked f) is ∙ ap (λ (o : Option Verb). ok_or o cause.Word >>= λ v. counted_at asked f v rest) names
+
+-- what was found under a dialect that is this one
+pub found_in : (d e : Dialect) (f : First) (word : List ℕ) (v : Verb) (found : Option Verb) → e ≡ d → found ≡ verb_at e f word → found ≡ Some v → verb_at d f word ≡ Some v
+found_in d e f word v found same is some = sym (ap (λ d. verb_at d f word) same) ∙ sym is ∙ some
 
 -- the words after the first, where the second names what is asked
-pub asked_so : (f : First) (v : Verb) (words : List (List ℕ)) (word : List ℕ) (rest : List (List ℕ)) → words ≡ word ∷ rest → verb_at f word ≡ Some v → (length rest == length (kinds v)) ≡ true → asked_at f v rest ≡ said_at f words
+pub asked_so : {L : Type 0} (d : Dialect) (asked : Asked L) (f : First) (v : Verb) (words : List (List ℕ)) (word : List ℕ) (rest : List (List ℕ)) → words ≡ word ∷ rest → verb_at d f word ≡ Some v → (length rest == length (kinds v)) ≡ true
+    → asked f v rest ≡ said_at d asked f words
 unfolding counted_at
-asked_so f v words word rest is names long = sym (named f v words word rest is names ∙ ap (λ b. if b then asked_at f v rest else Err cause.Count) long)
+asked_so d asked f v words word rest is names long = sym (named d asked f v words word rest is names ∙ ap (λ b. if b then asked f v rest else Err cause.Count) long)
 
 -- where the words are fewer or more than stand after such a verb
-pub miscounted : (f : First) (v : Verb) (words : List (List ℕ)) (word : List ℕ) (rest : List (List ℕ)) → words ≡ word ∷ rest → verb_at f word ≡ Some v → (length rest == length (kinds v)) ≡ false → said_at f words ≡ Err cause.Count
+pub miscounted : {L : Type 0} (d : Dialect) (asked : Asked L) (f : First) (v : Verb) (words : List (List ℕ)) (word : List ℕ) (rest : List (List ℕ)) → words ≡ word ∷ rest → verb_at d f word ≡ Some v → (length rest == length (kinds v)) ≡ false
+    → said_at d asked f words ≡ Err cause.Count
 unfolding counted_at
-miscounted f v words word rest is names other = named f v words word rest is names ∙ ap (λ b. if b then asked_at f v rest else Err cause.Count) other
+miscounted d asked f v words word rest is names other = named d asked f v words word rest is names ∙ ap (λ b. if b then asked f v rest else Err cause.Count) other
 
 one_less : (n count m : ℕ) → 0 < count → m ≡ n + 1 → nat_eq n (count - 1) ≡ (m == count)
 one_less n count m some is = grind (arith, nat_tests)

@@ -3,6 +3,7 @@ use Rattle.std.proofs.Common.{◌≡◌, ℕ, suc, Bool, true, false, ◌&&◌, 
 use Rattle.std.proofs.lemmas.Bool.Decides.{nat_tests}
 use Rattle.std.specs.List.{find, filter}
 use Rattle.std.specs.Cmp.Lexicographic.{pointwise}
+use Rattle.pm_script.specs.declared.verb.Dialect.{Dialect}
 use Rattle.pm_script.specs.declared.verb.First.{First}
 use Rattle.pm_script.specs.Words.{word_of, verbs, belongs}
 use Rattle.pm_script.specs.Values.{verb_at, verbs_of}
@@ -34,8 +35,8 @@ found_among p q so [] = refl
 found_among p q so (x ∷ xs) =
     kept p x (q x) (filter q xs) ∙ passes_both (p x) (q x) (Some x) (find p (filter q xs)) (so x) ∙ ap (cond (p x) (Some x)) (found_among p q so xs)
 
-pub named_so : (first : First) (word : List ℕ) → find (λ verb. pointwise ◌==◌ word (word_of verb) && belongs first verb) (verbs_of (length word)) ≡ verb_at first word
+pub named_so : (dialect : Dialect) (first : First) (word : List ℕ) → find (λ verb. pointwise ◌==◌ word (word_of verb) && belongs dialect first verb) (verbs_of (length word)) ≡ verb_at dialect first word
 unfolding verb_at
-named_so first word =
-    found_among (λ verb. pointwise ◌==◌ word (word_of verb) && belongs first verb) (λ verb. nat_eq (length (word_of verb)) (length word))
+named_so dialect first word =
+    found_among (λ verb. pointwise ◌==◌ word (word_of verb) && belongs dialect first verb) (λ verb. nat_eq (length (word_of verb)) (length word))
     (λ verb is. same_length word (word_of verb) (first_true _ _ is)) verbs

@@ -2,6 +2,7 @@ pub mod HexDigits
 pub mod Words
 pub mod Lines
 pub mod Script
+pub mod Young
 pub mod Values
 pub mod Taking
 pub mod Reading

@@ -56,17 +56,25 @@ pub record IsBody (body : List ℕ) (line : Line) : Type 0 where
   pub joined : body ≡ join_with_byte 32 (first_word (first_of line) ∷ word_of (said line).0 ∷ words)
   pub short : length body ≤ LINE_BYTES
 
+-- as many bodies as lines, each of which stands for the line in its place
+abbrev pub StandFor : {L : Type 0} → (List ℕ → L → Type 0) → List (List ℕ) → List L → Type 0
+StandFor says [] [] = Unit {0}
+StandFor says (body ∷ bodies) (line ∷ lines) = says body line × StandFor says bodies lines
+StandFor says bodies lines = ⊥
+
 -- as many bodies as lines, each of which spells the line in its place
 abbrev pub AreBodies : List (List ℕ) → List Line → Type 0
-AreBodies [] [] = Unit {0}
-AreBodies (body ∷ bodies) (line ∷ lines) = IsBody body line × AreBodies bodies lines
-AreBodies bodies lines = ⊥
+AreBodies bodies lines = StandFor IsBody bodies lines
 
--- the bytes are a script of these lines: the lines of the bytes that say something spell them, one after the other
-pub record IsScript (bytes : List ℕ) (lines : List Line) : Type 0 where
+-- the lines of the bytes that say something stand for these lines, one after the other
+pub record IsScriptOf {L : Type 0} (says : List ℕ → L → Type 0) (bytes : List ℕ) (lines : List L) : Type 0 where
   pub short : length bytes ≤ SOURCE_BYTES
   pub few : length (lines_of bytes) ≤ SCRIPT_LINES
-  pub each : AreBodies (spoken (lines_of bytes)) lines
+  pub each : StandFor says (spoken (lines_of bytes)) lines
+
+-- the bytes are a script of these lines: the lines of the bytes that say something spell them, one after the other
+abbrev pub IsScript : List ℕ → List Line → Type 0
+IsScript bytes lines = IsScriptOf IsBody bytes lines
 
 -- the body in which a client says `new` of a register and a number of fields, with this word for the bytes
 abbrev pub new_body : ℕ → ℕ → ℕ → List ℕ → List ℕ

@@ -13,6 +13,8 @@ use Rattle.pm_script.specs.declared.verb.First.{First}
 use Rattle.pm_script.specs.declared.verb.First.TheVariants as first
 use Rattle.pm_script.specs.declared.line.Line.{Line}
 use Rattle.pm_script.specs.declared.line.Line.TheVariants as line
+use Rattle.pm_script.specs.declared.line.YoungLine.{YoungLine}
+use Rattle.pm_script.specs.declared.line.YoungLine.TheVariants as young
 use Rattle.pm_script.specs.Values.{number_below, number_of, hex_of, name_of}
 
 -- the first word, read so, and the words after it
@@ -95,6 +97,7 @@ command_at verb.Swap words = do
 command_at verb.Unsave words = Ok cmd.Unsave
 command_at verb.Gc words = Err cause.Count
 command_at verb.Flush words = Err cause.Count
+command_at verb.Young words = Err cause.Count
 
 -- the line that asks for events so
 unfoldable pub events_at : Verb → List (List ℕ) → Result Line Cause
@@ -106,9 +109,20 @@ events_at verb.Flush words = do
   Ok (line.Flush count.0)
 events_at verb words = Err cause.Count
 
+-- what is read of the words behind a first word and a verb
+abbrev pub Asked : Type 0 → Type 0
+Asked L = First → Verb → List (List ℕ) → Result L Cause
+
 -- the line that is said so
-unfoldable pub asked_at : First → Verb → List (List ℕ) → Result Line Cause
+unfoldable pub asked_at : Asked Line
 asked_at (first.Client client) verb words = do
   cmd ← command_at verb words
   Ok (line.Client client cmd)
 asked_at first.Bang verb words = events_at verb words
+
+-- the line of a run with a nursery that is said so
+unfoldable pub young_asked_at : Asked YoungLine
+young_asked_at first verb.Young words = Ok young.Young
+young_asked_at first verb words = do
+  line ← asked_at first verb words
+  Ok (young.Base line)

@@ -9,6 +9,7 @@ use Rattle.hex.specs.declared.error.FromHexError.{FromHexError}
 use Rattle.pm_types.specs.Options.{◌>>=◌}
 use Rattle.pm_types.specs.declared.limits.TheConstants.{CLIENTS, NAME_BYTES}
 use Rattle.pm_types.specs.Names.{is_name_byte}
+use Rattle.pm_script.specs.declared.verb.Dialect.{Dialect}
 use Rattle.pm_script.specs.declared.verb.Verb.{Verb}
 use Rattle.pm_script.specs.declared.verb.First.{First}
 use Rattle.pm_script.specs.declared.verb.First.TheVariants as first
@@ -55,6 +56,6 @@ first_at word = if pointwise ◌==◌ word (codes "!") then Some first.Bang else
 abbrev pub verbs_of : ℕ → List Verb
 verbs_of bytes = filter (λ verb. nat_eq (length (word_of verb)) bytes) verbs
 
--- what the word names, of what may be asked after that first word
-unfoldable pub verb_at : First → List ℕ → Option Verb
-verb_at first word = find (λ verb. pointwise ◌==◌ word (word_of verb) && belongs first verb) verbs
+-- what the word names, of what may be asked after that first word in a dialect
+unfoldable pub verb_at : Dialect → First → List ℕ → Option Verb
+verb_at dialect first word = find (λ verb. pointwise ◌==◌ word (word_of verb) && belongs dialect first verb) verbs

@@ -1,11 +1,13 @@
 -- The words of lines: which word names a command, what kinds of words follow it, and how each kind is spelled.
-use Rattle.std.specs.Prelude.{◌≡◌, ℕ, ◌^◌, ◌<◌, Bool, true, false, not, List, [], ◌∷◌, codes, decimal}
+use Rattle.std.specs.Prelude.{◌≡◌, ℕ, ◌^◌, ◌<◌, ◌&&◌, Bool, true, false, not, List, [], ◌∷◌, codes, decimal}
 use Rattle.hex.specs.Hex.{IsBytes}
 use Rattle.pm_types.specs.declared.limits.TheConstants.{CLIENTS, REGISTERS}
 use Rattle.pm_types.specs.Names.{IsName}
 use Rattle.pm_model.specs.Text.{pairs}
 use Rattle.pm_script.specs.declared.fault.Cause.{Cause}
 use Rattle.pm_script.specs.declared.fault.Cause.TheVariants as cause
+use Rattle.pm_script.specs.declared.verb.Dialect.{Dialect}
+use Rattle.pm_script.specs.declared.verb.Dialect.TheVariants as dialect
 use Rattle.pm_script.specs.declared.verb.Verb.{Verb}
 use Rattle.pm_script.specs.declared.verb.Verb.TheVariants as verb
 use Rattle.pm_script.specs.declared.verb.Kind.{Kind}
@@ -36,6 +38,7 @@ word_of verb.Swap = codes "swap"
 word_of verb.Unsave = codes "unsave"
 word_of verb.Gc = codes "gc"
 word_of verb.Flush = codes "flush"
+word_of verb.Young = codes "young"
 
 -- the kinds of the words after it
 abbrev pub kinds : Verb → List Kind
@@ -59,23 +62,36 @@ kinds verb.Swap = kind.Register ∷ kind.Number ∷ kind.Register ∷ kind.Regis
 kinds verb.Unsave = []
 kinds verb.Gc = kind.Number ∷ []
 kinds verb.Flush = kind.Number ∷ []
+kinds verb.Young = []
 
 -- all of them
 abbrev pub verbs : List Verb
 verbs =
     verb.New ∷ verb.Load ∷ verb.Store ∷ verb.Clear ∷ verb.Data ∷ verb.Put ∷ verb.Copy ∷ verb.Id ∷ verb.Drop ∷ verb.Root
-    ∷ verb.Unroot ∷ verb.Find ∷ verb.Save ∷ verb.Settle ∷ verb.Watch ∷ verb.Close ∷ verb.Swap ∷ verb.Unsave ∷ verb.Gc ∷ verb.Flush ∷ []
+    ∷ verb.Unroot ∷ verb.Find ∷ verb.Save ∷ verb.Settle ∷ verb.Watch ∷ verb.Close ∷ verb.Swap ∷ verb.Unsave ∷ verb.Gc ∷ verb.Flush ∷ verb.Young ∷ []
 
--- asked of the collector and of the checkpoint, and by no client
+-- asked of the collector, of the checkpoint and of the nursery, and by no client
 abbrev pub is_event : Verb → Bool
 is_event verb.Gc = true
 is_event verb.Flush = true
+is_event verb.Young = true
 is_event verb = false
 
 -- what may be asked after such a first word
-abbrev pub belongs : First → Verb → Bool
-belongs (first.Client client) verb = not (is_event verb)
-belongs first.Bang verb = is_event verb
+abbrev pub may_follow : First → Verb → Bool
+may_follow (first.Client client) verb = not (is_event verb)
+may_follow first.Bang verb = is_event verb
+
+-- what is asked in a dialect: in the plain one all but `young`, in that of a run with a nursery all but `watch`
+abbrev pub is_in : Dialect → Verb → Bool
+is_in dialect.Plain verb.Young = false
+is_in dialect.Plain verb = true
+is_in dialect.Young verb.Watch = false
+is_in dialect.Young verb = true
+
+-- what may be asked after such a first word, in a dialect
+abbrev pub belongs : Dialect → First → Verb → Bool
+belongs dialect first verb = is_in dialect verb && may_follow first verb
 
 -- the word that a line begins with
 abbrev pub first_word : First → List ℕ

@@ -235,7 +235,7 @@ fn command(alloc: Global, verb: Verb, words: &mut Option<&[u8]>) -> Result<Cmd, 
         Verb::Watch => Ok(Cmd::Watch),
         Verb::Close => Ok(Cmd::Close),
         Verb::Unsave => Ok(Cmd::Unsave),
-        Verb::Gc | Verb::Flush => Err(LineFault::Bad(Cause::Count)),
+        Verb::Gc | Verb::Flush | Verb::Young => Err(LineFault::Bad(Cause::Count)),
     }
 }
 

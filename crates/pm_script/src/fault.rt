@@ -59,5 +59,5 @@ impl<T: Drop> From<AllocFailed<T>> for ScriptFault {
     }
 }
 
-// Why a line was not read: it is bad, or memory ran out.
-pub(crate) type LineFault = Fault<Cause>;
+/// Why a line was not read: it is bad, or memory ran out.
+pub type LineFault = Fault<Cause>;

@@ -10,10 +10,12 @@ ghost use Rattle.pm_script.specs.declared.fault.ScriptFault.{ScriptFault as Faul
 ghost use Rattle.pm_script.specs.declared.limits.TheConstants.{LINE_BYTES};
 ghost use Rattle.pm_script.specs.declared.line.Line.{Line as Says};
 ghost use Rattle.pm_script.specs.declared.line.Line.TheVariants.{Client};
+ghost use Rattle.pm_script.specs.declared.line.YoungLine.{YoungLine as YoungSays};
 ghost use Rattle.pm_script.specs.declared.reply.TheConstants.{REPLY_BYTES};
-ghost use Rattle.pm_script.specs.Bad.{IsBad};
+ghost use Rattle.pm_script.specs.Bad.{IsBad, IsYoungBad};
 ghost use Rattle.pm_script.specs.Script.{IsScript, IsBody, HasSpelling, text_of, new_body};
 ghost use Rattle.pm_script.specs.Words.{IsHexWord};
+ghost use Rattle.pm_script.specs.Young.{IsYoungScript, HasYoungSpelling, young_text_of};
 
 /// A law of limits: the numbers of a line and of a reply, in bytes.
 pub fn limits_of_scripts()
@@ -45,4 +47,22 @@ pub fn spelled_lines_are_read_again()
 pub fn a_script_has_no_fault()
     ensures one { (bytes : List ℕ) (some other : Fault) → IsBad some bytes → IsBad other bytes → some ≡ other }
     ensures none { (bytes : List ℕ) (fault : Fault) (lines : List Says) → IsBad fault bytes → IsScript bytes lines → ⊥ }
+{}
+
+/// A law of scripts for a run with a nursery: bytes are one of one list of lines at most.
+pub fn a_young_script_has_one_reading()
+    ensures { (bytes : List ℕ) (some others : List YoungSays) → IsYoungScript bytes some → IsYoungScript bytes others
+        → some ≡ others }
+{}
+
+/// A law of scripts for a run with a nursery: lines that are spelled within the limits are those of their text.
+pub fn spelled_young_lines_are_read_again()
+    ensures { (lines : List YoungSays) → HasYoungSpelling lines → IsYoungScript (young_text_of lines) lines }
+{}
+
+/// A law of bad scripts for a run with a nursery: bytes have one fault at most, and those of a script have none.
+pub fn a_young_script_has_no_fault()
+    ensures one { (bytes : List ℕ) (some other : Fault) → IsYoungBad some bytes → IsYoungBad other bytes → some ≡ other }
+    ensures none { (bytes : List ℕ) (fault : Fault) (lines : List YoungSays)
+        → IsYoungBad fault bytes → IsYoungScript bytes lines → ⊥ }
 {}

@@ -14,3 +14,12 @@ pub enum Line {
     /// So many events that write a page of a checkpoint.
     Flush(u32),
 }
+
+/// What one line of a script for a run with a nursery asks.
+#[derive(Debug, Drop)]
+pub enum YoungLine {
+    /// What a line of any script asks. It is no `watch`.
+    Base(Line),
+    /// A sweep of the nursery.
+    Young,
+}

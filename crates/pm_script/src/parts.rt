@@ -83,7 +83,7 @@ fn near_space(text: &[u8]) -> Option<usize>
 /// The first of the words between spaces that are left, and those behind it, as `take_part` gives them. Most words end
 /// within a few bytes.
 #[tactic(auto, using(crate::proofs::CutLemmas::within_few))]
-pub(crate) fn take_word(words: Option<&[u8]>) -> Option<(&[u8], Option<&[u8]>)>
+pub fn take_word(words: Option<&[u8]>) -> Option<(&[u8], Option<&[u8]>)>
     ensures { MatchOption result (parts_in 32 words.entry ≡ [])
         (λ taken. parts_in 32 words.entry ≡ taken.0.now ∷ parts_in 32 taken.1) }
 {

@@ -61,8 +61,8 @@ fn digits(word: &[u8]) -> Option<u64>
     Some(value)
 }
 
-/// The number that a word spells: digits with no leading zero, of a value below 2^32.
-pub(crate) fn number_of(word: &[u8]) -> Option<u32>
+/// The number that a word spells: digits with no leading zero, of a value below 2^32. `None` where it spells none.
+pub fn number_of(word: &[u8]) -> Option<u32>
     ensures { result ≡ number_of word.now }
 {
     let first = *word.first()?;
@@ -88,9 +88,9 @@ fn client(word: &[u8]) -> Option<u32>
     if number < CLIENTS { Some(number) } else { None }
 }
 
-/// The register that a word spells.
+/// The register that a word spells, 0 to 1,023. `None` where it spells none.
 #[tactic(auto, unfolding(crate::specs::Values::number_below))]
-pub(crate) fn register_of(word: &[u8]) -> Option<Reg>
+pub fn register_of(word: &[u8]) -> Option<Reg>
     ensures { result ≡ number_below REGISTERS word.now }
 {
     let number = number_of(word)?;

@@ -1,8 +1,17 @@
 ghost use Rattle.std.specs.Prelude.{◌≡◌, ◌==◌, ◌&&◌};
 ghost use Rattle.std.specs.List.{find};
 ghost use Rattle.std.specs.Cmp.Lexicographic.{pointwise};
-ghost use Rattle.pm_script.specs.Words.{word_of, kinds, is_event, belongs};
+ghost use Rattle.pm_script.specs.Words.{word_of, kinds, is_event, is_in, may_follow, belongs};
 ghost use Rattle.pm_script.specs.Values.{verb_at, verbs_of};
+
+/// Which lines are read.
+#[derive(Clone, Copy, Debug, PartialEq, Eq)]
+pub(crate) enum Dialect {
+    /// Those of a script.
+    Plain,
+    /// Those of a script for a run with a nursery: `! young` beside them, and no `watch`.
+    Young,
+}
 
 /// What a line asks, by the word that names it.
 #[derive(Clone, Copy, Debug, PartialEq, Eq)]
@@ -27,6 +36,7 @@ pub(crate) enum Verb {
     Unsave,
     Gc,
     Flush,
+    Young,
 }
 
 /// The kinds of words that stand after it.
@@ -77,6 +87,7 @@ impl Verb {
             Verb::Unsave => b"unsave",
             Verb::Gc => b"gc",
             Verb::Flush => b"flush",
+            Verb::Young => b"young",
         }
     }
 
@@ -94,7 +105,8 @@ impl Verb {
             Verb::Root => &[Kind::Name, Kind::Register],
             Verb::Unroot => &[Kind::Name],
             Verb::Find => &[Kind::Register, Kind::Name],
-            Verb::Save | Verb::Settle | Verb::Watch | Verb::Close | Verb::Unsave => &[],
+            Verb::Save | Verb::Settle | Verb::Watch | Verb::Close | Verb::Unsave | Verb::Young =>
+                &[],
             Verb::Swap => &[Kind::Register, Kind::Number, Kind::Register, Kind::Register],
             Verb::Gc | Verb::Flush => &[Kind::Number],
         }
@@ -104,7 +116,7 @@ impl Verb {
     fn is_event(self) -> bool
         ensures { result ≡ is_event self }
     {
-        matches!(self, Verb::Gc | Verb::Flush)
+        matches!(self, Verb::Gc | Verb::Flush | Verb::Young)
     }
 
     // Those that are named by so many bytes.
@@ -130,37 +142,54 @@ impl Verb {
                 Verb::Watch,
                 Verb::Close,
                 Verb::Flush,
+                Verb::Young,
             ],
             6 => &[Verb::Unroot, Verb::Settle, Verb::Unsave],
             _ => &[],
         }
     }
 
-    // Whether this word names it, and it may be asked after that first word.
-    fn is_named(self, first: First, word: &[u8]) -> bool
-        ensures { result ≡ (pointwise ◌==◌ word.now (word_of self) && belongs first self) }
+    // Whether a dialect has it.
+    fn is_in(self, dialect: Dialect) -> bool
+        ensures { result ≡ is_in dialect self }
     {
-        let asked = match first {
+        match dialect {
+            Dialect::Plain => !matches!(self, Verb::Young),
+            Dialect::Young => !matches!(self, Verb::Watch),
+        }
+    }
+
+    // Whether it may be asked after that first word.
+    fn may_follow(self, first: First) -> bool
+        ensures { result ≡ may_follow first self }
+    {
+        match first {
             First::Client(_) => !self.is_event(),
             First::Bang => self.is_event(),
-        };
-        word == self.word() && asked
+        }
+    }
+
+    // Whether this word names it, and it may be asked after that first word in the dialect.
+    fn is_named(self, dialect: Dialect, first: First, word: &[u8]) -> bool
+        ensures { result ≡ (pointwise ◌==◌ word.now (word_of self) && belongs dialect first self) }
+    {
+        word == self.word() && self.is_in(dialect) && self.may_follow(first)
     }
 
     // The first of these that the word names after that first word.
-    fn read_among(verbs: &[Verb], first: First, word: &[u8]) -> Option<Verb>
-        ensures { result ≡ find (λ verb. pointwise ◌==◌ word.now (word_of verb) && belongs first verb) verbs.now }
+    fn read_among(verbs: &[Verb], dialect: Dialect, first: First, word: &[u8]) -> Option<Verb>
+        ensures { result ≡ find (λ verb. pointwise ◌==◌ word.now (word_of verb) && belongs dialect first verb) verbs.now }
     {
         verbs
             .iter()
             .copied()
-            .find(|verb| verb.is_named(first, word))
+            .find(|verb| verb.is_named(dialect, first, word))
     }
 
-    /// What the word names, of what may be asked after that first word.
-    pub fn read(first: First, word: &[u8]) -> Option<Verb>
-        ensures { result ≡ verb_at first word.now }
+    /// What the word names, of what may be asked after that first word in the dialect.
+    pub fn read(dialect: Dialect, first: First, word: &[u8]) -> Option<Verb>
+        ensures { result ≡ verb_at dialect first word.now }
     {
-        Verb::read_among(Verb::of_length(word.len()), first, word)
+        Verb::read_among(Verb::of_length(word.len()), dialect, first, word)
     }
 }

@@ -3,6 +3,7 @@
 use crate::dumps::{push_cut_dump, push_dump};
 use crate::parts::{push_asked_of_long, push_long, push_parts, push_takes};
 use crate::values::{push_copies, push_digest, push_name, push_register, push_room};
+use crate::young_scripts::{push_cut_young, push_young};
 use pm_case_text::{Count, Fault, first_word, is_silent, push_case, refuse, written_out};
 use std::alloc::Global;
 
@@ -35,6 +36,8 @@ fn push_step(alloc: Global, step: &str, text: &str, out: &mut String) -> Result<
         "read" => push_dump(alloc, text, false, out),
         "all" => push_dump(alloc, text, true, out),
         "cut" => push_cut_dump(alloc, text, out),
+        "young" | "young-count" => push_young(alloc, text, step == "young", out),
+        "young-cut" => push_cut_young(alloc, text, out),
         _ => push_written(alloc, step, text, out),
     }
 }

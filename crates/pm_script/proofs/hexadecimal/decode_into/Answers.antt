@@ -1,4 +1,4 @@
-use Rattle.std.proofs.Common.{◌*◌, ◌+◌, inl, inr, true, false, slice_index, refl, arith}
+use Rattle.std.proofs.Common.{◌*◌, ◌+◌, inl, inr, slice_index, refl, arith}
 use Rattle.hex.proofs.Pairs.{decode_done, decode_step}
 use Rattle.pm_script.proofs.DigitPairs.{match_err, match_ok, pair_worth, refused}
 use Rattle.pm_script.proofs.hexadecimal.decode_into.Goals as goal

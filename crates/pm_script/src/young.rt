@@ -1,0 +1,79 @@
+//! Scripts for a run with a nursery.
+ghost use Rattle.std.specs.Prelude.{◌≡◌, ◌≤◌, List, length, IfOk, IfErr, Ok, Err, ◌⊎◌};
+ghost use Rattle.pm_types.specs.declared.limits.TheConstants.{SOURCE_BYTES};
+ghost use Rattle.pm_script.specs.declared.fault.ScriptFault.{ScriptFault as Fault};
+ghost use Rattle.pm_script.specs.declared.fault.ScriptFault.TheVariants as script_fault;
+ghost use Rattle.pm_script.specs.declared.line.YoungLine.{YoungLine as Says};
+ghost use Rattle.pm_script.specs.Bad.{IsYoungBad};
+ghost use Rattle.pm_script.specs.Reading.{Answers};
+ghost use Rattle.pm_script.specs.Young.{IsYoungScript, AreYoungLines};
+ghost use Rattle.pm_types.specs.Memory.{no_memory};
+
+use crate::fault::ScriptFault;
+use crate::line::YoungLine;
+use crate::lines::read_all;
+use std::alloc::Global;
+use std::marker::Model;
+
+/// The lines of a script for a run with a nursery that say something, in order, seen as a list of them. There are at
+/// most 65,536, each client is one of 0 to 7, and none asks for `watch`.
+#[derive(Debug, Drop)]
+pub struct YoungScript {
+    lines: Vec<YoungLine>,
+}
+
+impl Model for YoungScript {
+    ghost use Rattle.std.specs.Prelude.{List};
+    ghost use Rattle.pm_script.specs.declared.line.YoungLine.{YoungLine as Says};
+    ghost use Rattle.pm_script.specs.Young.{AreYoungLines};
+
+    ghost Value = { List Says };
+
+    ghost view = { λ script. script.lines.items };
+
+    ghost invariant = { λ script. AreYoungLines script.lines.items };
+}
+
+impl YoungScript {
+    /// These lines, of which there are at most 65,536, each with a client below 8, and none a `watch`.
+    pub fn from_vec(lines: Vec<YoungLine>) -> Self
+        requires { AreYoungLines lines.items }
+        ensures { result ≡ lines.items }
+    {
+        YoungScript { lines }
+    }
+
+    /// The lines, lent.
+    pub fn as_slice(&self) -> &[YoungLine]
+        ensures lines { result.now ≡ self.now }
+        ensures few { AreYoungLines self.now }
+    {
+        self.lines.as_slice()
+    }
+
+    /// The lines, given up: at most 65,536, each with a client of 0 to 7, and none a `watch`.
+    pub fn into_lines(self) -> Vec<YoungLine>
+        ensures lines { result.items ≡ self }
+        ensures clients { AreYoungLines result.items }
+    {
+        self.lines
+    }
+}
+
+/// The lines that the bytes spell, of those that say something, for a run with a nursery: `! young` is one of them, and
+/// `watch` is none (`Word`). There are at most 268,435,456 bytes. `Line` tells the first bad line, `TooManyLines` that
+/// there are more than 65,536, which goes before; want of memory may come at any time, and `TooLong` is never answered.
+pub fn read_young(alloc: Global, bytes: &[u8]) -> Result<YoungScript, ScriptFault>
+    requires { length bytes.now ≤ SOURCE_BYTES }
+    // What is read is what the bytes spell.
+    ensures found { IfOk result (λ script. IsYoungScript bytes.now script) }
+    // What they spell is read, unless memory runs out.
+    ensures only { (lines : List Says) → IsYoungScript bytes.now lines → Answers result (Ok lines) }
+    // A fault is the first that applies to the bytes, but that memory may run out at any time.
+    ensures bad { IfErr result (λ fault. (fault ≡ script_fault.Memory no_memory) ⊎ IsYoungBad fault bytes.now) }
+    // The first that applies is told, unless memory runs out.
+    ensures told { (fault : Fault) → IsYoungBad fault bytes.now → Answers result (Err fault) }
+{
+    let lines = read_all(alloc, bytes)?;
+    Ok(YoungScript::from_vec(lines))
+}
