@@ -1,5 +1,5 @@
 -- The rule of the table in which the value lies between turns, and what its steps tell: it has one word and one slot.
-use Rattle.std.specs.Prelude.{◌≡◌, ◌≢◌, ◌⊎◌, ℕ, List, [], ◌∷◌, Some, Option as Opt}
+use Rattle.std.specs.Prelude.{◌≡◌, ◌≢◌, ◌⊎◌, ℕ, ◌+◌, ◌<◌, ◌≤◌, List, [], ◌∷◌, Some, Option as Opt}
 use mathlib.Core.Option.{Option, some, none}
 use Rattle.atomic_table.specs.Table.{State, Me, Step}
 use Rattle.pm_turns.specs.declared.rule.View.{View}
@@ -68,3 +68,12 @@ module _ {B T : Type 0} where
     pub was_sound : sound before
     pub is_sound : sound after
     pub does : turn before after who said
+
+  -- some turn of this worker was made
+  pub record HasTurn (tie : B → T) (sound : B → Type 0) (turn : B → B → ℕ → Turn → Type 0) (who : ℕ) (view : View T) : Type 0 where
+    pub said : Turn
+    pub takes : TakesTurn tie sound turn who view said
+
+  -- each of so many workers from this one on has had one
+  abbrev pub HaveTurns : (B → T) → (B → Type 0) → (B → B → ℕ → Turn → Type 0) → ℕ → ℕ → View T → Type 0
+  HaveTurns tie sound turn first count view = (who : ℕ) → first ≤ who → who < first + count → HasTurn tie sound turn who view

@@ -1,7 +1,7 @@
-ghost use Rattle.std.specs.Prelude.{◌≡◌, ◌<◌, ◌≤◌, ◌+◌};
+ghost use Rattle.std.specs.Prelude.{◌≡◌, ◌<◌, ◌≤◌, ◌+◌, ◌-◌};
 ghost use Rattle.std.specs.Thread.{IsSync};
 ghost use Rattle.pm_turns.specs.declared.limits.TheConstants.{WORKERS};
-ghost use Rattle.pm_turns.specs.Rule.{IsIdle};
+ghost use Rattle.pm_turns.specs.Rule.{IsIdle, TakesTurn, HaveTurns};
 
 use crate::home::{Home, HomeSeat};
 use crate::{Gate, Turn, Turned, WORKERS};
@@ -9,7 +9,31 @@ use std::alloc::Global;
 use std::sync::Wait;
 use std::thread::{Threads, join};
 
-// The turns of one worker, each with its gate round it, until it is told that it has finished or all have stopped.
+// A turn of this worker, with its gate round it: its turn of this number, from 0.
+fn turn_at<B: Turned + Drop, G: Gate, R: Wait>(
+    rt: &R,
+    alloc: Global,
+    home: &Home<B>,
+    gate: &G,
+    seat: &mut HomeSeat<B>,
+    who: u32,
+    index: u64,
+) -> Turn
+    requires who { who < WORKERS }
+    requires seat { seat.old.table_id ≡ home.now.table.shared.table_id }
+    requires idle { IsIdle seat.old.me }
+    ensures table { seat.new.table_id ≡ seat.old.table_id }
+    ensures same { seat.new.me ≡ seat.old.me }
+    ensures does { TakesTurn B.tie B.sound B.turn who seat.old.me.0 result }
+{
+    gate.before(who, index);
+    let turn = home.take_turn(rt, alloc, seat, who);
+    gate.after(who, index);
+    turn
+}
+
+// The turns of one worker, each with its gate round it, until it is told that it has finished or all have stopped. It
+// answers what came of the last one.
 fn work<B: Turned + Drop, G: Gate, R: Wait>(
     rt: &R,
     alloc: Global,
@@ -17,25 +41,26 @@ fn work<B: Turned + Drop, G: Gate, R: Wait>(
     gate: &G,
     seat: &mut HomeSeat<B>,
     who: u32,
-)
+) -> Turn
     requires who { who < WORKERS }
     requires seat { seat.old.table_id ≡ home.now.table.shared.table_id }
     requires idle { IsIdle seat.old.me }
     ensures table { seat.new.table_id ≡ seat.old.table_id }
     ensures same { seat.new.me ≡ seat.old.me }
+    ensures last { TakesTurn B.tie B.sound B.turn who seat.old.me.0 result }
 {
-    for index in 0..u64::MAX {
-        gate.before(who, index);
-        let turn = home.take_turn(rt, alloc, seat, who);
-        gate.after(who, index);
+    let mut turn = turn_at(rt, alloc, home, gate, seat, who, 0);
+    for index in 1..u64::MAX {
         match turn {
-            Turn::Made => {}
+            Turn::Made => turn = turn_at(rt, alloc, home, gate, seat, who, index),
             Turn::Finished | Turn::Stopped => break,
         }
     }
+    turn
 }
 
-// The workers from `first` on, `count` of them, each in a thread of its own. Their seats come back as one.
+// The workers from `first` on, `count` of them, each in a thread of its own. Each has had a turn of its own, and their
+// seats come back as one.
 fn spread<B: Turned + Drop + Send, G: Gate + Sync, R: Threads + Wait + Sync>(
     rt: &R,
     alloc: Global,
@@ -51,6 +76,7 @@ fn spread<B: Turned + Drop + Send, G: Gate + Sync, R: Threads + Wait + Sync>(
     requires idle { IsIdle seat.me }
     ensures table { result.table_id ≡ seat.table_id }
     ensures same { result.me ≡ seat.me }
+    ensures each { HaveTurns B.tie B.sound B.turn first count seat.me.0 }
 {
     if count == 1 {
         work(rt, alloc, home, gate, &mut seat, first);
@@ -67,6 +93,7 @@ fn spread<B: Turned + Drop + Send, G: Gate + Sync, R: Threads + Wait + Sync>(
             requires idle { IsIdle seat.me }
             ensures table { result.table_id ≡ seat.table_id }
             ensures same { result.me ≡ seat.me }
+            ensures each { HaveTurns B.tie B.sound B.turn first half seat.me.0 }
         { spread(rt, alloc, home, gate, seat, first, half) },
         || -> HomeSeat<B>
             requires crosses { IsSync R.row }
@@ -75,6 +102,7 @@ fn spread<B: Turned + Drop + Send, G: Gate + Sync, R: Threads + Wait + Sync>(
             requires idle { IsIdle other.me }
             ensures table { result.table_id ≡ other.table_id }
             ensures same { result.me ≡ other.me }
+            ensures each { HaveTurns B.tie B.sound B.turn (first + half) (count - half) other.me.0 }
         { spread(rt, alloc, home, gate, other, first + half, count - half) },
     );
     home.join_seat(&mut seat, other);
