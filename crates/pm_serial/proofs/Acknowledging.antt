@@ -1,16 +1,16 @@
 -- What is finished of the replies that say that a copy settled, one part of a run behind another.
-use Rattle.std.proofs.Common.{take, ◌≡◌, ◌⊎◌, ⊎_elim, inl, inr, ℕ, ◌+◌, ◌≤◌, Bool, true, false, Result, Ok, Err, OnOk, List, [], ◌∷◌, ◌++◌, length, Option, Some, None, refl, ap, sym, subst, ◌∙◌, append_assoc, length-append, arith}
+use Rattle.std.proofs.Common.{take, ◌≡◌, ◌⊎◌, ⊎_elim, inl, inr, ℕ, ◌+◌, ◌≤◌, Bool, true, false, Result, Ok, Err, OnOk, List, [], ◌∷◌, ◌++◌, length, Option, Some, None, refl, ap, sym, subst, ◌∙◌, append_assoc, codes, decimal, length-append, arith}
 use Rattle.std.proofs.lemmas.List.{append-nil}
 use Rattle.std.proofs.lemmas.Grind.{flat_map-append}
 use Rattle.pm_types.specs.Memory.{no_memory}
 use Rattle.pm_types.specs.declared.entry.Entry.{Entry}
 use Rattle.pm_io.specs.declared.sink.Sink.{Ghosts}
 use Rattle.pm_model.specs.Journal.{says_saved}
-use Rattle.pm_model.specs.Text.{reply_line, text}
+use Rattle.pm_model.specs.Text.{reply_line, reply_words, text}
 use Rattle.pm_types.specs.declared.reply.Reply.{Reply}
 use Rattle.pm_types.specs.declared.reply.Reply.TheVariants.{Saved}
 use Rattle.pm_serial.specs.declared.output.output.TheConstants.{BUFFER_BYTES}
-use Rattle.pm_serial.specs.Output.Writing.{GoesOn, IsNear, PutsAll}
+use Rattle.pm_serial.specs.Output.Writing.{FinishesAll, GoesOn, IsNear, PutsAll}
 use Rattle.pm_serial.proofs.Gathering.{all_then, not_both}
 use Rattle.pm_engine.specs.declared.events.stop.Stop.{Stop}
 use Rattle.pm_engine.specs.declared.events.stop.Stop.TheVariants.{Memory, Writing, Device}
@@ -18,7 +18,8 @@ use Rattle.pm_engine.specs.Events.Causes.{IsDone}
 use Rattle.pm_serial.specs.Causes.{IsElsewhere}
 use Rattle.pm_serial.specs.Stepping.{EndsSink, IsGathered, IsOfSink, SinkGoesOn}
 use Rattle.pm_serial.specs.Writing.{WroteRun}
-use Rattle.pm_serial.specs.Acknowledged.{Acknowledges, FinishesSaved, KeepsSaved, TellsAll, TellsSaved}
+use Rattle.pm_serial.specs.Acknowledged.{Acknowledges, AcknowledgesLast, FinishesSaved, KeepsSaved, TellsAll, TellsSaved}
+use Rattle.pm_types.specs.Counts.{Rose}
 
 -- ---- parts of a journal
 
@@ -50,6 +51,15 @@ saved_more : (finished : ℕ) (before : List ℕ) (journal : List Entry) (last :
 saved_more finished before journal last other was first rest entry is says =
     ⊎_elim (λ (same : last ≡ entry). let never : true ≡ false = sym says ∙ ap (λ (e : Entry). says_saved e.reply) (sym same) ∙ other in absurd (cc never))
     (λ (more : (more : List Entry) × (journal ≡ first ++ entry ∷ more)). was first more.0 entry more.1 says) (split_front journal first rest last entry is)
+
+-- a reply has a line
+text_some : (entry : Entry) (journal : List Entry) → text (entry ∷ journal) ≡ [] → ⊥
+text_some entry journal none =
+    let both = length-append (reply_line entry) (text journal) in
+    let line : length (reply_line entry) ≡ length (decimal entry.client ++ codes " " ++ reply_words entry.reply) + length (codes "\n") = length-append (decimal entry.client ++ codes " " ++ reply_words entry.reply) (codes "\n") in
+    let newline : length (codes "\n") ≡ 1 = refl in
+    let empty : length (reply_line entry ++ text journal) ≡ 0 = ap length none in
+    absurd (omega (arith, both, line, newline, empty))
 
 -- all of the text
 saved_all : (finished : ℕ) (before : List ℕ) (journal : List Entry) → length (before ++ text journal) ≤ finished → FinishesSaved finished before journal
@@ -105,13 +115,17 @@ module _ {K : Type 0} (k : Ghosts K) where
         omega (arith, near, same);
   }
 
-  -- what was put and what is gathered are the text of the journal
-  on_text : (old mid : K) (gathered later bytes before : List ℕ) (journal longer : List Entry) → (on : SinkGoesOn k.written k.count old mid gathered later journal longer None) → (told : k.written old ≡ Some bytes) → bytes ++ gathered ≡ before ++ text journal
-      → (bytes ++ (on.on tt bytes told).done) ++ later ≡ before ++ text longer
-  on_text old mid gathered later bytes before journal longer on told parted =
-      let was = on.on tt bytes told in
+  -- what was put and what is gathered are the text of the journal, unless the sink failed
+  on_text_as : (old mid : K) (gathered later bytes before : List ℕ) (journal longer : List Entry) (stop : Option Stop) → (is : IsGathered stop) → (on : SinkGoesOn k.written k.count old mid gathered later journal longer stop) → (told : k.written old ≡ Some bytes)
+      → bytes ++ gathered ≡ before ++ text journal → (bytes ++ (on.on is bytes told).done) ++ later ≡ before ++ text longer
+  on_text_as old mid gathered later bytes before journal longer stop is on told parted =
+      let was = on.on is bytes told in
       append_assoc bytes was.done later ∙ ap (λ (t : List ℕ). bytes ++ t) was.rest ∙ sym (append_assoc bytes gathered on.piece) ∙ ap (λ (t : List ℕ). t ++ on.piece) parted
       ∙ append_assoc before (text journal) on.piece ∙ ap (λ (t : List ℕ). before ++ t) (sym on.text_is)
+
+  on_text : (old mid : K) (gathered later bytes before : List ℕ) (journal longer : List Entry) → (on : SinkGoesOn k.written k.count old mid gathered later journal longer None) → (told : k.written old ≡ Some bytes) → bytes ++ gathered ≡ before ++ text journal
+      → (bytes ++ (on.on tt bytes told).done) ++ later ≡ before ++ text longer
+  on_text old mid gathered later bytes before journal longer on told parted = on_text_as old mid gathered later bytes before journal longer None tt on told parted
 
   -- an entry more that says nothing of it
   keeps_other : (old new : K) (gathered : List ℕ) (journal longer : List Entry) (last : Entry) → longer ≡ journal ++ last ∷ [] → says_saved last.reply ≡ false → k.finished new ≡ k.finished old
@@ -204,9 +218,22 @@ module _ {K : Type 0} (k : Ghosts K) where
           elsewhere_gathered Device is = tt
           elsewhere_gathered Writing is = absurd is
 
+      begins : (before : List ℕ) → before ++ gathered ≡ before ++ text journal
+      begins before = ap (λ (t : List ℕ). before ++ t) (none ∙ ap text (sym empty))
+
+      -- all of it was finished at the end
+      at_end : IsGathered ran → (before : List ℕ) → k.written old ≡ Some before → FinishesAll (k.written mid) (k.finished new) later → FinishesSaved (k.finished new) before longer
+      at_end is before told all =
+          let divided = run.on is before told in
+          let full = on_text_as old mid gathered later before before journal longer ran is run told (begins before) in
+          let count : k.finished new ≡ length (before ++ text longer) = all (before ++ divided.done) divided.put ∙ ap length full in
+          saved_all (k.finished new) before longer (omega (arith, count))
+
       elsewhere : (other : Stop) → stop ≡ Some other → IsElsewhere (Some other) → (before : List ℕ) → k.written old ≡ Some before → FinishesSaved (k.finished new) before longer
       elsewhere other is of before told =
-          subst (λ (n : ℕ). FinishesSaved n before longer) (sym (ends.kept (subst IsElsewhere (sym is) of))) (at_mid (gathered_then other is of) before told)
+          let was = gathered_then other is of in
+          ⊎_elim (λ (same : k.finished new ≡ k.finished mid). subst (λ (n : ℕ). FinishesSaved n before longer) (sym same) (at_mid was before told))
+          (λ (all : FinishesAll (k.written mid) (k.finished new) later). at_end was before told all) (ends.kept (subst IsElsewhere (sym is) of))
 
       by : (why : Option Stop) → stop ≡ why → IsGathered stop → (before : List ℕ) → k.written old ≡ Some before → FinishesSaved (k.finished new) before longer
       by None is gathered_is before told =
@@ -218,9 +245,6 @@ module _ {K : Type 0} (k : Ghosts K) where
       by (Some (Memory _)) is gathered_is before told = elsewhere (Memory no_memory) is tt before told
       by (Some Device) is gathered_is before told = elsewhere Device is tt before told
       by (Some Writing) is gathered_is before told = absurd (subst IsGathered is gathered_is)
-
-      begins : (before : List ℕ) → before ++ gathered ≡ before ++ text journal
-      begins before = ap (λ (t : List ℕ). before ++ t) (none ∙ ap text (sym empty))
 
       -- a run that stopped elsewhere does not stop for the sink
       stopped_for : (other : Stop) → ran ≡ Some other → IsOfSink stop → IsOfSink (Some other)
@@ -244,3 +268,26 @@ module _ {K : Type 0} (k : Ghosts K) where
           keeps.near lost before before all told (begins before) (sym stood ∙ now)
       near_by (Some (Memory _)) is of before all told now = absurd (stopped_for (Memory no_memory) is of)
       near_by (Some Device) is of before all told now = absurd (stopped_for Device is of)
+
+  -- the replies were written behind the last event
+  pub acknowledges_last : (old new : K) (tail : List ℕ) (journal : List Entry) (stop : Option Stop) → WroteRun k.written k.finished k.count old new (text journal) tail stop → AcknowledgesLast k old new journal stop
+  acknowledges_last old new tail [] stop wrote is stands before told = saved_none (k.finished new) before
+  acknowledges_last old new tail (entry ∷ more) stop wrote is stands before told = by stop wrote is stands
+    where
+      journal : List Entry
+      journal = entry ∷ more
+
+      by : (why : Option Stop) → WroteRun k.written k.finished k.count old new (text journal) tail why → IsGathered why → (IsElsewhere why → ¬ (Rose (k.count old) (k.count new))) → FinishesSaved (k.finished new) before journal
+      by None wrote is stands =
+          let count = wrote.all_finished tt before told in
+          let long = length-append before (text journal) in
+          let longest = length-append before (text journal ++ tail) in
+          let both = length-append (text journal) tail in
+          saved_all (k.finished new) before journal (omega (arith, count, long, longest, both))
+      by (Some (Memory _)) wrote is stands =
+          let count = wrote.whole_finished tt (stands tt) (text_some entry more) before told in
+          saved_all (k.finished new) before journal (omega (arith, count))
+      by (Some Device) wrote is stands =
+          let count = wrote.whole_finished tt (stands tt) (text_some entry more) before told in
+          saved_all (k.finished new) before journal (omega (arith, count))
+      by (Some Writing) wrote is stands = absurd is

@@ -7,7 +7,7 @@ use Rattle.pm_types.specs.Counts.{Rose}
 use Rattle.pm_types.specs.declared.entry.Entry.{Entry}
 use Rattle.pm_io.specs.Streams.{AppendsPart}
 use Rattle.pm_model.specs.Text.{text}
-use Rattle.pm_serial.specs.Output.Writing.{GoesOn, IsDivided, PutsAll, PutsPart}
+use Rattle.pm_serial.specs.Output.Writing.{FinishesAll, GoesOn, IsDivided, PutsAll, PutsPart}
 use Rattle.pm_serial.proofs.OutputLemmas.Gathering.{empty_piece, goes_then, part_behind, part_longer, part_then}
 use Rattle.pm_engine.specs.declared.events.stop.Stop.{Stop}
 use Rattle.pm_engine.specs.declared.events.stop.Stop.TheVariants.{Memory, Writing, Device}
@@ -130,14 +130,16 @@ module _ {K : Type 0} (written : K → Option (List ℕ)) (finished count : K �
     all_finished = λ _. whole;
     part_of_gathered = λ elsewhere. absurd elsewhere;
     whole = λ elsewhere. absurd elsewhere;
+    whole_finished = λ elsewhere. absurd elsewhere;
     cause = λ _. counted;
     kept = λ elsewhere. absurd elsewhere;
   }
 
   -- what was gathered was put, as far as the sink took it
   pub ends_elsewhere : (old new : K) (gathered tail : List ℕ) (ran : Option Stop) (stop : Stop) → ran ≡ Some stop → IsElsewhere (Some stop) → (¬ (Rose (count old) (count new)) → PutsAll (written old) (written new) gathered)
-      → PutsPart (written old) (written new) gathered → finished new ≡ finished old → EndsSink written finished count old new gathered tail ran (Some stop)
-  ends_elsewhere old new gathered tail ran stop is elsewhere whole part kept = record {
+      → (¬ (Rose (count old) (count new)) → FinishesAll (written old) (finished new) gathered) → PutsPart (written old) (written new) gathered
+      → (finished new ≡ finished old) ⊎ FinishesAll (written old) (finished new) gathered → EndsSink written finished count old new gathered tail ran (Some stop)
+  ends_elsewhere old new gathered tail ran stop is elsewhere whole whole_finished part kept = record {
     why = inl (sym is);
     none = λ of. absurd (elsewhere_not stop elsewhere (subst IsOfSink is of));
     part = λ _. part_longer tail (written old) (written new) gathered part;
@@ -145,6 +147,7 @@ module _ {K : Type 0} (written : K → Option (List ℕ)) (finished count : K �
     all_finished = λ done. absurd done;
     part_of_gathered = λ _. part;
     whole = λ _. whole;
+    whole_finished = λ _. whole_finished;
     cause = λ _. elsewhere_cause stop (count old) (count new) elsewhere;
     kept = λ _. kept;
   }
@@ -184,6 +187,11 @@ module _ {K : Type 0} (written : K → Option (List ℕ)) (finished count : K �
     all_put rest whole completes is all bytes told =
         let was = divided is bytes told in
         all (bytes ++ was.done) was.put ∙ ap Some (all_behind bytes was.done rest whole (completes was.done was.rest))
+
+    all_done : (rest whole : List ℕ) → Completes rest whole → IsGathered before → FinishesAll (written mid) (finished new) rest → FinishesAll (written old) (finished new) whole
+    all_done rest whole completes is all bytes told =
+        let was = divided is bytes told in
+        all (bytes ++ was.done) was.put ∙ ap length (all_behind bytes was.done rest whole (completes was.done was.rest))
 
     some_put : (rest whole : List ℕ) → Completes rest whole → IsGathered before → PutsPart (written mid) (written new) rest → PutsPart (written old) (written new) whole
     some_put rest whole completes is some bytes told =
@@ -226,13 +234,14 @@ module _ {K : Type 0} (written : K → Option (List ℕ)) (finished count : K �
     wrote_run = record {
       part = part_put before refl;
       all = λ done. all_put (later ++ tail) (text longer ++ tail) with_tail (gathered_where before after end.why (inl done)) (end.all done);
-      all_finished = λ done bytes told.
-          let was = divided (gathered_where before after end.why (inl done)) bytes told in
-          end.all_finished done (bytes ++ was.done) was.put ∙ ap length (all_behind bytes was.done (later ++ tail) (text longer ++ tail) (with_tail was.done was.rest));
+      all_finished = λ done. all_done (later ++ tail) (text longer ++ tail) with_tail (gathered_where before after end.why (inl done)) (end.all_finished done);
       part_of_text = λ elsewhere. some_put later (text longer) alone (gathered_where before after end.why (inr elsewhere)) (end.part_of_gathered elsewhere);
       whole = λ elsewhere stands.
           let is = gathered_where before after end.why (inr elsewhere) in
           all_put later (text longer) alone is (end.whole elsewhere (λ rose. stands (subst (λ (n : ℕ). Rose n (count new)) (stood is) rose)));
+      whole_finished = λ elsewhere stands some.
+          let is = gathered_where before after end.why (inr elsewhere) in
+          all_done later (text longer) alone is (end.whole_finished elsewhere (λ rose. stands (subst (λ (n : ℕ). Rose n (count new)) (stood is) rose)));
       cause = counts before refl;
     }
 
@@ -244,6 +253,7 @@ module _ {K : Type 0} (written : K → Option (List ℕ)) (finished count : K �
     all_finished = λ done. absurd done;
     part_of_text = λ elsewhere bytes told. no_part bytes (text journal) (written sink) told;
     whole = λ elsewhere stands bytes told. told ∙ ap Some (sym (append-nil bytes) ∙ ap (λ (t : List ℕ). bytes ++ t) (sym none));
+    whole_finished = λ elsewhere stands some. absurd (some none);
     cause = tt;
   }
 
@@ -267,6 +277,7 @@ module _ {K : Type 0} (written : K → Option (List ℕ)) (finished count : K �
     all_finished = λ done. absurd done;
     part_of_text = λ elsewhere. some;
     whole = λ elsewhere stands. absurd (stands run.cause);
+    whole_finished = λ elsewhere stands. absurd (stands run.cause);
     cause = lost stop run.cause;
   }
     where

@@ -1,5 +1,6 @@
 -- That replies which say that a copy settled are finished before the next event, and what a sink that failed lacks.
 use Rattle.std.specs.Prelude.{◌≡◌, ℕ, ◌+◌, ◌≤◌, true, List, [], ◌∷◌, ◌++◌, length, Option, Some}
+use Rattle.pm_types.specs.Counts.{Rose}
 use Rattle.pm_types.specs.declared.entry.Entry.{Entry}
 use Rattle.pm_io.specs.declared.sink.Sink.{Ghosts}
 use Rattle.pm_model.specs.Journal.{says_saved}
@@ -7,6 +8,7 @@ use Rattle.pm_model.specs.Text.{text}
 use Rattle.pm_engine.specs.declared.events.stop.Stop.{Stop}
 use Rattle.pm_script.specs.declared.reply.TheConstants.{REPLY_BYTES}
 use Rattle.pm_serial.specs.declared.output.output.TheConstants.{BUFFER_BYTES}
+use Rattle.pm_serial.specs.Causes.{IsElsewhere}
 use Rattle.pm_serial.specs.Output.Writing.{IsNear}
 use Rattle.pm_serial.specs.Stepping.{IsGathered, IsOfSink}
 
@@ -40,3 +42,11 @@ module _ {K : Type 0} (k : Ghosts K) where
     pub saved : IsGathered stop → (before : List ℕ) → k.written old ≡ Some before → FinishesSaved (k.finished new) before journal
     -- and where it did, no more of the text is missing than the buffer has room for and a reply line may have
     pub near : IsOfSink stop → IsNear (k.written old) (k.written new) (text journal)
+
+  -- What a run has finished at its end that writes its replies behind its last event, by why it stopped, if it did: unless
+  -- the sink failed, also where the run had stopped for another cause, the text through each `saved`, behind what stood there
+  -- before.
+  abbrev pub AcknowledgesLast : K → K → List Entry → Option Stop → Type 0
+  AcknowledgesLast old new journal stop =
+      IsGathered stop → (IsElsewhere stop → ¬ (Rose (k.count old) (k.count new)))
+      → (before : List ℕ) → k.written old ≡ Some before → FinishesSaved (k.finished new) before journal

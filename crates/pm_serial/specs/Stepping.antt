@@ -7,7 +7,7 @@ use Rattle.pm_model.specs.Journal.{requests_of}
 use Rattle.pm_model.specs.Text.{text}
 use Rattle.pm_script.specs.declared.line.Line.{Line}
 use Rattle.pm_script.specs.declared.line.Line.TheVariants.{Client, Gc}
-use Rattle.pm_serial.specs.Output.Writing.{GoesOn, PutsAll, PutsPart}
+use Rattle.pm_serial.specs.Output.Writing.{FinishesAll, GoesOn, PutsAll, PutsPart}
 use Rattle.pm_saving.specs.Serving.{Serving}
 use Rattle.pm_serial.specs.declared.kind.Kind.{Kind}
 use Rattle.pm_serial.specs.declared.kind.Kind.TheVariants.{Collect, Flush}
@@ -117,10 +117,12 @@ pub record EndsSink {K : Type 0} (written : K → Option (List ℕ)) (finished c
   -- else a first part of what is gathered and of the tail, and all of it where the sink does not fail
   pub part : IsGathered before → PutsPart (written old) (written new) (gathered ++ tail)
   pub all : IsDone after → PutsAll (written old) (written new) (gathered ++ tail)
-  pub all_finished : IsDone after → (bytes : List ℕ) → written old ≡ Some bytes → finished new ≡ length (bytes ++ (gathered ++ tail))
+  pub all_finished : IsDone after → FinishesAll (written old) (finished new) (gathered ++ tail)
   -- where memory ran out or the disk failed, a first part of what is gathered alone
   pub part_of_gathered : IsElsewhere after → PutsPart (written old) (written new) gathered
+  -- and where the sink did not fail all of it, which is finished
   pub whole : IsElsewhere after → ¬ (Rose (count old) (count new)) → PutsAll (written old) (written new) gathered
+  pub whole_finished : IsElsewhere after → ¬ (Rose (count old) (count new)) → FinishesAll (written old) (finished new) gathered
   pub cause : IsGathered before → CountsSink after (count old) (count new)
-  -- and no more is finished than was
-  pub kept : IsElsewhere after → finished new ≡ finished old
+  -- nothing more is finished than was, or all of it
+  pub kept : IsElsewhere after → (finished new ≡ finished old) ⊎ FinishesAll (written old) (finished new) gathered

@@ -1,8 +1,8 @@
 -- What a run of lines writes.
-use Rattle.std.specs.Prelude.{◌≡◌, ℕ, List, [], ◌++◌, Option, Some, length}
+use Rattle.std.specs.Prelude.{◌≡◌, ℕ, List, [], ◌++◌, Option}
 use Rattle.pm_types.specs.Counts.{Rose}
 use Rattle.pm_model.specs.Text.{tail}
-use Rattle.pm_serial.specs.Output.Writing.{PutsAll, PutsPart}
+use Rattle.pm_serial.specs.Output.Writing.{FinishesAll, PutsAll, PutsPart}
 use Rattle.pm_engine.specs.Shown.{Total}
 use Rattle.pm_serial.specs.declared.behind.Behind.{Behind}
 use Rattle.pm_serial.specs.declared.behind.Behind.TheVariants.{Nothing, LastLines}
@@ -26,9 +26,11 @@ pub record WroteRun {K : Type 0} (written : K → Option (List ℕ)) (finished c
   pub part : PutsPart (written old) (written new) (text ++ tail)
   -- where it is done, all of that, and all of it is finished
   pub all : IsDone stop → PutsAll (written old) (written new) (text ++ tail)
-  pub all_finished : IsDone stop → (before : List ℕ) → written old ≡ Some before → finished new ≡ length (before ++ (text ++ tail))
+  pub all_finished : IsDone stop → FinishesAll (written old) (finished new) (text ++ tail)
   -- where memory ran out or the disk failed, a first part of the text alone, and the whole text where the sink did not fail
   pub part_of_text : IsElsewhere stop → PutsPart (written old) (written new) text
   pub whole : IsElsewhere stop → ¬ (Rose (count old) (count new)) → PutsAll (written old) (written new) text
+  -- which then is finished, unless it is empty
+  pub whole_finished : IsElsewhere stop → ¬ (Rose (count old) (count new)) → (text ≡ [] → ⊥) → FinishesAll (written old) (finished new) text
   -- the count of failed calls rose where the run stopped for the sink
   pub cause : CountsSink stop (count old) (count new)

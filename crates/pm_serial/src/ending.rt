@@ -1,9 +1,9 @@
 //! The end of a run: the lines behind the last reply, and what is gathered goes to the sink.
 
-ghost use Rattle.std.specs.Prelude.{◌≡◌, ◌++◌, ℕ, List, Some, length, OnOk, OnErr};
+ghost use Rattle.std.specs.Prelude.{◌≡◌, ◌⊎◌, ◌++◌, OnOk, OnErr};
 ghost use Rattle.pm_types.specs.Counts.{Rose};
 ghost use Rattle.pm_serial.specs.Output.Gathered.{gathered};
-ghost use Rattle.pm_serial.specs.Output.Writing.{GoesOn, PutsAll, PutsPart};
+ghost use Rattle.pm_serial.specs.Output.Writing.{FinishesAll, GoesOn, PutsAll, PutsPart};
 ghost use Rattle.pm_engine.specs.Shown.{serving, tally_in};
 ghost use Rattle.pm_engine.specs.Events.Causes.{why};
 ghost use Rattle.pm_serial.specs.Stepping.{EndsSink};
@@ -15,14 +15,17 @@ use pm_disk::Disk;
 use pm_engine::events::{Engine, Stop};
 use pm_io::{Failed, Sink};
 
-// Puts what is gathered, as far as the sink takes it: the run ends for another cause.
+// Puts what is gathered, as far as the sink takes it, and finishes it: the run ends for another cause.
 fn put_what_goes<K: Sink>(output: &mut Output, sink: &mut K)
     ensures whole { ¬ (Rose (K.count sink.old) (K.count sink.new))
         → PutsAll (K.written sink.old) (K.written sink.new) (gathered output.old) }
+    ensures finished { ¬ (Rose (K.count sink.old) (K.count sink.new))
+        → FinishesAll (K.written sink.old) (K.finished sink.new) (gathered output.old) }
     ensures part { PutsPart (K.written sink.old) (K.written sink.new) (gathered output.old) }
-    ensures kept { K.finished sink.new ≡ K.finished sink.old }
+    ensures kept { (K.finished sink.new ≡ K.finished sink.old)
+        ⊎ FinishesAll (K.written sink.old) (K.finished sink.new) (gathered output.old) }
 {
-    match output.put(sink) {
+    match output.finish(sink) {
         Ok(()) => {}
         Err(_) => {}
     }
@@ -61,9 +64,8 @@ pub fn finish_with_last_lines<D: Disk, F: Drop, K: Sink>(
 ) -> Result<(), Failed>
     ensures all { OnOk result (PutsAll (K.written sink.old) (K.written sink.new)
         (gathered output.old ++ tail_of (tally_in (serving engine.now)))) }
-    ensures finished { OnOk result ((bytes : List ℕ) → K.written sink.old ≡ Some bytes
-        → K.finished sink.new
-        ≡ length (bytes ++ (gathered output.old ++ tail_of (tally_in (serving engine.now))))) }
+    ensures finished { OnOk result (FinishesAll (K.written sink.old) (K.finished sink.new)
+        (gathered output.old ++ tail_of (tally_in (serving engine.now)))) }
     ensures part { OnErr result (PutsPart (K.written sink.old) (K.written sink.new)
         (gathered output.old ++ tail_of (tally_in (serving engine.now)))) }
     ensures counted { OnOk result (K.count sink.new ≡ K.count sink.old) }
@@ -82,9 +84,8 @@ fn finish_run<D: Disk, F: Drop, K: Sink>(
 ) -> Result<(), Failed>
     ensures all { OnOk result (PutsAll (K.written sink.old) (K.written sink.new)
         (gathered output.old ++ text_behind behind (tally_in (serving engine.now)))) }
-    ensures finished { OnOk result ((bytes : List ℕ) → K.written sink.old ≡ Some bytes
-        → K.finished sink.new
-        ≡ length (bytes ++ (gathered output.old ++ text_behind behind (tally_in (serving engine.now))))) }
+    ensures finished { OnOk result (FinishesAll (K.written sink.old) (K.finished sink.new)
+        (gathered output.old ++ text_behind behind (tally_in (serving engine.now)))) }
     ensures part { OnErr result (PutsPart (K.written sink.old) (K.written sink.new)
         (gathered output.old ++ text_behind behind (tally_in (serving engine.now)))) }
     ensures counted { OnOk result (K.count sink.new ≡ K.count sink.old) }
@@ -96,8 +97,8 @@ fn finish_run<D: Disk, F: Drop, K: Sink>(
     }
 }
 
-/// Ends a run: what is gathered is put; where the run came to its end, with what comes behind the last reply, and all is
-/// finished.
+/// Ends a run: what is gathered is put, where the run came to its end with what comes behind the last reply, and all is
+/// finished. Where the sink had failed it is not called.
 pub(crate) fn end<D: Disk, F: Drop, K: Sink>(
     ran: Result<(), Stop>,
     behind: Behind,

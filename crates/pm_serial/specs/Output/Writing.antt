@@ -8,6 +8,10 @@ use Rattle.pm_serial.specs.declared.output.output.TheConstants.{BUFFER_BYTES}
 abbrev pub PutsAll : Option (List ℕ) → Option (List ℕ) → List ℕ → Type 0
 PutsAll told now text = (bytes : List ℕ) → told ≡ Some bytes → now ≡ Some (bytes ++ text)
 
+-- so much is finished, which is all that stood there and the text behind it
+abbrev pub FinishesAll : Option (List ℕ) → ℕ → List ℕ → Type 0
+FinishesAll told finished text = (bytes : List ℕ) → told ≡ Some bytes → finished ≡ length (bytes ++ text)
+
 -- a first part of the text was put, which may be none or all of it
 abbrev pub PutsPart : Option (List ℕ) → Option (List ℕ) → List ℕ → Type 0
 PutsPart told now text = (bytes : List ℕ) → told ≡ Some bytes → AppendsPart bytes text now

@@ -60,7 +60,7 @@ impl Output {
     ghost use Rattle.pm_model.specs.Text.{reply_line};
     ghost use Rattle.pm_script.specs.declared.reply.TheConstants.{REPLY_BYTES};
     ghost use Rattle.pm_serial.specs.Output.Gathered.{gathered};
-    ghost use Rattle.pm_serial.specs.Output.Writing.{GoesOn, PutsPart, PutsAll};
+    ghost use Rattle.pm_serial.specs.Output.Writing.{FinishesAll, GoesOn, PutsPart, PutsAll};
 
     /// A buffer of 65,536 bytes in which nothing is gathered.
     pub fn new(alloc: Global) -> Result<Output, NoMemory>
@@ -151,13 +151,14 @@ impl Output {
     ///
     /// # Errors
     ///
-    /// The sink failed: it has a first part of what was gathered, which may be none or all.
+    /// The sink failed: it has a first part of what was gathered, which may be none or all, and no more is finished than
+    /// was.
     pub fn finish<K: Sink>(&mut self, sink: &mut K) -> Result<(), Failed>
         ensures all { OnOk result (PutsAll (K.written sink.old) (K.written sink.new) (gathered self.old)) }
         ensures empty { OnOk result (gathered self.new ≡ []) }
-        ensures finished { OnOk result ((bytes : List ℕ) → K.written sink.old ≡ Some bytes
-            → K.finished sink.new ≡ length (bytes ++ gathered self.old)) }
+        ensures finished { OnOk result (FinishesAll (K.written sink.old) (K.finished sink.new) (gathered self.old)) }
         ensures part { OnErr result (PutsPart (K.written sink.old) (K.written sink.new) (gathered self.old)) }
+        ensures kept { OnErr result (K.finished sink.new ≡ K.finished sink.old) }
         ensures counted { OnOk result (K.count sink.new ≡ K.count sink.old) }
         ensures cause { OnErr result (Rose (K.count sink.old) (K.count sink.new)) }
     {

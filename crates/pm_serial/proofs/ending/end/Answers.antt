@@ -18,4 +18,4 @@ returns-in-Err g c =
     let elsewhere : IsElsewhere (Some c.in-Err.stop) = search rules in
     let step = c.put_what_goes.ensures in
     ends_elsewhere g.K.Sink.written g.K.Sink.finished g.K.Sink.count c.args.sink.now c.put_what_goes.new.sink (gathered c.args.output.now) (text_behind c.args.behind (tally_in (serving c.args.engine.now))) (why c.args.ran) c.in-Err.stop
-    (ap why c.in-Err.is) elsewhere step.whole step.part step.kept
+    (ap why c.in-Err.is) elsewhere step.whole step.finished step.part step.kept
