@@ -6,6 +6,7 @@ pub mod Answering
 pub mod Flushed
 pub mod Asking
 pub mod Crashing
+pub mod Settled
 pub mod Begun
 pub mod Telling
 pub mod Collected

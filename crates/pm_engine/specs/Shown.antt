@@ -13,6 +13,7 @@ use Rattle.pm_saving.specs.Serving.{Before, KeepsOpening, Serving}
 use Rattle.pm_engine.specs.declared.engine.Engine.{Engine}
 use Rattle.pm_engine.specs.declared.tally.Tally.{Tally}
 use Rattle.pm_engine.specs.declared.unmade.Unmade.{Unmade}
+use Rattle.pm_engine.specs.Works.Clauses.{Face, face_of}
 use Rattle.pm_engine.specs.Works.Course.{told_before}
 use Rattle.pm_engine.specs.Works.Working.{disk_at, place_in, room_in, state_in}
 use Rattle.pm_engine.specs.Works.Seen.{disk_then, seen}
@@ -47,6 +48,10 @@ module _ {D : Type 0} {F : Type 0} {g : Ghosts D} where
   -- the chooser of the space
   abbrev pub chooser : Engine D F g → F
   chooser it = place_in it.works
+
+  -- what the clauses of its calls see of it
+  abbrev pub face : Engine D F g → Face g
+  face it = face_of it.opening it.stopped it.works
 
   -- the opening stays: the number and the space, the disk as it was, and its count; and so does the chooser
   pub record KeepsStart (old new : Engine D F g) : Type 0 where

@@ -3,3 +3,4 @@ pub mod Working
 pub mod Acting
 pub mod Seen
 pub mod Copies
+pub mod Clauses

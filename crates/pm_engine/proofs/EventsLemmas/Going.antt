@@ -28,9 +28,9 @@ use Rattle.pm_saving.specs.Serving.{KeepsOpening, Serving, opening, world}
 use Rattle.pm_saving.specs.Images.{IsCopyInProgress, IsLast, IsOfChain, IsOfRun, IsSettledCopy, IsTold}
 use Rattle.pm_saving.specs.Events.{Collects, FailsAs, Flushes, Serves, ServesNothing, StaysBegun}
 use Rattle.pm_engine.specs.declared.engine.Engine.{Engine}
-use Rattle.pm_engine.specs.Shown.{KeepsStart, disk_in, opened_disk, room, serving}
+use Rattle.pm_engine.specs.Shown.{KeepsStart, disk_in, face, opened_disk, room, serving}
 use Rattle.pm_engine.specs.Works.Copies.{IsOfDisk as IsDiskFault, MayStand}
-use Rattle.pm_engine.specs.Calls.{IsRunning, LeavesCopies, LeavesCopy, MayRunOut}
+use Rattle.pm_engine.specs.Works.Clauses.{IsRunning, LeavesCopies, LeavesCopy, MayRunOut}
 use Rattle.pm_engine.specs.declared.events.stop.Stop.{Stop}
 use Rattle.pm_engine.specs.declared.events.stop.Stop.TheVariants.{Memory, Writing, Device}
 use Rattle.pm_engine.specs.Events.Causes.{CountsDisk, stop_of}
@@ -127,7 +127,7 @@ room_of_none room_old room_new old new is within = let long = ap length is in om
 module _ {D : Type 0} {F : Type 0} {g : Ghosts D} (old new : Engine D F g) (start : KeepsStart old new) (legal : IsLegal (opening (serving old)) (serving old).journal) (past : (g.made (disk_in new)).past ≡ (g.made (disk_in old)).past)
     (idle : (serving old).saving.progress ≡ None → disk_in new ≡ disk_in old) where
   -- a command was answered
-  pub answered : (client : ℕ) (cmd : Cmd) (reply : Reply) → Serves client cmd (serving old) (serving new) reply → IsRunning old new → LeavesCopies cmd old new (Ok reply) → room old ≤ room new + 1 → EngineGoesOn old new None
+  pub answered : (client : ℕ) (cmd : Cmd) (reply : Reply) → Serves client cmd (serving old) (serving new) reply → IsRunning (serving old).stopped (face old) (face new) → LeavesCopies cmd (face old) (face new) (Ok reply) → room old ≤ room new + 1 → EngineGoesOn old new None
   answered client cmd reply serves runs leaves within = record {
     start = start;
     room = room_of_one (room old) (room new) (serving old).journal (serving new).journal (record { client = client; cmd = cmd; reply = reply }) serves.appends.journal within;
@@ -144,7 +144,7 @@ module _ {D : Type 0} {F : Type 0} {g : Ghosts D} (old new : Engine D F g) (star
   module _ (within : room old ≤ room new) where
     -- an event was made that answers nothing, and begins no copy
     eventful : KeepsOpening (serving old) (serving new) → (serving new).journal ≡ (serving old).journal → (serving new).stopped ≡ (serving old).stopped → ((serving old).saving.progress ≡ None → (serving new).saving.progress ≡ None)
-        → IsRunning old new → LeavesCopy old new → EngineGoesOn old new None
+        → IsRunning (serving old).stopped (face old) (face new) → LeavesCopy (face old) (face new) → EngineGoesOn old new None
     eventful keeps journal stopped still runs leaves =
         let same = same_chain (serving old) (serving new) keeps journal in
         record {
@@ -161,11 +161,11 @@ module _ {D : Type 0} {F : Type 0} {g : Ghosts D} (old new : Engine D F g) (star
 
     -- an event that writes a page was made
     pub flushed : (answer : Flushed) (cars : Cars) (s t : State) (was now : Option (List ℕ)) → Flushes (serving old) (serving new) → IsFlushed (serving old).saving (serving new).saving cars s t was now answer
-        → IsRunning old new → LeavesCopy old new → EngineGoesOn old new None
+        → IsRunning (serving old).stopped (face old) (face new) → LeavesCopy (face old) (face new) → EngineGoesOn old new None
     flushed answer cars s t was now flushes is runs leaves = eventful flushes.opening flushes.journal flushes.stopped (none_flushed (serving old).saving (serving new).saving cars s t was now answer is) runs leaves
 
     -- an event of the collector was made
-    pub collected : Collects (serving old) (serving new) → IsRunning old new → LeavesCopy old new → EngineGoesOn old new None
+    pub collected : Collects (serving old) (serving new) → IsRunning (serving old).stopped (face old) (face new) → LeavesCopy (face old) (face new) → EngineGoesOn old new None
     collected collects runs leaves = eventful collects.opening collects.journal collects.stopped (λ none. ap (λ (it : Saving). it.progress) collects.saving ∙ none) runs leaves
 
     -- where nothing was answered
@@ -229,7 +229,7 @@ module _ {D : Type 0} {F : Type 0} {g : Ghosts D} (old new : Engine D F g) (star
 
     pub client_failed : (cmd : Cmd) (fault : EngineFault) → FailsAs (serving old) (serving new) (g.count (disk_in old)) (g.count (disk_in new)) fault → (serving old).stopped ≡ None
         → ((left : List ℕ) → g.image (disk_in new) left → g.moment (disk_in old) ≤ g.moment (disk_in new) → g.since (disk_in new) (g.moment (disk_in old)) left)
-        → LeavesCopies cmd old new (Err fault) → EngineGoesOn old new (Some (stop_of fault))
+        → LeavesCopies cmd (face old) (face new) (Err fault) → EngineGoesOn old new (Some (stop_of fault))
     client_failed cmd fault fails none counts leaves =
         failed fault fails none counts
         (λ told. weaker g.moment g.since (disk_in old) (disk_in new) (MayStand cmd (serving old) (Err fault)) (MayStandAt fault (serving old)) (leaves none told)
@@ -238,7 +238,7 @@ module _ {D : Type 0} {F : Type 0} {g : Ghosts D} (old new : Engine D F g) (star
     -- and calls no disk, or only to write a page
     pub event_failed : (fault : EngineFault) → FailsAs (serving old) (serving new) (g.count (disk_in old)) (g.count (disk_in new)) fault → (serving old).stopped ≡ None
         → ((left : List ℕ) → g.image (disk_in new) left → g.moment (disk_in old) ≤ g.moment (disk_in new) → g.since (disk_in new) (g.moment (disk_in old)) left)
-        → LeavesCopy old new → EngineGoesOn old new (Some (stop_of fault))
+        → LeavesCopy (face old) (face new) → EngineGoesOn old new (Some (stop_of fault))
     event_failed fault fails none counts leaves =
         failed fault fails none counts
         (λ told. weaker g.moment g.since (disk_in old) (disk_in new) (IsSettledCopy (world (serving old))) (MayStandAt fault (serving old)) (leaves none told) (λ left settled. inl settled))
@@ -256,7 +256,7 @@ counts_stay old new before after (Reopen count) fails = record {
 
 module _ {D : Type 0} {F : Type 0} {g : Ghosts D} (old new : Engine D F g) where
   -- where there was room for the entry, and memory ran out in `settle`
-  pub unfinished : (cmd : Cmd) (fault : EngineFault) → FailsAs (serving old) (serving new) (g.count (disk_in old)) (g.count (disk_in new)) fault → MayRunOut cmd old new fault → 0 < room old → IsShort cmd (serving old) (serving new) (Some (stop_of fault))
+  pub unfinished : (cmd : Cmd) (fault : EngineFault) → FailsAs (serving old) (serving new) (g.count (disk_in old)) (g.count (disk_in new)) fault → MayRunOut cmd (face old) (face new) fault → 0 < room old → IsShort cmd (serving old) (serving new) (Some (stop_of fault))
   unfinished cmd (NoRoom _) fails may within =
       (fails.0.events, λ settles. ⊎_elim (λ both. both.1) (λ none. absurd (omega (arith, none, within))) (may settles))
   unfinished cmd (Disk b a) fails may within = tt
@@ -265,7 +265,7 @@ module _ {D : Type 0} {F : Type 0} {g : Ghosts D} (old new : Engine D F g) where
   -- where the disk was not called what stood may stand
   pub leaves_still : disk_in new ≡ disk_in old
       → ((serving old).stopped ≡ None → IsTold (g.contents (opened_disk old)) → (left : List ℕ) → g.image (disk_in old) left → IsSettledCopy (world (serving old)) left)
-      → ((left : List ℕ) → g.since (disk_in old) (g.moment (disk_in old)) left → g.image (disk_in old) left) → LeavesCopy old new
+      → ((left : List ℕ) → g.since (disk_in old) (g.moment (disk_in old)) left → g.image (disk_in old) left) → LeavesCopy (face old) (face new)
   leaves_still same settled now none told =
       subst (λ (d : D). LeavesOnly g.moment g.since (disk_in old) d (IsSettledCopy (world (serving old)))) (sym same)
       (started g.moment g.since (disk_in old) (IsSettledCopy (world (serving old))) (λ left there. settled none told left (now left there)))

@@ -17,7 +17,7 @@ use Rattle.pm_engine.proofs.WorksLemmas.Acting.{space_of}
 use Rattle.pm_law_bound.proofs.Many.{kept_still}
 use Rattle.pm_engine.proofs.Bounding.{bounds_asked, bounds_rested, kept_of}
 use Rattle.pm_engine.proofs.Past.{past_asked, past_rested}
-use Rattle.pm_engine.proofs.Settled.{dropped_all, settled_all}
+use Rattle.pm_engine.proofs.WorksLemmas.Settled.{dropped_all, settled_all}
 use Rattle.pm_engine.proofs.WorksLemmas.Telling.{copies_of, idle_of, left_alone, nothing_served, short_of, shows_rise}
 
 true_false : true ≡ false → ⊥
@@ -88,10 +88,6 @@ returns-in-Ok-clause-call g c =
       counts = g.met.D.Disk.counts_now (disk_at new);
       only_now = g.met.D.Disk.only_now (disk_at self.works);
     } in
-    let sound = c.in-Ok.self-1-own.given.0 in
-    let bounded = c.in-Ok.self-1-own.given.1.0 in
-    let counted = c.in-Ok.self-1-own.given.1.1.0 in
-    let past = c.in-Ok.self-1-own.given.1.1.1.0 in
     let serves = ask_serves self.opening self.stopped self.works c.requires.running (safe self.sound) new c.args.client c.args.cmd c.in-Ok.reply (agrees self.opening self.stopped self.works new self.sound c.args.client c.args.cmd c.in-Ok.reply c.in-Ok.ensures.answers) told c.in-Ok.ensures.answers in
     record {
       serves = serves;
@@ -100,13 +96,13 @@ returns-in-Ok-clause-call g c =
       reopen = tt;
       still = λ other. record { disk = (c.answer.ensures.other other).still.disk; none = tt };
       leaves = λ none. leaves_answered self.opening self.stopped self.works none (safe self.sound) new c.args.cmd c.in-Ok.reply (g.met.D.Disk.only_now (disk_at self.works)) (λ other. (c.answer.ensures.other other).still) (λ settles. (c.answer.ensures.settle settles).leaves);
-      settled = settled_all self new sound bounded counted past c.requires.running c.args.client c.args.cmd c.in-Ok.reply serves c.in-Ok.ensures.answers;
+      settled = settled_all self.opening self.stopped self.works new c.args.client c.requires.running (safe self.sound) c.args.cmd c.in-Ok.reply serves c.in-Ok.ensures.answers;
       short = tt;
       shown = short_of c.args.client c.args.cmd self.works new c.in-Ok.reply c.in-Ok.ensures.answers;
       copies = λ other. copies_of self.opening self.stopped self.works new c.args.client c.args.cmd c.in-Ok.reply other c.in-Ok.ensures.answers;
       lasts = λ _. tt;
       idle = idle_of self.opening self.stopped self.works new c.args.cmd (λ other. (c.answer.ensures.other other).still) (λ settles. (c.answer.ensures.settle settles).leaves);
-      dropped = dropped_all self new sound bounded counted past c.args.client c.args.cmd c.in-Ok.reply c.in-Ok.ensures.answers;
+      dropped = dropped_all self.opening self.stopped self.works new c.args.client c.args.cmd c.in-Ok.reply c.in-Ok.ensures.answers;
       made = c.in-Ok.ensures.causes.made;
       past = c.in-Ok.ensures.causes.made.past;
       space = space_of c.args.client c.args.cmd self.works new c.in-Ok.reply c.in-Ok.ensures.answers;
