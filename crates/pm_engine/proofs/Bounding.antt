@@ -32,10 +32,11 @@ use Rattle.pm_saving.specs.Serving.{IsServed, opening}
 use Rattle.pm_saving.specs.Bounds.{KeepsBounds}
 use Rattle.pm_engine.specs.declared.works.start.Start.{Start}
 use Rattle.pm_engine.specs.declared.works.works.Works.{Works}
-use Rattle.pm_engine.specs.Works.Working.{Adds, Answers, CollectsOn, FlushesOn, IsLeft, Rests, SetsWatch, Watches, place_in, view_in, watches_in}
+use Rattle.pm_engine.specs.Works.Working.{Adds, Answers, CollectsOn, FlushesOn, IsLeft, Rests, SetsWatch, Watches, journal_in, place_in, view_in, watches_in}
 use Rattle.pm_engine.specs.Works.Seen.{seen}
 use Rattle.pm_engine.specs.Sound.{IsSound}
 use Rattle.pm_engine.proofs.Standing.{served_of}
+use Rattle.pm_engine.proofs.WorksLemmas.Whole.{more_journal, nothing_journal, same_journal}
 use Rattle.pm_engine.proofs.WorksLemmas.Answering.{save_adds, save_view, settle_adds, settle_view, unsave_adds, unsave_view, watch_view}
 
 -- ---- collections that were completed
@@ -67,40 +68,42 @@ flushed_view {D} {F} old new flushed is = ap (λ (space : Space F). view space.p
 
 module _ {D : Type 0} {F : Type 0} {g : Ghosts D} (start : Start D F g) (stopped later : Option ℕ) (old new : Works D F g) where
   -- the watches stay, and the journal grows
-  go_on : (more : List Entry) → new.journal.items ≡ old.journal.items ++ more → watches_in new ≡ watches_in old → KeepsWatches (view_in old) (view_in new) → KeepsBounds (seen start stopped old) → KeepsBounds (seen start later new)
+  go_on : (more : List Entry) → journal_in new ≡ journal_in old ++ more → watches_in new ≡ watches_in old → KeepsWatches (view_in old) (view_in new) → KeepsBounds (seen start stopped old) → KeepsBounds (seen start later new)
   go_on more journal watches kept are =
       let w = opening (seen start stopped old) in
       let P : List Entry × List kept_watches.Watch → Type 0 = λ it. AllByRecursion (KeepsBound w it.0 (view_in new)) it.1 in
-      let same : (old.journal.items ++ more, watches_in old) ≡ (new.journal.items, watches_in new) = (λ i. (sym journal i, sym watches i)) in
-      subst P same (all_stay w old.journal.items more (view_in old) (view_in new) (watches_in old) are kept.rank kept.sunk kept.counts)
+      let same : (journal_in old ++ more, watches_in old) ≡ (journal_in new, watches_in new) = (λ i. (sym journal i, sym watches i)) in
+      subst P same (all_stay w (journal_in old) more (view_in old) (view_in new) (watches_in old) are kept.rank kept.sunk kept.counts)
 
-  stay : new.journal.items ≡ old.journal.items → watches_in new ≡ watches_in old → KeepsWatches (view_in old) (view_in new) → KeepsBounds (seen start stopped old) → KeepsBounds (seen start later new)
-  stay journal watches kept are = go_on [] (journal ∙ sym (append-nil old.journal.items)) watches kept are
+  stay : journal_in new ≡ journal_in old → watches_in new ≡ watches_in old → KeepsWatches (view_in old) (view_in new) → KeepsBounds (seen start stopped old) → KeepsBounds (seen start later new)
+  stay journal watches kept are = go_on [] (journal ∙ sym (append-nil (journal_in old))) watches kept are
 
   -- all of it stays
-  pub bounds_kept : new.journal.items ≡ old.journal.items → watches_in new ≡ watches_in old → view_in new ≡ view_in old → ∥ KeepsBounds (seen start stopped old) ∥₁ → ∥ KeepsBounds (seen start later new) ∥₁
+  pub bounds_kept : journal_in new ≡ journal_in old → watches_in new ≡ watches_in old → view_in new ≡ view_in old → ∥ KeepsBounds (seen start stopped old) ∥₁ → ∥ KeepsBounds (seen start later new) ∥₁
   bounds_kept journal watches same known = ∥∥₁_map known (λ are. stay journal watches (kept_still (view_in old) (view_in new) same) are)
 
   -- nothing was answered
   pub bounds_rested : Rests old new → ∥ KeepsBounds (seen start stopped old) ∥₁ → ∥ KeepsBounds (seen start later new) ∥₁
-  bounds_rested rests known = bounds_kept rests.nothing.journal rests.nothing.watches rests.view known
+  bounds_rested rests known = bounds_kept (nothing_journal old new rests.nothing) rests.nothing.watches rests.view known
 
 module _ {D : Type 0} {F : Type 0} {g : Ghosts D} (start : Start D F g) (stopped : Option ℕ) (old new : Works D F g) where
   -- a page was written, or none was left
   pub bounds_flushed : (flushed : Flushed) → FlushesOn old new flushed → ∥ KeepsBounds (seen start stopped old) ∥₁ → ∥ KeepsBounds (seen start stopped new) ∥₁
-  bounds_flushed flushed is known = bounds_kept start stopped stopped old new is.journal is.watches (flushed_view old new flushed is) known
+  bounds_flushed flushed is known = bounds_kept start stopped stopped old new (same_journal old new is.past is.journal) is.watches (flushed_view old new flushed is) known
 
   -- an event of the collector was made, or none
   pub bounds_tried : (calls : Shared F (Bor (List ℕ) × Unit {0}) ℕ) (r : Result Step NoMemory) → (view_in old).completed < 18446744073709551616 → IfOk r (IsMade calls (place_in old) (view_in old) (view_in new)) → OnOk r (CollectsOn old new)
       → OnErr r (IsLeft old new) → ∥ KeepsBounds (seen start stopped old) ∥₁ → ∥ KeepsBounds (seen start stopped new) ∥₁
   bounds_tried calls (Ok step) small made is left known =
-      ∥∥₁_map known (λ are. stay start stopped stopped old new is.journal is.watches (made_keeps (view_in old) (view_in new) step calls (place_in old) small made) are)
-  bounds_tried calls (Err e) small made is left known = bounds_kept start stopped stopped old new left.nothing.journal left.nothing.watches left.keeps.view known
+      ∥∥₁_map known (λ are. stay start stopped stopped old new (same_journal old new is.past is.journal) is.watches (made_keeps (view_in old) (view_in new) step calls (place_in old) small made) are)
+  bounds_tried calls (Err e) small made is left known = bounds_kept start stopped stopped old new (nothing_journal old new left.nothing) left.nothing.watches left.keeps.view known
 
   -- ---- commands
 
   adds_on : (client : ℕ) (cmd : Cmd) (reply : Reply) → Adds client cmd reply old new → KeepsWatches (view_in old) (view_in new) → KeepsBounds (seen start stopped old) → KeepsBounds (seen start stopped new)
-  adds_on client cmd reply adds kept are = go_on start stopped stopped old new (record { client = client; cmd = cmd; reply = reply } ∷ []) adds.journal adds.watches kept are
+  adds_on client cmd reply adds kept are =
+      let entry : List Entry = record { client = client; cmd = cmd; reply = reply } ∷ [] in
+      go_on start stopped stopped old new entry (more_journal old new entry adds.past adds.journal) adds.watches kept are
 
   -- one watch more is set, which begins with its bound
   sets_one : (client number : ℕ) → HeapLaw (view_in old) → IsServed (seen start None old) → SetsWatch client old new number → KeepsBounds (seen start stopped old) → KeepsBounds (seen start stopped new)
@@ -108,9 +111,9 @@ module _ {D : Type 0} {F : Type 0} {g : Ghosts D} (start : Start D F g) (stopped
       let w = opening (seen start stopped old) in
       let P : List Entry × SpaceView × List kept_watches.Watch → Type 0 = λ it. AllByRecursion (KeepsBound w it.0 it.1) it.2 in
       let more : List Entry = record { client = client; cmd = Watch; reply = Watching number } ∷ [] in
-      let same : (old.journal.items ++ more, view_in old, watches_in old ++ watch_in (view_in old) (length old.journal.items) ∷ []) ≡ (new.journal.items, view_in new, watches_in new) =
-      (λ i. (sym is.journal i, sym is.keeps.view i, sym is.watches i)) in
-      subst P same (all_with_one w old.journal.items more (view_in old) (watches_in old) law served.represents are)
+      let same : (journal_in old ++ more, view_in old, watches_in old ++ watch_in (view_in old) (length (journal_in old)) ∷ []) ≡ (journal_in new, view_in new, watches_in new) =
+      (λ i. (sym (more_journal old new more is.past is.journal) i, sym is.keeps.view i, sym is.watches i)) in
+      subst P same (all_with_one w (journal_in old) more (view_in old) (watches_in old) law served.represents are)
 
   watches_on : (client : ℕ) (reply : Reply) → HeapLaw (view_in old) → IsServed (seen start None old) → Watches client old new reply → KeepsBounds (seen start stopped old) → KeepsBounds (seen start stopped new)
   watches_on client TooManyWatches law served is are = adds_on client Watch TooManyWatches is.adds (kept_still (view_in old) (view_in new) is.keeps.view) are
@@ -131,7 +134,7 @@ module _ {D : Type 0} {F : Type 0} {g : Ghosts D} (start : Start D F g) (stopped
 -- ---- what begins, and what is told
 
 pub bounds_begun : {D F : Type 0} {g : Ghosts D} (start : Start D F g) (stopped : Option ℕ) (works : Works D F g) → works.watches.items ≡ [] → ∥ KeepsBounds (seen start stopped works) ∥₁
-bounds_begun start stopped works none = ∣ subst (AllByRecursion (KeepsBound (opening (seen start stopped works)) works.journal.items (view_in works))) (sym none) tt ∣₁
+bounds_begun start stopped works none = ∣ subst (AllByRecursion (KeepsBound (opening (seen start stopped works)) (journal_in works) (view_in works))) (sym none) tt ∣₁
 
 honest_once : (line : WatchLine) → IsProp (IsHonest line)
 honest_once line = hlevel props
@@ -142,4 +145,4 @@ all_once lines = AllByRecursion-prop IsHonest honest_once lines
 pub told_honest : {D F : Type 0} {g : Ghosts D} (start : Start D F g) (stopped : Option ℕ) (works : Works D F g) → ∥ KeepsBounds (seen start stopped works) ∥₁ → (lines : List WatchLine) → lines ≡ lines_from (view_in works) 1 (watches_in works) → AllByRecursion IsHonest lines
 told_honest start stopped works known lines is =
     subst (AllByRecursion IsHonest) (sym is)
-    (splits_once (all_once _) (∥∥₁_map known (λ are. all_honest (opening (seen start stopped works)) works.journal.items (view_in works) 1 (watches_in works) works.space.kept are)))
+    (splits_once (all_once _) (∥∥₁_map known (λ are. all_honest (opening (seen start stopped works)) (journal_in works) (view_in works) 1 (watches_in works) works.space.kept are)))

@@ -13,6 +13,8 @@ use Rattle.pm_save.proofs.saver.Saver.TheSendSync as savers
 use Rattle.pm_engine.specs.contracts.works.start.Start as start
 use Rattle.pm_engine.specs.contracts.works.works.Works as works
 use Rattle.pm_engine.specs.contracts.works.course.Course as course
+use Rattle.pm_engine.specs.contracts.works.forgotten.Forgotten as forgotten
+use Rattle.pm_engine.specs.contracts.works.past.Past as past
 use Rattle.pm_engine.specs.contracts.engine.Engine as engine
 
 -- a value as it was, which has no bytes
@@ -28,6 +30,13 @@ pages_send D g d = recorded_send (pages.the_field D g).row _ _ (pages.the_type D
 -- what had been made before each entry, of which no byte is kept
 course_send : IsSend (course.the_field).row
 course_send = search (crossing.crosses, sendable) depth 60 fits 20000
+
+-- the entries that were let go, of which none is kept, and how many there were
+forgotten_send : IsSend (forgotten.the_field).row
+forgotten_send = search (crossing.crosses, sendable) depth 60 fits 20000
+
+past_fields : IsSend (past.the_field).row
+past_fields = struct_send (shape past.the_type) (forgotten_send, (search sendable, tt))
 
 module _ (D F : RattleType) (g : Ghosts D.Denot) (d : IsSend D) (f : IsSend F) where
   -- what an engine was opened with
@@ -48,8 +57,11 @@ module _ (D F : RattleType) (g : Ghosts D.Denot) (d : IsSend D) (f : IsSend F) w
           (
             savers.the_field_send,
             (
-              search (crossing.crosses, sendable) depth 40 fits 20000,
-              (course_send, (search (crossing.crosses, sendable) depth 40 fits 20000, (search sendable, (search sendable, tt)))),
+              past_fields,
+              (
+                search (crossing.crosses, sendable) depth 40 fits 20000,
+                (course_send, (search (crossing.crosses, sendable) depth 40 fits 20000, (search sendable, (search sendable, tt)))),
+              ),
             ),
           ),
         ),

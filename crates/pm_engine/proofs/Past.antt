@@ -31,7 +31,7 @@ use Rattle.pm_engine.specs.declared.works.start.Start.{Start}
 use Rattle.pm_engine.specs.declared.works.works.Works.{Works}
 use Rattle.pm_engine.specs.History.{Happens, HasHistory}
 use Rattle.pm_engine.specs.Works.Seen.{seen}
-use Rattle.pm_engine.specs.Works.Working.{Answers, CollectsOn, FlushesOn, IsLeft, IsTiedIn, Rests, place_in, view_in, watches_in}
+use Rattle.pm_engine.specs.Works.Working.{Answers, CollectsOn, FlushesOn, IsLeft, IsTiedIn, Rests, journal_in, place_in, view_in, watches_in}
 use Rattle.pm_engine.proofs.WorksLemmas.Acting.{space_of}
 use Rattle.pm_engine.proofs.WorksLemmas.Collected.{collects, left_rests}
 use Rattle.pm_engine.proofs.WorksLemmas.Flushed.{flush_told}
@@ -104,7 +104,7 @@ module _ (it : Serving) (known : ∥ HasHistory it ∥₁) where
 module _ {D : Type 0} {F : Type 0} {g : Ghosts D} (start : Start D F g) (stopped : Option ℕ) (works : Works D F g) where
   -- a bound that is reached ends what was lost
   pub gone_told : ∥ HasHistory (seen start stopped works) ∥₁ → ∥ KeepsBounds (seen start stopped works) ∥₁
-      → AllZip (EndsLost (opening (seen start stopped works)) works.journal.items (view_in works)) (lines_from (view_in works) 1 (watches_in works)) (watch_places 0 works.journal.items)
+      → AllZip (EndsLost (opening (seen start stopped works)) (journal_in works) (view_in works)) (lines_from (view_in works) 1 (watches_in works)) (watch_places 0 (journal_in works))
   gone_told known bounds =
       let it = seen start stopped works in
       let Ends : WatchLine → ℕ → Type 0 = EndsLost (opening it) it.journal it.view in

@@ -20,10 +20,11 @@ use Rattle.pm_law_saving.proofs.ServingLemmas.Kept.{next_world}
 use Rattle.pm_law_saving.proofs.ServingLemmas.Splitting.{splits_once}
 use Rattle.pm_engine.specs.declared.works.start.Start.{Start}
 use Rattle.pm_engine.specs.declared.works.works.Works.{Works}
-use Rattle.pm_engine.specs.Works.Working.{Answers, CollectsOn, IsLeft, view_in}
+use Rattle.pm_engine.specs.Works.Working.{Answers, CollectsOn, IsLeft, journal_in, view_in}
 use Rattle.pm_engine.specs.Works.Seen.{IsCrashSafe, seen}
 use Rattle.pm_engine.specs.Sound.{IsSound}
 use Rattle.pm_engine.proofs.WorksLemmas.Answering.{AgreesOn, appends_of, save_view, settle_view, unsave_view, watch_view}
+use Rattle.pm_engine.proofs.WorksLemmas.Whole.{nothing_journal, same_journal}
 
 module _ {D : Type 0} {F : Type 0} {g : Ghosts D} {start : Start D F g} {stopped : Option ℕ} {works : Works D F g} where
   pub safe : ∥ IsSound start stopped works ∥₁ → ∥ IsCrashSafe start stopped works ∥₁
@@ -64,19 +65,19 @@ module _ {D : Type 0} {F : Type 0} {g : Ghosts D} (start : Start D F g) (stopped
     sound_with stands = ∥∥₁_elim known ∥∥₁_prop (λ sound. ∥∥₁_map crash (λ it. record { safe = it; represents = stands sound.represents }))
 
     -- the journal stays
-    sound_on : new.journal.items ≡ old.journal.items → ((w : World) → Represents (view_in old) w → Represents (view_in new) w) → ∥ IsSound start later new ∥₁
+    sound_on : journal_in new ≡ journal_in old → ((w : World) → Represents (view_in old) w → Represents (view_in new) w) → ∥ IsSound start later new ∥₁
     sound_on journal keeps =
         let w = opening (seen start stopped old) in
         sound_with (λ stands. subst (Represents (view_in new)) (ap (after w) (sym journal)) (keeps (world (seen start stopped old)) stands))
 
     -- and so does what is seen of the space
-    pub sound_kept : new.journal.items ≡ old.journal.items → view_in new ≡ view_in old → ∥ IsSound start later new ∥₁
+    pub sound_kept : journal_in new ≡ journal_in old → view_in new ≡ view_in old → ∥ IsSound start later new ∥₁
     sound_kept journal view = sound_on journal (λ w it. subst (λ (v : SpaceView). Represents v w) (sym view) it)
 
     -- an event of the collector was made, or none
     pub sound_tried : {T E : Type 0} (result : Result T E) → OnOk result (CollectsOn old new) → OnErr result (IsLeft old new) → ((w : World) → Represents (view_in old) w → Represents (view_in new) w) → ∥ IsSound start later new ∥₁
-    sound_tried (Ok made) is left keeps = sound_on is.journal keeps
-    sound_tried (Err fault) is left keeps = sound_on left.nothing.journal keeps
+    sound_tried (Ok made) is left keeps = sound_on (same_journal old new is.past is.journal) keeps
+    sound_tried (Err fault) is left keeps = sound_on (nothing_journal old new left.nothing) keeps
 
   -- a command was answered
   pub sound_asked : (client : ℕ) (cmd : Cmd) (reply : Reply) → Answers client cmd old new reply → ∥ IsCrashSafe start stopped new ∥₁ → ∥ IsSound start stopped new ∥₁

@@ -38,6 +38,7 @@ module _ {D : Type 0} {F : Type 0} {g : Ghosts D} (it : Engine D F g) (count : â
     bound = kept_still (serving it).view (serving it).view refl;
     room = omega arith;
     unmade = refl;
+    kept = record { past = refl; recent = refl };
   }
 
   pub flush_reopens : AnswersFlush it it (Err (Reopen count))
@@ -56,6 +57,7 @@ module _ {D : Type 0} {F : Type 0} {g : Ghosts D} (it : Engine D F g) (count : â
     past = refl;
     room = omega arith;
     unmade = refl;
+    kept = record { past = refl; recent = refl };
   }
 
   pub collect_reopens : (calls : Shared F (Bor (List â„•) Ã— Unit {0}) â„•) â†’ AnswersCollect calls it it (Err (Reopen count))
@@ -71,4 +73,5 @@ module _ {D : Type 0} {F : Type 0} {g : Ghosts D} (it : Engine D F g) (count : â
     short = tt;
     room = omega arith;
     unmade = refl;
+    kept = record { past = refl; recent = refl };
   }

@@ -1,8 +1,10 @@
+pub mod Whole
 pub mod Kept
 pub mod Headers
 pub mod Uncounted
 pub mod Going
 pub mod Answering
+pub mod LastEntry
 pub mod Flushed
 pub mod Asking
 pub mod Crashing

@@ -25,7 +25,7 @@ use Rattle.pm_engine.specs.declared.unmade.Unmade.TheVariants.{OfClient, OfColle
 use Rattle.pm_engine.specs.Works.Acting.{ChangesSpace}
 use Rattle.pm_engine.specs.Works.Clauses.{CallsFew, CallsNoDisk, IfMemory, IsDropped, IsFlushed, IsIdle, IsRunning, LeavesCopies, LeavesCopy, MayRunOut, ReadsWithin, SettlesAs, StaysAsItWas, UnlessReopen}
 use Rattle.pm_engine.specs.Works.Copies.{KeepsCopies}
-use Rattle.pm_engine.specs.Shown.{chooser, disk_in, face, room, serving, unmade_in}
+use Rattle.pm_engine.specs.Shown.{AddsEntry, KeepsEntries, chooser, disk_in, face, room, serving, unmade_in}
 
 -- At want of memory this event is noted, and nothing else notes any.
 abbrev pub Notes : Unmade → Option Unmade → Option Unmade → EngineFault → Type 0
@@ -82,6 +82,8 @@ module _ {D : Type 0} {F : Type 0} {g : Ghosts D} where
     pub room : MatchResult result (λ _. room old ≤ room new + 1) (λ _. room old ≤ room new)
     -- at want of memory it is noted that this client's command was not made, and nothing else is
     pub unmade : MatchResult result (λ _. unmade_in new ≡ unmade_in old) (Notes (OfClient client) (unmade_in old) (unmade_in new))
+    -- no entry is let go, and that of the command is the last of those that are kept
+    pub kept : MatchResult result (AddsEntry client cmd old new) (λ _. KeepsEntries old new)
 
   -- What `flush` does, whatever it answers.
   pub record AnswersFlush (old new : Engine D F g) (result : Result Flushed EngineFault) : Type 0 where
@@ -113,6 +115,8 @@ module _ {D : Type 0} {F : Type 0} {g : Ghosts D} where
     pub room : room old ≤ room new
     -- at want of memory it is noted that an event of the flusher was not made, and nothing else is
     pub unmade : MatchResult result (λ _. unmade_in new ≡ unmade_in old) (Notes OfFlusher (unmade_in old) (unmade_in new))
+    -- no entry is let go, and none is added
+    pub kept : KeepsEntries old new
 
   -- What `collect` does, whatever it answers. The calls are those of the chooser.
   pub record AnswersCollect (calls : Shared F (Bor (List ℕ) × Unit {0}) ℕ) (old new : Engine D F g) (result : Result Step EngineFault) : Type 0 where
@@ -137,3 +141,5 @@ module _ {D : Type 0} {F : Type 0} {g : Ghosts D} where
     pub room : room old ≤ room new
     -- at want of memory it is noted that an event of the collector was not made, and nothing else is
     pub unmade : MatchResult result (λ _. unmade_in new ≡ unmade_in old) (Notes OfCollector (unmade_in old) (unmade_in new))
+    -- no entry is let go, and none is added
+    pub kept : KeepsEntries old new

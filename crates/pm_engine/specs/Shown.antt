@@ -1,7 +1,9 @@
 -- What contracts see of an engine.
-use Rattle.std.specs.Prelude.{◌≡◌, ℕ, List, length, Option, None}
+use Rattle.std.specs.Prelude.{◌≡◌, ℕ, List, [], ◌∷◌, ◌++◌, length, Option, None}
+use Rattle.pm_types.specs.declared.command.Cmd.{Cmd}
 use Rattle.pm_types.specs.declared.entry.Entry.{Entry}
 use Rattle.pm_types.specs.declared.event.WatchLine.{WatchLine}
+use Rattle.pm_types.specs.declared.reply.Reply.{Reply}
 use Rattle.pm_disk.specs.declared.disk.Disk.{Ghosts}
 use Rattle.pm_shadow.specs.State.{State}
 use Rattle.pm_view.specs.Counts.{standing}
@@ -15,7 +17,8 @@ use Rattle.pm_engine.specs.declared.tally.Tally.{Tally}
 use Rattle.pm_engine.specs.declared.unmade.Unmade.{Unmade}
 use Rattle.pm_engine.specs.Works.Clauses.{Face, face_of}
 use Rattle.pm_engine.specs.Works.Course.{told_before}
-use Rattle.pm_engine.specs.Works.Working.{disk_at, place_in, room_in, state_in}
+use Rattle.pm_engine.specs.Works.Told.{told_of}
+use Rattle.pm_engine.specs.Works.Working.{disk_at, past_in, place_in, room_in, state_in}
 use Rattle.pm_engine.specs.Works.Seen.{disk_then, seen}
 
 module _ {D : Type 0} {F : Type 0} {g : Ghosts D} where
@@ -36,6 +39,13 @@ module _ {D : Type 0} {F : Type 0} {g : Ghosts D} where
 
   abbrev pub opened_count : Engine D F g → ℕ
   opened_count it = it.opening.count
+
+  -- the entries that were let go, and those that are kept behind them
+  abbrev pub past_of : Engine D F g → List Entry
+  past_of it = past_in it.works
+
+  abbrev pub recent : Engine D F g → List Entry
+  recent it = it.works.journal.items
 
   -- so many entries more take no memory
   abbrev pub room : Engine D F g → ℕ
@@ -59,6 +69,16 @@ module _ {D : Type 0} {F : Type 0} {g : Ghosts D} where
     pub disk : opened_disk new ≡ opened_disk old
     pub count : opened_count new ≡ opened_count old
     pub chooser : chooser new ≡ chooser old
+
+  -- no entry was let go, and none was added
+  pub record KeepsEntries (old new : Engine D F g) : Type 0 where
+    pub past : past_of new ≡ past_of old
+    pub recent : recent new ≡ recent old
+
+  -- none was let go, and this one is the last of those that are kept
+  pub record AddsEntry (client : ℕ) (cmd : Cmd) (old new : Engine D F g) (reply : Reply) : Type 0 where
+    pub past : past_of new ≡ past_of old
+    pub recent : recent new ≡ recent old ++ record { client = client; cmd = cmd; reply = reply } ∷ []
 
 -- What an engine came to: how many entries its journal has, how many events were made, and how many of them by the
 -- collector, how many collections were completed, how many objects stand, what is told of the watches, the journal, its
@@ -84,7 +104,7 @@ tally_of it = record {
   completed = it.completed;
   standing = it.standing;
   lines = it.lines.items;
-  journal = it.journal.value.items;
+  journal = told_of it.past.value.entries ++ it.journal.value.items;
   course = told_before it.course;
   left = left_of (saving it.saver.value).progress;
   unmade = it.unmade;

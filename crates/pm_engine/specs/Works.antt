@@ -1,4 +1,5 @@
 pub mod Course
+pub mod Told
 pub mod Working
 pub mod Acting
 pub mod Seen

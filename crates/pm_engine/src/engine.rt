@@ -34,7 +34,7 @@ pub struct Engine<D: Disk, F> {
 }
 
 impl<D: Disk, F: Drop> Engine<D, F> {
-    ghost use Rattle.std.specs.Prelude.{◌≡◌, ◌≤◌, ◌<◌, ℕ, List, length, map, nat_eq, None, OnOk, OnErr};
+    ghost use Rattle.std.specs.Prelude.{◌≡◌, ◌≤◌, ◌<◌, ◌+◌, ◌^◌, ◌++◌, ℕ, List, [], length, map, nat_eq, None, OnOk, OnErr};
     ghost use Rattle.std.specs.List.{AllByRecursion, AllZip, IsDistinct};
     ghost use Rattle.pm_types.specs.declared.event.Watch.{Watch as KeptWatch};
     ghost use Rattle.pm_disk.specs.Disk.{IfTold};
@@ -52,14 +52,47 @@ impl<D: Disk, F: Drop> Engine<D, F> {
     ghost use Rattle.pm_view.specs.Watches.{lines_from};
     ghost use Rattle.pm_types.specs.Counts.{capped};
     ghost use Rattle.pm_space.specs.Shown.{view};
-    ghost use Rattle.pm_engine.specs.Shown.{KeepsStart, disk_in, opened_count, opened_disk, room, serving};
-    ghost use Rattle.pm_engine.specs.Shown.{tally_of, total_in, unmade_in};
+    ghost use Rattle.pm_engine.specs.Shown.{KeepsEntries, KeepsStart, disk_in, opened_count, opened_disk, pages_in};
+    ghost use Rattle.pm_engine.specs.Shown.{past_of, recent, room, serving, tally_of, total_in, unmade_in};
 
-    /// What was asked and answered since the opening, in order.
+    /// What was asked and answered since the opening, in order, while no entry was let go.
     pub fn journal(&self) -> &[Entry]
+        requires past { past_of self.now ≡ [] }
         ensures { result.now ≡ (serving self.now).journal }
     {
         self.works.journal.as_slice()
+    }
+
+    /// How many entries the journal has, those that were let go among them.
+    pub fn entries(&self) -> u64
+        ensures { result ≡ length (serving self.now).journal }
+    {
+        self.works.entries()
+    }
+
+    /// What was asked and answered since entries were last let go, in order; where none were, since the opening.
+    pub fn recent(&self) -> &[Entry]
+        ensures kept { result.now ≡ recent self.now }
+        ensures told { (serving self.now).journal ≡ past_of self.now ++ result.now }
+    {
+        self.works.journal.as_slice()
+    }
+
+    /// Lets go of all entries that are kept, so that memory does not grow with the number of commands. It takes none, and
+    /// their buffer stays. What is served is the same; so are the whole journal and its course, as clauses see them, and
+    /// watches and counts, as calls tell them. Where the journal has over 2^63 entries none is let go.
+    pub fn forget_entries(&mut self)
+        ensures serving { serving self.new ≡ serving self.old }
+        ensures disk { disk_in self.new ≡ disk_in self.old }
+        ensures pages { pages_in self.new ≡ pages_in self.old }
+        ensures start { KeepsStart self.old self.new }
+        ensures unmade { unmade_in self.new ≡ unmade_in self.old }
+        ensures kept { length (serving self.old).journal ≤ 2 ^ 63 → recent self.new ≡ [] }
+        ensures beyond { 2 ^ 63 < length (serving self.old).journal → recent self.new ≡ recent self.old }
+        // There is room for as many more as were let go.
+        ensures room { room self.new + length (recent self.new) ≡ room self.old + length (recent self.old) }
+    {
+        self.works.forget();
     }
 
     /// How many events were made: calls of `client`, `collect` and `flush` that were answered Ok.
@@ -120,6 +153,7 @@ impl<D: Disk, F: Drop> Engine<D, F> {
         ensures disk { disk_in self.new ≡ disk_in self.old }
         ensures start { KeepsStart self.old self.new }
         ensures unmade { unmade_in self.new ≡ unmade_in self.old }
+        ensures entries { KeepsEntries self.old self.new }
         ensures room { OnOk result (n ≤ room self.new) }
         // There is room for as many as before; where it fails so many had no room, and as many have as before.
         ensures grows { room self.old ≤ room self.new }
@@ -130,18 +164,18 @@ impl<D: Disk, F: Drop> Engine<D, F> {
         Ok(())
     }
 
-    /// The disk, the journal, what the engine came to, and its heap. Where as many collections were completed since a
+    /// The disk, the entries that are kept, what the engine came to, and its heap. Where as many collections were completed since a
     /// watch was set as its bound says, no object of a train of that time stands. To drop the heap takes time for each of
     /// its objects, so a caller whose process ends may leave it.
     pub fn into_parts(self) -> (D, Vec<Entry>, Tally, Space<F>)
         ensures disk { result.0 ≡ disk_in self }
-        ensures journal { result.1.items ≡ (serving self).journal }
+        ensures journal { (serving self).journal ≡ past_of self ++ result.1.items }
         ensures tally { tally_of result.2 ≡ total_in self }
         ensures honest { AllByRecursion IsHonest (tally_of result.2).lines }
         ensures heap { view result.3.parts ≡ (serving self).view }
     {
         let Engine { works, unmade, .. } = self;
-        let entries = works.journal.len() as u64;
+        let entries = works.entries();
         let standing = works.space.standing();
         let tally = Tally {
             entries,
@@ -150,6 +184,7 @@ impl<D: Disk, F: Drop> Engine<D, F> {
             completed: works.space.completed(),
             standing,
             lines: tell_watches(&works.space, works.watches.as_slice()),
+            past: Snapshot::of(&works.past),
             journal: Snapshot::of(&works.journal),
             course: works.course,
             saver: Snapshot::of(&works.saver),

@@ -3,7 +3,7 @@
 ghost use Rattle.std.specs.Prelude.{◌≡◌};
 
 use crate::Unmade;
-use crate::works::{Course, Saver, WATCH_ROOM};
+use crate::works::{Course, Past, Saver, WATCH_ROOM};
 use arrayvec::ArrayVec;
 use pm_types::{Entry, WatchLine};
 use std::snapshot::Snapshot;
@@ -17,7 +17,9 @@ pub struct Tally {
     pub(crate) completed: u64,
     pub(crate) standing: u64,
     pub(crate) lines: ArrayVec<WatchLine, WATCH_ROOM>,
-    /// The journal that it was made with, which tells it from the tally of another engine.
+    /// The entries that were let go, and those that were kept: the journal that it was made with, which tells it from the
+    /// tally of another engine.
+    pub(crate) past: Snapshot<Past>,
     pub(crate) journal: Snapshot<Vec<Entry>>,
     /// What had been made before each entry of it.
     pub(crate) course: Course,

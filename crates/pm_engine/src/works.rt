@@ -7,6 +7,9 @@ mod begin;
 mod collect;
 mod course;
 mod flush;
+mod forget;
+mod forgotten;
+mod past;
 mod save;
 mod settle;
 mod start;
@@ -15,6 +18,8 @@ mod works;
 
 pub use begin::begin_works;
 pub use course::Course;
+pub use forgotten::Forgotten;
+pub use past::Past;
 pub use pm_reclaim::{WATCH_ROOM, tell_watches};
 pub use pm_save::{SaveFault, Saver};
 pub use start::Start;

@@ -28,7 +28,7 @@ use Rattle.pm_saving.specs.Serving.{KeepsOpening, Serving, opening, world}
 use Rattle.pm_saving.specs.Images.{IsCopyInProgress, IsLast, IsOfChain, IsOfRun, IsSettledCopy, IsTold}
 use Rattle.pm_saving.specs.Events.{Collects, FailsAs, Flushes, Serves, ServesNothing, StaysBegun}
 use Rattle.pm_engine.specs.declared.engine.Engine.{Engine}
-use Rattle.pm_engine.specs.Shown.{KeepsStart, disk_in, face, opened_disk, room, serving}
+use Rattle.pm_engine.specs.Shown.{KeepsStart, disk_in, face, opened_disk, past_of, room, serving}
 use Rattle.pm_engine.specs.Works.Copies.{IsOfDisk as IsDiskFault, MayStand}
 use Rattle.pm_engine.specs.Works.Clauses.{IsRunning, LeavesCopies, LeavesCopy, MayRunOut}
 use Rattle.pm_engine.specs.declared.events.stop.Stop.{Stop}
@@ -124,12 +124,13 @@ room_of_one room_old room_new old new entry is within =
 room_of_none : (room_old room_new : ℕ) (old new : List Entry) → new ≡ old → room_old ≤ room_new → room_old + length old ≤ room_new + length new
 room_of_none room_old room_new old new is within = let long = ap length is in omega (arith, long, within)
 
-module _ {D : Type 0} {F : Type 0} {g : Ghosts D} (old new : Engine D F g) (start : KeepsStart old new) (legal : IsLegal (opening (serving old)) (serving old).journal) (past : (g.made (disk_in new)).past ≡ (g.made (disk_in old)).past)
+module _ {D : Type 0} {F : Type 0} {g : Ghosts D} (old new : Engine D F g) (start : KeepsStart old new) (legal : IsLegal (opening (serving old)) (serving old).journal) (past : (g.made (disk_in new)).past ≡ (g.made (disk_in old)).past) (entries : past_of new ≡ past_of old)
     (idle : (serving old).saving.progress ≡ None → disk_in new ≡ disk_in old) where
   -- a command was answered
   pub answered : (client : ℕ) (cmd : Cmd) (reply : Reply) → Serves client cmd (serving old) (serving new) reply → IsRunning (serving old).stopped (face old) (face new) → LeavesCopies cmd (face old) (face new) (Ok reply) → room old ≤ room new + 1 → EngineGoesOn old new None
   answered client cmd reply serves runs leaves within = record {
     start = start;
+    entries = entries;
     room = room_of_one (room old) (room new) (serving old).journal (serving new).journal (record { client = client; cmd = cmd; reply = reply }) serves.appends.journal within;
     grows = more_chain client cmd (serving old) (serving new) reply legal serves;
     leaves = λ told. weaker g.moment g.since (disk_in old) (disk_in new) (MayStand cmd (serving old) (Ok reply)) (IsOfRun (serving new)) (leaves runs.running told) (answered_of_run client cmd (serving old) (serving new) reply legal serves);
@@ -149,6 +150,7 @@ module _ {D : Type 0} {F : Type 0} {g : Ghosts D} (old new : Engine D F g) (star
         let same = same_chain (serving old) (serving new) keeps journal in
         record {
           start = start;
+          entries = entries;
           room = room_of_none (room old) (room new) (serving old).journal (serving new).journal journal within;
           grows = same;
           leaves = λ told. weaker g.moment g.since (disk_in old) (disk_in new) (IsSettledCopy (world (serving old))) (IsOfRun (serving new)) (leaves runs.running told) (settled_of_run (serving old) (serving new) legal same);
@@ -183,6 +185,7 @@ module _ {D : Type 0} {F : Type 0} {g : Ghosts D} (old new : Engine D F g) (star
           → (IsTold (g.contents (opened_disk old)) → LeavesOnly g.moment g.since (disk_in old) (disk_in new) (MayStandAt (NoRoom no_memory) (serving old))) → EngineGoesOn old new (Some (Memory no_memory))
       no_room before after going counted leaves = record {
         start = start;
+        entries = entries;
         room = room_of_none (room old) (room new) (serving old).journal (serving new).journal nothing.journal within;
         grows = same_members;
         leaves = λ told.
@@ -202,6 +205,7 @@ module _ {D : Type 0} {F : Type 0} {g : Ghosts D} (old new : Engine D F g) (star
           let some : IsSome (serving new).stopped = ap is_some stopped in
           record {
             start = start;
+            entries = entries;
             room = room_of_none (room old) (room new) (serving old).journal (serving new).journal nothing.journal within;
             grows = same_members;
             leaves = λ told.
@@ -297,6 +301,7 @@ module _ {D : Type 0} {F : Type 0} {g : Ghosts D} where
       → ((left : List ℕ) → g.since (disk_in old) (g.moment (disk_in old)) left → g.image (disk_in old) left) → EngineGoesOn old old None
   goes_first old none legal settled now = record {
     start = same_start old;
+    entries = refl;
     room = omega arith;
     grows = λ kept there. there;
     leaves = λ told. started g.moment g.since (disk_in old) (IsOfRun (serving old)) (λ left there. settled_of_run (serving old) (serving old) legal (λ kept in_chain. in_chain) left (settled told left (now left there)));
@@ -308,13 +313,14 @@ module _ {D : Type 0} {F : Type 0} {g : Ghosts D} where
   }
 
   -- nothing was done but that room was made
-  pub goes_still : (old new : Engine D F g) → KeepsStart old new → room old ≤ room new → serving new ≡ serving old → disk_in new ≡ disk_in old → (serving old).stopped ≡ None → IsLegal (opening (serving old)) (serving old).journal
+  pub goes_still : (old new : Engine D F g) → KeepsStart old new → past_of new ≡ past_of old → room old ≤ room new → serving new ≡ serving old → disk_in new ≡ disk_in old → (serving old).stopped ≡ None → IsLegal (opening (serving old)) (serving old).journal
       → (IsTold (g.contents (opened_disk old)) → (left : List ℕ) → g.image (disk_in old) left → IsSettledCopy (world (serving old)) left)
       → ((left : List ℕ) → g.since (disk_in old) (g.moment (disk_in old)) left → g.image (disk_in old) left) → EngineGoesOn old new None
-  goes_still old new start within same disk none legal settled now =
+  goes_still old new start entries within same disk none legal settled now =
       let first = goes_first old none legal settled now in
       record {
         start = start;
+        entries = entries;
         room = room_of_none (room old) (room new) (serving old).journal (serving new).journal (ap (λ (it : Serving). it.journal) same) within;
         grows = λ kept there. subst (λ (it : Serving). Contains (chain (opening it) it.journal) kept) (sym same) there;
         leaves = λ told. subst (λ (both : D × Serving). LeavesOnly g.moment g.since (disk_in old) both.0 (IsOfRun both.1)) (λ i. (sym disk i, sym same i)) (first.leaves told);
@@ -328,6 +334,7 @@ module _ {D : Type 0} {F : Type 0} {g : Ghosts D} where
   pub goes_then : (old mid new : Engine D F g) (stop : Option Stop) → EngineGoesOn old mid None → EngineGoesOn mid new stop → EngineGoesOn old new stop
   goes_then old mid new stop one two = record {
     start = keeps_then old mid new one.start two.start;
+    entries = two.entries ∙ one.entries;
     room = let first = one.room in let second = two.room in omega (arith, first, second);
     grows = λ kept there. two.grows kept (one.grows kept there);
     leaves = λ told.
@@ -347,12 +354,12 @@ module _ {D : Type 0} {F : Type 0} {g : Ghosts D} where
   -- what went well goes on so where the sink fails
   pub goes_unwritten : (old new : Engine D F g) → EngineGoesOn old new None → EngineGoesOn old new (Some Writing)
   goes_unwritten old new goes =
-      record { start = goes.start; room = goes.room; grows = goes.grows; leaves = goes.leaves; last = λ of. absurd of; going = goes.going; cause = goes.cause; past = goes.past; idle = goes.idle }
+      record { start = goes.start; entries = goes.entries; room = goes.room; grows = goes.grows; leaves = goes.leaves; last = λ of. absurd of; going = goes.going; cause = goes.cause; past = goes.past; idle = goes.idle }
 
   -- and where memory ran out before anything was asked
   pub goes_short : (old new : Engine D F g) → EngineGoesOn old new None → EngineGoesOn old new (Some (Memory no_memory))
   goes_short old new goes =
-      record { start = goes.start; room = goes.room; grows = goes.grows; leaves = goes.leaves; last = λ of. absurd of; going = goes.going; cause = goes.cause; past = goes.past; idle = goes.idle }
+      record { start = goes.start; entries = goes.entries; room = goes.room; grows = goes.grows; leaves = goes.leaves; last = λ of. absurd of; going = goes.going; cause = goes.cause; past = goes.past; idle = goes.idle }
 
   -- the end of a run stops it only where nothing else did
   pub goes_ended : (old new : Engine D F g) (before after : Option Stop) → (after ≡ before) ⊎ ((before ≡ None) × (after ≡ Some Writing)) → EngineGoesOn old new before → EngineGoesOn old new after

@@ -52,24 +52,24 @@ module _ {D : Type 0} {F : Type 0} {g : Ghosts D} (old new : Engine D F g) where
 
   module _ (start : KeepsStart old new) (legal : IsLegal (opening (serving old)) (serving old).journal) (running : (serving old).stopped ≡ None) (counts : Counts) where
     pub client_goes : (client : ℕ) (cmd : Cmd) (result : Result Reply EngineFault) → AnswersClient client cmd old new result → EngineGoesOn old new (stop_after result)
-    client_goes client cmd (Ok reply) call = answered old new start legal call.past call.idle client cmd reply call.serves call.running call.leaves call.room
-    client_goes client cmd (Err fault) call = client_failed old new start legal call.past call.idle call.room cmd fault call.fails running counts call.leaves
+    client_goes client cmd (Ok reply) call = answered old new start legal call.past call.kept.past call.idle client cmd reply call.serves call.running call.leaves call.room
+    client_goes client cmd (Err fault) call = client_failed old new start legal call.past call.kept.past call.idle call.room cmd fault call.fails running counts call.leaves
 
     pub flush_goes : (result : Result Flushed EngineFault) → AnswersFlush old new result → EngineGoesOn old new (stop_after result)
     flush_goes (Ok answer) call =
-        flushed old new start legal call.past call.idle call.room answer (cars_or_none (serving old).frozen) (pages_in old) (pages_in new) (g.contents (disk_in old)) (g.contents (disk_in new)) call.flushes call.flushed call.running
+        flushed old new start legal call.past call.kept.past call.idle call.room answer (cars_or_none (serving old).frozen) (pages_in old) (pages_in new) (g.contents (disk_in old)) (g.contents (disk_in new)) call.flushes call.flushed call.running
         call.leaves
-    flush_goes (Err fault) call = event_failed old new start legal call.past call.idle call.room fault call.fails running counts call.leaves
+    flush_goes (Err fault) call = event_failed old new start legal call.past call.kept.past call.idle call.room fault call.fails running counts call.leaves
 
     pub collect_goes : (calls : Shared F (Bor (List ℕ) × Unit {0}) ℕ) (result : Result Step EngineFault) → AnswersCollect calls old new result
         → ((serving old).stopped ≡ None → IsTold (g.contents (opened_disk old)) → (left : List ℕ) → g.image (disk_in old) left → IsSettledCopy (world (serving old)) left)
         → ((left : List ℕ) → g.since (disk_in old) (g.moment (disk_in old)) left → g.image (disk_in old) left) → EngineGoesOn old new (stop_after result)
     collect_goes calls (Ok step) call settled now =
         let same = call.still.disk in
-        collected old new start legal (ap (λ (d : D). (g.made d).past) same) (λ none. same) call.room call.collects call.running (leaves_still old new same settled now)
+        collected old new start legal (ap (λ (d : D). (g.made d).past) same) call.kept.past (λ none. same) call.room call.collects call.running (leaves_still old new same settled now)
     collect_goes calls (Err fault) call settled now =
         let same = call.still.disk in
-        event_failed old new start legal (ap (λ (d : D). (g.made d).past) same) (λ none. same) call.room fault call.fails running counts (leaves_still old new same settled now)
+        event_failed old new start legal (ap (λ (d : D). (g.made d).past) same) call.kept.past (λ none. same) call.room fault call.fails running counts (leaves_still old new same settled now)
 
   -- ---- an event of the collector
 

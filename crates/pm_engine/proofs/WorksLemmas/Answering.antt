@@ -37,10 +37,11 @@ use Rattle.pm_law_saving.proofs.ServingLemmas.Kept as law
 use Rattle.pm_law_saving.proofs.ServingLemmas.Images.{acknowledged, failed}
 use Rattle.pm_engine.specs.declared.works.start.Start.{Start}
 use Rattle.pm_engine.specs.declared.works.works.Works.{Works}
-use Rattle.pm_engine.specs.Works.Working.{Acts, Adds, Answers, IsTiedIn, LeavesEither, Rests, Saves, SetsWatch, SettlesCopy, SettlesIt, StaysStill, Unsaves, Watches, contents_in, disk_at, frozen_in, room_in, saving_in, state_in, view_in, watches_in}
+use Rattle.pm_engine.specs.Works.Working.{Acts, Adds, Answers, IsTiedIn, LeavesEither, Rests, Saves, SetsWatch, SettlesCopy, SettlesIt, StaysStill, Unsaves, Watches, contents_in, disk_at, frozen_in, journal_in, room_in, saving_in, state_in, view_in, watches_in}
 use Rattle.pm_engine.specs.Works.Seen.{IsCrashSafe, disk_then, seen}
 use Rattle.pm_engine.proofs.WorksLemmas.Going.{answers_sound, appends, appends_so, rests_kept, settled_there}
 use Rattle.pm_engine.proofs.WorksLemmas.Kept.{pages_last, spares_still}
+use Rattle.pm_engine.proofs.WorksLemmas.Whole.{more_journal, nothing_journal}
 
 -- only `settle` says that a copy settled
 pub not_saved : (world : World) (client : ℕ) (cmd : Cmd) (reply : Reply) → reply ≡ (answer world client cmd).0 → saves cmd ≡ false → says_saved reply ≡ false
@@ -98,7 +99,7 @@ module _ {D : Type 0} {F : Type 0} {g : Ghosts D} (start : Start D F g) (stopped
   set_appends : (number other : ℕ) → number ≡ other → SetsWatch client old new number → Appends client Watch (seen start stopped old) (seen start stopped new) (Watching other)
   set_appends number other same is = record {
     opening = record { number = refl; opened = refl };
-    journal = is.journal ∙ ap (λ (n : ℕ). old.journal.items ++ entry_of n ∷ []) same;
+    journal = more_journal old new (entry_of number ∷ []) is.past is.journal ∙ ap (λ (n : ℕ). journal_in old ++ entry_of n ∷ []) same;
     course = is.course;
     watches = is.watches;
     events = is.events;
@@ -169,7 +170,7 @@ module _ {D : Type 0} {F : Type 0} {g : Ghosts D} (start : Start D F g) (old new
       let copied : (world NS).settled_copy ≡ copy_of cars progress = all.3 in
       let w = opening OS in
       let entry : Entry = record { client = client; cmd = Settle; reply = Saved progress.number } in
-      let longer = chain w old.journal.items ++ settled_in (world NS) ∷ [] in
+      let longer = chain w (journal_in old) ++ settled_in (world NS) ∷ [] in
       let now = subst (λ (o : Option Progress). IfSome o (λ (p : Progress). (was : List ℕ) → contents_in old ≡ Some was
       → ((left : List ℕ) → g.image (disk_at new) left → StandsForCopy left number (copy_of cars p)) × IfTold (contents_in new) (λ after. HasCopy (state_in new) after (copy_of cars p)))) is.settles.is_progress is.now in
       let stands : (left : List ℕ) → StandsForCopy left progress.number (copy_of cars progress) → IsSettledCopy (world NS) left =
@@ -186,9 +187,9 @@ module _ {D : Type 0} {F : Type 0} {g : Ghosts D} (start : Start D F g) (old new
           };
           images = acknowledged g.contents g.image g.moment g.since (disk_then start) OS (disk_at old) (disk_at new) (λ image. IsSettledCopy (world OS) image ⊎ StandsForCopy image progress.number (copy_of cars progress)) refl sound.images
               (leaves_either start old new (sound.stored refl) sound.images.told progress is.settles.is_progress spares) tells counts NS longer
-              (ap (chain w) all.0.appends.journal ∙ chain_more w old.journal.items entry ∙ ap (λ (last : World). chain w old.journal.items ++ settled_in last ∷ []) (ap (after w) (sym all.0.appends.journal)))
-              (λ kept there. Contains-append_left (chain w old.journal.items) (settled_in (world NS) ∷ []) kept there)
-              (Contains-append_right (chain w old.journal.items) (settled_in (world NS) ∷ []) (settled_in (world NS)) (at_first (settled_in (world NS)) []))
+              (ap (chain w) all.0.appends.journal ∙ chain_more w (journal_in old) entry ∙ ap (λ (last : World). chain w (journal_in old) ++ settled_in last ∷ []) (ap (after w) (sym all.0.appends.journal)))
+              (λ kept there. Contains-append_left (chain w (journal_in old)) (settled_in (world NS) ∷ []) kept there)
+              (Contains-append_right (chain w (journal_in old)) (settled_in (world NS) ∷ []) (settled_in (world NS)) (at_first (settled_in (world NS)) []))
               (settled_there OS sound.journal)
               (λ left it. ⊎_elim (λ settled. inl settled) (λ begun. inr (stands left begun)) it)
               (λ first left here.
@@ -211,7 +212,7 @@ module _ {D : Type 0} {F : Type 0} {g : Ghosts D} (start : Start D F g) (old new
         journal = rests_kept start old new (Some count) sound.journal rests;
         stored = λ none. absurd (cc none);
         images = failed g.contents g.image g.moment g.since (disk_then start) OS (disk_at old) (disk_at new) (λ image. IsSettledCopy (world OS) image ⊎ StandsForCopy image progress.number (copy_of cars progress)) refl sound.images
-            (leaves_either start old new (sound.stored refl) sound.images.told progress is spares) tells counts NS refl (ap (after w) rests.nothing.journal) (ap (chain w) rests.nothing.journal) (settled_there OS sound.journal)
+            (leaves_either start old new (sound.stored refl) sound.images.told progress is spares) tells counts NS refl (ap (after w) (nothing_journal old new rests.nothing)) (ap (chain w) (nothing_journal old new rests.nothing)) (settled_there OS sound.journal)
             (λ left it. ⊎_elim (λ settled. inl settled) (λ begun. inr ((progress.number, copy_of cars progress), saving, begun)) it);
       }
 

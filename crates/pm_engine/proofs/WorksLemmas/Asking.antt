@@ -36,7 +36,7 @@ use Rattle.pm_law_saving.proofs.ServingLemmas.Stored.{splits_stored}
 use Rattle.pm_engine.specs.Works.Course.{told_before}
 use Rattle.pm_engine.specs.declared.works.start.Start.{Start}
 use Rattle.pm_engine.specs.declared.works.works.Works.{Works}
-use Rattle.pm_engine.specs.Works.Working.{Answers, FlushesOn, IsTiedIn, LastsIn, Rests, contents_in, disk_at, frozen_in, saving_in, state_in}
+use Rattle.pm_engine.specs.Works.Working.{Answers, FlushesOn, IsTiedIn, LastsIn, Rests, contents_in, disk_at, frozen_in, journal_in, saving_in, state_in}
 use Rattle.pm_engine.specs.Works.Seen.{IsCrashSafe, disk_then, seen}
 use Rattle.pm_engine.proofs.WorksLemmas.Going.{failed_still, leaves, rests_sound}
 use Rattle.pm_engine.proofs.WorksLemmas.Flushed.{flush_sound}
@@ -131,7 +131,7 @@ splits_legal start (entry ∷ rest) known =
     (splits_once (Coded-set reply_type.the_row.coded _ _) (∥∥₁_map known (λ legal. legal.0)), splits_legal (answer start entry.client entry.cmd).1 rest (∥∥₁_map known (λ legal. legal.1)))
 
 -- the journal has more room
-pub kept_journal : {D F : Type 0} {g : Ghosts D} (start : Start D F g) (stopped : Option ℕ) (old new : Works D F g) → new.journal.items ≡ old.journal.items → new.course ≡ old.course → new.watches ≡ old.watches → new.events ≡ old.events → new.steps ≡ old.steps → new.space ≡ old.space → new.saver ≡ old.saver → new.pages ≡ old.pages
+pub kept_journal : {D F : Type 0} {g : Ghosts D} (start : Start D F g) (stopped : Option ℕ) (old new : Works D F g) → journal_in new ≡ journal_in old → new.course ≡ old.course → new.watches ≡ old.watches → new.events ≡ old.events → new.steps ≡ old.steps → new.space ≡ old.space → new.saver ≡ old.saver → new.pages ≡ old.pages
     → ∥ IsCrashSafe start stopped old ∥₁ → ∥ IsCrashSafe start stopped new ∥₁
 kept_journal {D} {F} {g} start stopped old new journal course watches events steps space saver pages known =
     let it : Serving = seen start stopped old in

@@ -26,7 +26,7 @@ use Rattle.pm_law_saving.proofs.ServingLemmas.Opening.{begins_served}
 use Rattle.pm_law_saving.proofs.ServingLemmas.Images.{begins}
 use Rattle.pm_engine.specs.declared.works.start.Start.{Start}
 use Rattle.pm_engine.specs.declared.works.works.Works.{Works}
-use Rattle.pm_engine.specs.Works.Working.{contents_in, course_in, disk_at, frozen_in, saving_in, state_in, view_in}
+use Rattle.pm_engine.specs.Works.Working.{contents_in, course_in, disk_at, frozen_in, journal_in, saving_in, state_in, view_in}
 use Rattle.pm_engine.specs.Works.Seen.{IsCrashSafe, disk_then, seen}
 use Rattle.pm_engine.proofs.WorksLemmas.Going.{settled_there}
 
@@ -70,18 +70,18 @@ module _ {D : Type 0} {F : Type 0} {g : Ghosts D} (start : Start D F g) (works :
       subst P same (store_begins cars (state_in works) (contents_in works) fine known within (knows.idle unknown) (on_pages (state_in works) cars known (makes.on_pages unknown))
       (λ bytes told. record { graph = (opens bytes told).store.found.graph; keeps = keeps_it bytes told; cars = sym (opens bytes told).cars_are }))
 
-  begun : (frozen_in works ≡ None) → works.journal.items ≡ [] → course_in works ≡ [] → works.watches.items ≡ [] → works.events ≡ 0 → works.steps ≡ 0 → start.space.value ≡ works.space → just_opened start.number (view_in works) (saving_in works) ≡ seen start None works
+  begun : (frozen_in works ≡ None) → journal_in works ≡ [] → course_in works ≡ [] → works.watches.items ≡ [] → works.events ≡ 0 → works.steps ≡ 0 → start.space.value ≡ works.space → just_opened start.number (view_in works) (saving_in works) ≡ seen start None works
   begun frozen journal course watches events steps space =
       let viewed = ap (λ space. view space.parts) space in
       (λ i. record { number = start.number; opened = sym viewed i; view = view_in works; frozen = sym frozen i; saving = saving_in works; journal = sym journal i; course = sym course i; watches = sym watches i; events = sym events i; steps = sym steps i; stopped = None })
 
   -- it serves the world of the copy in its space
-  pub start_served : (frozen_in works ≡ None) → saving_in works ≡ record { settled = cars; progress = None } → works.journal.items ≡ [] → course_in works ≡ [] → works.watches.items ≡ [] → works.events ≡ 0 → works.steps ≡ 0 → start.space.value ≡ works.space → IsServed (seen start None works)
+  pub start_served : (frozen_in works ≡ None) → saving_in works ≡ record { settled = cars; progress = None } → journal_in works ≡ [] → course_in works ≡ [] → works.watches.items ≡ [] → works.events ≡ 0 → works.steps ≡ 0 → start.space.value ≡ works.space → IsServed (seen start None works)
   start_served frozen saved journal course watches events steps space =
       subst IsServed (begun frozen journal course watches events steps space)
       (begins_served start.number _ makes.entries s0.header.next (view_in works) (saving_in works) makes.accepted makes.opened (ap (λ (s : Saving). s.progress) saved))
 
-  pub start_sound : (frozen_in works ≡ None) → saving_in works ≡ record { settled = cars; progress = None } → works.journal.items ≡ [] → course_in works ≡ [] → works.watches.items ≡ [] → works.events ≡ 0 → works.steps ≡ 0 → start.number ≡ (state_in works).header.epoch
+  pub start_sound : (frozen_in works ≡ None) → saving_in works ≡ record { settled = cars; progress = None } → journal_in works ≡ [] → course_in works ≡ [] → works.watches.items ≡ [] → works.events ≡ 0 → works.steps ≡ 0 → start.number ≡ (state_in works).header.epoch
       → start.space.value ≡ works.space → start.pages.value ≡ works.pages → ((bytes : List ℕ) → g.since (disk_at works) (g.moment (disk_at works)) bytes → g.image (disk_at works) bytes)
       → ((bytes left : List ℕ) → contents_in works ≡ Some bytes → g.image (disk_at works) left → left ≡ bytes) → IsCrashSafe start None works
   start_sound frozen saved journal course watches events steps number space pages only_now only =

@@ -18,6 +18,7 @@ use Rattle.pm_engine.specs.Works.Seen.{IsCrashSafe, seen}
 use Rattle.pm_engine.proofs.WorksLemmas.Asking.{at_none, rest_sound, stored}
 use Rattle.pm_engine.proofs.WorksLemmas.Going.{lasts}
 use Rattle.pm_engine.proofs.WorksLemmas.Kept.{pages_last, spares_still}
+use Rattle.pm_engine.proofs.WorksLemmas.Whole.{same_journal}
 
 module _ {D : Type 0} {F : Type 0} {g : Ghosts D} (start : Start D F g) (stopped : Option ℕ) (old new : Works D F g) (is : CollectsOn old new) where
   -- all but the space stays
@@ -26,7 +27,7 @@ module _ {D : Type 0} {F : Type 0} {g : Ghosts D} (start : Start D F g) (stopped
     opening = record { number = refl; opened = refl };
     frozen = is.frozen;
     saving = ap saving is.saver;
-    journal = is.journal;
+    journal = same_journal old new is.past is.journal;
     course = is.course;
     watches = is.watches;
     events = is.events;
@@ -59,8 +60,8 @@ module _ {D : Type 0} {F : Type 0} {g : Ghosts D} (start : Start D F g) (stopped
       let w = opening (seen start None old) in
       subst (λ (o : Option ℕ). ∥ IsCrashSafe start o new ∥₁) (sym none) (∥∥₁_map (at_none start stopped old none known) (λ sound.
       lasts start old new sound counts (kept.collected (seen start None old) (seen start None new) sound.journal (collects start None old new is))
-      (ap (λ (entries : List Entry). settled_in (after w entries)) is.journal)
-      (ap (chain w) is.journal)
+      (ap (λ (entries : List Entry). settled_in (after w entries)) (same_journal old new is.past is.journal))
+      (ap (chain w) (same_journal old new is.past is.journal))
       tied (pages_last old new is.pages) (told old new is.pages)
       (spares_still old new only_now (same_disk old new is.pages) (sound.stored refl).tied.sound)))
 

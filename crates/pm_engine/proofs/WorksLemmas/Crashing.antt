@@ -26,7 +26,7 @@ use Rattle.pm_saving.specs.Images.{IsCopyInProgress, IsSettledCopy, IsTold}
 use Rattle.pm_law_saving.proofs.ServingLemmas.Kept as law
 use Rattle.pm_engine.specs.declared.works.start.Start.{Start}
 use Rattle.pm_engine.specs.declared.works.works.Works.{Works}
-use Rattle.pm_engine.specs.Works.Working.{Answers, LeavesEither, SettlesCopy, StaysStill, contents_in, disk_at, frozen_in, saving_in, state_in}
+use Rattle.pm_engine.specs.Works.Working.{Answers, LeavesEither, SettlesCopy, StaysStill, contents_in, disk_at, frozen_in, journal_in, saving_in, state_in}
 use Rattle.pm_engine.specs.Works.Seen.{IsCrashSafe, disk_then, seen}
 use Rattle.pm_engine.specs.Works.Copies.{MayStand}
 use Rattle.pm_engine.proofs.WorksLemmas.Answering.{not_saved}
@@ -85,7 +85,7 @@ module _ {D : Type 0} {F : Type 0} {g : Ghosts D} (start : Start D F g) (stopped
       world_is : world (seen start None new) ≡ (answer (world (seen start None old)) client cmd).1
       world_is =
           let w = opening (seen start None old) in
-          ap (after w) serves.appends.journal ∙ after_more w old.journal.items (record { client = client; cmd = cmd; reply = Saved number })
+          ap (after w) serves.appends.journal ∙ after_more w (journal_in old) (record { client = client; cmd = cmd; reply = Saved number })
 
       was : ((world (seen start None old)).saving ≡ Some (settled_in (answer (world (seen start None old)) client cmd).1)) × ((answer (world (seen start None old)) client cmd).1.settled ≡ number) × ((answer (world (seen start None old)) client cmd).1.saving ≡ None)
       was = saved (world (seen start None old)) client number cmd (sym serves.reply_is)

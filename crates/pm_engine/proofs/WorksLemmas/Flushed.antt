@@ -23,6 +23,7 @@ use Rattle.pm_engine.specs.Works.Working.{FlushesOn, IsTiedIn, LastsIn, contents
 use Rattle.pm_engine.specs.Works.Seen.{IsCrashSafe, seen}
 use Rattle.pm_engine.proofs.WorksLemmas.Going.{lasts}
 use Rattle.pm_engine.proofs.WorksLemmas.Kept.{begun_from}
+use Rattle.pm_engine.proofs.WorksLemmas.Whole.{same_journal}
 
 -- and so do the settled cars, and the copy in progress but for its pages
 pub flushed_stays : (old new : Saving) (frozen : Option Cars) (s t : State) (was now : Option (List ℕ)) (flushed : Flushed) → IsTied old frozen s was → IsFlushed old new (cars_or_none frozen) s t was now flushed
@@ -52,7 +53,7 @@ module _ {D : Type 0} {F : Type 0} {g : Ghosts D} (start : Start D F g) (stopped
     view = same_view;
     frozen = same_frozen;
     settled = stays.0;
-    journal = is.journal;
+    journal = same_journal old new is.past is.journal;
     course = is.course;
     watches = is.watches;
     events = is.events;
@@ -67,5 +68,5 @@ module _ {D : Type 0} {F : Type 0} {g : Ghosts D} (start : Start D F g) (old new
       let w = opening (seen start None old) in
       let tied = (sound.stored refl).tied in
       lasts start old new sound counts (kept.flushed (seen start None old) (seen start None new) sound.journal (flush_told start None old new flushed tied is) (stays start None old new flushed tied is).1)
-      (ap (λ (entries : List Entry). settled_in (after w entries)) is.journal)
-      (ap (chain w) is.journal)
+      (ap (λ (entries : List Entry). settled_in (after w entries)) (same_journal old new is.past is.journal))
+      (ap (chain w) (same_journal old new is.past is.journal))

@@ -20,9 +20,10 @@ use Rattle.pm_law_saving.proofs.ServingLemmas.Images.{spared}
 use Rattle.pm_law_saving.proofs.ServingLemmas.Kept as law
 use Rattle.pm_engine.specs.declared.works.start.Start.{Start}
 use Rattle.pm_engine.specs.declared.works.works.Works.{Works}
-use Rattle.pm_engine.specs.Works.Working.{Adds, IsTiedIn, LastsIn, Rests, contents_in, disk_at, state_in, watches_in}
+use Rattle.pm_engine.specs.Works.Working.{Adds, IsTiedIn, LastsIn, Rests, contents_in, disk_at, journal_in, state_in, watches_in}
 use Rattle.pm_engine.specs.Works.Seen.{IsCrashSafe, disk_then, seen}
 use Rattle.pm_engine.proofs.WorksLemmas.Telling.{nothing_served}
+use Rattle.pm_engine.proofs.WorksLemmas.Whole.{more_journal, nothing_journal}
 
 -- ---- the copy that settled last is one of the chain
 
@@ -54,7 +55,7 @@ module _ {D : Type 0} {F : Type 0} {g : Ghosts D} (start : Start D F g) (old new
       → Appends client cmd (seen start stopped old) (seen start stopped new) reply
   appends_so stopped client cmd reply none adds = record {
     opening = record { number = refl; opened = refl };
-    journal = adds.journal;
+    journal = more_journal old new (record { client = client; cmd = cmd; reply = reply } ∷ []) adds.past adds.journal;
     course = adds.course;
     watches = adds.watches ∙ sym none;
     events = adds.events;
@@ -88,7 +89,7 @@ module _ {D : Type 0} {F : Type 0} {g : Ghosts D} (start : Start D F g) (old new
 
     -- the same copy has settled, and it stands where it stood
     pub lasts : KeepsJournal (seen start None new) → settled_in (world (seen start None new)) ≡ settled_in (world (seen start None old))
-        → chain (opening (seen start None new)) new.journal.items ≡ chain (opening (seen start None old)) old.journal.items
+        → chain (opening (seen start None new)) (journal_in new) ≡ chain (opening (seen start None old)) (journal_in old)
         → IsTiedIn new → LastsIn old new → TellsOn (contents_in old) (contents_in new) → Spares g.contents g.moment g.since (state_in old) (disk_at old) (disk_at new) → IsCrashSafe start None new
     lasts keeps settled same tied last told spares = record {
       journal = keeps;
@@ -109,8 +110,8 @@ module _ {D : Type 0} {F : Type 0} {g : Ghosts D} (start : Start D F g) (old new
     rests_sound rests =
         let w = opening (seen start None old) in
         lasts (rests_kept None sound.journal rests)
-        (ap (λ (entries : List Entry). settled_in (after w entries)) rests.nothing.journal)
-        (ap (chain w) rests.nothing.journal)
+        (ap (λ (entries : List Entry). settled_in (after w entries)) (nothing_journal old new rests.nothing))
+        (ap (chain w) (nothing_journal old new rests.nothing))
 
     -- a command was answered that settles nothing
     pub answers_sound : (client : ℕ) (cmd : Cmd) (reply : Reply) → Serves client cmd (seen start None old) (seen start None new) reply → KeepsJournal (seen start None new) → says_saved reply ≡ false
@@ -119,9 +120,9 @@ module _ {D : Type 0} {F : Type 0} {g : Ghosts D} (start : Start D F g) (old new
         let w = opening (seen start None old) in
         let entry : Entry = record { client = client; cmd = cmd; reply = reply } in
         lasts keeps
-        (ap (λ (entries : List Entry). settled_in (after w entries)) serves.appends.journal ∙ ap settled_in (after_more w old.journal.items entry)
+        (ap (λ (entries : List Entry). settled_in (after w entries)) serves.appends.journal ∙ ap settled_in (after_more w (journal_in old) entry)
         ∙ same_settled (world (seen start None old)) client cmd (ap says_saved (sym serves.reply_is) ∙ other))
-        (ap (chain w) serves.appends.journal ∙ chain_same w old.journal.items entry other)
+        (ap (chain w) serves.appends.journal ∙ chain_same w (journal_in old) entry other)
 
     -- the disk failed, and the current copy stood at each moment
     pub failed_still : (count : ℕ) → Rests old new → TellsOn (contents_in old) (contents_in new) → Spares g.contents g.moment g.since (state_in old) (disk_at old) (disk_at new) → IsCrashSafe start (Some count) new
@@ -131,5 +132,5 @@ module _ {D : Type 0} {F : Type 0} {g : Ghosts D} (start : Start D F g) (old new
           journal = rests_kept (Some count) sound.journal rests;
           stored = λ none. absurd (cc none);
           images = spared g.contents g.image g.moment g.since (disk_then start) (seen start None old) (disk_at old) (disk_at new) (IsSettledCopy (world (seen start None old))) refl sound.images (leaves stored sound.images.told spares) (tells told) counts
-              (seen start (Some count) new) (ap (λ (entries : List Entry). settled_in (after w entries)) rests.nothing.journal) (ap (chain w) rests.nothing.journal) (settled_there (seen start None old) sound.journal) (λ left is. is);
+              (seen start (Some count) new) (ap (λ (entries : List Entry). settled_in (after w entries)) (nothing_journal old new rests.nothing)) (ap (chain w) (nothing_journal old new rests.nothing)) (settled_there (seen start None old) sound.journal) (λ left is. is);
         }

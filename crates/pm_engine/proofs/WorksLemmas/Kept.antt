@@ -76,9 +76,9 @@ module _ {D : Type 0} {F : Type 0} {g : Ghosts D} where
   lasts_so old new only_now tied also still lasts = record { tied = also; lasts = lasts; spares = spares_still old new only_now still tied.sound }
 
   -- a fault of a settle leaves the copy in progress
-  pub rests_on : (old new : Works D F g) → new.journal.items ≡ old.journal.items → course_in new ≡ course_in old → watches_in new ≡ watches_in old → new.events ≡ old.events → new.steps ≡ old.steps → room_in old ≤ room_in new → view_in new ≡ view_in old → frozen_in new ≡ frozen_in old → StaysOn (saving_in old) (saving_in new) → Rests old new
-  rests_on old new journal course watches events steps room view frozen stays = record {
-    nothing = record { journal = journal; course = course; watches = watches; events = events; steps = steps; room = room };
+  pub rests_on : (old new : Works D F g) → new.past ≡ old.past → new.journal.items ≡ old.journal.items → course_in new ≡ course_in old → watches_in new ≡ watches_in old → new.events ≡ old.events → new.steps ≡ old.steps → room_in old ≤ room_in new → view_in new ≡ view_in old → frozen_in new ≡ frozen_in old → StaysOn (saving_in old) (saving_in new) → Rests old new
+  rests_on old new past journal course watches events steps room view frozen stays = record {
+    nothing = record { past = past; journal = journal; course = course; watches = watches; events = events; steps = steps; room = room };
     view = view;
     frozen = frozen;
     settled = ap (λ (it : Saving). it.settled) stays.saving;

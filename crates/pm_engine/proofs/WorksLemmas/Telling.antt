@@ -15,6 +15,7 @@ use Rattle.pm_engine.specs.declared.works.works.Works.{Works}
 use Rattle.pm_engine.specs.Works.Working.{Answers, IsLeft, LeavesEither, Rests, Saves, SettlesIt, StaysStill, Unsaves, Watches, disk_at, saving_in}
 use Rattle.pm_engine.specs.Works.Seen.{seen}
 use Rattle.pm_engine.specs.Works.Copies.{KeepsCopies}
+use Rattle.pm_engine.proofs.WorksLemmas.Whole.{nothing_journal}
 
 -- ---- a reply shows at most an object's bytes
 
@@ -69,7 +70,7 @@ module _ {D : Type 0} {F : Type 0} {g : Ghosts D} (start : Start D F g) (stopped
         view = left.keeps.view i;
         frozen = left.keeps.frozen i;
         saving = left.keeps.saving i;
-        journal = left.nothing.journal i;
+        journal = nothing_journal old new left.nothing i;
         course = left.nothing.course i;
         watches = left.nothing.watches i;
         events = left.nothing.events i;
@@ -85,7 +86,7 @@ module _ {D : Type 0} {F : Type 0} {g : Ghosts D} (start : Start D F g) (stopped
     frozen = rests.frozen;
     settled = rests.settled;
     progress = rests.progress;
-    journal = rests.nothing.journal;
+    journal = nothing_journal old new rests.nothing;
     course = rests.nothing.course;
     watches = rests.nothing.watches;
     events = rests.nothing.events;

@@ -15,7 +15,7 @@ use Rattle.pm_saving.specs.Paging.{left_of}
 use Rattle.pm_saving.specs.Serving.{Serving, made_now, opening}
 use Rattle.pm_saving.specs.Images.{IsLast, IsOfRun, IsTold}
 use Rattle.pm_engine.specs.declared.engine.Engine.{Engine}
-use Rattle.pm_engine.specs.Shown.{KeepsStart, disk_in, opened_disk, room, serving}
+use Rattle.pm_engine.specs.Shown.{KeepsStart, disk_in, opened_disk, past_of, room, serving}
 use Rattle.pm_engine.specs.declared.events.stop.Stop.{Stop}
 use Rattle.pm_engine.specs.Events.Causes.{CountsDisk, IsDone, IsOfDisk, OnMemory}
 
@@ -74,6 +74,8 @@ module _ {D : Type 0} {F : Type 0} {g : Ghosts D} where
   -- What a part of a run does to engine and disk, by why the run stops in it, if it does.
   pub record EngineGoesOn (old new : Engine D F g) (stop : Option Stop) : Type 0 where
     pub start : KeepsStart old new
+    -- no entry was let go
+    pub entries : past_of new ≡ past_of old
     -- each entry takes the room of one
     pub room : room old + length (serving old).journal ≤ room new + length (serving new).journal
     -- what was acknowledged stays so

@@ -7,7 +7,7 @@ use Rattle.pm_saving.specs.Serving.{KeepsJournal, Serving}
 use Rattle.pm_saving.specs.Images.{IsStored, KeepsImages}
 use Rattle.pm_engine.specs.declared.works.start.Start.{Start}
 use Rattle.pm_engine.specs.declared.works.works.Works.{Works}
-use Rattle.pm_engine.specs.Works.Working.{contents_in, course_in, disk_at, frozen_in, saving_in, state_in, view_in, watches_in}
+use Rattle.pm_engine.specs.Works.Working.{contents_in, course_in, disk_at, frozen_in, journal_in, saving_in, state_in, view_in, watches_in}
 
 module _ {D : Type 0} {F : Type 0} {g : Ghosts D} where
   -- an engine of these parts
@@ -18,7 +18,7 @@ module _ {D : Type 0} {F : Type 0} {g : Ghosts D} where
     view = view_in works;
     frozen = frozen_in works;
     saving = saving_in works;
-    journal = works.journal.items;
+    journal = journal_in works;
     course = course_in works;
     watches = watches_in works;
     events = works.events;

@@ -1,10 +1,11 @@
 -- What calls do to what an engine works with.
-use Rattle.std.specs.Prelude.{◌≡◌, ◌⊎◌, ℕ, ◌+◌, ◌-◌, ◌<◌, ◌≤◌, Bool, true, IsSome, IfErr, OnErr, Result, List, [], ◌∷◌, ◌++◌, length, Option, Some, None, vec_len, vec_capacity}
+use Rattle.std.specs.Prelude.{◌≡◌, ◌⊎◌, ℕ, ◌+◌, ◌-◌, ◌<◌, ◌≤◌, ◌^◌, Bool, true, IsSome, IfErr, OnErr, Result, List, [], ◌∷◌, ◌++◌, length, Option, Some, None, vec_len, vec_capacity}
 use Rattle.pm_types.specs.Replies.{IsShortReply}
 use Rattle.pm_types.specs.declared.limits.TheConstants.{LAST_COPY, WATCHES}
 use Rattle.pm_types.specs.declared.command.Cmd.{Cmd}
 use Rattle.pm_types.specs.declared.command.Cmd.TheVariants as cmds
 use Rattle.pm_types.specs.declared.command.Cmd.TheVariants.{Save, Settle, Unsave}
+use Rattle.pm_types.specs.declared.entry.Entry.{Entry}
 use Rattle.pm_types.specs.declared.event.Flushed.{Flushed}
 use Rattle.pm_types.specs.declared.event.Watch.{Watch}
 use Rattle.pm_types.specs.declared.reply.Reply.{Reply}
@@ -33,6 +34,7 @@ use Rattle.pm_mutate.specs.Acts as mutate
 use Rattle.pm_law_collect.specs.Work.Raises.{raises}
 use Rattle.pm_engine.specs.Works.Acting.{DoesItsRow}
 use Rattle.pm_engine.specs.Works.Course.{told_before}
+use Rattle.pm_engine.specs.Works.Told.{told_of}
 use Rattle.pm_engine.specs.declared.works.works.Works.{Works}
 use Rattle.pm_types.specs.Counts.{raised}
 
@@ -64,6 +66,13 @@ module _ {D : Type 0} {F : Type 0} {g : Ghosts D} where
   abbrev pub watches_in : Works D F g → List Watch
   watches_in it = it.watches.items
 
+  -- the entries that were let go, and the whole journal: these, and behind them those that are kept
+  abbrev pub past_in : Works D F g → List Entry
+  past_in it = told_of it.past.entries
+
+  abbrev pub journal_in : Works D F g → List Entry
+  journal_in it = past_in it ++ it.journal.items
+
   -- what had been made before each entry of the journal
   abbrev pub course_in : Works D F g → List Before
   course_in it = told_before it.course
@@ -76,9 +85,11 @@ module _ {D : Type 0} {F : Type 0} {g : Ghosts D} where
   abbrev pub room_in : Works D F g → ℕ
   room_in it = vec_capacity it.journal - vec_len it.journal
 
-  -- The entry of a command is at the journal's end, and what had been made before it at the end of the course; one event
-  -- more was made, which is none of the collector. The watches stay, and there is room for one entry less.
+  -- The entry of a command is the last of those that are kept, and none was let go; what had been made before it is at the
+  -- end of the course; one event more was made, which is none of the collector. The watches stay, and there is room for one
+  -- entry less.
   pub record Adds (client : ℕ) (cmd : Cmd) (reply : Reply) (old new : Works D F g) : Type 0 where
+    pub past : new.past ≡ old.past
     pub journal : new.journal.items ≡ old.journal.items ++ record { client = client; cmd = cmd; reply = reply } ∷ []
     pub course : course_in new ≡ course_in old ++ made_in old ∷ []
     pub watches : watches_in new ≡ watches_in old
@@ -100,12 +111,26 @@ module _ {D : Type 0} {F : Type 0} {g : Ghosts D} where
 
   -- the journal stays, and so do its course and the watches, no event was made, and there is room for as many entries
   pub record AddsNothing (old new : Works D F g) : Type 0 where
+    pub past : new.past ≡ old.past
     pub journal : new.journal.items ≡ old.journal.items
     pub course : course_in new ≡ course_in old
     pub watches : watches_in new ≡ watches_in old
     pub events : new.events ≡ old.events
     pub steps : new.steps ≡ old.steps
     pub room : room_in old ≤ room_in new
+
+  -- All entries that are kept were let go, where the journal has at most 2^63, and else none. The journal stays, and so does
+  -- all else, and there is room for as many more.
+  pub record Forgets (old new : Works D F g) : Type 0 where
+    pub journal : journal_in new ≡ journal_in old
+    pub course : new.course ≡ old.course
+    pub watches : new.watches ≡ old.watches
+    pub events : new.events ≡ old.events
+    pub steps : new.steps ≡ old.steps
+    pub store : KeepsStore old new
+    pub kept : length (journal_in old) ≤ 2 ^ 63 → new.journal.items ≡ []
+    pub beyond : 2 ^ 63 < length (journal_in old) → new.journal.items ≡ old.journal.items
+    pub room : room_in new + length new.journal.items ≡ room_in old + length old.journal.items
 
   -- all of it stays
   pub record IsLeft (old new : Works D F g) : Type 0 where
@@ -194,11 +219,12 @@ module _ {D : Type 0} {F : Type 0} {g : Ghosts D} where
     pub keeps : Keeps old new
     pub full : length (watches_in old) ≡ WATCHES
 
-  -- One more watch is set, with what is to be noted of the space and the journal as they were.
+  -- One more watch is set, with what is to be noted of the space and the whole journal as they were.
   pub record SetsWatch (client : ℕ) (old new : Works D F g) (number : ℕ) : Type 0 where
+    pub past : new.past ≡ old.past
     pub journal : new.journal.items ≡ old.journal.items ++ record { client = client; cmd = cmds.Watch; reply = Watching number } ∷ []
     pub course : course_in new ≡ course_in old ++ made_in old ∷ []
-    pub watches : watches_in new ≡ watches_in old ++ watch_in (view_in old) (length old.journal.items) ∷ []
+    pub watches : watches_in new ≡ watches_in old ++ watch_in (view_in old) (length (journal_in old)) ∷ []
     pub events : new.events ≡ raised old.events
     pub steps : new.steps ≡ old.steps
     pub room : room_in old ≤ room_in new + 1
@@ -278,6 +304,7 @@ module _ {D : Type 0} {F : Type 0} {g : Ghosts D} where
 
   -- The next page of the copy in progress was written, or none was left; one event more was made.
   pub record FlushesOn (old new : Works D F g) (answer : Flushed) : Type 0 where
+    pub past : new.past ≡ old.past
     pub journal : new.journal.items ≡ old.journal.items
     pub course : course_in new ≡ course_in old
     pub watches : watches_in new ≡ watches_in old
@@ -312,6 +339,7 @@ module _ {D : Type 0} {F : Type 0} {g : Ghosts D} where
     pub pages : new.pages ≡ old.pages
     pub saver : new.saver ≡ old.saver
     pub frozen : frozen_in new ≡ frozen_in old
+    pub past : new.past ≡ old.past
     pub journal : new.journal.items ≡ old.journal.items
     pub course : course_in new ≡ course_in old
     pub watches : watches_in new ≡ watches_in old

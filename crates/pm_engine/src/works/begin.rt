@@ -1,6 +1,6 @@
 //! How what an engine works with begins.
 
-ghost use Rattle.std.specs.Prelude.{◌≡◌, ℕ, List, None, IfOk, IfErr, MatchResult};
+ghost use Rattle.std.specs.Prelude.{◌≡◌, ℕ, List, [], None, IfOk, IfErr, MatchResult};
 ghost use Rattle.pm_disk.specs.Disk.{IfTold, LeavesOnly};
 ghost use Rattle.pm_disk.specs.Made.{with_sync};
 ghost use Rattle.pm_image.specs.Stands.{StandsForCopy};
@@ -10,9 +10,10 @@ ghost use Rattle.pm_copies.specs.Opened.{IsFresh};
 ghost use Rattle.pm_saving.specs.Serving.{just_opened, world};
 ghost use Rattle.pm_reopen.specs.Refused.{IsOpenFault, IsRefusal};
 ghost use Rattle.pm_engine.specs.Works.Seen.{IsCrashSafe, disk_then, seen};
-ghost use Rattle.pm_engine.specs.Works.Working.{disk_at, place_in, view_in};
+ghost use Rattle.pm_engine.specs.Works.Working.{disk_at, past_in, place_in, view_in};
 
 use crate::works::course::Course;
+use crate::works::past::Past;
 use crate::works::start::Start;
 use crate::works::works::Works;
 use arrayvec::ArrayVec;
@@ -45,6 +46,7 @@ pub fn begin_works<D: Disk, F: Drop>(
     ensures begins { IfOk result (λ it. seen it.0 None it.1
         ≡ just_opened it.0.number (seen it.0 None it.1).opened (seen it.0 None it.1).saving) }
     ensures idle { IfOk result (λ it. (seen it.0 None it.1).saving.progress ≡ None) }
+    ensures past { IfOk result (λ it. past_in it.1 ≡ []) }
     // A crash leaves what may be, and the space stands for the world of the copy.
     ensures safe { IfOk result (λ it. ∥ IsCrashSafe it.0 None it.1 ∥₁) }
     ensures represents { IfOk result (λ it. ∥ Represents (view_in it.1) (world (seen it.0 None it.1)) ∥₁) }
@@ -79,6 +81,7 @@ pub fn begin_works<D: Disk, F: Drop>(
                 pages,
                 space,
                 saver: Saver::new(settled),
+                past: Past::nothing(),
                 journal: Vec::new(alloc),
                 course: Course::Nothing,
                 watches: ArrayVec::new(),

@@ -19,12 +19,12 @@ impl<D: Disk, F: Drop> Works<D, F> {
         ensures pages { self.new.pages ≡ self.old.pages }
         ensures place { place_in self.new ≡ place_in self.old }
     {
+        let position = self.entries();
         self.journal.reserve(1)?;
         if self.watches.is_full() {
             self.append(client, Cmd::Watch, Reply::TooManyWatches);
             return Ok(Reply::TooManyWatches);
         }
-        let position = self.journal.len() as u64;
         self.watches.push(set_watch(&self.space, position));
         let number = self.watches.len() as u32;
         self.append(client, Cmd::Watch, Reply::Watching(number));

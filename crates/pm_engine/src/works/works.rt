@@ -10,6 +10,7 @@ ghost use Rattle.pm_mutate.specs.Acts.{KeepsCourse, Serves};
 ghost use Rattle.pm_engine.specs.Works.Acting.{DoesItsRow};
 
 use crate::works::course::{Course, tell_before};
+use crate::works::past::Past;
 use arrayvec::ArrayVec;
 use pm_disk::Disk;
 use pm_mutate::act;
@@ -21,7 +22,8 @@ use pm_types::{Cmd, Entry, NoMemory, Reply, Watch};
 use std::alloc::Global;
 
 /// A space, the pages of its store on a disk, the saver between them, the journal of what was asked and answered, in
-/// order, with what had been made before each entry, the watches that are set, and how many events were made.
+/// order, with what had been made before each entry, the watches that are set, and how many events were made. Of the
+/// journal's first entries some may have been let go.
 #[derive(Drop)]
 pub struct Works<D: Disk, F> {
     /// The pages of the store, with their disk.
@@ -29,7 +31,9 @@ pub struct Works<D: Disk, F> {
     pub space: Space<F>,
     /// What stands between the space and the pages: the settled copy, and the one in progress.
     pub saver: Saver,
-    /// What was asked and answered, in order.
+    /// What was asked and answered first, and was let go.
+    pub past: Past,
+    /// What was asked and answered behind that, in order.
     pub journal: Vec<Entry>,
     /// What had been made before each entry of the journal.
     pub course: Course,

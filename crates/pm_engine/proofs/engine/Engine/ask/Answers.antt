@@ -18,6 +18,8 @@ use Rattle.pm_law_bound.proofs.Many.{kept_still}
 use Rattle.pm_engine.proofs.Bounding.{bounds_asked, bounds_rested, kept_of}
 use Rattle.pm_engine.proofs.Past.{past_asked, past_rested}
 use Rattle.pm_engine.proofs.WorksLemmas.Settled.{dropped_all, settled_all}
+use Rattle.pm_engine.proofs.WorksLemmas.LastEntry.{last_of}
+use Rattle.pm_engine.proofs.WorksLemmas.Whole.{nothing_journal, same_past}
 use Rattle.pm_engine.proofs.WorksLemmas.Telling.{copies_of, idle_of, left_alone, nothing_served, short_of, shows_rise}
 
 true_false : true ≡ false → ⊥
@@ -55,7 +57,7 @@ invariant_of-self-in-Err-Memory g c =
     let stands = subst (λ (fault : SaveFault). IsFaultOf (g.D.Disk.count (disk_at self.works)) (g.D.Disk.count (disk_at new)) fault) c.in-Err-Memory.field-0-is c.in-Err-Memory.ensures.causes.cause in
     record {
       sound = sound_kept self.opening self.stopped self.works new self.sound self.stopped
-          (rest_sound self.opening self.stopped self.works c.requires.running (safe self.sound) new c.in-Err-Memory.ensures.fails.rests so.tied so.lasts c.answer.ensures.causes.told so.spares (g.met.D.Disk.counts_now (disk_at new))) c.in-Err-Memory.ensures.fails.rests.nothing.journal c.in-Err-Memory.ensures.fails.rests.view;
+          (rest_sound self.opening self.stopped self.works c.requires.running (safe self.sound) new c.in-Err-Memory.ensures.fails.rests so.tied so.lasts c.answer.ensures.causes.told so.spares (g.met.D.Disk.counts_now (disk_at new))) (nothing_journal self.works new c.in-Err-Memory.ensures.fails.rests.nothing) c.in-Err-Memory.ensures.fails.rests.view;
       bounded = bounds_rested self.opening self.stopped self.stopped self.works new c.in-Err-Memory.ensures.fails.rests self.bounded;
       counted = counted_still self.opening.count (g.D.Disk.count (disk_at self.works)) (g.D.Disk.count (disk_at new)) self.counted stands;
       past = past_rested self.opening self.stopped self.stopped self.works new c.in-Err-Memory.ensures.fails.rests self.past;
@@ -70,7 +72,7 @@ invariant_of-self-in-Err-Disk g c =
     let rose = subst (λ (fault : SaveFault). IsFaultOf (g.D.Disk.count (disk_at self.works)) (g.D.Disk.count (disk_at new)) fault) c.in-Err-Disk.field-0-is c.in-Err-Disk.ensures.causes.cause in
     record {
       sound = sound_kept self.opening self.stopped self.works new self.sound (Some c.faults-after.result)
-          (fail_sound self.opening self.stopped self.works c.requires.running (safe self.sound) new c.faults-after.result c.in-Err-Disk.ensures.fails.rests (c.answer.ensures.settle fault.0).leaves.either begun.0 begun.1 c.answer.ensures.causes.told (g.met.D.Disk.counts_now (disk_at new))) c.in-Err-Disk.ensures.fails.rests.nothing.journal c.in-Err-Disk.ensures.fails.rests.view;
+          (fail_sound self.opening self.stopped self.works c.requires.running (safe self.sound) new c.faults-after.result c.in-Err-Disk.ensures.fails.rests (c.answer.ensures.settle fault.0).leaves.either begun.0 begun.1 c.answer.ensures.causes.told (g.met.D.Disk.counts_now (disk_at new))) (nothing_journal self.works new c.in-Err-Disk.ensures.fails.rests.nothing) c.in-Err-Disk.ensures.fails.rests.view;
       bounded = bounds_rested self.opening self.stopped (Some c.faults-after.result) self.works new c.in-Err-Disk.ensures.fails.rests self.bounded;
       counted = counted_risen self.opening.count (g.D.Disk.count (disk_at self.works)) (g.D.Disk.count (disk_at new)) self.counted rose;
       past = past_rested self.opening self.stopped (Some c.faults-after.result) self.works new c.in-Err-Disk.ensures.fails.rests self.past;
@@ -88,6 +90,7 @@ returns-in-Ok-clause-call g c =
       counts = g.met.D.Disk.counts_now (disk_at new);
       only_now = g.met.D.Disk.only_now (disk_at self.works);
     } in
+    let last = last_of c.args.client self.works new c.args.cmd c.in-Ok.reply c.in-Ok.ensures.answers in
     let serves = ask_serves self.opening self.stopped self.works c.requires.running (safe self.sound) new c.args.client c.args.cmd c.in-Ok.reply (agrees self.opening self.stopped self.works new self.sound c.args.client c.args.cmd c.in-Ok.reply c.in-Ok.ensures.answers) told c.in-Ok.ensures.answers in
     record {
       serves = serves;
@@ -110,6 +113,7 @@ returns-in-Ok-clause-call g c =
       bound = kept_of c.args.client c.args.cmd self.works new c.in-Ok.reply c.in-Ok.ensures.answers;
       room = room_of c.args.client c.args.cmd self.works new c.in-Ok.reply c.in-Ok.ensures.answers;
       unmade = refl;
+      kept = record { past = last.0; recent = last.1 };
     }
 
 pub returns-in-Err-Memory-clause-call : goal.returns-in-Err-Memory-clause-call
@@ -140,6 +144,7 @@ returns-in-Err-Memory-clause-call g c =
       bound = kept_still (view_in self.works) (view_in new) arm.ensures.fails.rests.view;
       room = arm.ensures.fails.rests.nothing.room;
       unmade = refl;
+      kept = record { past = same_past self.works new arm.ensures.fails.rests.nothing.past; recent = arm.ensures.fails.rests.nothing.journal };
     }
 
 pub returns-in-Err-Disk-clause-call : goal.returns-in-Err-Disk-clause-call
@@ -176,4 +181,5 @@ returns-in-Err-Disk-clause-call g c =
       bound = kept_still (view_in self.works) (view_in new) arm.ensures.fails.rests.view;
       room = arm.ensures.fails.rests.nothing.room;
       unmade = refl;
+      kept = record { past = same_past self.works new arm.ensures.fails.rests.nothing.past; recent = arm.ensures.fails.rests.nothing.journal };
     }

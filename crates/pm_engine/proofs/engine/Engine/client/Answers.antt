@@ -52,4 +52,5 @@ returns-in-Err-clause-call g c =
       bound = kept_still (serving self).view (serving self).view refl;
       room = omega arith;
       unmade = refl;
+      kept = record { past = refl; recent = refl };
     }

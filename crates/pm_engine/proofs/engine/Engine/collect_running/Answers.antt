@@ -9,6 +9,7 @@ use Rattle.pm_engine.proofs.WorksLemmas.Collected.{collects, left_rests, same_di
 use Rattle.pm_engine.proofs.WorksLemmas.Counts.{counted_still}
 use Rattle.pm_engine.proofs.WorksLemmas.Telling.{left_alone, nothing_served}
 use Rattle.pm_engine.proofs.Past.{past_tried}
+use Rattle.pm_engine.proofs.WorksLemmas.Whole.{same_past}
 
 pub collect-requires-clause-tied : goal.collect-requires-clause-tied
 collect-requires-clause-tied g c = (stored c.args.self.now.opening c.args.self.now.stopped c.args.self.now.works c.requires.running (safe c.args.self.now.sound)).tied
@@ -55,6 +56,7 @@ returns-in-Ok-clause-call g c =
       short = tt;
       room = let same = c.collect.ensures.room in omega (arith, same);
       unmade = refl;
+      kept = record { past = same_past self.works new c.in-Ok.ensures.collects.past; recent = c.in-Ok.ensures.collects.journal };
     }
 
 pub returns-in-Err-clause-call : goal.returns-in-Err-clause-call
@@ -74,4 +76,5 @@ returns-in-Err-clause-call g c =
       short = c.in-Err.ensures.short;
       room = let same = c.collect.ensures.room in omega (arith, same);
       unmade = refl;
+      kept = record { past = same_past self.works new c.in-Err.ensures.err.nothing.past; recent = c.in-Err.ensures.err.nothing.journal };
     }

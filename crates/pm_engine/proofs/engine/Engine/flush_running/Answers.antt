@@ -10,6 +10,7 @@ use Rattle.pm_engine.proofs.WorksLemmas.Counts.{counted_risen, counted_still}
 use Rattle.pm_engine.proofs.WorksLemmas.Flushed.{flush_told}
 use Rattle.pm_engine.proofs.WorksLemmas.Telling.{left_alone, nothing_served, shows_rise}
 use Rattle.pm_engine.proofs.Past.{past_flushed, past_rested}
+use Rattle.pm_engine.proofs.WorksLemmas.Whole.{nothing_journal, same_journal, same_past}
 
 pub flush-requires : goal.flush-requires
 flush-requires g c = record { tied = (stored c.args.self.now.opening c.args.self.now.stopped c.args.self.now.works c.requires.running (safe c.args.self.now.sound)).tied }
@@ -21,7 +22,7 @@ invariant_of-self g c =
     record {
       sound = sound_kept self.opening self.stopped self.works new self.sound self.stopped
           (flush_kept self.opening self.stopped self.works c.requires.running (safe self.sound) new c.in-Ok.flushed c.in-Ok.ensures.flushes c.in-Ok.ensures.tied c.in-Ok.ensures.lasts c.flush.ensures.causes.told c.flush.ensures.spares (g.met.D.Disk.counts_now (disk_at new)))
-          c.in-Ok.ensures.flushes.journal (flushed_view self.works new c.in-Ok.flushed c.in-Ok.ensures.flushes);
+          (same_journal self.works new c.in-Ok.ensures.flushes.past c.in-Ok.ensures.flushes.journal) (flushed_view self.works new c.in-Ok.flushed c.in-Ok.ensures.flushes);
       bounded = bounds_flushed self.opening self.stopped self.works new c.in-Ok.flushed c.in-Ok.ensures.flushes self.bounded;
       counted = counted_still self.opening.count (g.D.Disk.count (disk_at self.works)) (g.D.Disk.count (disk_at new)) self.counted c.in-Ok.ensures.causes.cause;
       past = past_flushed self.opening self.stopped self.works new c.in-Ok.flushed (stored self.opening self.stopped self.works c.requires.running (safe self.sound)).tied c.in-Ok.ensures.flushes self.past;
@@ -36,7 +37,7 @@ invariant_of-self-in-Err-Memory g c =
     let stands = subst (λ (fault : SaveFault). IsFaultOf (g.D.Disk.count (disk_at self.works)) (g.D.Disk.count (disk_at new)) fault) c.in-Err-Memory.field-0-is c.in-Err-Memory.ensures.causes.cause in
     record {
       sound = sound_kept self.opening self.stopped self.works new self.sound self.stopped
-          (rest_sound self.opening self.stopped self.works c.requires.running (safe self.sound) new c.in-Err-Memory.ensures.rests tied last c.flush.ensures.causes.told c.flush.ensures.spares (g.met.D.Disk.counts_now (disk_at new))) c.in-Err-Memory.ensures.rests.nothing.journal c.in-Err-Memory.ensures.rests.view;
+          (rest_sound self.opening self.stopped self.works c.requires.running (safe self.sound) new c.in-Err-Memory.ensures.rests tied last c.flush.ensures.causes.told c.flush.ensures.spares (g.met.D.Disk.counts_now (disk_at new))) (nothing_journal self.works new c.in-Err-Memory.ensures.rests.nothing) c.in-Err-Memory.ensures.rests.view;
       bounded = bounds_rested self.opening self.stopped self.stopped self.works new c.in-Err-Memory.ensures.rests self.bounded;
       counted = counted_still self.opening.count (g.D.Disk.count (disk_at self.works)) (g.D.Disk.count (disk_at new)) self.counted stands;
       past = past_rested self.opening self.stopped self.stopped self.works new c.in-Err-Memory.ensures.rests self.past;
@@ -49,7 +50,7 @@ invariant_of-self-in-Err-Disk g c =
     let rose = subst (λ (fault : SaveFault). IsFaultOf (g.D.Disk.count (disk_at self.works)) (g.D.Disk.count (disk_at new)) fault) c.in-Err-Disk.field-0-is c.in-Err-Disk.ensures.causes.cause in
     record {
       sound = sound_kept self.opening self.stopped self.works new self.sound (Some c.faults-after.result)
-          (flush_failed self.opening self.stopped self.works c.requires.running (safe self.sound) new c.faults-after.result c.in-Err-Disk.ensures.rests c.flush.ensures.causes.told c.flush.ensures.spares (g.met.D.Disk.counts_now (disk_at new))) c.in-Err-Disk.ensures.rests.nothing.journal c.in-Err-Disk.ensures.rests.view;
+          (flush_failed self.opening self.stopped self.works c.requires.running (safe self.sound) new c.faults-after.result c.in-Err-Disk.ensures.rests c.flush.ensures.causes.told c.flush.ensures.spares (g.met.D.Disk.counts_now (disk_at new))) (nothing_journal self.works new c.in-Err-Disk.ensures.rests.nothing) c.in-Err-Disk.ensures.rests.view;
       bounded = bounds_rested self.opening self.stopped (Some c.faults-after.result) self.works new c.in-Err-Disk.ensures.rests self.bounded;
       counted = counted_risen self.opening.count (g.D.Disk.count (disk_at self.works)) (g.D.Disk.count (disk_at new)) self.counted rose;
       past = past_rested self.opening self.stopped (Some c.faults-after.result) self.works new c.in-Err-Disk.ensures.rests self.past;
@@ -74,6 +75,7 @@ returns-in-Ok-clause-call g c =
       past = c.in-Ok.ensures.causes.made.past;
       room = let same = c.flush.ensures.room in omega (arith, same);
       unmade = refl;
+      kept = record { past = same_past self.works new c.in-Ok.ensures.flushes.past; recent = c.in-Ok.ensures.flushes.journal };
     }
 
 pub returns-in-Err-Memory-clause-call : goal.returns-in-Err-Memory-clause-call
@@ -98,6 +100,7 @@ returns-in-Err-Memory-clause-call g c =
       past = arm.ensures.causes.made.past;
       room = let same = c.flush.ensures.room in omega (arith, same);
       unmade = refl;
+      kept = record { past = same_past self.works new arm.ensures.rests.nothing.past; recent = arm.ensures.rests.nothing.journal };
     }
 
 pub returns-in-Err-Disk-clause-call : goal.returns-in-Err-Disk-clause-call
@@ -126,4 +129,5 @@ returns-in-Err-Disk-clause-call g c =
       past = arm.ensures.causes.made.past;
       room = let same = c.flush.ensures.room in omega (arith, same);
       unmade = refl;
+      kept = record { past = same_past self.works new arm.ensures.rests.nothing.past; recent = arm.ensures.rests.nothing.journal };
     }

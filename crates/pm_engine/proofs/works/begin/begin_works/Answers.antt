@@ -1,4 +1,4 @@
-use Rattle.std.proofs.Common.{ℕ, refl, sym, ap, subst, ◌∙◌, arith}
+use Rattle.std.proofs.Common.{◌≡◌, ℕ, [], ◌++◌, refl, sym, ap, subst, ◌∙◌, arith}
 use Rattle.std.specs.Prelude.{option_map}
 use Rattle.std.proofs.lemmas.Result.{err_from_is_err_and}
 use Rattle.pm_types.specs.Mapped.{mapped}
@@ -12,6 +12,7 @@ use Rattle.pm_reopen.proofs.Refusals.{graph_refused, header_refused}
 use Rattle.pm_engine.specs.declared.works.course.Course.TheVariants.{Nothing}
 use Rattle.pm_engine.specs.declared.works.start.Start.{Start}
 use Rattle.pm_engine.specs.declared.works.works.Works.{Works}
+use Rattle.pm_engine.specs.Works.Working.{journal_in}
 use Rattle.pm_engine.proofs.works.begin.begin_works.Goals as goal
 use Rattle.pm_engine.proofs.WorksLemmas.Begun.{stands, start_served, start_sound}
 
@@ -37,7 +38,7 @@ pub returns-in-Ok-clause-safe : goal.returns-in-Ok-clause-safe
 returns-in-Ok-clause-safe g c =
     let first = c.in_ok-pages.pages in
     let last = c.open_space.new.pages in
-    let works : Works g.row.D.Denot g.row.F.Denot g.D.Disk = record { pages = last; space = c.in-Ok.space; saver = c.new.result; journal = c.new-in-Ok.result; course = Nothing; watches = c.new-in-Ok-2.result; events = 0; steps = 0 } in
+    let works : Works g.row.D.Denot g.row.F.Denot g.D.Disk = record { pages = last; space = c.in-Ok.space; saver = c.new.result; past = c.nothing.result; journal = c.new-in-Ok.result; course = Nothing; watches = c.new-in-Ok-2.result; events = 0; steps = 0 } in
     let start : Start g.row.D.Denot g.row.F.Denot g.D.Disk = record { number = c.header.result.now.epoch; space = c.of.result; pages = c.of-in-Ok.result; count = c.faults.result; store = c.result-1.given.0 } in
     let attached_is = c.in_ok-pages.ensures.state in
     let unknown = ap (λ (s : State). s.known) attached_is in
@@ -46,16 +47,17 @@ returns-in-Ok-clause-safe g c =
     let fine = ap (λ (s : State). s.failed) (knows.first unknown) ∙ ap (λ (s : State). s.failed) attached_is in
     let disk = disk_of last in
     let stay = g.met.D.Disk.contents_stay disk in
+    let none : journal_in works ≡ [] = (λ i. c.nothing.ensures i ++ c.new-in-Ok.ensures.items i) in
     ∣ start_sound start works (state first) c.args.place c.in-Ok.settled unknown knows makes fine last.within c.in-Ok.ensures.opened stay
     (λ bytes told. g.met.D.Disk.leaves_bytes disk (g.D.Disk.moment disk) bytes (g.met.D.Disk.counts_now disk (g.D.Disk.moment disk) bytes (omega arith) (stay bytes told)))
-    (ap (option_map (mapped car_of)) makes.unfrozen.frozen) c.new.ensures c.new-in-Ok.ensures.items refl c.new-in-Ok-2.ensures refl refl (ap (λ h. h.epoch) c.header.ensures) c.of.ensures c.of-in-Ok.ensures (g.met.D.Disk.only_now disk)
+    (ap (option_map (mapped car_of)) makes.unfrozen.frozen) c.new.ensures none refl c.new-in-Ok-2.ensures refl refl (ap (λ h. h.epoch) c.header.ensures) c.of.ensures c.of-in-Ok.ensures (g.met.D.Disk.only_now disk)
     (λ bytes left told here. c.in_ok-pages.ensures.only bytes (sym c.in_ok-pages.ensures.told ∙ sym c.open_space.ensures.looks.told ∙ told) left (c.open_space.ensures.looks.images.no_more left here)) ∣₁
 
 pub returns-in-Ok-clause-represents : goal.returns-in-Ok-clause-represents
 returns-in-Ok-clause-represents g c =
     let first = c.in_ok-pages.pages in
     let last = c.open_space.new.pages in
-    let works : Works g.row.D.Denot g.row.F.Denot g.D.Disk = record { pages = last; space = c.in-Ok.space; saver = c.new.result; journal = c.new-in-Ok.result; course = Nothing; watches = c.new-in-Ok-2.result; events = 0; steps = 0 } in
+    let works : Works g.row.D.Denot g.row.F.Denot g.D.Disk = record { pages = last; space = c.in-Ok.space; saver = c.new.result; past = c.nothing.result; journal = c.new-in-Ok.result; course = Nothing; watches = c.new-in-Ok-2.result; events = 0; steps = 0 } in
     let start : Start g.row.D.Denot g.row.F.Denot g.D.Disk = record { number = c.header.result.now.epoch; space = c.of.result; pages = c.of-in-Ok.result; count = c.faults.result; store = c.result-1.given.0 } in
     let attached_is = c.in_ok-pages.ensures.state in
     let unknown = ap (λ (s : State). s.known) attached_is in
@@ -64,15 +66,16 @@ returns-in-Ok-clause-represents g c =
     let fine = ap (λ (s : State). s.failed) (knows.first unknown) ∙ ap (λ (s : State). s.failed) attached_is in
     let disk = disk_of last in
     let stay = g.met.D.Disk.contents_stay disk in
+    let none : journal_in works ≡ [] = (λ i. c.nothing.ensures i ++ c.new-in-Ok.ensures.items i) in
     ∣ (start_served start works (state first) c.args.place c.in-Ok.settled unknown knows makes fine last.within c.in-Ok.ensures.opened stay
     (λ bytes told. g.met.D.Disk.leaves_bytes disk (g.D.Disk.moment disk) bytes (g.met.D.Disk.counts_now disk (g.D.Disk.moment disk) bytes (omega arith) (stay bytes told)))
-    (ap (option_map (mapped car_of)) makes.unfrozen.frozen) c.new.ensures c.new-in-Ok.ensures.items refl c.new-in-Ok-2.ensures refl refl c.of.ensures).represents ∣₁
+    (ap (option_map (mapped car_of)) makes.unfrozen.frozen) c.new.ensures none refl c.new-in-Ok-2.ensures refl refl c.of.ensures).represents ∣₁
 
 pub returns-in-Ok-clause-stands : goal.returns-in-Ok-clause-stands
 returns-in-Ok-clause-stands g c =
     let first = c.in_ok-pages.pages in
     let last = c.open_space.new.pages in
-    let works : Works g.row.D.Denot g.row.F.Denot g.D.Disk = record { pages = last; space = c.in-Ok.space; saver = c.new.result; journal = c.new-in-Ok.result; course = Nothing; watches = c.new-in-Ok-2.result; events = 0; steps = 0 } in
+    let works : Works g.row.D.Denot g.row.F.Denot g.D.Disk = record { pages = last; space = c.in-Ok.space; saver = c.new.result; past = c.nothing.result; journal = c.new-in-Ok.result; course = Nothing; watches = c.new-in-Ok-2.result; events = 0; steps = 0 } in
     let start : Start g.row.D.Denot g.row.F.Denot g.D.Disk = record { number = c.header.result.now.epoch; space = c.of.result; pages = c.of-in-Ok.result; count = c.faults.result; store = c.result-1.given.0 } in
     let attached_is = c.in_ok-pages.ensures.state in
     let unknown = ap (λ (s : State). s.known) attached_is in

@@ -28,5 +28,5 @@ returns-in_err-number-clause-fails g c =
     let new = record old { pages = c.settle.new.pages; space = c.settle.new.space; saver = c.settle.new.self; journal = c.reserve.new.self } in
     let grown = c.reserve.ensures in
     let room : room_in old ≤ room_in new = first_of (search rules, omega (arith, grown)) in
-    let rests = rests_on old new c.reserve.ensures.items refl refl refl refl room c.settle.ensures.space.view c.in_err-number.ensures.space.frozen c.in_err-number.ensures.goes in
+    let rests = rests_on old new refl c.reserve.ensures.items refl refl refl refl room c.settle.ensures.space.view c.in_err-number.ensures.space.frozen c.in_err-number.ensures.goes in
     record { rests = search (rules, rests); memory = search rules; fault = search rules }
