@@ -279,10 +279,6 @@ named : {L : Type 0} (d : Dialect) (asked : Asked L) (f : First) (v : Verb) (wor
 unfolding said_at
 named d asked f v words word rest is names = ap (said_at d asked f) is ∙ ap (λ (o : Option Verb). ok_or o cause.Word >>= λ v. counted_at asked f v rest) names
 
--- what was found under a dialect that is this one
-pub found_in : (d e : Dialect) (f : First) (word : List ℕ) (v : Verb) (found : Option Verb) → e ≡ d → found ≡ verb_at e f word → found ≡ Some v → verb_at d f word ≡ Some v
-found_in d e f word v found same is some = sym (ap (λ d. verb_at d f word) same) ∙ sym is ∙ some
-
 -- the words after the first, where the second names what is asked
 pub asked_so : {L : Type 0} (d : Dialect) (asked : Asked L) (f : First) (v : Verb) (words : List (List ℕ)) (word : List ℕ) (rest : List (List ℕ)) → words ≡ word ∷ rest → verb_at d f word ≡ Some v → (length rest == length (kinds v)) ≡ true
     → asked f v rest ≡ said_at d asked f words

@@ -29,7 +29,7 @@ fn read_said<L: Said>(alloc: Global, first: First, words: Option<&[u8]>) -> Resu
     let Some((word, rest)) = take_word(words) else {
         return Err(LineFault::Bad(Cause::Word));
     };
-    let Some(verb) = Verb::read(L::which(), first, word) else {
+    let Some(verb) = Verb::read::<L>(first, word) else {
         return Err(LineFault::Bad(Cause::Word));
     };
     if !are_left(rest, verb.kinds().len()) {

@@ -1,3 +1,5 @@
+//! What is said by the words behind a verb. Each function has the kind of lines as a parameter, though it reads the same for
+//! each: so each reader has code of its own, which is put in where it is called.
 ghost use Rattle.std.specs.Prelude.{◌≡◌, [], ◌∷◌, MatchResult};
 ghost use Rattle.pm_types.specs.declared.caused.Fault.TheVariants as line_fault;
 ghost use Rattle.pm_script.specs.declared.fault.Cause.TheVariants as causes;
@@ -68,7 +70,7 @@ fn name(alloc: Global, words: &mut Option<&[u8]>) -> Result<Name, LineFault>
 
 // A `new`, by the words behind its verb.
 #[tactic(auto, unfolding(crate::specs::Taking::command_at))]
-fn birth(alloc: Global, words: &mut Option<&[u8]>) -> Result<Cmd, LineFault>
+fn birth<L>(alloc: Global, words: &mut Option<&[u8]>) -> Result<Cmd, LineFault>
     ensures { Gives result (command_at verb.New (parts_in 32 words.old)) }
 {
     Ok(Cmd::New {
@@ -80,7 +82,7 @@ fn birth(alloc: Global, words: &mut Option<&[u8]>) -> Result<Cmd, LineFault>
 
 // A `load`, by the words behind its verb.
 #[tactic(auto, unfolding(crate::specs::Taking::command_at))]
-fn load(words: &mut Option<&[u8]>) -> Result<Cmd, LineFault>
+fn load<L>(words: &mut Option<&[u8]>) -> Result<Cmd, LineFault>
     ensures { Gives result (command_at verb.Load (parts_in 32 words.old)) }
 {
     Ok(Cmd::Load {
@@ -92,7 +94,7 @@ fn load(words: &mut Option<&[u8]>) -> Result<Cmd, LineFault>
 
 // A `store`, by the words behind its verb.
 #[tactic(auto, unfolding(crate::specs::Taking::command_at))]
-fn store(words: &mut Option<&[u8]>) -> Result<Cmd, LineFault>
+fn store<L>(words: &mut Option<&[u8]>) -> Result<Cmd, LineFault>
     ensures { Gives result (command_at verb.Store (parts_in 32 words.old)) }
 {
     Ok(Cmd::Store {
@@ -104,7 +106,7 @@ fn store(words: &mut Option<&[u8]>) -> Result<Cmd, LineFault>
 
 // A `clear`, by the words behind its verb.
 #[tactic(auto, unfolding(crate::specs::Taking::command_at))]
-fn clear(words: &mut Option<&[u8]>) -> Result<Cmd, LineFault>
+fn clear<L>(words: &mut Option<&[u8]>) -> Result<Cmd, LineFault>
     ensures { Gives result (command_at verb.Clear (parts_in 32 words.old)) }
 {
     Ok(Cmd::Clear {
@@ -115,7 +117,7 @@ fn clear(words: &mut Option<&[u8]>) -> Result<Cmd, LineFault>
 
 // A `data`, by the words behind its verb.
 #[tactic(auto, unfolding(crate::specs::Taking::command_at))]
-fn show(words: &mut Option<&[u8]>) -> Result<Cmd, LineFault>
+fn show<L>(words: &mut Option<&[u8]>) -> Result<Cmd, LineFault>
     ensures { Gives result (command_at verb.Data (parts_in 32 words.old)) }
 {
     Ok(Cmd::Show {
@@ -125,7 +127,7 @@ fn show(words: &mut Option<&[u8]>) -> Result<Cmd, LineFault>
 
 // A `put`, by the words behind its verb.
 #[tactic(auto, unfolding(crate::specs::Taking::command_at))]
-fn put(alloc: Global, words: &mut Option<&[u8]>) -> Result<Cmd, LineFault>
+fn put<L>(alloc: Global, words: &mut Option<&[u8]>) -> Result<Cmd, LineFault>
     ensures { Gives result (command_at verb.Put (parts_in 32 words.old)) }
 {
     Ok(Cmd::Put {
@@ -137,7 +139,7 @@ fn put(alloc: Global, words: &mut Option<&[u8]>) -> Result<Cmd, LineFault>
 
 // A `copy`, by the words behind its verb.
 #[tactic(auto, unfolding(crate::specs::Taking::command_at))]
-fn copy(words: &mut Option<&[u8]>) -> Result<Cmd, LineFault>
+fn copy<L>(words: &mut Option<&[u8]>) -> Result<Cmd, LineFault>
     ensures { Gives result (command_at verb.Copy (parts_in 32 words.old)) }
 {
     Ok(Cmd::Copy {
@@ -148,7 +150,7 @@ fn copy(words: &mut Option<&[u8]>) -> Result<Cmd, LineFault>
 
 // An `id`, by the words behind its verb.
 #[tactic(auto, unfolding(crate::specs::Taking::command_at))]
-fn id_of(words: &mut Option<&[u8]>) -> Result<Cmd, LineFault>
+fn id_of<L>(words: &mut Option<&[u8]>) -> Result<Cmd, LineFault>
     ensures { Gives result (command_at verb.Id (parts_in 32 words.old)) }
 {
     Ok(Cmd::IdOf {
@@ -158,7 +160,7 @@ fn id_of(words: &mut Option<&[u8]>) -> Result<Cmd, LineFault>
 
 // A `drop`, by the words behind its verb.
 #[tactic(auto, unfolding(crate::specs::Taking::command_at))]
-fn forget(words: &mut Option<&[u8]>) -> Result<Cmd, LineFault>
+fn forget<L>(words: &mut Option<&[u8]>) -> Result<Cmd, LineFault>
     ensures { Gives result (command_at verb.Drop (parts_in 32 words.old)) }
 {
     Ok(Cmd::Forget {
@@ -168,7 +170,7 @@ fn forget(words: &mut Option<&[u8]>) -> Result<Cmd, LineFault>
 
 // A `root`, by the words behind its verb.
 #[tactic(auto, unfolding(crate::specs::Taking::command_at))]
-fn bind(alloc: Global, words: &mut Option<&[u8]>) -> Result<Cmd, LineFault>
+fn bind<L>(alloc: Global, words: &mut Option<&[u8]>) -> Result<Cmd, LineFault>
     ensures { Gives result (command_at verb.Root (parts_in 32 words.old)) }
 {
     Ok(Cmd::Bind {
@@ -179,7 +181,7 @@ fn bind(alloc: Global, words: &mut Option<&[u8]>) -> Result<Cmd, LineFault>
 
 // An `unroot`, by the words behind its verb.
 #[tactic(auto, unfolding(crate::specs::Taking::command_at))]
-fn unbind(alloc: Global, words: &mut Option<&[u8]>) -> Result<Cmd, LineFault>
+fn unbind<L>(alloc: Global, words: &mut Option<&[u8]>) -> Result<Cmd, LineFault>
     ensures { Gives result (command_at verb.Unroot (parts_in 32 words.old)) }
 {
     Ok(Cmd::Unbind {
@@ -189,7 +191,7 @@ fn unbind(alloc: Global, words: &mut Option<&[u8]>) -> Result<Cmd, LineFault>
 
 // A `find`, by the words behind its verb.
 #[tactic(auto, unfolding(crate::specs::Taking::command_at))]
-fn find(alloc: Global, words: &mut Option<&[u8]>) -> Result<Cmd, LineFault>
+fn find<L>(alloc: Global, words: &mut Option<&[u8]>) -> Result<Cmd, LineFault>
     ensures { Gives result (command_at verb.Find (parts_in 32 words.old)) }
 {
     Ok(Cmd::Find {
@@ -200,7 +202,7 @@ fn find(alloc: Global, words: &mut Option<&[u8]>) -> Result<Cmd, LineFault>
 
 // A `swap`, by the words behind its verb.
 #[tactic(auto, unfolding(crate::specs::Taking::command_at))]
-fn swap(words: &mut Option<&[u8]>) -> Result<Cmd, LineFault>
+fn swap<L>(words: &mut Option<&[u8]>) -> Result<Cmd, LineFault>
     ensures { Gives result (command_at verb.Swap (parts_in 32 words.old)) }
 {
     Ok(Cmd::Swap {
@@ -213,23 +215,23 @@ fn swap(words: &mut Option<&[u8]>) -> Result<Cmd, LineFault>
 
 // The command that a client asks so.
 #[tactic(auto, unfolding(crate::specs::Taking::command_at))]
-fn command(alloc: Global, verb: Verb, words: &mut Option<&[u8]>) -> Result<Cmd, LineFault>
+fn command<L>(alloc: Global, verb: Verb, words: &mut Option<&[u8]>) -> Result<Cmd, LineFault>
     ensures { Gives result (command_at verb (parts_in 32 words.old)) }
 {
     match verb {
-        Verb::New => birth(alloc, words),
-        Verb::Load => load(words),
-        Verb::Store => store(words),
-        Verb::Clear => clear(words),
-        Verb::Data => show(words),
-        Verb::Put => put(alloc, words),
-        Verb::Copy => copy(words),
-        Verb::Id => id_of(words),
-        Verb::Drop => forget(words),
-        Verb::Root => bind(alloc, words),
-        Verb::Unroot => unbind(alloc, words),
-        Verb::Find => find(alloc, words),
-        Verb::Swap => swap(words),
+        Verb::New => birth::<L>(alloc, words),
+        Verb::Load => load::<L>(words),
+        Verb::Store => store::<L>(words),
+        Verb::Clear => clear::<L>(words),
+        Verb::Data => show::<L>(words),
+        Verb::Put => put::<L>(alloc, words),
+        Verb::Copy => copy::<L>(words),
+        Verb::Id => id_of::<L>(words),
+        Verb::Drop => forget::<L>(words),
+        Verb::Root => bind::<L>(alloc, words),
+        Verb::Unroot => unbind::<L>(alloc, words),
+        Verb::Find => find::<L>(alloc, words),
+        Verb::Swap => swap::<L>(words),
         Verb::Save => Ok(Cmd::Save),
         Verb::Settle => Ok(Cmd::Settle),
         Verb::Watch => Ok(Cmd::Watch),
@@ -241,7 +243,7 @@ fn command(alloc: Global, verb: Verb, words: &mut Option<&[u8]>) -> Result<Cmd, 
 
 // The line that asks for events so.
 #[tactic(auto, unfolding(crate::specs::Taking::events_at))]
-fn events(verb: Verb, words: &mut Option<&[u8]>) -> Result<Line, LineFault>
+fn events<L>(verb: Verb, words: &mut Option<&[u8]>) -> Result<Line, LineFault>
     ensures { Gives result (events_at verb (parts_in 32 words.old)) }
 {
     match verb {
@@ -253,7 +255,7 @@ fn events(verb: Verb, words: &mut Option<&[u8]>) -> Result<Line, LineFault>
 
 /// The line that is said so by the words that are left. There are as many as stand after such a verb.
 #[tactic(auto, unfolding(crate::specs::Taking::asked_at))]
-pub(crate) fn line(
+pub(crate) fn line<L>(
     alloc: Global,
     first: First,
     verb: Verb,
@@ -264,9 +266,9 @@ pub(crate) fn line(
     let mut words = words;
     match first {
         First::Client(client) => {
-            let cmd = command(alloc, verb, &mut words)?;
+            let cmd = command::<L>(alloc, verb, &mut words)?;
             Ok(Line::Client { client, cmd })
         }
-        First::Bang => events(verb, &mut words),
+        First::Bang => events::<L>(verb, &mut words),
     }
 }

@@ -3,6 +3,7 @@ ghost use Rattle.std.specs.Prelude.{◌≡◌};
 ghost use Rattle.pm_script.specs.Lines.{parts_in};
 ghost use Rattle.pm_script.specs.Reading.{Gives};
 ghost use Rattle.pm_script.specs.Taking.{Asked, asked_at, young_asked_at};
+ghost use Rattle.pm_script.specs.Words.{is_in};
 ghost use Rattle.pm_script.specs.declared.verb.Dialect.{Dialect as Which};
 ghost use Rattle.pm_script.specs.declared.verb.Dialect.TheVariants as dialects;
 
@@ -20,9 +21,9 @@ pub(crate) trait Said: Drop {
     /// What is read of the words behind a first word and a verb.
     ghost asked: { Asked Self };
 
-    /// Which dialect this is.
-    fn which() -> Dialect
-        ensures { result ≡ dialect };
+    /// Whether the dialect has what is named so.
+    fn has(verb: Verb) -> bool
+        ensures { result ≡ is_in dialect verb };
 
     /// What is said so by the words that are left. There are as many as stand after such a verb.
     fn read_values(
@@ -39,8 +40,8 @@ impl Said for Line {
 
     ghost asked = { asked_at };
 
-    fn which() -> Dialect {
-        Dialect::Plain
+    fn has(verb: Verb) -> bool {
+        verb.is_in(Dialect::Plain)
     }
 
     fn read_values(
@@ -49,7 +50,7 @@ impl Said for Line {
         verb: Verb,
         words: Option<&[u8]>,
     ) -> Result<Line, LineFault> {
-        line(alloc, first, verb, words)
+        line::<Line>(alloc, first, verb, words)
     }
 }
 
@@ -58,8 +59,8 @@ impl Said for YoungLine {
 
     ghost asked = { young_asked_at };
 
-    fn which() -> Dialect {
-        Dialect::Young
+    fn has(verb: Verb) -> bool {
+        verb.is_in(Dialect::Young)
     }
 
     #[tactic(auto, unfolding(crate::specs::Taking::young_asked_at))]
@@ -71,7 +72,7 @@ impl Said for YoungLine {
     ) -> Result<YoungLine, LineFault> {
         match verb {
             Verb::Young => Ok(YoungLine::Young),
-            _ => Ok(YoungLine::Base(line(alloc, first, verb, words)?)),
+            _ => Ok(YoungLine::Base(line::<YoungLine>(alloc, first, verb, words)?)),
         }
     }
 }

@@ -4,6 +4,8 @@ ghost use Rattle.std.specs.Cmp.Lexicographic.{pointwise};
 ghost use Rattle.pm_script.specs.Words.{word_of, kinds, is_event, is_in, may_follow, belongs};
 ghost use Rattle.pm_script.specs.Values.{verb_at, verbs_of};
 
+use crate::said::Said;
+
 /// Which lines are read.
 #[derive(Clone, Copy, Debug, PartialEq, Eq)]
 pub(crate) enum Dialect {
@@ -149,8 +151,8 @@ impl Verb {
         }
     }
 
-    // Whether a dialect has it.
-    fn is_in(self, dialect: Dialect) -> bool
+    /// Whether a dialect has it.
+    pub fn is_in(self, dialect: Dialect) -> bool
         ensures { result ≡ is_in dialect self }
     {
         match dialect {
@@ -170,26 +172,26 @@ impl Verb {
     }
 
     // Whether this word names it, and it may be asked after that first word in the dialect.
-    fn is_named(self, dialect: Dialect, first: First, word: &[u8]) -> bool
-        ensures { result ≡ (pointwise ◌==◌ word.now (word_of self) && belongs dialect first self) }
+    fn is_named<L: Said>(self, first: First, word: &[u8]) -> bool
+        ensures { result ≡ (pointwise ◌==◌ word.now (word_of self) && belongs L.dialect first self) }
     {
-        word == self.word() && self.is_in(dialect) && self.may_follow(first)
+        word == self.word() && L::has(self) && self.may_follow(first)
     }
 
     // The first of these that the word names after that first word.
-    fn read_among(verbs: &[Verb], dialect: Dialect, first: First, word: &[u8]) -> Option<Verb>
-        ensures { result ≡ find (λ verb. pointwise ◌==◌ word.now (word_of verb) && belongs dialect first verb) verbs.now }
+    fn read_among<L: Said>(verbs: &[Verb], first: First, word: &[u8]) -> Option<Verb>
+        ensures { result ≡ find (λ verb. pointwise ◌==◌ word.now (word_of verb) && belongs L.dialect first verb) verbs.now }
     {
         verbs
             .iter()
             .copied()
-            .find(|verb| verb.is_named(dialect, first, word))
+            .find(|verb| verb.is_named::<L>(first, word))
     }
 
     /// What the word names, of what may be asked after that first word in the dialect.
-    pub fn read(dialect: Dialect, first: First, word: &[u8]) -> Option<Verb>
-        ensures { result ≡ verb_at dialect first word.now }
+    pub fn read<L: Said>(first: First, word: &[u8]) -> Option<Verb>
+        ensures { result ≡ verb_at L.dialect first word.now }
     {
-        Verb::read_among(Verb::of_length(word.len()), dialect, first, word)
+        Verb::read_among::<L>(Verb::of_length(word.len()), first, word)
     }
 }

@@ -6,6 +6,6 @@ use Rattle.pm_script.proofs.VerbTable.{named_so}
 use Rattle.pm_script.proofs.verb.Verb.read.Goals as goal
 
 pub returns : goal.returns
-returns c =
-    c.read_among.ensures ∙ ap (find (λ verb. pointwise ◌==◌ c.args.word.now (word_of verb) && belongs c.args.dialect c.args.first verb)) c.of_length.ensures
-    ∙ named_so c.args.dialect c.args.first c.args.word.now
+returns g c =
+    c.read_among.ensures ∙ ap (find (λ verb. pointwise ◌==◌ c.args.word.now (word_of verb) && belongs g.L.Said.dialect c.args.first verb)) c.of_length.ensures
+    ∙ named_so g.L.Said.dialect c.args.first c.args.word.now
