@@ -1,5 +1,6 @@
 -- What a run has done, in the words of its end.
 use Rattle.std.proofs.Common.{◌≡◌, inl, inr, ⊎_elim, ℕ, ◌<◌, ◌≤◌, List, [], ◌++◌, map, filter, nat_eq, Option, Some, None, IfSome, IsSome, length, refl, sym, ap, subst, ◌∙◌, arith}
+use Rattle.std.proofs.Math.Logic.{∥∥₁_map}
 use Rattle.std.proofs.Math.Nat.{min-eq_left}
 use Rattle.std.proofs.lemmas.List.{length-map, map-append}
 use Rattle.std.proofs.lemmas.List.Elements.{filter-append}
@@ -40,8 +41,11 @@ use Rattle.pm_script.specs.Parted.Asked.{events_asked, requests_asked, steps_ask
 use Rattle.pm_serial.specs.Running.{AnswersLines}
 use Rattle.pm_runs.specs.Threads.Running.{AnswersClients, LeavesEvent}
 use Rattle.pm_runs.specs.Threads.Ordered.{AnswersInSomeOrder, ServesInSomeOrder, StopsAt}
+use Rattle.pm_runs.specs.Threads.Together.{ServesTogether}
 use Rattle.pm_engine.specs.Events.Running.{IsFresh, RunsOnDisk}
-use Rattle.pm_serial.specs.Writing.{tail_of}
+use Rattle.pm_serial.specs.Writing.{WroteRun, tail_of}
+use Rattle.pm_serial.specs.Acknowledged.{AcknowledgesLast}
+use Rattle.pm_serial.proofs.Acknowledging.{acknowledges_last}
 use Rattle.pm_serial.specs.Ordered.{StopsAmong, course_of}
 use Rattle.pm_serial.specs.Stepping.{IsOfSink}
 use Rattle.pm_runs.specs.declared.ends.ended.Detail.{Detail}
@@ -190,20 +194,20 @@ clients_served lines it unmade tally stop a b c d is answers =
     }
 
 -- where memory ran out the event that was noted is left
-pub clients_short : (lines : List Line) (it : Serving) (unmade : Option Unmade) (journal : List Entry) (tally : Tally) (stop : Option Stop) (a b c d : ℕ) → tally_of tally ≡ noting it unmade → journal ≡ it.journal
+clients_short : (lines : List Line) (it : Serving) (unmade : Option Unmade) (journal : List Entry) (tally : Tally) (stop : Option Stop) (a b c d : ℕ) → tally_of tally ≡ noting it unmade → journal ≡ it.journal
     → AnswersClients lines it unmade stop → RanShort (ended_by stop a b c d) → ∥ LeavesEvent (tally_of tally).unmade lines journal (tally_of tally).steps (tally_of tally).events (tally_of tally).left ∥₁
 clients_short lines it unmade journal tally stop a b c d is is_journal answers ran =
     subst (λ (total : Total). ∥ LeavesEvent total.unmade lines journal total.steps total.events total.left ∥₁) (sym is)
     (subst (λ (j : List Entry). ∥ LeavesEvent unmade lines j it.steps it.events (left_of it.saving.progress) ∥₁) (sym is_journal) (answers.short (short_back stop a b c d ran)))
 
 -- where it did not none was noted
-pub clients_noted : (lines : List Line) (it : Serving) (unmade : Option Unmade) (tally : Tally) (stop : Option Stop) (a b c d : ℕ) → tally_of tally ≡ noting it unmade
+clients_noted : (lines : List Line) (it : Serving) (unmade : Option Unmade) (tally : Tally) (stop : Option Stop) (a b c d : ℕ) → tally_of tally ≡ noting it unmade
     → AnswersClients lines it unmade stop → (RanShort (ended_by stop a b c d) → ⊥) → (tally_of tally).unmade ≡ None
 clients_noted lines it unmade tally stop a b c d is answers whole =
     ap (λ (total : Total). total.unmade) is ∙ answers.noted (λ short. whole (subst (λ (why : Option Stop). RanShort (ended_by why a b c d)) (sym short) tt))
 
 -- what was answered is what the lines ask in some order
-pub clients_order : (lines : List Line) (it : Serving) (unmade : Option Unmade) (tally : Tally) (stop : Option Stop) (a b c d : ℕ) → tally_of tally ≡ noting it unmade
+clients_order : (lines : List Line) (it : Serving) (unmade : Option Unmade) (tally : Tally) (stop : Option Stop) (a b c d : ℕ) → tally_of tally ≡ noting it unmade
     → AnswersInSomeOrder lines it unmade stop → ServesInSomeOrder lines (ended_by stop a b c d) it.journal (Some tally)
 clients_order lines it unmade tally stop a b c d is answers = record {
   other = answers.other;
@@ -211,6 +215,19 @@ clients_order lines it unmade tally stop a b c d is answers = record {
   as_many = answers.as_many;
   serves = order_served answers.other it unmade tally stop a b c d is answers.answers;
   stops = subst (λ (total : Total). IfSome total.unmade (StopsAt answers.other total.events)) (sym is) answers.stops;
+}
+
+-- what it serves
+pub clients_together : (lines : List Line) (it : Serving) (unmade : Option Unmade) (journal : List Entry) (tally : Tally) (stop : Option Stop) (a b c d : ℕ) → tally_of tally ≡ noting it unmade → journal ≡ it.journal
+    → AnswersClients lines it unmade stop → ∥ AnswersInSomeOrder lines it unmade stop ∥₁ → ServesTogether (λ asked. asked ≡ lines) (ended_by stop a b c d) journal (Some tally)
+clients_together lines it unmade journal tally stop a b c d is is_journal answers order = record {
+  order = λ asked same.
+      subst (λ (ls : List Line). ∥ ServesInSomeOrder ls (ended_by stop a b c d) journal (Some tally) ∥₁) (sym same)
+      (subst (λ (j : List Entry). ∥ ServesInSomeOrder lines (ended_by stop a b c d) j (Some tally) ∥₁) (sym is_journal) (∥∥₁_map order (clients_order lines it unmade tally stop a b c d is)));
+  short = λ ran asked same.
+      subst (λ (ls : List Line). ∥ LeavesEvent (tally_of tally).unmade ls journal (tally_of tally).steps (tally_of tally).events (tally_of tally).left ∥₁) (sym same)
+      (clients_short lines it unmade journal tally stop a b c d is is_journal answers ran);
+  noted = clients_noted lines it unmade tally stop a b c d is answers;
 }
 
 module _ {D F K : Type 0} {g : disk.Ghosts D} (k : sink.Ghosts K) where
@@ -281,6 +298,13 @@ module _ {K : Type 0} (k : sink.Ghosts K) where
   acknowledged writes sink last journal entries stop a b c d is saved =
       subst (λ (j : List Entry). AcknowledgesFor k writes sink last j (stop_in (ended_by stop a b c d))) (sym is)
       (subst (λ (why : Option Stop). AcknowledgesFor k writes sink last journal why) (stop_back stop a b c d) saved)
+
+  -- and where they were written behind the last event
+  pub acknowledged_last : (sink last : K) (tail : List ℕ) (journal entries : List Entry) (stop : Option Stop) (a b c d : ℕ) → entries ≡ journal → WroteRun k.written k.finished k.count sink last (text journal) tail stop
+      → AcknowledgesLast k sink last entries (stop_in (ended_by stop a b c d))
+  acknowledged_last sink last tail journal entries stop a b c d is wrote =
+      subst (λ (j : List Entry). AcknowledgesLast k sink last j (stop_in (ended_by stop a b c d))) (sym is)
+      (subst (λ (why : Option Stop). AcknowledgesLast k sink last journal why) (stop_back stop a b c d) (acknowledges_last k sink last tail journal stop wrote))
 
 -- ---- causes
 

@@ -20,6 +20,8 @@ use Rattle.pm_runs.specs.Ends.Stages.{IsPast, unreached, the_words, the_store, t
 use Rattle.pm_runs.specs.Ends.Journals.{IsBegun, ServesInOrder, ServesLines}
 use Rattle.pm_runs.specs.Ends.Disks.{LeavesDisk, SyncsAtMost}
 use Rattle.pm_runs.specs.Threads.Ordered.{ServesInSomeOrder}
+use Rattle.pm_runs.specs.Threads.Together.{ServesTogether}
+use Rattle.pm_types.specs.declared.entry.Entry.{Entry}
 use Rattle.pm_runs.specs.Ends.Tallies.{ComesTo, IsOfEngine}
 use Rattle.pm_runs.specs.Wrote.{Wrote}
 use Rattle.pm_runs.specs.Runs.{RunsStore}
@@ -98,11 +100,27 @@ orders_none lines detail undone = record {
 }
 
 -- in any order
-pub some_order_none : (lines : List Line) (detail : Detail) → (IsPast the_output detail → ⊥) → ServesInSomeOrder lines detail [] None
+some_order_none : (lines : List Line) (detail : Detail) → (IsPast the_output detail → ⊥) → ServesInSomeOrder lines detail [] None
 some_order_none lines detail undone = record {
   other = lines;
   is_order = record { clients = λ client. refl; steps = refl; flushes = refl };
   as_many = refl;
   serves = orders_none lines detail undone;
   stops = tt;
+}
+
+-- of whichever lines it is said
+pub together_none : (Asked : List Line → Type 0) (detail : Detail) (journal : List Entry) → journal ≡ [] → (IsPast the_output detail → ⊥) → ServesTogether Asked detail journal None
+together_none Asked detail journal empty undone = record {
+  order = λ lines said. subst (λ (j : List Entry). ∥ ServesInSomeOrder lines detail j None ∥₁) (sym empty) ∣ some_order_none lines detail undone ∣₁;
+  short = λ ran lines said. tt;
+  noted = λ whole. tt;
+}
+
+-- and what is served of these lines is served of those of which less is said
+pub together_of : (Asked Others : List Line → Type 0) (detail : Detail) (journal : List Entry) (tally : Option Tally) → ((lines : List Line) → Others lines → Asked lines) → ServesTogether Asked detail journal tally → ServesTogether Others detail journal tally
+together_of Asked Others detail journal tally all is = record {
+  order = λ lines said. is.order lines (all lines said);
+  short = λ ran lines said. is.short ran lines (all lines said);
+  noted = is.noted;
 }

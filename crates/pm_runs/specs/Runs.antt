@@ -1,5 +1,5 @@
 -- What a run does over a store, from its start to its end, by how it ended: a record of named facts for each way to run.
-use Rattle.std.specs.Prelude.{◌≡◌, ℕ, List, [], Some, None, IsSome, IfSome, IfNone}
+use Rattle.std.specs.Prelude.{◌≡◌, ℕ, List, [], Some, IsSome, IfSome, IfNone}
 use Rattle.pm_disk.specs.declared.disk.Disk as disk
 use Rattle.pm_io.specs.declared.source.Source as source
 use Rattle.pm_io.specs.declared.sink.Sink as sink
@@ -7,17 +7,14 @@ use Rattle.pm_model.specs.World.{begin}
 use Rattle.pm_model.specs.Text.{text}
 use Rattle.pm_image.specs.Stands.{StandsForCopy}
 use Rattle.pm_engine.specs.Shown.{tally_of}
-use Rattle.pm_serial.specs.Acknowledged.{Acknowledges}
+use Rattle.pm_serial.specs.Acknowledged.{Acknowledges, AcknowledgesLast}
 use Rattle.pm_serial.specs.Writing.{tail_of}
-use Rattle.pm_script.specs.declared.line.Line.{Line}
-use Rattle.pm_script.specs.Script.{IsScript}
-use Rattle.pm_runs.specs.Threads.Running.{LeavesEvent}
-use Rattle.pm_runs.specs.Threads.Ordered.{ServesInSomeOrder}
+use Rattle.pm_runs.specs.Threads.Together.{IsToldScript, ServesTogether}
 use Rattle.pm_runs.specs.declared.ends.ended.Alone.{Alone as Ended}
 use Rattle.pm_runs.specs.declared.ends.ended.Detail.TheVariants.{Fine}
 use Rattle.pm_runs.specs.declared.writes.Writes.{Writes}
 use Rattle.pm_runs.specs.declared.writes.Writes.TheVariants.{Replies}
-use Rattle.pm_runs.specs.Ends.Ends.{IsUnwritten, RanShort, stop_in}
+use Rattle.pm_runs.specs.Ends.Ends.{IsUnwritten, stop_in}
 use Rattle.pm_runs.specs.Ends.Stages.{IsPast, the_words, the_script}
 use Rattle.pm_runs.specs.Ends.Journals.{IsBegun, KeepsOrder, ReadsScript}
 use Rattle.pm_runs.specs.Ends.Disks.{LeavesDisk, SyncsAtMost}
@@ -82,14 +79,7 @@ module _ {D S K : Type 0} (d : disk.Ghosts D) (s : source.Ghosts S) (k : sink.Gh
     -- where the sink failed all was made that the script asks for, as where the run is done
     pub last : IsUnwritten ended.detail → (bytes : List ℕ) → s.left source ≡ Some bytes
         → ReadsScript bytes Fine ended.journal.items ended.tally
-    -- it is a run of the script's lines in some order, one line behind another: each client's commands in their order, and as
-    -- many events of the two other kinds; where memory runs out the first line of it that is not made asks for the event that
-    -- the tally tells
-    pub order : (bytes : List ℕ) → s.left source ≡ Some bytes → (lines : List Line) → IsScript bytes lines
-        → ∥ ServesInSomeOrder lines ended.detail ended.journal.items ended.tally ∥₁
-    -- where memory runs out, no event was made, or the one is left that the tally tells: it is no settle of a copy that was
-    -- flushed whole
-    pub short : RanShort ended.detail → (bytes : List ℕ) → s.left source ≡ Some bytes → (lines : List Line) → IsScript bytes lines
-        → IfSome ended.tally (λ it. ∥ LeavesEvent (tally_of it).unmade lines ended.journal.items (tally_of it).steps (tally_of it).events (tally_of it).left ∥₁)
-    -- where it does not, the tally tells none
-    pub noted : (RanShort ended.detail → ⊥) → IfSome ended.tally (λ it. (tally_of it).unmade ≡ None)
+    -- it is a run of the script's lines in some order, and where memory runs out the tally tells the event that is left
+    pub together : ServesTogether (IsToldScript (s.left source)) ended.detail ended.journal.items ended.tally
+    -- acknowledged is told: unless the sink failed, the text through each reply `saved` is finished
+    pub saved : IfSome ended.tally (λ it. AcknowledgesLast k sink ended.sink ended.journal.items (stop_in ended.detail))

@@ -1,13 +1,13 @@
 //! A run in threads: the source is read, the store is opened, and workers take turns at an engine over its copy.
 ghost use Rattle.std.specs.Prelude.{◌≡◌, List, ℕ, None, IfSome};
 ghost use Rattle.pm_place.specs.Choosers.{IsChooser};
-ghost use Rattle.pm_engine.specs.Shown.{chooser, disk_in, serving, tally_of, unmade_in};
+ghost use Rattle.pm_engine.specs.Shown.{chooser, disk_in, serving, unmade_in};
 ghost use Rattle.pm_engine.specs.Events.Running.{IsFresh};
 ghost use Rattle.pm_runs.specs.declared.ends.ended.Detail.TheVariants.{Fine};
 ghost use Rattle.pm_runs.specs.declared.writes.Writes.TheVariants.{Replies};
-ghost use Rattle.pm_runs.specs.Threads.Running.{LeavesEvent};
-ghost use Rattle.pm_runs.specs.Threads.Ordered.{ServesInSomeOrder};
-ghost use Rattle.pm_runs.specs.Ends.Ends.{IsUnwritten, RanShort, status_of};
+ghost use Rattle.pm_serial.specs.Acknowledged.{AcknowledgesLast};
+ghost use Rattle.pm_runs.specs.Threads.Together.{ServesTogether};
+ghost use Rattle.pm_runs.specs.Ends.Ends.{IsUnwritten, status_of, stop_in};
 ghost use Rattle.pm_runs.specs.Ends.Journals.{ServesLines};
 ghost use Rattle.pm_runs.specs.Ends.Causes.{ShowsCauses};
 ghost use Rattle.pm_runs.specs.Runs.{RunsStore, RunsTogether};
@@ -58,10 +58,8 @@ fn run_engine<
     ensures last { IsUnwritten result.detail
         → ServesLines script Fine result.journal.items result.tally }
     ensures runs { ∥ RunsEngine K.Sink Replies engine sink result ∥₁ }
-    ensures short { RanShort result.detail → IfSome result.tally (λ it. ∥ LeavesEvent (tally_of it).unmade script
-        result.journal.items (tally_of it).steps (tally_of it).events (tally_of it).left ∥₁) }
-    ensures order { ∥ ServesInSomeOrder script result.detail result.journal.items result.tally ∥₁ }
-    ensures noted { (RanShort result.detail → ⊥) → IfSome result.tally (λ it. (tally_of it).unmade ≡ None) }
+    ensures together { ServesTogether (λ lines. lines ≡ script) result.detail result.journal.items result.tally }
+    ensures saved { AcknowledgesLast K.Sink sink result.sink result.journal.items (stop_in result.detail) }
     ensures causes { ShowsCauses D.Disk S.Source K.Sink (disk_in engine) source sink result }
 {
     let sink_before = sink.faults();
@@ -100,10 +98,9 @@ fn open_and_run<
     ensures last { IsUnwritten result.detail
         → ServesLines script Fine result.journal.items result.tally }
     ensures store { ∥ RunsStore D.Disk K.Sink place Replies disk sink result ∥₁ }
-    ensures short { RanShort result.detail → IfSome result.tally (λ it. ∥ LeavesEvent (tally_of it).unmade script
-        result.journal.items (tally_of it).steps (tally_of it).events (tally_of it).left ∥₁) }
-    ensures order { ∥ ServesInSomeOrder script result.detail result.journal.items result.tally ∥₁ }
-    ensures noted { (RanShort result.detail → ⊥) → IfSome result.tally (λ it. (tally_of it).unmade ≡ None) }
+    ensures together { ServesTogether (λ lines. lines ≡ script) result.detail result.journal.items result.tally }
+    ensures saved { IfSome result.tally
+        (λ it. AcknowledgesLast K.Sink sink result.sink result.journal.items (stop_in result.detail)) }
     ensures causes { ShowsCauses D.Disk S.Source K.Sink disk source sink result }
 {
     let before = disk.faults();

@@ -1,5 +1,5 @@
 -- What each command does, where nothing was called, and where it writes one text.
-use Rattle.std.proofs.Common.{false, inl, ◌≡◌, ℕ, ◌<◌, List, [], None, refl, sym, subst, arith}
+use Rattle.std.proofs.Common.{false, inl, ◌≡◌, ℕ, ◌<◌, List, [], None, refl, arith}
 use Rattle.pm_types.specs.Memory.{no_memory}
 use Rattle.pm_types.specs.declared.entry.Entry.{Entry}
 use Rattle.pm_disk.specs.declared.disk.Disk as disk
@@ -29,8 +29,8 @@ use Rattle.pm_runs.specs.Runs.{RunsStore}
 use Rattle.pm_top.specs.Commands.{EndsTrying, TriesScript, TellsStore, Does}
 use Rattle.pm_runs.proofs.EndsLemmas.Parts.{with_parts}
 use Rattle.pm_runs.proofs.EndsLemmas.Opened.{uncalled_run}
-use Rattle.pm_runs.specs.Threads.Ordered.{ServesInSomeOrder}
-use Rattle.pm_runs.proofs.Stores.{some_order_none, store_unrun}
+use Rattle.pm_runs.specs.Threads.Together.{IsToldScript}
+use Rattle.pm_runs.proofs.Stores.{store_unrun, together_none}
 use Rattle.pm_runs.proofs.EndsLemmas.Scripts.{order_read, script_read, script_unknown, unordered, unserved}
 
 module _ {K : Type 0} (k : sink.Ghosts K) where
@@ -148,10 +148,8 @@ module _ {D S K : Type 0} (d : disk.Ghosts D) (s : source.Ghosts S) (k : sink.Gh
     script = λ bytes told. unread bytes it.journal.items empty;
     store = ∣ untouched_store d k place Replies disk source sink it empty now ∣₁;
     last = λ unwritten. absurd unwritten;
-    short = λ ran bytes told lines script. tt;
-    order = λ bytes told lines script.
-        ∣ subst (λ (j : List Entry). ServesInSomeOrder lines (Memory false no_memory) j None) (sym empty) (some_order_none lines (Memory false no_memory) (λ past. absurd (omega (arith, past)))) ∣₁;
-    noted = λ whole. tt;
+    together = together_none (IsToldScript (s.left source)) (Memory false no_memory) it.journal.items empty (λ past. absurd (omega (arith, past)));
+    saved = tt;
   }
   untouched_does place Inspect disk source sink it empty now same = untouched_telling d k Reports disk source sink it empty now
   untouched_does place Dump disk source sink it empty now same = untouched_telling d k Dumps disk source sink it empty now

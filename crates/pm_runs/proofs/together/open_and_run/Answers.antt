@@ -8,12 +8,12 @@ use Rattle.pm_saving.specs.Images.{IsTold}
 use Rattle.pm_saving.specs.Serving.{opening}
 use Rattle.pm_place.specs.Choosers.{IsChooser}
 use Rattle.pm_engine.specs.declared.tally.Tally.{Tally}
-use Rattle.pm_engine.specs.Shown.{disk_in, opened_disk, serving, tally_of}
-use Rattle.pm_runs.specs.Threads.Running.{LeavesEvent}
-use Rattle.pm_runs.specs.Threads.Ordered.{ServesInSomeOrder}
+use Rattle.pm_engine.specs.Shown.{disk_in, opened_disk, serving}
+use Rattle.pm_serial.specs.Acknowledged.{AcknowledgesLast}
+use Rattle.pm_runs.specs.Threads.Together.{ServesTogether}
 use Rattle.pm_runs.specs.declared.ends.ended.Detail.TheVariants.{Fine}
 use Rattle.pm_runs.specs.declared.writes.Writes.TheVariants.{Replies}
-use Rattle.pm_runs.specs.Ends.Ends.{IsUnwritten, not_opened}
+use Rattle.pm_runs.specs.Ends.Ends.{IsUnwritten, not_opened, stop_in}
 use Rattle.pm_runs.specs.Ends.Journals.{ServesLines}
 use Rattle.pm_runs.specs.Ends.Causes.{ShowsCauses}
 use Rattle.pm_runs.specs.Runs.{RunsStore}
@@ -22,7 +22,7 @@ use Rattle.pm_runs.proofs.Ran.{fresh_engine}
 use Rattle.pm_runs.proofs.EndsLemmas.Faults.{ends_open, undone_open, open_causes, causes_after}
 use Rattle.pm_runs.proofs.EndsLemmas.Opened.{opened_run, refused_run, refused_for, none_opened, tried_open, unopened_unwritten}
 use Rattle.pm_runs.proofs.Openings.{comes_opened}
-use Rattle.pm_runs.proofs.Stores.{some_order_none, store_run, store_unrun, serves_none}
+use Rattle.pm_runs.proofs.Stores.{if_there, store_run, store_unrun, serves_none, together_none}
 use Rattle.pm_runs.proofs.together.open_and_run.Goals as goal
 
 pub run_engine-requires-clause-fresh : goal.run_engine-requires-clause-fresh
@@ -73,21 +73,20 @@ returns-in-Err-clause-store g c =
     (refused_run g.D.Disk c.args.disk f.disk (not_opened f.fault) (none_opened f.fault) (tried_open f.fault) f.ensures.told f.ensures.leaves
     (λ bytes told. refused_for bytes f.fault (f.ensures.fault bytes told))) (inr f.ensures.made) ∣₁
 
-pub returns-in-Err-clause-short : goal.returns-in-Err-clause-short
-returns-in-Err-clause-short g c = λ ran.
-    let it = c.end_unopened.result in
-    subst (λ (told : Option Tally). IfSome told (λ tally. ∥ LeavesEvent (tally_of tally).unmade c.args.script it.journal.items (tally_of tally).steps (tally_of tally).events (tally_of tally).left ∥₁)) (sym c.end_unopened.ensures.tally) tt
-
-pub returns-in-Err-clause-noted : goal.returns-in-Err-clause-noted
-returns-in-Err-clause-noted g c = λ whole.
-    subst (λ (told : Option Tally). IfSome told (λ tally. (tally_of tally).unmade ≡ None)) (sym c.end_unopened.ensures.tally) tt
-
-pub returns-in-Err-clause-order : goal.returns-in-Err-clause-order
-returns-in-Err-clause-order g c =
+pub returns-in-Err-clause-together : goal.returns-in-Err-clause-together
+returns-in-Err-clause-together g c =
     let e = c.end_unopened.ensures in
     let fault = c.in-Err.fault in
-    at_end (λ it. ∥ ServesInSomeOrder c.args.script it.detail it.journal.items it.tally ∥₁) c.end_unopened.result (e.detail ∙ c.not_opened.ensures) e.tally e.disk e.source e.sink
-    (subst (λ (j : List Entry). ∥ ServesInSomeOrder c.args.script (not_opened fault) j None ∥₁) (sym e.journal) ∣ some_order_none c.args.script (not_opened fault) (undone_open fault) ∣₁)
+    at_end (λ it. ServesTogether (λ lines. lines ≡ c.args.script) it.detail it.journal.items it.tally) c.end_unopened.result (e.detail ∙ c.not_opened.ensures) e.tally e.disk e.source e.sink
+    (together_none (λ lines. lines ≡ c.args.script) (not_opened fault) c.end_unopened.result.journal.items e.journal (undone_open fault))
+
+pub returns-in-Ok-clause-saved : goal.returns-in-Ok-clause-saved
+returns-in-Ok-clause-saved g c = if_there c.run_engine.result.tally c.run_engine.ensures.saved
+
+pub returns-in-Err-clause-saved : goal.returns-in-Err-clause-saved
+returns-in-Err-clause-saved g c =
+    let it = c.end_unopened.result in
+    subst (λ (tally : Option Tally). IfSome tally (λ told. AcknowledgesLast g.K.Sink c.args.sink it.sink it.journal.items (stop_in it.detail))) (sym c.end_unopened.ensures.tally) tt
 
 pub returns-in-Err-clause-causes : goal.returns-in-Err-clause-causes
 returns-in-Err-clause-causes g c =

@@ -1,19 +1,19 @@
 use Rattle.std.proofs.Common.{◌≡◌, ◌∙◌, ap, sym, subst, List, None, Some}
-use Rattle.std.proofs.Math.Logic.{∥∥₁_map, ∥∥₁_map₂}
+use Rattle.std.proofs.Math.Logic.{∥∥₁_map₂}
 use Rattle.pm_types.specs.declared.entry.Entry.{Entry}
-use Rattle.std.specs.Prelude.{IfSome}
-use Rattle.pm_engine.specs.Shown.{disk_in, serving, tally_of, unmade_in}
+use Rattle.pm_engine.specs.Shown.{disk_in, serving, tally_in, unmade_in}
 use Rattle.pm_engine.specs.Events.Causes.{why}
 use Rattle.pm_runs.specs.declared.ends.ended.Detail.TheVariants.{Fine}
 use Rattle.pm_runs.specs.declared.writes.Writes.TheVariants.{Replies}
-use Rattle.pm_runs.specs.Threads.Running.{LeavesEvent}
-use Rattle.pm_runs.specs.Threads.Ordered.{ServesInSomeOrder}
-use Rattle.pm_runs.specs.Ends.Ends.{IsUnwritten, RanShort, ended_by}
+use Rattle.pm_serial.specs.Acknowledged.{AcknowledgesLast}
+use Rattle.pm_serial.specs.Writing.{tail_of}
+use Rattle.pm_runs.specs.Threads.Together.{ServesTogether}
+use Rattle.pm_runs.specs.Ends.Ends.{IsUnwritten, ended_by, stop_in}
 use Rattle.pm_runs.specs.Ends.Journals.{ServesLines}
 use Rattle.pm_runs.specs.Ends.Causes.{ShowsCauses}
 use Rattle.pm_runs.specs.Engines.{RunsEngine}
 use Rattle.pm_runs.proofs.EndsLemmas.Parts.{at_end}
-use Rattle.pm_runs.proofs.Ran.{engine_run, clients_noted, clients_order, clients_served, clients_short, causes_end, sink_back}
+use Rattle.pm_runs.proofs.Ran.{acknowledged_last, engine_run, clients_served, clients_together, causes_end, sink_back}
 use Rattle.pm_runs.proofs.together.run_engine.Goals as goal
 
 pub returns-clause-serves : goal.returns-clause-serves
@@ -62,8 +62,8 @@ returns-clause-runs g c =
       gone = kept.gone;
     }) kept.closed kept.legal parts.ensures.tally parts.ensures.honest run.ensures.sink))
 
-pub returns-clause-short : goal.returns-clause-short
-returns-clause-short g c =
+pub returns-clause-together : goal.returns-clause-together
+returns-clause-together g c =
     let run = c.run_script-outcome in
     let new = run.result.1 in
     let stop = why run.result.0 in
@@ -73,13 +73,12 @@ returns-clause-short g c =
     let y = c.faults-sink_after.result in
     let parts = c.into_parts-disk in
     let e = c.end_with.ensures in
-    at_end (λ it. RanShort it.detail → IfSome it.tally (λ tally. ∥ LeavesEvent (tally_of tally).unmade c.args.script it.journal.items (tally_of tally).steps (tally_of tally).events (tally_of tally).left ∥₁))
-    c.end_with.result {detail = ended_by stop a b x y} {disk = disk_in new}
+    at_end (λ it. ServesTogether (λ lines. lines ≡ c.args.script) it.detail it.journal.items it.tally) c.end_with.result {detail = ended_by stop a b x y} {disk = disk_in new}
     (◌∙◌ {c = ended_by stop a b x y} e.detail c.ended_by-detail.ensures) e.tally (e.disk ∙ parts.ensures.disk) e.source e.sink
-    (clients_short c.args.script (serving new) (unmade_in new) c.end_with.result.journal.items parts.result.2 stop a b x y parts.ensures.tally (ap (λ v. v.items) e.journal ∙ parts.ensures.journal) run.ensures.answers)
+    (clients_together c.args.script (serving new) (unmade_in new) c.end_with.result.journal.items parts.result.2 stop a b x y parts.ensures.tally (ap (λ v. v.items) e.journal ∙ parts.ensures.journal) run.ensures.answers run.ensures.order)
 
-pub returns-clause-noted : goal.returns-clause-noted
-returns-clause-noted g c =
+pub returns-clause-saved : goal.returns-clause-saved
+returns-clause-saved g c =
     let run = c.run_script-outcome in
     let new = run.result.1 in
     let stop = why run.result.0 in
@@ -89,26 +88,10 @@ returns-clause-noted g c =
     let y = c.faults-sink_after.result in
     let parts = c.into_parts-disk in
     let e = c.end_with.ensures in
-    at_end (λ it. (RanShort it.detail → ⊥) → IfSome it.tally (λ tally. (tally_of tally).unmade ≡ None))
-    c.end_with.result {detail = ended_by stop a b x y} {disk = disk_in new}
+    at_end (λ it. AcknowledgesLast g.K.Sink c.args.sink it.sink it.journal.items (stop_in it.detail)) c.end_with.result {detail = ended_by stop a b x y} {disk = disk_in new}
     (◌∙◌ {c = ended_by stop a b x y} e.detail c.ended_by-detail.ensures) e.tally (e.disk ∙ parts.ensures.disk) e.source e.sink
-    (clients_noted c.args.script (serving new) (unmade_in new) parts.result.2 stop a b x y parts.ensures.tally run.ensures.answers)
-
-pub returns-clause-order : goal.returns-clause-order
-returns-clause-order g c =
-    let run = c.run_script-outcome in
-    let new = run.result.1 in
-    let stop = why run.result.0 in
-    let a = c.args.disk_before in
-    let b = c.faults.result in
-    let x = c.faults-sink_before.result in
-    let y = c.faults-sink_after.result in
-    let parts = c.into_parts-disk in
-    let e = c.end_with.ensures in
-    at_end (λ it. ∥ ServesInSomeOrder c.args.script it.detail it.journal.items it.tally ∥₁) c.end_with.result {detail = ended_by stop a b x y} {disk = disk_in new}
-    (◌∙◌ {c = ended_by stop a b x y} e.detail c.ended_by-detail.ensures) e.tally (e.disk ∙ parts.ensures.disk) e.source e.sink
-    (subst (λ (j : List Entry). ∥ ServesInSomeOrder c.args.script (ended_by stop a b x y) j (Some parts.result.2) ∥₁) (sym (ap (λ v. v.items) e.journal ∙ parts.ensures.journal))
-    (∥∥₁_map run.ensures.order (clients_order c.args.script (serving new) (unmade_in new) parts.result.2 stop a b x y parts.ensures.tally)))
+    (acknowledged_last g.K.Sink c.args.sink run.new.sink (tail_of (tally_in (serving new))) (serving new).journal c.end_with.result.journal.items stop a b x y
+    (ap (λ v. v.items) e.journal ∙ parts.ensures.journal) run.ensures.sink)
 
 pub returns-clause-causes : goal.returns-clause-causes
 returns-clause-causes g c =

@@ -1,11 +1,6 @@
-use Rattle.std.proofs.Common.{inl, refl, ◌∙◌, ap, arith, sym, subst, List, None}
-use Rattle.std.specs.Prelude.{IfSome}
-use Rattle.pm_types.specs.declared.entry.Entry.{Entry}
-use Rattle.pm_script.specs.declared.line.Line.{Line}
+use Rattle.std.proofs.Common.{◌≡◌, inl, refl, ◌∙◌, ap, arith, sym}
 use Rattle.pm_script.proofs.ScriptLaws.{one_reading}
-use Rattle.pm_engine.specs.Shown.{tally_of}
-use Rattle.pm_runs.specs.Threads.Running.{LeavesEvent}
-use Rattle.pm_runs.specs.Threads.Ordered.{ServesInSomeOrder}
+use Rattle.pm_runs.specs.Threads.Together.{IsToldScript}
 use Rattle.pm_runs.specs.declared.ends.ended.Detail.TheVariants.{Fine}
 use Rattle.pm_runs.specs.declared.writes.Writes.TheVariants.{Replies}
 use Rattle.pm_runs.specs.Ends.Causes.{ShowsCauses}
@@ -13,7 +8,7 @@ use Rattle.pm_runs.specs.Runs.{RunsTogether}
 use Rattle.pm_runs.proofs.EndsLemmas.Parts.{at_end}
 use Rattle.pm_runs.proofs.EndsLemmas.Faults.{causes_read}
 use Rattle.pm_runs.proofs.EndsLemmas.Opened.{uncalled_run}
-use Rattle.pm_runs.proofs.Stores.{some_order_none, store_unrun}
+use Rattle.pm_runs.proofs.Stores.{store_unrun, together_none, together_of}
 use Rattle.pm_runs.proofs.EndsLemmas.Scripts.{script_read}
 use Rattle.pm_runs.proofs.EndsLemmas.Unread.{causes_unread, ends_unread, reads_unread, refused_unread, script_unread, store_unread, unwritten_unread}
 use Rattle.pm_runs.proofs.together.run_together.Goals as goal
@@ -29,12 +24,10 @@ returns-in-Ok-clause-runs g c =
       script = λ bytes told. script_read bytes c.in-Ok.script it.detail it.journal.items it.tally (read.found bytes told) ran.serves;
       store = ran.store;
       last = λ unwritten bytes told. script_read bytes c.in-Ok.script Fine it.journal.items it.tally (read.found bytes told) (ran.last unwritten);
-      short = λ shorted bytes told lines script.
-          subst (λ (ls : List Line). IfSome it.tally (λ tally. ∥ LeavesEvent (tally_of tally).unmade ls it.journal.items (tally_of tally).steps (tally_of tally).events (tally_of tally).left ∥₁))
-          (one_reading bytes c.in-Ok.script lines (read.found bytes told) script) (ran.short shorted);
-      noted = ran.noted;
-      order = λ bytes told lines script.
-          subst (λ (ls : List Line). ∥ ServesInSomeOrder ls it.detail it.journal.items it.tally ∥₁) (one_reading bytes c.in-Ok.script lines (read.found bytes told) script) ran.order;
+      together =
+          together_of (λ lines. lines ≡ c.in-Ok.script) (IsToldScript (g.S.Source.left c.args.source)) it.detail it.journal.items it.tally
+          (λ lines (is : IsToldScript (g.S.Source.left c.args.source) lines). sym (one_reading is.0 c.in-Ok.script lines (read.found is.0 is.1) is.2)) ran.together;
+      saved = ran.saved;
     }
 
 pub returns-in-Ok-clause-causes : goal.returns-in-Ok-clause-causes
@@ -56,10 +49,8 @@ returns-in-Err-clause-runs g c =
           store_unrun g.D.Disk g.K.Sink c.args.place Replies c.args.disk c.args.disk c.read_source.new.source c.args.sink it detail e.journal (store_unread detail f.ends)
           (uncalled_run g.D.Disk c.args.disk detail c.images_since_now.ensures (store_unread detail f.ends) (λ bytes. refused_unread bytes detail f.ends)) (inl refl) ∣₁;
       last = λ unwritten. absurd (unwritten_unread detail f.ends unwritten);
-      short = λ ran bytes told lines script. tt;
-      noted = λ whole. tt;
-      order = λ bytes told lines script.
-          subst (λ (j : List Entry). ∥ ServesInSomeOrder lines detail j None ∥₁) (sym e.journal) ∣ some_order_none lines detail (λ past. script_unread detail f.ends (omega (arith, past))) ∣₁;
+      together = together_none (IsToldScript (g.S.Source.left c.args.source)) detail it.journal.items e.journal (λ past. script_unread detail f.ends (omega (arith, past)));
+      saved = tt;
     })
 
 pub returns-in-Err-clause-causes : goal.returns-in-Err-clause-causes
