@@ -5,7 +5,7 @@ use crate::spelling::{push_bytes_at, push_last, script};
 use crate::standby::{push_ship, push_ships};
 use crate::stopping::{Run, opening, push_calls, push_over, push_stops};
 use pm_case_text::{
-    Count, Fault, first_word, is_silent, numbered, patch, push_case, refuse, written_out,
+    Count, Fault, first_word, is_silent, number, numbered, patch, push_case, refuse, written_out,
 };
 use pm_disk::MemDisk;
 use pm_script::{Line, Script};
@@ -22,6 +22,8 @@ pub struct Case {
     other: Vec<u8>,
     /// With what each image is looked at.
     look: Script,
+    /// Behind so many lines of a run each time the engine lets its entries go; never, for 0.
+    forget: u64,
     /// Which train an object moves to.
     chosen: Chosen,
 }
@@ -36,12 +38,13 @@ fn new_store(alloc: Global) -> Result<Vec<u8>, Fault> {
 }
 
 impl Case {
-    /// A case that has just begun: a new store on either disk, no look, and the first train is chosen.
+    /// A case that has just begun: a new store on either disk, no look, nothing is let go, and the first train is chosen.
     pub fn new(alloc: Global) -> Result<Case, Fault> {
         Ok(Case {
             disk: new_store(alloc)?,
             other: new_store(alloc)?,
             look: script(alloc, "")?,
+            forget: 0,
             chosen: Chosen::First,
         })
     }
@@ -52,6 +55,7 @@ impl Case {
             disk: self.disk.as_slice(),
             lines,
             look: self.look.as_slice(),
+            forget: self.forget,
             chosen: self.chosen,
         }
     }
@@ -62,6 +66,13 @@ impl Case {
         let disk = push_over(alloc, &self.run_of(lines.as_slice()), 0, false, out)?;
         self.disk = disk.contents().to_vec(alloc)?;
         Ok(disk)
+    }
+
+    // Runs the lines, and adds what the engine came to; the disk stays as it was.
+    fn go_to_tally(&self, alloc: Global, text: &str, out: &mut String) -> Result<(), Fault> {
+        let lines = script(alloc, text)?;
+        push_over(alloc, &self.run_of(lines.as_slice()), 0, true, out)?;
+        Ok(())
     }
 
     // Runs the lines behind a number, and adds that many of the last answers.
@@ -83,6 +94,12 @@ impl Case {
         Ok(())
     }
 
+    // The engine lets its entries go behind so many lines each time.
+    fn set_forget(&mut self, text: &str) -> Result<(), Fault> {
+        self.forget = number(text)?;
+        Ok(())
+    }
+
     // The store of the disk is shipped to that of the other one, which is what the ship leaves.
     fn ship(&mut self, alloc: Global, out: &mut String) -> Result<(), Fault> {
         let standby = push_ship(alloc, &self.disk, &self.other, out)?;
@@ -101,6 +118,7 @@ impl Case {
         match step {
             "at" => push_bytes_at(alloc, &self.disk, text, out),
             "place" => self.choose(text),
+            "forget" => self.set_forget(text),
             "patch" => patch(alloc, self.disk.as_mut_slice(), text),
             "other" => {
                 mem::swap(&mut self.disk, &mut self.other);
@@ -168,6 +186,7 @@ impl Case {
             "run" => self.run(alloc, text, out),
             "last" => self.go_and_push_last(alloc, text, out),
             "calls" => self.go_and_push_calls(alloc, text, out),
+            "tally" => self.go_to_tally(alloc, text, out),
             "look" => self.set_look(alloc, text),
             "fails" | "fuses" | "stops" => self.stop(alloc, step, text, out),
             _ => self.disk_step(alloc, step, text, out),

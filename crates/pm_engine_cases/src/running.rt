@@ -57,7 +57,7 @@ fn push_answer<D: Disk, F: Drop>(
         return Err(refuse("no client"));
     }
     match engine.client(alloc, client, cmd) {
-        Ok(_) => push_last_entry(alloc, engine.journal(), out),
+        Ok(_) => push_last_entry(alloc, engine.recent(), out),
         Err(fault) => push_fault(fault, out),
     }
 }
@@ -128,18 +128,32 @@ fn push_line<D: Disk, F: Fn(&[u64]) -> usize + Drop>(
     }
 }
 
-// Runs the lines, and adds what each of them gave. It ends where one was not done, or goes on.
+// Lets the entries of an engine go, where the number of lines that were run is a multiple of this one, which is over 0.
+fn forget_at<D: Disk, F: Drop>(engine: &mut Engine<D, F>, ran: u64, forget: u64)
+    ensures { chooser engine.new ≡ chooser engine.old }
+{
+    if forget > 0 && ran % forget == 0 {
+        engine.forget_entries();
+    }
+}
+
+// Runs the lines, and adds what each of them gave. It ends where one was not done, or goes on. Behind so many lines each
+// time the engine's entries are let go.
 fn push_lines<D: Disk, F: Fn(&[u64]) -> usize + Drop>(
     alloc: Global,
     engine: &mut Engine<D, F>,
     lines: &[Line],
     goes_on: bool,
+    forget: u64,
     out: &mut String,
 ) -> Result<(), Fault>
     requires { IsChooser F.Fn (chooser engine.old) }
 {
+    let mut ran = 0u64;
     for line in lines {
         let done = push_line(alloc, engine, line, out)?;
+        ran = ran.saturating_add(1);
+        forget_at(engine, ran, forget);
         if !(done || goes_on) {
             return Ok(());
         }
@@ -154,12 +168,13 @@ fn push_copy<D: Disk, F: Fn(&[u64]) -> usize + Drop>(
     number: u32,
     lines: &[Line],
     goes_on: bool,
+    forget: u64,
     out: &mut String,
 ) -> Result<(), Fault>
     requires { IsChooser F.Fn (chooser engine.old) }
 {
     push_filled("copy %", &[number as u64], out)?;
-    push_lines(alloc, engine, lines, goes_on, out)
+    push_lines(alloc, engine, lines, goes_on, forget, out)
 }
 
 // Lets an engine go: its disk, and what it came to.
@@ -220,11 +235,12 @@ fn push_served<D: Disk + Drop, F: Fn(&[u64]) -> usize + Drop>(
     number: u32,
     lines: &[Line],
     goes_on: bool,
+    forget: u64,
     out: &mut String,
 ) -> Result<D, Fault>
     requires { IsChooser F.Fn (chooser engine) }
 {
-    let said = push_copy(alloc, &mut engine, number, lines, goes_on, out);
+    let said = push_copy(alloc, &mut engine, number, lines, goes_on, forget, out);
     let (disk, tally) = parted(engine);
     kept(disk, push_ended(said, &tally, goes_on, out))
 }
@@ -242,24 +258,27 @@ fn push_opened<D: Disk + Drop>(
     number: u32,
     lines: &[Line],
     goes_on: bool,
+    forget: u64,
     chosen: Chosen,
     out: &mut String,
 ) -> Result<D, Fault> {
     let place = Placement::new(move |trains: &[u64]| place_of(chosen, trains));
     match Engine::open_store(alloc, disk, place) {
-        Ok(engine) => push_served(alloc, engine, number, lines, goes_on, out),
+        Ok(engine) => push_served(alloc, engine, number, lines, goes_on, forget, out),
         Err((disk, fault)) => push_unopened(disk, fault, out),
     }
 }
 
 /// Opens the store of a disk, and runs the lines over it; an object moves to the train that is chosen. It adds the number
 /// of the copy that was found, the replies and what each event answered, or why there is no store, with ` / ` between them.
-/// Once a call has answered that the disk failed it ends, or goes on with the next line. The disk is handed back.
+/// Once a call has answered that the disk failed it ends, or goes on with the next line. Behind each `forget` lines, where
+/// that is over 0, the engine lets its entries go. The disk is handed back.
 pub(crate) fn push_run<D: Disk + Drop>(
     alloc: Global,
     disk: D,
     lines: &[Line],
     goes_on: bool,
+    forget: u64,
     chosen: Chosen,
     out: &mut String,
 ) -> Result<D, Fault> {
@@ -272,6 +291,7 @@ pub(crate) fn push_run<D: Disk + Drop>(
                 number,
                 lines,
                 goes_on,
+                forget,
                 chosen,
                 out,
             )

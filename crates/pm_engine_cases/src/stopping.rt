@@ -21,6 +21,8 @@ pub(crate) struct Run<'a> {
     pub(crate) lines: &'a [Line],
     /// With what each image is looked at.
     pub(crate) look: &'a [Line],
+    /// Behind so many lines each time the engine lets its entries go; never, for 0.
+    pub(crate) forget: u64,
     /// Which train an object moves to.
     pub(crate) chosen: Chosen,
 }
@@ -40,7 +42,7 @@ pub(crate) fn push_over(
     out: &mut String,
 ) -> Result<MemDisk, Fault> {
     let disk = disk_of(alloc, run.disk, call)?;
-    let disk = push_run(alloc, disk, run.lines, goes_on, run.chosen, out)?;
+    let disk = push_run(alloc, disk, run.lines, goes_on, run.forget, run.chosen, out)?;
     push_words("\n", out)?;
     Ok(disk)
 }
@@ -58,6 +60,7 @@ pub(crate) fn opening(alloc: Global, disk: &[u8]) -> Result<u64, Fault> {
         disk,
         lines: &[],
         look: &[],
+        forget: 0,
         chosen: Chosen::First,
     };
     calls_of(alloc, &run)
@@ -85,7 +88,7 @@ fn unsynced(calls: &[DiskCall], first: usize) -> u64 {
 fn note_look(alloc: Global, image: Vec<u8>, look: &[Line], texts: &mut Texts) -> Result<(), Fault> {
     let mut text = String::new(alloc);
     let disk = MemDisk::new(image, Vec::new(alloc));
-    push_run(alloc, disk, look, false, Chosen::First, &mut text)?;
+    push_run(alloc, disk, look, false, 0, Chosen::First, &mut text)?;
     texts.note(text)
 }
 
@@ -125,7 +128,7 @@ pub(crate) fn push_images(
 // Runs over a disk that fails the call behind so many and each one from then on; and adds what that gives.
 fn push_fused_at(alloc: Global, run: &Run, made: u64, out: &mut String) -> Result<(), Fault> {
     let disk = FuseDisk::new(disk_of(alloc, run.disk, 0)?, made);
-    push_run(alloc, disk, run.lines, true, run.chosen, out)?;
+    push_run(alloc, disk, run.lines, true, run.forget, run.chosen, out)?;
     push_words("\n", out)
 }
 

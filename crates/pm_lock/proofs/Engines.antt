@@ -12,7 +12,7 @@ use Rattle.pm_script.specs.Parted.Lists.{count_left, list_of}
 use Rattle.pm_saving.specs.Serving.{Serving}
 use Rattle.pm_saving.specs.Events.{Collects, FailsAs, Flushes}
 use Rattle.pm_engine.specs.declared.engine.Engine.{Engine}
-use Rattle.pm_engine.specs.Shown.{disk_in, opened_count, room, serving, unmade_in}
+use Rattle.pm_engine.specs.Shown.{disk_in, opened_count, past_of, room, serving, unmade_in}
 use Rattle.pm_engine.specs.declared.unmade.Unmade.{Unmade}
 use Rattle.pm_engine.specs.declared.unmade.Unmade.TheVariants.{OfClient, OfCollector, OfFlusher}
 use Rattle.pm_engine.specs.Calls.{Notes}
@@ -74,6 +74,7 @@ module _ {D : Type 0} {F : Type 0} {g : Ghosts D} (first old new : Engine D F g)
   pub engine_answered : (later : List (List Cmd)) (who : ℕ) (cmd : Cmd) → Adds who cmd (serving old) (serving new) → EngineGoesOn old new None → unmade_in new ≡ unmade_in old → count_left later + 1 ≡ count_left lists → KeepsEngine first new None later collects flushes
   engine_answered later who cmd adds goes noted fewer = record {
     goes = goes_then first old new None kept.goes goes;
+    whole = goes.entries ∙ kept.whole;
     stopped = goes.going (λ of. of);
     cause = tt;
     room =
@@ -89,6 +90,7 @@ module _ {D : Type 0} {F : Type 0} {g : Ghosts D} (first old new : Engine D F g)
   pub engine_made : (less fewer : ℕ) → (serving new).journal ≡ (serving old).journal → EngineGoesOn old new None → unmade_in new ≡ unmade_in old → KeepsEngine first new None lists less fewer
   engine_made less fewer journal goes noted = record {
     goes = goes_then first old new None kept.goes goes;
+    whole = goes.entries ∙ kept.whole;
     stopped = goes.going (λ of. of);
     cause = tt;
     room =
@@ -105,6 +107,7 @@ module _ {D : Type 0} {F : Type 0} {g : Ghosts D} (first old new : Engine D F g)
       → (event : Unmade) → Notes event (unmade_in old) (unmade_in new) fault → KeepsEngine first new (Some fault) lists collects flushes
   engine_failed fault fails counted goes left event noted = record {
     goes = goes_then first old new (Some (stop_of fault)) kept.goes goes;
+    whole = goes.entries ∙ kept.whole;
     stopped = stopped_with (serving old) (serving new) (g.count (disk_in old)) (g.count (disk_in new)) fault fails kept.stopped;
     cause =
         let same = kept.goes.start.count in
@@ -163,11 +166,11 @@ module _ {D : Type 0} {F : Type 0} {g : Ghosts D} (lines : List Line) (first old
   })
 
 -- a book of this engine, just made
-pub book_begun : {D F : Type 0} {g : Ghosts D} (engine now first : Engine D F g) (lines said : List Line) (lists : List (List Cmd)) (collects flushes : ℕ) → first ≡ engine → said ≡ lines → KeepsScript lines (serving now) lists collects flushes → EngineGoesOn engine now None → unmade_in now ≡ unmade_in engine
+pub book_begun : {D F : Type 0} {g : Ghosts D} (engine now first : Engine D F g) (lines said : List Line) (lists : List (List Cmd)) (collects flushes : ℕ) → first ≡ engine → said ≡ lines → KeepsScript lines (serving now) lists collects flushes → EngineGoesOn engine now None → past_of now ≡ [] → unmade_in now ≡ unmade_in engine
     → count_left lists ≤ room now → ∥ KeepsBook said first now lists collects flushes None ∥₁
-book_begun {D = D} {F = F} {g = g} engine now first lines said lists collects flushes same_engine same_lines script goes noted room =
+book_begun {D = D} {F = F} {g = g} engine now first lines said lists collects flushes same_engine same_lines script goes whole noted room =
     subst (λ (both : List Line × Engine D F g). ∥ KeepsBook both.0 both.1 now lists collects flushes None ∥₁) (λ i. (sym same_lines i, sym same_engine i))
-    (∣ record { script = script; engine = record { goes = goes; stopped = goes.going (λ of. of); cause = tt; room = room; short = tt; unmade = noted } } ∣₁)
+    (∣ record { script = script; engine = record { goes = goes; whole = whole; stopped = goes.going (λ of. of); cause = tt; room = room; short = tt; unmade = noted } } ∣₁)
 
 -- ---- the first of a list, taken
 

@@ -1,5 +1,5 @@
 -- What the type of a book keeps.
-use Rattle.std.specs.Prelude.{◌≡◌, ℕ, ◌+◌, ◌^◌, ◌<◌, ◌≤◌, true, List, ◌∷◌, ◌++◌, length, Option, Some, None, option_map}
+use Rattle.std.specs.Prelude.{◌≡◌, ℕ, ◌+◌, ◌^◌, ◌<◌, ◌≤◌, true, List, [], ◌∷◌, ◌++◌, length, Option, Some, None, option_map}
 use Rattle.std.specs.List.{AllByRecursion}
 use Rattle.pm_types.specs.Counts.{ShowsRise}
 use Rattle.pm_types.specs.declared.command.Cmd.{Cmd}
@@ -14,7 +14,7 @@ use Rattle.pm_script.specs.Parted.Asked.{events_asked, flushes_asked, requests_a
 use Rattle.pm_script.specs.Parted.Lists.{count_left, list_of}
 use Rattle.pm_saving.specs.Serving.{Serving}
 use Rattle.pm_engine.specs.declared.engine.Engine.{Engine}
-use Rattle.pm_engine.specs.Shown.{disk_in, opened_count, room, serving, unmade_in}
+use Rattle.pm_engine.specs.Shown.{disk_in, opened_count, past_of, room, serving, unmade_in}
 use Rattle.pm_engine.specs.declared.unmade.Unmade.{Unmade}
 use Rattle.pm_engine.specs.declared.unmade.Unmade.TheVariants.{OfClient, OfCollector, OfFlusher}
 use Rattle.pm_engine.specs.declared.events.stop.Stop.{Stop}
@@ -91,6 +91,8 @@ module _ {D : Type 0} {F : Type 0} {g : Ghosts D} where
   pub record KeepsEngine (first now : Engine D F g) (fault : Option EngineFault) (lists : List (List Cmd)) (collects flushes : ℕ) : Type 0 where
     -- it went on from the first as a run does: what a crash leaves at each moment since, and how the disk's count moved
     pub goes : EngineGoesOn first now (stop_kept fault)
+    -- no entry was let go, since it was opened
+    pub whole : past_of now ≡ []
     -- it is stopped exactly where a Disk is kept, with the count of that
     pub stopped : (serving now).stopped ≡ stopped_by fault
     -- whose count rose, as told

@@ -30,7 +30,7 @@ pub struct Book<D: Disk, F> {
 }
 
 impl<D: Disk, F: Drop> Book<D, F> {
-    ghost use Rattle.std.specs.Prelude.{◌≡◌, ◌+◌, ◌<◌, ◌≤◌, ◌^◌, ℕ, ◌++◌, List, None, length, IfOk, IfErr};
+    ghost use Rattle.std.specs.Prelude.{◌≡◌, ◌+◌, ◌<◌, ◌≤◌, ◌^◌, ℕ, ◌++◌, List, [], None, length, IfOk, IfErr};
     ghost use Rattle.std.specs.List.{AllByRecursion};
     ghost use Rattle.pm_model.specs.Journal.{IsLegal, commands_of, part};
     ghost use Rattle.pm_script.specs.Parted.Asked.{events_asked, flushes_asked, requests_asked, steps_asked};
@@ -39,7 +39,8 @@ impl<D: Disk, F: Drop> Book<D, F> {
     ghost use Rattle.pm_saving.specs.Bounds.{KeepsBounds};
     ghost use Rattle.pm_saving.specs.Serving.{opening, world};
     ghost use Rattle.pm_saving.specs.Images.{IsSettledCopy, IsTold};
-    ghost use Rattle.pm_engine.specs.Shown.{KeepsStart, disk_in, opened_count, opened_disk, room, serving, unmade_in};
+    ghost use Rattle.pm_engine.specs.Shown.{KeepsEntries, KeepsStart, disk_in, opened_count, opened_disk, past_of, room};
+    ghost use Rattle.pm_engine.specs.Shown.{serving, unmade_in};
     ghost use Rattle.pm_engine.specs.History.{HasHistory};
     ghost use Rattle.pm_engine.specs.Events.Running.{IsFresh};
     ghost use Rattle.pm_engine.specs.Events.Events.{EngineGoesOn, FitsLine};
@@ -63,6 +64,7 @@ impl<D: Disk, F: Drop> Book<D, F> {
         ensures serving { IfErr result (λ back. serving back.0 ≡ serving engine) }
         ensures disk { IfErr result (λ back. disk_in back.0 ≡ disk_in engine) }
         ensures start { IfErr result (λ back. KeepsStart engine back.0) }
+        ensures entries { IfErr result (λ back. KeepsEntries engine back.0) }
         ensures unmade { IfErr result (λ back. unmade_in back.0 ≡ unmade_in engine) }
     {
         engine.keep_their_images();
@@ -133,13 +135,15 @@ impl<D: Disk, F: Drop> Book<D, F> {
         self.engine.keep_their_images();
     }
 
-    /// A law of the book at any time, on its engine. It went on from the one of which the book was made as a run does; it
+    /// A law of the book at any time, on its engine. It went on from the one of which the book was made as a run does, and
+    /// let no entry go; it
     /// is stopped exactly where a Disk is kept, whose count rose as told; there is room for the entry of each command that
     /// is left. Where Memory is kept, the event is left for which the engine noted that memory ran out; where it is not,
     /// the engine noted none in the book. It came by calls from one that was just opened, which tells what it made and in
     /// which order. Each watch keeps its bound.
     pub fn keep_its_engine(&self)
         ensures goes { ∥ EngineGoesOn (first_in self.now) (engine_in self.now) (stop_kept (fault_in self.now)) ∥₁ }
+        ensures whole { past_of (engine_in self.now) ≡ [] }
         ensures stopped { (serving (engine_in self.now)).stopped ≡ stopped_by (fault_in self.now) }
         ensures cause { HasCauseSince (fault_in self.now) (opened_count (first_in self.now))
             (D.count (disk_in (first_in self.now))) (D.count (disk_in (engine_in self.now))) }

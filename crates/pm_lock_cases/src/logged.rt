@@ -33,7 +33,7 @@ fn push_seen<D: Disk, F: Drop>(
     out: &mut String,
 ) -> Result<(), Fault> {
     push_filled("% at %", &[number, seen.place], out)?;
-    push_entry(alloc, book.engine().journal().get(seen.place as usize), out)
+    push_entry(alloc, book.engine().recent().get(seen.place as usize), out)
 }
 
 // Adds what came of a command that the caller of this number asked.

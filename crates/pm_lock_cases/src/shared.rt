@@ -172,10 +172,10 @@ fn push_engine<D: Disk + Drop, F: Drop>(
     engine: &Engine<D, F>,
     out: &mut String,
 ) -> Result<(), Fault> {
-    let entries = engine.journal().len() as u64;
+    let entries = engine.entries();
     let numbers = [engine.events(), engine.steps(), entries];
     push_filled("% events, % steps, % entries", &numbers, out)?;
-    push_legal(alloc, engine.journal(), out)
+    push_legal(alloc, engine.recent(), out)
 }
 
 // Closes with this pass, adds what the engine has come to, and lets it go.
@@ -357,7 +357,7 @@ fn push_both<D: Disk + Drop, F: Drop>(
     engine: &Engine<D, F>,
     out: &mut String,
 ) -> Result<(), Fault> {
-    push_clients(engine.journal(), out)?;
+    push_clients(engine.recent(), out)?;
     push_engine(alloc, engine, out)
 }
 

@@ -123,9 +123,9 @@ fn push_ended<D: Disk, F: Drop>(
     replies: bool,
     out: &mut String,
 ) -> Result<(), Fault> {
-    let (first, whole) = parts_of(alloc, text, book.engine().journal())?;
+    let (first, whole) = parts_of(alloc, text, book.engine().recent())?;
     push_reached(book, first, whole, out)?;
-    push_journal(alloc, book.engine().journal(), replies, out)
+    push_journal(alloc, book.engine().recent(), replies, out)
 }
 
 // Adds what the book of this script came to, and lets it go.

@@ -61,9 +61,9 @@ fn push_turn<D: Disk, F: Fn(&[u64]) -> usize + Drop>(
     if who >= WORKERS {
         return Err(refuse("no worker"));
     }
-    let before = book.engine().journal().len();
+    let before = book.engine().recent().len();
     push_made(who, book.step(alloc, who), out)?;
-    push_entry(alloc, book.engine().journal().get(before), out)
+    push_entry(alloc, book.engine().recent().get(before), out)
 }
 
 /// Makes the turns of these workers, one after another, and adds what came of each.
@@ -119,11 +119,7 @@ pub(crate) fn push_counts<D: Disk, F: Drop>(
     out: &mut String,
 ) -> Result<(), Fault> {
     let engine = book.engine();
-    let numbers = [
-        engine.journal().len() as u64,
-        engine.events(),
-        engine.steps(),
-    ];
+    let numbers = [engine.entries(), engine.events(), engine.steps()];
     push_filled("% entries, % events, % steps, ", &numbers, out)?;
     push_value_line(&book.fault(), out)
 }

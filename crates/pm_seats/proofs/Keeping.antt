@@ -18,13 +18,14 @@ use Rattle.pm_saving.specs.Events.{FailsAs}
 use Rattle.pm_engine.specs.declared.engine.Engine.{Engine}
 use Rattle.pm_engine.specs.declared.events.stop.Stop.TheVariants.{Memory, Device}
 use Rattle.pm_engine.specs.Calls.{AnswersClient, AnswersCollect, AnswersFlush, StaysWhole}
-use Rattle.pm_engine.specs.Shown.{disk_in, serving}
+use Rattle.pm_engine.specs.Shown.{disk_in, past_of, recent, serving}
 use Rattle.pm_engine.specs.Events.Causes.{stop_after, stop_of}
 use Rattle.pm_engine.specs.Events.Events.{Adds, EngineGoesOn, FitsLine}
 use Rattle.pm_engine.specs.Events.Running.{IsFresh}
 use Rattle.pm_engine.proofs.EventsLemmas.Going.{counts_stay, goes_then}
 use Rattle.pm_engine.proofs.EventsLemmas.Made.{adds_entry}
 use Rattle.pm_engine.proofs.EventsLemmas.Lines.{told_more}
+use Rattle.pm_engine.proofs.WorksLemmas.Whole.{front_none}
 use Rattle.pm_seats.specs.declared.limits.TheConstants.{LAST_EVENT}
 use Rattle.pm_seats.specs.declared.logbook.Logbook.{Logbook}
 use Rattle.pm_seats.specs.Callers.{callers_of}
@@ -43,7 +44,14 @@ module _ {D : Type 0} {F : Type 0} {g : Ghosts D} where
   -- after memory ran out the run may go on
   may_go_on : (old new : Engine D F g) → EngineGoesOn old new (Some (Memory no_memory)) → EngineGoesOn old new None
   may_go_on old new goes =
-      record { start = goes.start; room = goes.room; grows = goes.grows; leaves = goes.leaves; last = λ of. absurd of; going = goes.going; cause = goes.cause; past = goes.past; idle = goes.idle }
+      record { start = goes.start; entries = goes.entries; room = goes.room; grows = goes.grows; leaves = goes.leaves; last = λ of. absurd of; going = goes.going; cause = goes.cause; past = goes.past; idle = goes.idle }
+
+  -- a call that failed lets no entry go
+  gone_failed : (old new : Engine D F g) (fault : EngineFault) → FailsAs (serving old) (serving new) (g.count (disk_in old)) (g.count (disk_in new)) fault → StaysWhole old new fault → ((serving old).stopped ≡ None → EngineGoesOn old new (Some (stop_of fault)))
+      → past_of new ≡ past_of old
+  gone_failed old new (NoRoom _) fails stays goes = (goes fails.1).entries
+  gone_failed old new (Disk before after) fails stays goes = (goes fails.1).entries
+  gone_failed old new (Reopen count) fails stays goes = ap (λ (e : Engine D F g). past_of e) stays
 
   module _ (first old new : Engine D F g) (was : GoesFrom first old) where
     goes_before : (serving old).stopped ≡ None → EngineGoesOn first old None
@@ -82,6 +90,7 @@ module _ {D : Type 0} {F : Type 0} {g : Ghosts D} where
         record {
           paired = subst (λ (c : List ℕ). IsPaired c (serving new).journal next) (sym more) (paired_more callers (serving old).journal (serving new).journal next number adds.entry kept.paired drawn adds.journal);
           goes = from.0;
+          whole = goes.entries ∙ kept.whole;
           stopped = from.1;
           counted =
               let long : length (serving new).journal ≡ length (serving old).journal + 1 = ap length adds.journal ∙ length-append (serving old).journal (adds.entry ∷ []) in
@@ -101,6 +110,7 @@ module _ {D : Type 0} {F : Type 0} {g : Ghosts D} where
         record {
           paired = paired_still callers (serving old).journal (serving new).journal next kept.paired journal;
           goes = from.0;
+          whole = goes.entries ∙ kept.whole;
           stopped = from.1;
           counted = let long = ap length journal in let was = kept.counted in omega (arith, long, steps, was, made);
           few = omega (arith, made, under, within);
@@ -116,6 +126,7 @@ module _ {D : Type 0} {F : Type 0} {g : Ghosts D} where
         record {
           paired = paired_still callers (serving old).journal (serving new).journal next kept.paired same.journal;
           goes = from.0;
+          whole = gone_failed old new fault fails stays goes ∙ kept.whole;
           stopped = from.1;
           counted = let long = ap length same.journal in let steps = same.steps in let events = same.events in let was = kept.counted in omega (arith, long, steps, events, was);
           few = let events = same.events in let was = kept.few in omega (arith, events, was);
@@ -155,6 +166,7 @@ module _ {D : Type 0} {F : Type 0} {g : Ghosts D} where
       (∣ record {
         paired = record { each = sym (ap length fresh.journal); drawn = tt; some = omega arith };
         goes = subst (λ (s : Option ℕ). EngineGoesOn engine engine (stop_in s)) (sym fresh.stopped) goes;
+        whole = front_none (past_of engine) (recent engine) fresh.journal;
         stopped = subst (λ (s : Option ℕ). StopsNow s (g.count (disk_in engine)) (g.count (disk_in engine))) (sym fresh.stopped) tt;
         counted = let long = ap length fresh.journal in let steps = fresh.steps in omega (arith, long, steps);
         few = let events = fresh.events in omega (arith, events);
@@ -165,7 +177,7 @@ module _ {D : Type 0} {F : Type 0} {g : Ghosts D} where
   pub kept_drawn : (first now : Engine D F g) (callers : List ℕ) (next later : ℕ) → later ≡ suc next → ∥ KeepsLogbook first now callers next ∥₁ → ∥ KeepsLogbook first now callers later ∥₁
   kept_drawn first now callers next later is kept =
       subst (λ (n : ℕ). ∥ KeepsLogbook first now callers n ∥₁) (sym is)
-      (∥∥₁_map kept (λ it. record { paired = paired_drawn callers (serving now).journal next it.paired; goes = it.goes; stopped = it.stopped; counted = it.counted; few = it.few; lines = it.lines }))
+      (∥∥₁_map kept (λ it. record { paired = paired_drawn callers (serving now).journal next it.paired; goes = it.goes; whole = it.whole; stopped = it.stopped; counted = it.counted; few = it.few; lines = it.lines }))
 
   module _ (old : Logbook D F g) where
     -- a logbook is told by its fields: what its type keeps adds nothing

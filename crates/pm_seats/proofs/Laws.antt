@@ -1,15 +1,16 @@
 -- What a logbook keeps, which holds as soon as it is known that it holds in some way.
-use Rattle.std.proofs.Common.{◌≡◌, ℕ, ◌+◌, ◌<◌, ◌≤◌, ◌^◌, List, length, Option, Some, None}
+use Rattle.std.proofs.Common.{◌≡◌, ℕ, ◌+◌, ◌<◌, ◌≤◌, ◌^◌, List, [], length, Option, Some, None}
 use Rattle.std.specs.List.{AllByRecursion, AllByRecursion-prop}
 use Rattle.std.proofs.Math.Logic.{∥∥₁_map}
 use Rattle.std.proofs.Props.{props}
 use Rattle.pm_disk.specs.declared.disk.Disk.{Ghosts}
 use Rattle.pm_law_saving.proofs.ServingLemmas.Splitting.{splits_once}
 use Rattle.pm_engine.specs.declared.engine.Engine.{Engine}
-use Rattle.pm_engine.specs.Shown.{disk_in, serving}
+use Rattle.pm_engine.specs.Shown.{disk_in, past_of, serving}
 use Rattle.pm_engine.specs.Events.Events.{FitsLine}
 use Rattle.pm_engine.proofs.WorksLemmas.Counts.{splits_rose}
 use Rattle.pm_engine.proofs.EventsLemmas.Lines.{told_once}
+use Rattle.pm_engine.proofs.WorksLemmas.Whole.{none_known}
 use Rattle.pm_seats.specs.Kept.{IsPaired, KeepsLogbook, StopsNow}
 
 number_once : (a b : ℕ) → IsProp (a ≡ b)
@@ -35,6 +36,9 @@ module _ {D : Type 0} {F : Type 0} {g : Ghosts D} (first now : Engine D F g) (ca
     drawn = splits_once (drawn_once next callers) (∥∥₁_map kept (λ is. is.paired.drawn));
     some = splits_once (below_once _ _) (∥∥₁_map kept (λ is. is.paired.some));
   }
+
+  pub known_whole : past_of now ≡ []
+  known_whole = none_known (past_of now) (∥∥₁_map kept (λ is. is.whole))
 
   pub known_stopped : StopsNow (serving now).stopped (g.count (disk_in first)) (g.count (disk_in now))
   known_stopped = splits_stopped (serving now).stopped (g.count (disk_in first)) (g.count (disk_in now)) (∥∥₁_map kept (λ is. is.stopped))

@@ -8,3 +8,4 @@ pub mod Passing
 pub mod Closing
 pub mod Turning
 pub mod Crosses
+pub mod Single

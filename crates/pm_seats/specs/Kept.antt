@@ -1,5 +1,5 @@
 -- What the type of a logbook keeps.
-use Rattle.std.specs.Prelude.{◌≡◌, ℕ, ◌+◌, ◌<◌, ◌≤◌, ◌^◌, List, length, Option, Some, None}
+use Rattle.std.specs.Prelude.{◌≡◌, ℕ, ◌+◌, ◌<◌, ◌≤◌, ◌^◌, List, [], length, Option, Some, None}
 use Rattle.std.specs.List.{AllByRecursion}
 use Rattle.pm_types.specs.Counts.{Rose}
 use Rattle.pm_types.specs.declared.entry.Entry.{Entry}
@@ -7,7 +7,7 @@ use Rattle.pm_disk.specs.declared.disk.Disk.{Ghosts}
 use Rattle.pm_engine.specs.declared.engine.Engine.{Engine}
 use Rattle.pm_engine.specs.declared.events.stop.Stop.{Stop}
 use Rattle.pm_engine.specs.declared.events.stop.Stop.TheVariants.{Device}
-use Rattle.pm_engine.specs.Shown.{disk_in, serving}
+use Rattle.pm_engine.specs.Shown.{disk_in, past_of, serving}
 use Rattle.pm_engine.specs.Events.Events.{EngineGoesOn, FitsLine}
 
 -- each entry of the journal has a caller, whose number was drawn: it is below the next one, which is over 0
@@ -33,7 +33,9 @@ pub record KeepsLogbook {D : Type 0} {F : Type 0} {g : Ghosts D} (first now : En
   pub paired : IsPaired callers (serving now).journal next
   -- the engine went on from the first as a run does, which stops only where the engine is stopped
   pub goes : EngineGoesOn first now (stop_in (serving now).stopped)
-  -- and then it has the disk's count of failed calls now, which rose
+  -- no entry was let go
+  pub whole : past_of now ≡ []
+  -- where the engine is stopped it has the disk's count of failed calls now, which rose
   pub stopped : StopsNow (serving now).stopped (g.count (disk_in first)) (g.count (disk_in now))
   -- entries and the collector's events are events
   pub counted : length (serving now).journal + (serving now).steps ≤ (serving now).events

@@ -21,12 +21,12 @@ pub struct Logbook<D: Disk, F> {
 }
 
 impl<D: Disk, F: Drop> Logbook<D, F> {
-    ghost use Rattle.std.specs.Prelude.{◌≡◌, ◌+◌, ◌<◌, ◌≤◌, ◌^◌, length};
+    ghost use Rattle.std.specs.Prelude.{◌≡◌, ◌+◌, ◌<◌, ◌≤◌, ◌^◌, [], length};
     ghost use Rattle.std.specs.List.{AllByRecursion};
     ghost use Rattle.std.specs.Thread.{IsSend};
     ghost use Rattle.pm_model.specs.Journal.{IsLegal};
     ghost use Rattle.pm_saving.specs.Serving.{opening};
-    ghost use Rattle.pm_engine.specs.Shown.{disk_in, serving};
+    ghost use Rattle.pm_engine.specs.Shown.{disk_in, past_of, serving};
     ghost use Rattle.pm_engine.specs.Events.Running.{IsFresh};
     ghost use Rattle.pm_engine.specs.Events.Events.{EngineGoesOn, FitsLine};
     ghost use Rattle.pm_seats.specs.Kept.{IsPaired, StopsNow, stop_in};
@@ -73,7 +73,7 @@ impl<D: Disk, F: Drop> Logbook<D, F> {
     pub fn entries(&self) -> u64
         ensures { result ≡ length (log_in self.now) }
     {
-        self.engine.journal().len() as u64
+        self.engine.entries()
     }
 
     /// The engine, given up.
@@ -94,11 +94,12 @@ impl<D: Disk, F: Drop> Logbook<D, F> {
     }
 
     /// A law of the logbook at any time, on its engine. It went on from the one of which the logbook was made as a run
-    /// does. Where it is stopped, it has the disk's count of failed calls now, which rose since then. Its entries and
+    /// does, and let no entry go. Where it is stopped, it has the disk's count of failed calls now, which rose since then. Its entries and
     /// the events of the collector are no more than its events, which are below 2^50.
     pub fn keep_its_engine(&self)
         ensures goes { ∥ EngineGoesOn (first_in self.now) (engine_in self.now)
             (stop_in (serving (engine_in self.now)).stopped) ∥₁ }
+        ensures whole { past_of (engine_in self.now) ≡ [] }
         ensures stopped { StopsNow (serving (engine_in self.now)).stopped
             (D.count (disk_in (first_in self.now))) (D.count (disk_in (engine_in self.now))) }
         ensures counted { length (serving (engine_in self.now)).journal + (serving (engine_in self.now)).steps

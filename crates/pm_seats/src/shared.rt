@@ -26,13 +26,13 @@ pub struct Shared<D: Disk + Drop, F: Drop> {
 }
 
 impl<D: Disk + Drop, F: Drop> Shared<D, F> {
-    ghost use Rattle.std.specs.Prelude.{◌≡◌, ◌≤◌, ◌<◌, false, IfOk, IfErr, MatchResult};
+    ghost use Rattle.std.specs.Prelude.{◌≡◌, ◌≤◌, ◌<◌, [], false, IfOk, IfErr, MatchResult};
     ghost use Rattle.std.specs.Thread.{IsSend, IsSync};
     ghost use Rattle.pm_types.specs.declared.limits.TheConstants.{CLIENTS};
     ghost use Rattle.pm_model.specs.Frames.{is_settle};
     ghost use Rattle.pm_model.specs.Journal.{IsFirstPart, IsLegal};
     ghost use Rattle.pm_saving.specs.Serving.{opening};
-    ghost use Rattle.pm_engine.specs.Shown.{disk_in, serving};
+    ghost use Rattle.pm_engine.specs.Shown.{disk_in, past_of, serving};
     ghost use Rattle.pm_engine.specs.Events.Running.{IsFresh};
     ghost use Rattle.pm_engine.specs.Events.Events.{EngineGoesOn};
     ghost use Rattle.pm_passes.specs.Numbering.{every};
@@ -161,6 +161,8 @@ impl<D: Disk + Drop, F: Drop> Shared<D, F> {
     pub fn close<R: Wait>(self, rt: &R, pass: Pass<Entry>) -> Engine<D, F>
         requires pass { IsPassOf (engines.the_row D.row F.row D.Disk).coded self pass }
         ensures goes { ∥ EngineGoesOn (first_engine self) result (stop_in (serving result).stopped) ∥₁ }
+        // It let no entry go.
+        ensures past { past_of result ≡ [] }
         ensures stopped { StopsNow (serving result).stopped
             (D.count (disk_in (first_engine self))) (D.count (disk_in result)) }
         ensures legal { IsLegal (opening (serving (first_engine self))) (serving result).journal }

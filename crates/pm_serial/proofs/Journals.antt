@@ -17,6 +17,16 @@ pushed_last journal longer entry at n pushed is_n read =
     let place : length journal ≡ n - 1 = omega (arith, is_n, long) in
     read ∙ ap (λ (j : List Entry). get_or j (n - 1) at) pushed ∙ get_or_push journal entry at (n - 1) place
 
+-- where two lists begin alike and are the same, so is what is behind that
+cancelled : (past first second : List Entry) → past ++ first ≡ past ++ second → first ≡ second
+cancelled [] first second same = same
+cancelled (entry ∷ past) first second same = let rest : past ++ first ≡ past ++ second = cc same in cancelled past first second rest
+
+-- where no entry was let go and the journal grew by one, so did the entries that are kept
+pub recent_grown : (past later kept lent : List Entry) (entry : Entry) → later ≡ past → later ++ lent ≡ (past ++ kept) ++ entry ∷ [] → lent ≡ kept ++ entry ∷ []
+recent_grown past later kept lent entry same grown =
+    cancelled past lent (kept ++ entry ∷ []) (ap (λ (entries : List Entry). entries ++ lent) (sym same) ∙ grown ∙ append_assoc past kept (entry ∷ []))
+
 -- the text of a journal that grew by one, of which this is the last entry
 pub text_grown : (journal longer : List Entry) (entry at : Entry) → longer ≡ journal ++ entry ∷ [] → at ≡ entry → text longer ≡ text journal ++ reply_line at
 text_grown journal longer entry at pushed is = ap text pushed ∙ text_push journal entry ∙ ap (λ (e : Entry). text journal ++ reply_line e) (sym is)

@@ -1,12 +1,12 @@
 -- What a run of lines over an engine does, whatever it writes, and what it writes that writes its replies.
-use Rattle.std.specs.Prelude.{ℕ, List, Option}
+use Rattle.std.specs.Prelude.{◌≡◌, ℕ, List, Option}
 use Rattle.pm_types.specs.declared.entry.Entry.{Entry}
 use Rattle.pm_disk.specs.declared.disk.Disk.{Ghosts}
 use Rattle.pm_io.specs.declared.sink.Sink as sink
 use Rattle.pm_model.specs.Text.{text}
 use Rattle.pm_script.specs.declared.line.Line.{Line}
 use Rattle.pm_engine.specs.declared.engine.Engine.{Engine}
-use Rattle.pm_engine.specs.Shown.{KeepsStart, Total, serving, tally_in}
+use Rattle.pm_engine.specs.Shown.{KeepsStart, Total, past_of, serving, tally_in}
 use Rattle.pm_engine.specs.declared.events.stop.Stop.{Stop}
 use Rattle.pm_engine.specs.Events.Running.{RunsOnDisk}
 use Rattle.pm_serial.specs.Acknowledged.{Acknowledges}
@@ -26,6 +26,8 @@ module _ {D : Type 0} {F : Type 0} {g : Ghosts D} where
     pub disk : RunsOnDisk old new stop
     -- the opening stays, and the chooser
     pub start : KeepsStart old new
+    -- no entry was let go
+    pub entries : past_of new ≡ past_of old
     -- what it wrote
     pub wrote : Wrote (serving new).journal (tally_in (serving new)) stop
 

@@ -71,9 +71,9 @@ pub(crate) fn answer_client<D: Disk, F: Drop, K: Sink>(
 {
     match ask_engine(alloc, engine, client, cmd) {
         Ok(()) => {
-            let journal = engine.journal();
-            let last = journal.len() - 1;
-            match tell_reply(&journal[last], output, sink) {
+            let recent = engine.recent();
+            let last = recent.len() - 1;
+            match tell_reply(&recent[last], output, sink) {
                 Ok(()) => Ok(()),
                 Err(_) => Err(Stop::Writing),
             }

@@ -4,7 +4,7 @@ ghost use Rattle.std.specs.Prelude.{◌≡◌, ◌⊎◌, [], None, Some, OnErr}
 ghost use Rattle.std.specs.List.{AllByRecursion};
 ghost use Rattle.pm_model.specs.Text.{text};
 ghost use Rattle.pm_serial.specs.Output.Gathered.{gathered};
-ghost use Rattle.pm_engine.specs.Shown.{serving, tally_in};
+ghost use Rattle.pm_engine.specs.Shown.{past_of, serving, tally_in};
 ghost use Rattle.pm_engine.specs.declared.events.stop.Stop.TheVariants.{Writing};
 ghost use Rattle.pm_engine.specs.Events.Causes.{why};
 ghost use Rattle.pm_engine.specs.Events.Events.{FitsLine};
@@ -36,7 +36,8 @@ fn put_journal<K: Sink>(output: &mut Output, sink: &mut K, journal: &[Entry]) ->
 }
 
 /// Writes what an engine answered in a run whose replies are all written at its end: a line for each entry of the journal,
-/// and, where the run came to its end, the end line and a line for each watch. Nothing is gathered in the buffer before.
+/// and, where the run came to its end, the end line and a line for each watch. Nothing is gathered in the buffer before,
+/// and the engine let no entry go.
 ///
 /// # Errors
 ///
@@ -49,6 +50,7 @@ pub fn write_journal<D: Disk, F: Drop, K: Sink>(
     sink: &mut K,
 ) -> Result<(), Stop>
     requires told { AllByRecursion FitsLine (serving engine.now).journal }
+    requires past { past_of engine.now ≡ [] }
     requires elsewhere { IsGathered (why ran) }
     requires empty { gathered output.old ≡ [] }
     ensures first { (why result ≡ why ran) ⊎ ((why ran ≡ None) × (why result ≡ Some Writing)) }

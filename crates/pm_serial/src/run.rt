@@ -4,7 +4,7 @@ ghost use Rattle.std.specs.Prelude.{◌≡◌, ◌≤◌, [], length, OnOk, IfOk
 ghost use Rattle.pm_place.specs.Choosers.{IsChooser};
 ghost use Rattle.pm_script.specs.Script.{AreLines};
 ghost use Rattle.pm_serial.specs.Output.Gathered.{gathered};
-ghost use Rattle.pm_engine.specs.Shown.{KeepsStart, chooser, disk_in, room, serving};
+ghost use Rattle.pm_engine.specs.Shown.{KeepsEntries, KeepsStart, chooser, disk_in, room, serving};
 ghost use Rattle.pm_script.specs.Parted.Asked.{requests_asked};
 ghost use Rattle.pm_engine.specs.Events.Causes.{why};
 ghost use Rattle.pm_engine.specs.Events.Running.{IsFresh};
@@ -46,6 +46,7 @@ fn take_room<D: Disk, F: Drop>(
     ensures serving { serving engine.new ≡ serving engine.old }
     ensures disk { disk_in engine.new ≡ disk_in engine.old }
     ensures start { KeepsStart engine.old engine.new }
+    ensures entries { KeepsEntries engine.old engine.new }
     ensures grows { room engine.old ≤ room engine.new }
 {
     let output = Output::new(alloc)?;

@@ -1,5 +1,5 @@
 -- What holds of an engine with a nursery once it was opened, and once its journal has more room.
-use Rattle.std.proofs.Common.{◌≡◌, ℕ, nat_eq, List, [], None, sym, ap, subst, inl}
+use Rattle.std.proofs.Common.{◌≡◌, ℕ, nat_eq, List, [], ◌++◌, None, sym, ap, subst, inl}
 use Rattle.std.specs.Option.{IsSome}
 use Rattle.std.specs.Ordering.{nat_cmp}
 use Rattle.std.specs.FinMap.{get, get-empty}
@@ -19,7 +19,7 @@ use Rattle.pm_saving.specs.Serving.{Serving, just_opened, opening, world}
 use Rattle.pm_engine.specs.declared.works.start.Start.{Start}
 use Rattle.pm_engine.specs.declared.works.works.Works.{Works}
 use Rattle.pm_engine.specs.Works.Seen.{IsCrashSafe, seen}
-use Rattle.pm_engine.specs.Works.Working.{view_in}
+use Rattle.pm_engine.specs.Works.Working.{journal_in, past_in, view_in}
 use Rattle.pm_nursery.specs.Young.{NurseryView, IsYoung, no_nursery}
 use Rattle.pm_law_young.proofs.Owned.{opening_young}
 use Rattle.pm_young.specs.Entering.{IsPresent, KeepsEntered}
@@ -40,7 +40,7 @@ module _ {D : Type 0} {F : Type 0} {g : Ghosts D} (start : Start D F g) (works :
   within_kept known = ∥∥₁_map known (λ it. record {
     within = it.within;
     represents = it.represents;
-    young = subst (λ (entries : List Entry). IsYoung it.within nursery (after (opening (seen start None works)) entries)) (sym same) it.young;
+    young = subst (λ (entries : List Entry). IsYoung it.within nursery (after (opening (seen start None works)) (past_in works ++ entries))) (sym same) it.young;
     opened = it.opened;
   })
 
@@ -70,7 +70,7 @@ module _ {D : Type 0} {F : Type 0} {g : Ghosts D} (start : Start D F g) (works :
   begun safe represents = record {
     within = world (seen start None works);
     represents = represents;
-    young = opening_young (world (seen start None works)) (closed_after (opening (seen start None works)) works.journal.items safe.journal.closed);
+    young = opening_young (world (seen start None works)) (closed_after (opening (seen start None works)) (journal_in works) safe.journal.closed);
     opened = λ id there. subst (λ (w : World). IsSome (get w.heap id)) (sym same_world) there;
   }
 

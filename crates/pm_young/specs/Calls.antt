@@ -13,7 +13,7 @@ use Rattle.pm_young.specs.declared.halt.Halt.{Halt}
 use Rattle.pm_young.specs.declared.halt.HaltCause.TheVariants as causes
 use Rattle.pm_young.specs.Entering.{AreFirstKept, AreKept, IsPresent}
 use Rattle.pm_young.specs.Rows.{ComeByRows}
-use Rattle.pm_young.specs.Seen.{disk_in, entered_in, halt_in, pages_in, room, serving, young_in}
+use Rattle.pm_young.specs.Seen.{disk_in, entered_in, halt_in, pages_in, past_of, room, serving, young_in}
 
 -- journal, course, watches and copies stay, and no event of the collector was made
 pub record KeepsAnswers (old new : Serving) : Type 0 where
@@ -89,7 +89,8 @@ module _ {D : Type 0} {F : Type 0} {g : Ghosts D} where
     -- the disk is the same value, on which no call was made, and so are the pages
     pub still : disk_in new ≡ disk_in old
     pub pages : pages_in new ≡ pages_in old
-    -- there is room for as many entries
+    -- no entry is let go, and there is room for as many
+    pub past : past_of new ≡ past_of old
     pub room : room old ≤ room new
     -- what died young stays out
     pub goes : YoungGoesOn old new

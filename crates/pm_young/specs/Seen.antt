@@ -1,9 +1,10 @@
 -- What contracts see of an engine with a nursery.
 use Rattle.std.specs.Prelude.{◌≡◌, ℕ, List, [], Option, None}
+use Rattle.pm_types.specs.declared.entry.Entry.{Entry}
 use Rattle.pm_disk.specs.declared.disk.Disk.{Ghosts}
 use Rattle.pm_shadow.specs.State.{State}
 use Rattle.pm_saving.specs.Serving.{KeepsOpening, Serving}
-use Rattle.pm_engine.specs.Works.Working.{disk_at, place_in, room_in, state_in}
+use Rattle.pm_engine.specs.Works.Working.{disk_at, past_in, place_in, room_in, state_in}
 use Rattle.pm_engine.specs.Works.Seen.{disk_then, seen}
 use Rattle.pm_nursery.specs.Young.{NurseryView, no_nursery}
 use Rattle.pm_young.specs.declared.engine.YoungEngine.{YoungEngine}
@@ -40,6 +41,10 @@ module _ {D : Type 0} {F : Type 0} {g : Ghosts D} where
 
   abbrev pub opened_count : YoungEngine D F g → ℕ
   opened_count it = it.opening.count
+
+  -- the entries that were let go
+  abbrev pub past_of : YoungEngine D F g → List Entry
+  past_of it = past_in it.works
 
   -- so many entries more take no memory
   abbrev pub room : YoungEngine D F g → ℕ

@@ -34,7 +34,7 @@ pub struct YoungEngine<D: Disk, F> {
 }
 
 impl<D: Disk, F: Drop> YoungEngine<D, F> {
-    ghost use Rattle.std.specs.Prelude.{◌≡◌, ◌⊎◌, ◌≤◌, ◌<◌, ℕ, List, length, None, IsSome, OnOk, OnErr};
+    ghost use Rattle.std.specs.Prelude.{◌≡◌, ◌⊎◌, ◌≤◌, ◌<◌, ◌++◌, ℕ, List, [], length, None, IsSome, OnOk, OnErr};
     ghost use Rattle.std.specs.FinMap.{get, len};
     ghost use Rattle.pm_model.specs.Reachability.{IsReachable};
     ghost use Rattle.pm_view.specs.Represents.{IsHeld};
@@ -45,13 +45,28 @@ impl<D: Disk, F: Drop> YoungEngine<D, F> {
     ghost use Rattle.pm_view.specs.Counts.{IsStanding, standing};
     ghost use Rattle.pm_types.specs.Counts.{capped};
     ghost use Rattle.pm_young.specs.Seen.{KeepsStart, KeepsYoung, disk_in, entered_in, halt_in};
-    ghost use Rattle.pm_young.specs.Seen.{opened_count, opened_disk, room, serving, young_in};
+    ghost use Rattle.pm_young.specs.Seen.{opened_count, opened_disk, past_of, room, serving, young_in};
 
-    /// What was asked and answered since the opening, in order.
+    /// What was asked and answered since the opening, in order, while no entry was let go.
     pub fn journal(&self) -> &[Entry]
+        requires past { past_of self.now ≡ [] }
         ensures { result.now ≡ (serving self.now).journal }
     {
         self.works.journal.as_slice()
+    }
+
+    /// The entries that are kept, in order: the last of the journal.
+    pub fn recent(&self) -> &[Entry]
+        ensures told { (serving self.now).journal ≡ past_of self.now ++ result.now }
+    {
+        self.works.journal.as_slice()
+    }
+
+    /// How many entries the journal has.
+    pub fn entries(&self) -> u64
+        ensures { result ≡ length (serving self.now).journal }
+    {
+        self.works.entries()
     }
 
     /// How many events were made: sweeps, commands, events of the collector and flush events that were answered Ok.
@@ -103,6 +118,7 @@ impl<D: Disk, F: Drop> YoungEngine<D, F> {
         ensures young { KeepsYoung self.old self.new }
         ensures disk { disk_in self.new ≡ disk_in self.old }
         ensures start { KeepsStart self.old self.new }
+        ensures past { past_of self.new ≡ past_of self.old }
         ensures room { OnOk result (n ≤ room self.new) }
         // There is room for as many as before; where it fails so many had no room, and as many have as before.
         ensures grows { room self.old ≤ room self.new }

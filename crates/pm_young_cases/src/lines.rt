@@ -52,7 +52,7 @@ fn push_entered<D: Disk, F: Drop>(
 // Adds what the engine tells of itself.
 fn push_told<D: Disk, F: Drop>(engine: &YoungEngine<D, F>, out: &mut String) -> Result<(), Fault> {
     let numbers = [
-        engine.journal().len() as u64,
+        engine.entries(),
         engine.events(),
         engine.steps(),
         engine.completed(),

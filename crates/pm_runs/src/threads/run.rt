@@ -4,7 +4,7 @@ ghost use Rattle.std.specs.Prelude.{◌≡◌, ◌⊎◌, ℕ, List, [], None, S
 ghost use Rattle.pm_place.specs.Choosers.{IsChooser};
 ghost use Rattle.pm_model.specs.Text.{text};
 ghost use Rattle.pm_serial.specs.Output.Gathered.{gathered};
-ghost use Rattle.pm_engine.specs.Shown.{KeepsStart, chooser, disk_in, serving, tally_in, unmade_in};
+ghost use Rattle.pm_engine.specs.Shown.{KeepsStart, chooser, disk_in, past_of, serving, tally_in, unmade_in};
 ghost use Rattle.pm_engine.specs.declared.events.stop.Stop.TheVariants.{Writing};
 ghost use Rattle.pm_engine.specs.Events.Causes.{CountsDisk, why};
 ghost use Rattle.pm_engine.specs.Events.Running.{IsFresh, RunsOnDisk};
@@ -53,6 +53,7 @@ fn end_book<D: Disk, F: Drop, K: Sink>(
     sink: &mut K,
 ) -> (Result<(), Stop>, Engine<D, F>)
     requires empty { gathered output.old ≡ [] }
+    requires whole { past_of (engine_in book) ≡ [] }
     ensures engine { result.1 ≡ engine_in book }
     ensures first { (why result.0 ≡ stop_kept (fault_in book))
         ⊎ ((stop_kept (fault_in book) ≡ None) × (why result.0 ≡ Some Writing)) }
@@ -106,6 +107,8 @@ pub fn run_script<
         (text (serving result.1).journal) (tail_of (tally_in (serving result.1))) (why result.0) }
     ensures cause { CountsDisk (why result.0) (D.count (disk_in engine)) (D.count (disk_in result.1)) }
     ensures past { (D.made (disk_in result.1)).past ≡ (D.made (disk_in engine)).past }
+    // No entry was let go.
+    ensures whole { past_of result.1 ≡ [] }
     ensures start { ∥ KeepsStart engine result.1 ∥₁ }
     // Where the sink failed all was answered, as where the run is done: it is called behind the last event alone.
     ensures last { IsOfSink (why result.0)

@@ -1,6 +1,6 @@
-use Rattle.std.proofs.Common.{[], ◌∷◌, Some, None, length, ap, refl, ◌∙◌}
+use Rattle.std.proofs.Common.{[], ◌∷◌, Some, None, length, ap, refl, sym, ◌∙◌}
 use Rattle.pm_saving.specs.Serving.{made_now}
-use Rattle.pm_engine.specs.Shown.{serving}
+use Rattle.pm_engine.specs.Shown.{past_of, recent, serving}
 use Rattle.pm_serial.specs.Output.Gathered.{gathered}
 use Rattle.pm_model.specs.Text.{reply_line}
 use Rattle.pm_engine.specs.declared.events.stop.Stop.TheVariants.{Writing}
@@ -11,7 +11,7 @@ use Rattle.pm_serial.proofs.Acknowledging.{keeps_entry, keeps_lost, keeps_still,
 use Rattle.pm_serial.proofs.Cutting.{stops_before, stops_behind}
 use Rattle.pm_serial.proofs.Ordering.{tells_all, tells_nothing}
 use Rattle.pm_serial.proofs.Gathering.{sink_line, sink_lost, sink_still}
-use Rattle.pm_serial.proofs.Journals.{pushed_last, text_grown}
+use Rattle.pm_serial.proofs.Journals.{pushed_last, recent_grown, text_grown}
 use Rattle.pm_serial.proofs.event.answer_client.Goals as goal
 
 pub returns-in-Ok-tell_reply-clause-answers : goal.returns-in-Ok-tell_reply-clause-answers
@@ -26,9 +26,11 @@ returns-in-Ok-tell_reply-clause-sink g c =
     let adds = c.in-Ok.ensures.adds in
     let journal = (serving c.args.engine.now).journal in
     let longer = (serving c.ask_engine.new.engine).journal in
-    let last = c.index-journal-last.result in
-    let lent = c.journal-journal.result.now in
-    let is = pushed_last journal lent adds.entry last (length lent) (c.journal-journal.ensures ∙ adds.journal) refl c.index-journal-last.is in
+    let last = c.index-recent-last.result in
+    let lent = c.recent-recent.result.now in
+    let kept = recent c.args.engine.now in
+    let pushed = recent_grown (past_of c.args.engine.now) (past_of c.ask_engine.new.engine) kept lent adds.entry c.in-Ok.ensures.engine.entries (sym c.recent-recent.ensures.told ∙ adds.journal) in
+    let is = pushed_last kept lent adds.entry last (length lent) pushed refl c.index-recent-last.is in
     let grown = text_grown journal longer adds.entry last adds.journal is in
     let step = c.in-Ok-tell_reply.ensures in
     sink_line g.K.Sink.written g.K.Sink.finished g.K.Sink.count c.args.sink.now c.tell_reply.new.sink (gathered c.args.output.now) (gathered c.tell_reply.new.output) (reply_line last) journal longer grown step.adds step.counted
@@ -51,9 +53,11 @@ returns-in-Err-tell_reply-clause-sink g c =
     let adds = c.in-Ok.ensures.adds in
     let journal = (serving c.args.engine.now).journal in
     let longer = (serving c.ask_engine.new.engine).journal in
-    let last = c.index-journal-last.result in
-    let lent = c.journal-journal.result.now in
-    let is = pushed_last journal lent adds.entry last (length lent) (c.journal-journal.ensures ∙ adds.journal) refl c.index-journal-last.is in
+    let last = c.index-recent-last.result in
+    let lent = c.recent-recent.result.now in
+    let kept = recent c.args.engine.now in
+    let pushed = recent_grown (past_of c.args.engine.now) (past_of c.ask_engine.new.engine) kept lent adds.entry c.in-Ok.ensures.engine.entries (sym c.recent-recent.ensures.told ∙ adds.journal) in
+    let is = pushed_last kept lent adds.entry last (length lent) pushed refl c.index-recent-last.is in
     let grown = text_grown journal longer adds.entry last adds.journal is in
     let step = c.in-Err-tell_reply.ensures in
     sink_lost g.K.Sink.written g.K.Sink.finished g.K.Sink.count c.args.sink.now c.tell_reply.new.sink (gathered c.args.output.now) (gathered c.tell_reply.new.output) (reply_line last) journal longer grown step.part step.cause
@@ -77,9 +81,11 @@ returns-in-Ok-tell_reply-clause-told g c =
     let adds = c.in-Ok.ensures.adds in
     let journal = (serving c.args.engine.now).journal in
     let longer = (serving c.ask_engine.new.engine).journal in
-    let last = c.index-journal-last.result in
-    let lent = c.journal-journal.result.now in
-    let is = pushed_last journal lent adds.entry last (length lent) (c.journal-journal.ensures ∙ adds.journal) refl c.index-journal-last.is in
+    let last = c.index-recent-last.result in
+    let lent = c.recent-recent.result.now in
+    let kept = recent c.args.engine.now in
+    let pushed = recent_grown (past_of c.args.engine.now) (past_of c.ask_engine.new.engine) kept lent adds.entry c.in-Ok.ensures.engine.entries (sym c.recent-recent.ensures.told ∙ adds.journal) in
+    let is = pushed_last kept lent adds.entry last (length lent) pushed refl c.index-recent-last.is in
     let step = c.in-Ok-tell_reply.ensures in
     tells_last g.K.Sink c.args.sink.now c.tell_reply.new.sink (gathered c.tell_reply.new.output) journal longer adds.entry adds.journal
     (λ says. step.saved (ap (λ (e : Entry). says_saved e.reply) is ∙ says))
@@ -89,9 +95,11 @@ returns-in-Ok-tell_reply-clause-saved g c =
     let adds = c.in-Ok.ensures.adds in
     let journal = (serving c.args.engine.now).journal in
     let longer = (serving c.ask_engine.new.engine).journal in
-    let last = c.index-journal-last.result in
-    let lent = c.journal-journal.result.now in
-    let is = pushed_last journal lent adds.entry last (length lent) (c.journal-journal.ensures ∙ adds.journal) refl c.index-journal-last.is in
+    let last = c.index-recent-last.result in
+    let lent = c.recent-recent.result.now in
+    let kept = recent c.args.engine.now in
+    let pushed = recent_grown (past_of c.args.engine.now) (past_of c.ask_engine.new.engine) kept lent adds.entry c.in-Ok.ensures.engine.entries (sym c.recent-recent.ensures.told ∙ adds.journal) in
+    let is = pushed_last kept lent adds.entry last (length lent) pushed refl c.index-recent-last.is in
     let grown = text_grown journal longer adds.entry last adds.journal is in
     let step = c.in-Ok-tell_reply.ensures in
     keeps_entry g.K.Sink c.args.sink.now c.tell_reply.new.sink (gathered c.args.output.now) (gathered c.tell_reply.new.output) journal longer adds.entry adds.journal
@@ -103,9 +111,11 @@ returns-in-Err-tell_reply-clause-saved g c =
     let adds = c.in-Ok.ensures.adds in
     let journal = (serving c.args.engine.now).journal in
     let longer = (serving c.ask_engine.new.engine).journal in
-    let last = c.index-journal-last.result in
-    let lent = c.journal-journal.result.now in
-    let is = pushed_last journal lent adds.entry last (length lent) (c.journal-journal.ensures ∙ adds.journal) refl c.index-journal-last.is in
+    let last = c.index-recent-last.result in
+    let lent = c.recent-recent.result.now in
+    let kept = recent c.args.engine.now in
+    let pushed = recent_grown (past_of c.args.engine.now) (past_of c.ask_engine.new.engine) kept lent adds.entry c.in-Ok.ensures.engine.entries (sym c.recent-recent.ensures.told ∙ adds.journal) in
+    let is = pushed_last kept lent adds.entry last (length lent) pushed refl c.index-recent-last.is in
     let grown = text_grown journal longer adds.entry last adds.journal is in
     keeps_lost g.K.Sink c.args.sink.now c.tell_reply.new.sink (gathered c.args.output.now) (reply_line last) journal longer grown c.in-Err-tell_reply.ensures.near
 

@@ -34,7 +34,7 @@ returns-in-Err g c =
     let law = c.keep_their_images.ensures in
     let room = c.take_room.ensures in
     let empty = ap (λ (it : Serving). it.journal) room.serving ∙ c.requires.fresh.journal in
-    let still = goes_still old new room.start room.grows room.serving room.disk c.requires.fresh.stopped law.legal (law.settled c.requires.fresh.stopped) (g.met.D.Disk.only_now (disk_in old)) in
+    let still = goes_still old new room.start room.entries.past room.grows room.serving room.disk c.requires.fresh.stopped law.legal (law.settled c.requires.fresh.stopped) (g.met.D.Disk.only_now (disk_in old)) in
     record {
       answers =
           answers_lines lines was now (Some (Memory no_memory)) c.requires.fresh
@@ -49,6 +49,7 @@ returns-in-Err g c =
           subst (λ (it : Serving). IsSettledCopy (world it) left) (sym room.serving)
           (law.settled c.requires.fresh.stopped (subst (λ (d : g.row.D.Denot). IsTold (g.D.Disk.contents d)) room.start.disk told) left (subst (λ (d : g.row.D.Denot). g.D.Disk.image d left) room.disk here)));
       start = room.start;
+      entries = room.entries.past;
       wrote = record {
         sink = wrote_none g.K.Sink.written g.K.Sink.finished g.K.Sink.count c.args.sink.now now.journal (text_behind c.args.behind (tally_in now)) (ap text empty);
         saved = acknowledges_none g.K.Sink c.args.sink.now now.journal (Some (Memory no_memory)) empty;
@@ -77,7 +78,7 @@ returns g c =
     let part = subst (λ (it : Serving). AnswersPart (requests_asked lines) (events_asked lines) (steps_asked lines) it now before) same ran.answers in
     let fresh : IsFresh began = subst IsFresh (sym same) c.requires.fresh in
     let tells = tells_run lines began now before after fresh c.end.ensures.why ran.course in
-    let still = goes_still old ready room.start room.grows room.serving room.disk c.requires.fresh.stopped law.legal (law.settled c.requires.fresh.stopped) (g.met.D.Disk.only_now (disk_in old)) in
+    let still = goes_still old ready room.start room.entries.past room.grows room.serving room.disk c.requires.fresh.stopped law.legal (law.settled c.requires.fresh.stopped) (g.met.D.Disk.only_now (disk_in old)) in
     let goes = goes_then old ready new before still ran.engine in
     let tail = text_behind c.args.behind (tally_in now) in
     let wrote =
@@ -95,6 +96,7 @@ returns g c =
           inr (settle_cut lines began now before first ran.stops (short_before before after c.end.ensures.why is) done more client parted made few));
       disk = runs old new after c.requires.fresh (goes_ended old new before after c.end.ensures.why goes) c.keep_their_images-2.ensures.settled;
       start = goes.start;
+      entries = goes.entries;
       wrote = record {
         sink = wrote;
         saved =

@@ -1,11 +1,15 @@
 use Rattle.std.specs.Coded.{Coded-set, coded_ℕ, coded_option}
 use Rattle.std.proofs.Math.Logic.{∥∥₁_map}
-use Rattle.pm_engine.specs.Shown.{disk_in, opened_count, unmade_in}
+use Rattle.pm_engine.specs.Shown.{disk_in, opened_count, past_of, unmade_in}
+use Rattle.pm_engine.proofs.WorksLemmas.Whole.{none_known}
 use Rattle.pm_lock.proofs.Laws.{splits_cause, splits_once, splits_unmade, within_once}
 use Rattle.pm_lock.proofs.book.Book.keep_its_engine.Goals as goal
 
 pub returns-clause-goes : goal.returns-clause-goes
 returns-clause-goes g c = ∥∥₁_map c.args.self.now.kept (λ is. is.engine.goes)
+
+pub returns-clause-whole : goal.returns-clause-whole
+returns-clause-whole g c = none_known (past_of c.args.self.now.engine) (∥∥₁_map c.args.self.now.kept (λ is. is.engine.whole))
 
 pub returns-clause-stopped : goal.returns-clause-stopped
 returns-clause-stopped g c = splits_once (Coded-set (coded_option coded_ℕ) _ _) (∥∥₁_map c.args.self.now.kept (λ is. is.engine.stopped))

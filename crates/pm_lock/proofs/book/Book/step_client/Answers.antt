@@ -1,4 +1,5 @@
-use Rattle.std.proofs.Common.{arith}
+use Rattle.std.proofs.Common.{◌≡◌, inr, List, [], ◌∷◌, refl, sym, ◌∙◌, arith}
+use Rattle.pm_types.specs.declared.command.Cmd.{Cmd}
 use Rattle.pm_script.specs.Parted.Left.{lists_in}
 use Rattle.pm_script.specs.Parted.Lists.{count_left, list_of}
 use Rattle.pm_engine.specs.Shown.{serving, unmade_in}
@@ -45,4 +46,26 @@ invariant_of-self-in-Err g c =
           book_failed self.script.value self.first.value self.engine c.ask.new.engine (lists_in self.parts) self.collects self.flushes self.fault c.requires.running self.kept c.in-Err.fault c.in-Err.ensures.call.fails c.keep_their_images.ensures.counted c.in-Err.ensures.engine
           (left_client (serving self.engine) (serving c.ask.new.engine) (lists_in self.parts) self.collects self.flushes c.args.client c.in-Some.cmd.now some.0 c.in-Err.fault (unmade_in self.engine) (unmade_in c.ask.new.engine) some.1 c.in-Err.ensures.short c.in-Err.ensures.call.unmade)
           (OfClient c.args.client) c.in-Err.ensures.call.unmade;
+    }
+
+pub returns-in-Err : goal.returns-in-Err
+returns-in-Err g c =
+    let some = c.in-Some.ensures.some in
+    record {
+      first = refl;
+      lines = refl;
+      start = c.in-Err.ensures.engine.start;
+      does = inr (record {
+        fault = c.in-Err.fault;
+        before = c.requires.running;
+        after = refl;
+        lists = refl;
+        collects = refl;
+        flushes = refl;
+        client = λ _. record { cmd = c.in-Some.cmd.now; rest = some.0; next = some.1; call = c.in-Err.ensures.call };
+        collector = λ is. absurd (not_collector c.args.client c.requires.client is);
+        flusher = λ is. absurd (not_flusher c.args.client c.requires.client is);
+      });
+      finished = (λ is. absurd (cc is), λ both. let never : [] ≡ c.in-Some.cmd.now ∷ some.0 = sym (both.1.client c.requires.client) ∙ some.1 in absurd (cc never));
+      stopped = (λ _. refl, λ _. refl);
     }

@@ -7,11 +7,12 @@ use Rattle.pm_script.specs.declared.line.Line.{Line}
 use Rattle.pm_script.specs.Parted.Lists.{list_of}
 use Rattle.pm_saving.specs.Serving.{Serving}
 use Rattle.pm_engine.specs.declared.engine.Engine.{Engine}
-use Rattle.pm_engine.specs.Shown.{KeepsStart, disk_in, opened_count, serving, tally_in, unmade_in}
+use Rattle.pm_engine.specs.Shown.{KeepsStart, disk_in, opened_count, past_of, recent, serving, tally_in, unmade_in}
 use Rattle.pm_engine.specs.declared.events.stop.Stop.TheVariants.{Memory}
 use Rattle.pm_engine.specs.Events.Causes.{CountsDisk, why}
 use Rattle.pm_engine.specs.Events.Events.{EngineGoesOn}
 use Rattle.pm_engine.specs.Events.Running.{IsFresh, RunsOnDisk}
+use Rattle.pm_engine.proofs.WorksLemmas.Whole.{front_none}
 use Rattle.pm_serial.specs.Writing.{tail_of}
 use Rattle.pm_serial.proofs.Gathering.{wrote_none}
 use Rattle.pm_lock.specs.Kept.{HasCauseSince, HasLeft, stop_kept}
@@ -36,6 +37,15 @@ pub returns-in-Err-clause-sink : goal.returns-in-Err-clause-sink
 returns-in-Err-clause-sink g c =
     let it = serving c.args.engine in
     wrote_none g.K.Sink.written g.K.Sink.finished g.K.Sink.count c.args.sink.now it.journal (tail_of (tally_in it)) (ap text c.requires.fresh.journal)
+
+pub returns-in-Err-clause-whole : goal.returns-in-Err-clause-whole
+returns-in-Err-clause-whole g c = front_none (past_of c.args.engine) (recent c.args.engine) c.requires.fresh.journal
+
+pub returns-in-Ok-new-clause-whole : goal.returns-in-Ok-new-clause-whole
+returns-in-Ok-new-clause-whole g c = ap (λ (e : Engine g.row.D.Denot g.row.F.Denot g.D.Disk). past_of e) c.end_book.ensures.engine ∙ c.keep_its_engine.ensures.whole
+
+pub returns-clause-whole : goal.returns-clause-whole
+returns-clause-whole g c = c.in-Err-new.ensures.entries.past ∙ front_none (past_of c.args.engine) (recent c.args.engine) c.requires.fresh.journal
 
 pub returns-in-Ok-new-clause-answers : goal.returns-in-Ok-new-clause-answers
 returns-in-Ok-new-clause-answers g c =

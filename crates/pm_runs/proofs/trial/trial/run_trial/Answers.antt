@@ -31,6 +31,7 @@ returns-in-Err-clause-runs g c =
           (λ few. (course_of 0 0 lines, ap (λ (course : List Before). course ++ course_of 0 0 lines) c.requires.fresh.course)) (λ done. absurd done) (λ few. stopped_first lines old c.requires.fresh) (λ is done more client parted made few. inl c.requires.fresh.events);
       disk = runs engine engine (Some (Memory no_memory)) c.requires.fresh (goes_short engine engine first) law.settled;
       start = first.start;
+      entries = refl;
       wrote = tried_none g.K.Sink.written g.K.Sink.finished g.K.Sink.count c.args.sink.now (text old.journal) (tail_of (tally_in old)) (Memory no_memory) tt;
     }
 
@@ -44,6 +45,7 @@ returns-in-Ok-finish_trial-clause-runs g c =
       answers = ran.answers;
       disk = ran.disk;
       start = ran.start;
+      entries = ran.entries;
       wrote = tried_well g.K.Sink.written g.K.Sink.finished g.K.Sink.count c.args.sink.now c.finish_trial.new.sink (text new.journal) (tail_of (tally_in new)) (shown_digest c.digest.result) (ap shown_digest is) step.all step.finished step.counted;
     }
 
@@ -58,6 +60,7 @@ returns-in-Ok-answer_lines-clause-runs g c =
       answers = answers_unwritten c.args.lines.items new ran.answers;
       disk = disk_unwritten c.args.engine.now c.answer_lines.new.engine ran.disk;
       start = ran.start;
+      entries = ran.entries;
       wrote = tried_badly g.K.Sink.written g.K.Sink.finished g.K.Sink.count c.args.sink.now c.finish_trial.new.sink (text new.journal) (tail_of (tally_in new)) (shown_digest c.digest.result) (ap shown_digest is) step.part step.cause;
     }
 

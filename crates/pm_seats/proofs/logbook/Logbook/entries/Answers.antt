@@ -1,4 +1,4 @@
-use Rattle.std.proofs.Common.{length, ap, sym, ◌∙◌}
+use Rattle.std.proofs.Common.{sym, ◌∙◌}
 use Rattle.pm_engine.specs.Shown.{serving}
 use Rattle.pm_seats.specs.Callers.{callers_of}
 use Rattle.pm_seats.proofs.Laws.{known_paired}
@@ -9,4 +9,4 @@ pub returns : goal.returns
 returns g c =
     let self = c.args.self.now in
     let paired = known_paired self.first.value self.engine (callers_of self.callers) self.next self.kept in
-    ap length c.journal.ensures ∙ sym (zip_long (callers_of self.callers) (serving self.engine).journal paired.each)
+    c.entries.ensures ∙ sym (zip_long (callers_of self.callers) (serving self.engine).journal paired.each)

@@ -85,6 +85,7 @@ returns-in-Ok-clause-call g c =
       fails = tt;
       still = refl;
       pages = refl;
+      past = refl;
       room = omega arith;
       goes = goes_entering it _ carries.ids refl carries.enters (reached_young it.nursery carries.ids carries.reached c.sound.ensures) c.drop_all.ensures;
     }
@@ -118,6 +119,7 @@ returns-in-Err-clause-call g c =
       };
       still = refl;
       pages = refl;
+      past = refl;
       room = omega arith;
       goes = goes_entering it _ part.ids refl part.enters (λ id inside. path_young it.nursery c.sound.ensures id (part.first.each id inside)) c.drop_all.ensures;
     }
