@@ -1,0 +1,4 @@
+pub mod Newlines
+pub mod Parts
+pub mod HeardSoFar
+pub mod Answers

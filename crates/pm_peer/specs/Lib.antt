@@ -1,0 +1,6 @@
+pub mod Talk
+pub mod FirstLine
+pub mod Buffers
+pub mod Hearing
+pub mod Memory
+pub mod Questions
