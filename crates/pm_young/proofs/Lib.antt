@@ -1,3 +1,5 @@
+pub mod Fields
+pub mod Nexts
 pub mod Listed
 pub mod Rows
 pub mod Admitted
@@ -9,3 +11,18 @@ pub mod Opened
 pub mod Sound
 pub mod Reached
 pub mod GoesOn
+pub mod Unset
+pub mod Answered
+pub mod Crossed
+pub mod Judged
+pub mod Births
+pub mod Nulled
+pub mod Asked
+pub mod Named
+pub mod Sided
+pub mod Told
+pub mod Saved
+pub mod Reopened
+pub mod Whole
+pub mod Events
+pub mod Halted

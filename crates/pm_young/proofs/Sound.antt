@@ -110,14 +110,14 @@ all_both : (P : ℕ → Type 0) (xs ys : List ℕ) → AllByRecursion P xs → A
 all_both P [] ys all more = more
 all_both P (x ∷ xs) ys all more = (all.0, all_both P xs ys all.1 more)
 
-distinct_both : (xs ys : List ℕ) → IsDistinct nat_eq xs → IsDistinct nat_eq ys → ((id : ℕ) → among xs id ≡ true → among ys id ≡ true → ⊥) → IsDistinct nat_eq (xs ++ ys)
+pub distinct_both : (xs ys : List ℕ) → IsDistinct nat_eq xs → IsDistinct nat_eq ys → ((id : ℕ) → among xs id ≡ true → among ys id ≡ true → ⊥) → IsDistinct nat_eq (xs ++ ys)
 distinct_both [] ys one two apart = two
 distinct_both (x ∷ xs) ys one two apart =
     IsDistinct-cons nat_eq x (xs ++ ys)
     (all_both (λ y. nat_eq x y ≡ false) xs ys (IsDistinct-head nat_eq x xs one) (all_apart x ys (apart x (left_one (nat_eq x x) (among xs x) (itself x)))))
     (distinct_both xs ys (IsDistinct-tail nat_eq x xs one) two (λ id here. apart id (right_one (nat_eq x id) (among xs id) here)))
 
-distinct_ascending : (ids : List ℕ) → IsAscending ids → IsDistinct nat_eq ids
+pub distinct_ascending : (ids : List ℕ) → IsAscending ids → IsDistinct nat_eq ids
 distinct_ascending ids up = IsDistinct-from_apart nat_eq ids (λ i j d less inside. let below = below_from_sorted ids i j d up less inside in grind (arith, nat_tests, below))
 
 -- young identities entered, and nothing is young any more

@@ -1,6 +1,6 @@
 -- Objects that come into cars: first without their fields, then with them, then held by registers. What a world has is
 -- a premise here, since nobody knows every world that a space stands for.
-use Rattle.std.specs.Prelude.{◌≡◌, ◌⊎◌, ℕ, ◌<◌, true, nat_eq, if◌then◌else◌, List, []}
+use Rattle.std.specs.Prelude.{◌≡◌, ◌⊎◌, ℕ, ◌<◌, true, false, nat_eq, if◌then◌else◌, List, []}
 use Rattle.std.specs.Prelude.{◌∷◌, ◌++◌, length, take, slice_get, slice_index, Some, None, IsSome, option_map}
 use Rattle.std.specs.FinMap.{get}
 use Rattle.pm_types.specs.declared.address.Addr.{Addr}
@@ -12,9 +12,10 @@ use Rattle.pm_view.specs.Reading.{is_aside, id_at}
 use Rattle.pm_view.specs.Counts.{IsStandingAt}
 use Rattle.pm_view.specs.Represents.{Represents}
 use Rattle.pm_model.specs.Reachability.{IsReachable}
-use Rattle.pm_nursery.specs.Young.{NurseryView, IsHeldYoung}
-use Rattle.pm_nursery.specs.Escaping.{IsAscending}
-use Rattle.pm_nursery.specs.Sweeping.{among, carried, AreReached, ComesIn}
+use Rattle.pm_nursery.specs.Young.{NurseryView, IsHeldYoung, no_nursery}
+use Rattle.pm_nursery.specs.Escaping.{IsAscending, is_full}
+use Rattle.pm_nursery.specs.Joined.{AreJoined, IsJoined}
+use Rattle.pm_nursery.specs.Sweeping.{among, carried, AreReached, AreYoung, ComesIn, GoesOut}
 use Rattle.pm_young.specs.Entering.{IsPresent, MayComeIn}
 use Rattle.pm_young.specs.Rows.{ComeByRows}
 
@@ -192,3 +193,48 @@ pub record CarriesPart (view : SpaceView) (nursery : NurseryView) (before : List
   pub ids : List ℕ
   pub first : AreFirstReached nursery ids
   pub enters : Enters view after before later ids
+
+-- ---- escapes
+
+-- these are the first ones, ascending, of the young objects that are joined to this one
+pub record AreFirstJoined (objects : Heap) (id : ℕ) (ids : List ℕ) : Type 0 where
+  pub ascending : IsAscending ids
+  pub each : (other : ℕ) → among ids other ≡ true → IsJoined objects id other
+  pub before : (one other : ℕ) → among ids other ≡ true → one < other → IsJoined objects id one → among ids one ≡ true
+
+-- All young objects that are joined to this one came in and entered, ascending, with the registers that name one, and
+-- left the nursery.
+pub record CarriesJoined (view : SpaceView) (nursery : NurseryView) (id : ℕ) (before : List ℕ) (after : SpaceView)
+    (left : NurseryView) (later : List ℕ) : Type 0 where
+  pub ids : List ℕ
+  pub ascending : IsAscending ids
+  pub joined : AreJoined nursery.objects id ids
+  pub young : AreYoung nursery ids
+  pub brings : BringsIn view nursery ids after
+  pub rows : ComeByRows view nursery ids after
+  pub enters : Enters view after before later ids
+  pub leaves : GoesOut nursery ids left
+
+-- a first part of them did
+pub record CarriesJoinedPart (view : SpaceView) (nursery : NurseryView) (id : ℕ) (before : List ℕ) (after : SpaceView)
+    (later : List ℕ) : Type 0 where
+  pub ids : List ℕ
+  pub first : AreFirstJoined nursery.objects id ids
+  pub young : AreYoung nursery ids
+  pub enters : Enters view after before later ids
+
+-- ---- a full nursery
+
+-- Where the nursery is full it was swept, and is empty; else nothing happened.
+pub data SweepsIfFull (view : SpaceView) (nursery : NurseryView) (before : List ℕ) (after : SpaceView)
+    (left : NurseryView) (later : List ℕ) : Type 0 where
+  swept : is_full nursery ≡ true → CarriesReached view nursery before after later → left ≡ no_nursery
+      → SweepsIfFull view nursery before after left later
+  had_room : is_full nursery ≡ false → after ≡ view → left ≡ nursery → later ≡ before
+      → SweepsIfFull view nursery before after left later
+
+-- it was full, and a first part came in
+pub record SweepsPart (view : SpaceView) (nursery : NurseryView) (before : List ℕ) (after : SpaceView) (later : List ℕ)
+    : Type 0 where
+  pub full : is_full nursery ≡ true
+  pub part : CarriesPart view nursery before after later

@@ -5,3 +5,10 @@ pub mod Bringing
 pub mod Kept
 pub mod Seen
 pub mod Calls
+pub mod Alone
+pub mod Setting
+pub mod Reading
+pub mod Parts
+pub mod Sides
+pub mod Clients
+pub mod AnyCall

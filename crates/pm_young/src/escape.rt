@@ -10,7 +10,8 @@ ghost use Rattle.pm_nursery.specs.Sweeping.{among, AreYoung};
 ghost use Rattle.pm_young.specs.Entering.{MayComeIn};
 ghost use Rattle.pm_young.specs.Bringing.{ArePlaces, BringsBlank, BringsFields, BringsHeld, BringsHolders, BringsIn};
 ghost use Rattle.pm_young.specs.Bringing.{BringsOne, BringsWhole, Enters, EntersPart, HoldsWithin, IsPlaceOf};
-ghost use Rattle.pm_young.specs.Bringing.{CarriesPart, CarriesReached, MayAllComeIn, MayYoungComeIn, StandsApart};
+ghost use Rattle.pm_young.specs.Bringing.{CarriesJoined, CarriesJoinedPart, CarriesPart, CarriesReached, MayAllComeIn};
+ghost use Rattle.pm_young.specs.Bringing.{MayYoungComeIn, StandsApart};
 ghost use Rattle.pm_young.specs.Bringing.{StandsBlank, StandsBlankAt, StandsWithout};
 ghost use Rattle.pm_young.specs.Rows.{AreBorn, AreNowHeld, ComeByRows, IsBornBlank, IsNowHeld, fields_of, place_at};
 ghost use Rattle.pm_young.specs.Rows.{placed_among, with_all_links, with_links};
@@ -256,4 +257,30 @@ pub(crate) fn carry_reached<F: Drop>(
     nursery.sound();
     let ids = nursery.reached(alloc)?;
     escape(space, alloc, nursery, ids.as_slice(), entered)
+}
+
+/// The young objects that are joined to this one come into cars, in the order of their identities, with the registers
+/// that name one, and leave the nursery. After want of memory the nursery is as it was; a first part of them was noted,
+/// and each of these is in a car.
+pub(crate) fn carry_joined<F: Drop>(
+    space: &mut Space<F>,
+    alloc: Global,
+    nursery: &mut Nursery,
+    id: Id,
+    entered: &mut Vec<Id>,
+) -> Result<(), NoMemory>
+    requires young { IsSome (get nursery.old.objects id) }
+    requires may { MayYoungComeIn (view space.old.parts) nursery.old }
+    requires stands { ∥ StandsApart (view space.old.parts) nursery.old ∥₁ }
+    ensures ok { OnOk result (CarriesJoined (view space.old.parts) nursery.old id entered.old.items
+        (view space.new.parts) nursery.new entered.new.items) }
+    ensures part { OnErr result (CarriesJoinedPart (view space.old.parts) nursery.old id entered.old.items
+        (view space.new.parts) entered.new.items) }
+    ensures rest { KeepsRest space.old.parts space.new.parts }
+{
+    nursery.sound();
+    let ids = nursery.joined(alloc, id)?;
+    escape(space, alloc, nursery, ids.as_slice(), entered)?;
+    nursery.carry_off(ids.as_slice());
+    Ok(())
 }

@@ -9,13 +9,13 @@ use pm_types::OpenFault;
 use std::alloc::Global;
 
 impl<D: Disk, F: Drop> YoungEngine<D, F> {
-    ghost use Rattle.std.specs.Prelude.{◌≡◌, ℕ, List, [], None, IfOk, IfErr, MatchResult};
+    ghost use Rattle.std.specs.Prelude.{◌≡◌, ℕ, List, None, IfOk, IfErr, MatchResult};
     ghost use Rattle.pm_disk.specs.Disk.{IfTold, LeavesOnly};
     ghost use Rattle.pm_disk.specs.Made.{with_sync};
     ghost use Rattle.pm_image.specs.Stands.{StandsForCopy};
     ghost use Rattle.pm_copies.specs.Listed.{copy_in};
     ghost use Rattle.pm_saving.specs.Serving.{just_opened};
-    ghost use Rattle.pm_young.specs.Seen.{BeginsYoung, chooser, disk_in, opened_count, opened_disk, past_of, serving};
+    ghost use Rattle.pm_young.specs.Seen.{BeginsYoung, chooser, disk_in, opened_count, opened_disk, serving};
     ghost use Rattle.pm_reopen.specs.Refused.{IsOpenFault, IsRefusal};
 
     /// Opens the copy for which the bytes of a disk stand: its world has no register, no watch and no copy in progress,
@@ -39,7 +39,6 @@ impl<D: Disk, F: Drop> YoungEngine<D, F> {
             serving it ≡ just_opened (serving it).number (serving it).opened (serving it).saving) }
         ensures idle { IfOk result (λ it. (serving it).saving.progress ≡ None) }
         ensures young { IfOk result BeginsYoung }
-        ensures past { IfOk result (λ it. past_of it ≡ []) }
         // An object moves to the train that this chooser picks.
         ensures chooser { IfOk result (λ it. chooser it ≡ place) }
         // The disk is as it was opened, and a crash leaves what it holds.

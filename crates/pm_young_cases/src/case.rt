@@ -1,8 +1,14 @@
 //! A case: its steps, one a line.
 
+use crate::commands::young_script;
+use crate::failing::{Run, push_failings, push_over};
 use crate::lines::push_run;
 use crate::store::store_of;
-use pm_case_text::{Count, Fault, first_word, is_silent, patch, push_case, refuse, written_out};
+use pm_case_text::{
+    Count, Fault, first_word, is_silent, numbered, patch, push_case, push_words, refuse,
+    written_out,
+};
+use pm_script::YoungScript;
 use std::alloc::Global;
 
 /// What a case has come to.
@@ -10,6 +16,30 @@ use std::alloc::Global;
 pub struct Case {
     /// The bytes of the store.
     disk: Vec<u8>,
+    /// With what each image is looked at.
+    look: YoungScript,
+}
+
+// Adds a part of a text, with a stroke before it where it is not the first one.
+fn push_part(part: &str, is_first: bool, out: &mut String) -> Result<(), Fault> {
+    push_words(if is_first { "" } else { " / " }, out)?;
+    push_words(part, out)
+}
+
+// Adds the parts of a text between ` / ` behind the first ones, of which so many are passed over.
+fn push_behind(text: &str, passed: usize, out: &mut String) -> Result<(), Fault> {
+    for (place, part) in text.split(" / ").enumerate() {
+        if place >= passed {
+            push_part(part, place == passed, out)?;
+        }
+    }
+    Ok(())
+}
+
+// Adds the last ones of what ` / ` stands between in a text, this number at most.
+fn push_last(text: &str, count: u64, out: &mut String) -> Result<(), Fault> {
+    let parts = text.split(" / ").count();
+    push_behind(text, parts.saturating_sub(count as usize), out)
 }
 
 impl Case {
@@ -17,6 +47,7 @@ impl Case {
     pub fn new(alloc: Global) -> Result<Case, Fault> {
         Ok(Case {
             disk: store_of(alloc, "")?,
+            look: young_script(alloc, "")?,
         })
     }
 
@@ -32,6 +63,44 @@ impl Case {
         Ok(())
     }
 
+    // With these lines each image is looked at.
+    fn set_look(&mut self, alloc: Global, text: &str) -> Result<(), Fault> {
+        self.look = young_script(alloc, text)?;
+        Ok(())
+    }
+
+    // Runs the lines of a script; the store is what that leaves.
+    fn script(&mut self, alloc: Global, text: &str, out: &mut String) -> Result<(), Fault> {
+        let lines = young_script(alloc, text)?;
+        let run = Run {
+            disk: self.disk.as_slice(),
+            lines: lines.as_slice(),
+            look: &[],
+        };
+        let disk = push_over(alloc, &run, 0, out)?;
+        self.disk = disk.contents().to_vec(alloc)?;
+        Ok(())
+    }
+
+    // Runs the lines of a script behind a number, and adds so many of the last parts of what that gives.
+    fn script_last(&mut self, alloc: Global, text: &str, out: &mut String) -> Result<(), Fault> {
+        let (count, lines) = numbered(text)?;
+        let mut whole = String::new(alloc);
+        self.script(alloc, lines, &mut whole)?;
+        push_last(whole.as_str(), count, out)
+    }
+
+    // Runs the lines so that each call of the disk fails in turn.
+    fn fail(&self, alloc: Global, text: &str, out: &mut String) -> Result<(), Fault> {
+        let lines = young_script(alloc, text)?;
+        let run = Run {
+            disk: self.disk.as_slice(),
+            lines: lines.as_slice(),
+            look: self.look.as_slice(),
+        };
+        push_failings(alloc, &run, out)
+    }
+
     // A step: its first word, and what follows.
     fn step(
         &mut self,
@@ -44,7 +113,12 @@ impl Case {
             "case" => self.begin(alloc, text, out),
             "store" => self.store(alloc, text),
             "patch" => patch(alloc, self.disk.as_mut_slice(), text),
-            "run" => push_run(alloc, self.disk.as_slice(), text, out),
+            "script" => self.script(alloc, text, out),
+            "last" => self.script_last(alloc, text, out),
+            "look" => self.set_look(alloc, text),
+            "fails" => self.fail(alloc, text, out),
+            "run" => push_run(alloc, self.disk.as_slice(), text, false, out),
+            "ends" => push_run(alloc, self.disk.as_slice(), text, true, out),
             _ => Err(refuse("no such step")),
         }
     }

@@ -3,6 +3,9 @@
 #![tactic(auto)]
 
 mod case;
+mod commands;
+mod events;
+mod failing;
 mod lines;
 mod store;
 

@@ -18,4 +18,5 @@ invariant_of-result g c =
       comes_in = subst (λ n. ∥ KeepsEntered opened (view_in begun.works) n c.new-2.result.items ∥₁) (sym c.new.ensures)
           (subst (λ xs. ∥ KeepsEntered opened (view_in begun.works) no_nursery xs ∥₁) (sym c.new-2.ensures.items) (keeps_begun begun.opening begun.works begun.ensures.begins));
       counted = counted_first begun.opening.count (g.D.Disk.count (disk_at begun.works)) (begun.ensures.count.1 ∙ sym begun.ensures.count.0);
+      whole = begun.ensures.past;
     }

@@ -14,4 +14,5 @@ invariant_of-self g c =
       within = λ running. within_kept it.opening it.works it.nursery c.reserve.new.self c.reserve.ensures.items (it.within running);
       comes_in = it.comes_in;
       counted = it.counted;
+      whole = it.whole;
     }

@@ -36,6 +36,7 @@ invariant_of-self g c =
           subst (λ (n : NurseryView). ∥ KeepsEntered opened (view space.parts) n later ∥₁) (sym c.drop_all.ensures)
           (keeps_more opened (view it.works.space.parts) (view space.parts) it.nursery it.entered.items later carries.ids carries.ascending (reached_young it.nursery carries.ids carries.reached c.sound.ensures) carries.enters it.comes_in);
       counted = it.counted;
+      whole = it.whole;
     }
 
 pub invariant_of-self-in-Err : goal.invariant_of-self-in-Err
@@ -54,6 +55,7 @@ invariant_of-self-in-Err g c =
           subst (λ (n : NurseryView). ∥ KeepsEntered opened (view space.parts) n later ∥₁) (sym c.drop_all.ensures)
           (keeps_more opened (view it.works.space.parts) (view space.parts) it.nursery it.entered.items later part.ids part.first.ascending (λ id inside. path_young it.nursery c.sound.ensures id (part.first.each id inside)) part.enters it.comes_in);
       counted = it.counted;
+      whole = it.whole;
     }
 
 pub returns-in-Ok-clause-call : goal.returns-in-Ok-clause-call
@@ -85,7 +87,6 @@ returns-in-Ok-clause-call g c =
       fails = tt;
       still = refl;
       pages = refl;
-      past = refl;
       room = omega arith;
       goes = goes_entering it _ carries.ids refl carries.enters (reached_young it.nursery carries.ids carries.reached c.sound.ensures) c.drop_all.ensures;
     }
@@ -119,7 +120,6 @@ returns-in-Err-clause-call g c =
       };
       still = refl;
       pages = refl;
-      past = refl;
       room = omega arith;
       goes = goes_entering it _ part.ids refl part.enters (λ id inside. path_young it.nursery c.sound.ensures id (part.first.each id inside)) c.drop_all.ensures;
     }
