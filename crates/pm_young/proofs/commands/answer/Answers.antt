@@ -10,14 +10,14 @@ returns-in_err-reserve-clause-err g c =
     let works = c.args.works.now in
     let v = view_in works in
     let nothing : AddsNothing works (record works { journal = c.reserve.new.self }) =
-    record { journal = c.reserve.ensures.items; course = refl; watches = refl; events = refl; steps = refl; room = search rules } in
+    record { past = refl; journal = c.reserve.ensures.items; course = refl; watches = refl; events = refl; steps = refl; room = search rules } in
     on_err c.from_residual.result (loses_parts nothing (still_loses c.args.client c.args.cmd v v c.args.nursery.now (loses_same v c.args.nursery.now c.args.client c.args.cmd) c.args.entered.now.items))
 
 pub returns-in_err-told-clause-err : goal.returns-in_err-told-clause-err
 returns-in_err-told-clause-err g c =
     let works = c.args.works.now in
     let nothing : AddsNothing works (record works { journal = c.reserve.new.self; space = c.serve.new.space }) =
-    record { journal = c.reserve.ensures.items; course = refl; watches = refl; events = refl; steps = refl; room = search rules } in
+    record { past = refl; journal = c.reserve.ensures.items; course = refl; watches = refl; events = refl; steps = refl; room = search rules } in
     on_err c.from_residual-in_err-told.result
     (loses_parts nothing
     (answered_lost c.args.client c.args.cmd (view_in works) (view c.serve.new.space.parts) c.args.nursery.now c.serve.new.nursery c.args.entered.now.items c.serve.new.entered.items c.in_ok-reply.reply c.in_ok-reply.ensures.ok))

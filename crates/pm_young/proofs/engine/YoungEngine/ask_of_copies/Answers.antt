@@ -16,6 +16,7 @@ use Rattle.pm_engine.proofs.WorksLemmas.Counts.{counted_risen, counted_still}
 use Rattle.pm_engine.proofs.WorksLemmas.Crashing.{leaves_answered, leaves_failed, progress_of, settled_alone}
 use Rattle.pm_engine.proofs.WorksLemmas.Settled.{dropped_all, settled_all}
 use Rattle.pm_engine.proofs.WorksLemmas.Telling.{copies_of, idle_of, nothing_served, short_of, shows_rise}
+use Rattle.pm_engine.proofs.WorksLemmas.Whole.{nothing_journal}
 use Rattle.pm_nursery.specs.Young.{NurseryView}
 use Rattle.pm_young.specs.declared.halt.Halt.{Halt}
 use Rattle.pm_young.specs.declared.halt.HaltCause.TheVariants as causes
@@ -159,7 +160,7 @@ returns-in-Err-Memory-clause-call g c =
           frozen = rests.frozen;
           settled = rests.settled;
           progress = rests.progress;
-          journal = rests.nothing.journal;
+          journal = nothing_journal it.works new rests.nothing;
           course = rests.nothing.course;
           watches = rests.nothing.watches;
           events = rests.nothing.events;

@@ -13,6 +13,7 @@ use Rattle.pm_engine.specs.Works.Working.{disk_at, saving_in, state_in, view_in}
 use Rattle.pm_engine.proofs.WorksLemmas.Asking.{at_none, stored}
 use Rattle.pm_engine.proofs.WorksLemmas.Crashing.{settled_alone}
 use Rattle.pm_engine.proofs.WorksLemmas.Kept.{spares_still, still_made}
+use Rattle.pm_engine.proofs.WorksLemmas.Whole.{nothing_journal}
 use Rattle.pm_law_saving.proofs.ServingLemmas.Kept.{stays_same}
 use Rattle.pm_nursery.specs.Young.{NurseryView}
 use Rattle.pm_young.specs.declared.halt.Halt.{Halt}
@@ -148,7 +149,7 @@ returns-in-Err-clause-call g c =
           frozen = kept.frozen;
           settled = ap (λ (s : Saving). s.settled) saver;
           progress = stays_same (saving_in it.works).progress (saving_in works).progress (ap (λ (s : Saving). s.progress) saver);
-          journal = is.nothing.journal;
+          journal = nothing_journal it.works works is.nothing;
           course = is.nothing.course;
           watches = is.nothing.watches;
           events = is.nothing.events;
