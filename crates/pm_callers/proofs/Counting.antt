@@ -1,0 +1,98 @@
+-- A list of entries is no longer than one of requests of which each client has as many at least.
+use Rattle.std.proofs.Common.{◌≡◌, ℕ, suc, zero, ◌+◌, ◌<◌, ◌≤◌, Bool, true, false, cond, nat_eq, List, [], ◌∷◌, length, map, arith, refl, ap, sym, ◌∙◌}
+use Rattle.std.specs.List.{AllByRecursion, filter}
+use Rattle.std.proofs.lemmas.List.{length-map}
+use Rattle.pm_types.specs.declared.command.Cmd.{Cmd}
+use Rattle.pm_types.specs.declared.entry.Entry.{Entry}
+use Rattle.pm_model.specs.declared.request.Request.{Request}
+use Rattle.pm_model.specs.Journal.{commands_of, part, requests_of}
+
+-- one where this is so
+abbrev one_if : Bool → ℕ
+one_if true = 1
+one_if false = 0
+
+-- how many are of the clients below this one
+abbrev below : ℕ → List Request → ℕ
+below zero requests = 0
+below (suc n) requests = length (commands_of n requests) + below n requests
+
+-- how many of the clients below this one this is
+abbrev hits : ℕ → ℕ → ℕ
+hits zero client = 0
+hits (suc n) client = one_if (nat_eq client n) + hits n client
+
+counts_one : (n : ℕ) (request : Request) (requests : List Request) → length (commands_of n (request ∷ requests)) ≡ one_if (nat_eq request.client n) + length (commands_of n requests)
+counts_one n request requests = by (nat_eq request.client n) refl
+  where
+    by : (b : Bool) → nat_eq request.client n ≡ b → length (commands_of n (request ∷ requests)) ≡ one_if (nat_eq request.client n) + length (commands_of n requests)
+    by true is = rw is (omega arith)
+    by false is = rw is (omega arith)
+
+counts_more : (n : ℕ) (request : Request) (requests : List Request) → below n (request ∷ requests) ≡ hits n request.client + below n requests
+counts_more zero request requests = refl
+counts_more (suc n) request requests = let one = counts_one n request requests in let more = counts_more n request requests in omega (arith, one, more)
+
+-- a client is one of those below at most once, and is where it is below
+hits_by : (n client : ℕ) (b : Bool) → nat_eq client n ≡ b → one_if (nat_eq client n) ≡ one_if b
+hits_by n client b is = ap one_if is
+
+beyond : (n client : ℕ) → n ≤ client → hits n client ≡ 0
+beyond zero client less = refl
+beyond (suc n) client less =
+    let here = hits_by n client false (apart n client (omega (arith, less))) in
+    let rest = beyond n client (omega (arith, less)) in
+    omega (arith, here, rest)
+  where
+    apart : (n client : ℕ) → n < client → nat_eq client n ≡ false
+    apart n client lt = grind (arith, lt)
+
+hits_once : (n client : ℕ) → hits n client ≤ 1
+hits_once zero client = omega arith
+hits_once (suc n) client = by (hits_once n client) (nat_eq client n) refl
+  where
+    same : nat_eq client n ≡ true → client ≡ n
+    same is = grind (arith, is)
+
+    by : hits n client ≤ 1 → (b : Bool) → nat_eq client n ≡ b → hits (suc n) client ≤ 1
+    by rest true is = let here = hits_by n client true is in let one = same is in let none = beyond n client (omega (arith, one)) in omega (arith, here, none)
+    by rest false is = let here = hits_by n client false is in omega (arith, here, rest)
+
+hits_below : (n client : ℕ) → client < n → hits n client ≡ 1
+hits_below zero client lt = absurd (omega (arith, lt))
+hits_below (suc n) client lt = by (λ less. hits_below n client less) (nat_eq client n) refl
+  where
+    same : nat_eq client n ≡ true → client ≡ n
+    same is = grind (arith, is)
+
+    apart : nat_eq client n ≡ false → client < n
+    apart is = grind (arith, is, lt)
+
+    by : (client < n → hits n client ≡ 1) → (b : Bool) → nat_eq client n ≡ b → hits (suc n) client ≡ 1
+    by rest true is = let here = hits_by n client true is in let one = same is in let none = beyond n client (omega (arith, one)) in omega (arith, here, none)
+    by rest false is = let here = hits_by n client false is in let less = rest (apart is) in omega (arith, here, less)
+
+-- all below are counted once, and none more often
+counted : (n : ℕ) (requests : List Request) → below n requests ≤ length requests
+counted zero [] = omega arith
+counted (suc n) [] = let rest = counted n [] in omega (arith, rest)
+counted n (request ∷ requests) = let more = counts_more n request requests in let once = hits_once n request.client in let rest = counted n requests in omega (arith, more, once, rest)
+
+all_counted : (n : ℕ) (journal : List Entry) → AllByRecursion (λ (entry : Entry). entry.client < n) journal → length journal ≤ below n (requests_of journal)
+all_counted n [] all = omega arith
+all_counted n (entry ∷ journal) all =
+    let more = counts_more n (record { client = entry.client; cmd = entry.cmd }) (requests_of journal) in
+    let once = hits_below n entry.client all.0 in
+    let rest = all_counted n journal all.1 in
+    omega (arith, more, once, rest)
+
+no_more : (n : ℕ) (one two : List Request) → ((client : ℕ) → length (commands_of client one) ≤ length (commands_of client two)) → below n one ≤ below n two
+no_more zero one two each = omega arith
+no_more (suc n) one two each = let here = each n in let rest = no_more n one two each in omega (arith, here, rest)
+
+pub no_longer : (n : ℕ) (journal : List Entry) (asked : List Request) → AllByRecursion (λ (entry : Entry). entry.client < n) journal → ((client : ℕ) → length (part client journal) ≤ length (commands_of client asked)) → length journal ≤ length asked
+no_longer n journal asked all each =
+    let one = all_counted n journal all in
+    let two = no_more n (requests_of journal) asked each in
+    let three = counted n asked in
+    omega (arith, one, two, three)
