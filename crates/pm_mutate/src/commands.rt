@@ -1,7 +1,7 @@
 //! The commands of clients on the parts of a space: each changes what is seen of them by its row, and answers as the
 //! row says.
 
-mod birth;
+pub(crate) mod birth;
 mod bytes;
 mod closing;
 mod fields;

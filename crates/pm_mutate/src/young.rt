@@ -5,18 +5,20 @@
 ghost use Rattle.std.specs.Prelude.{◌≡◌, ◌<◌, Some, IfOk, OnOk, OnErr};
 ghost use Rattle.pm_types.specs.declared.limits.TheConstants.{CLIENTS, REGISTERS};
 ghost use Rattle.pm_types.specs.declared.source.RefSource.TheVariants.{Handle, Field};
+ghost use Rattle.pm_view.specs.Law.{HeapLaw};
 ghost use Rattle.pm_view.specs.Objects.{AddsObject, KeepsObjects};
 ghost use Rattle.pm_view.specs.Reading.{SourceStands};
-ghost use Rattle.pm_view.specs.Rows.{spread, HasValue};
+ghost use Rattle.pm_view.specs.Rows.{spread};
 ghost use Rattle.pm_view.specs.Seen.{seen, IsLive};
 ghost use Rattle.pm_space.specs.Shown.{view, KeepsRest};
 ghost use Rattle.pm_mutate.specs.Commands.Births.{IsBornAt};
 ghost use Rattle.pm_mutate.specs.Young.{row_spend, SpendsToo, MayBeAdmitted, admitted, AdmitsToo, LinksToo, HoldsToo};
 
 use crate::births::{be_born, fresh};
+use crate::commands::birth::hold_in_room;
 use pm_law_collect::work::a_source_or_a_birth_leaves_the_slot_that_moved;
 use pm_law_commands::row::a_source_is_set;
-use pm_space::{Space, spread};
+use pm_space::{Parts, Space, make_room, spread};
 use pm_types::{Addr, END_ID, Id, NoMemory, RefSource};
 use std::alloc::Global;
 
@@ -63,22 +65,6 @@ pub fn admit<F: Drop>(
     be_born(&mut space.parts, alloc, object)
 }
 
-// A source stores the address of an object that stands.
-fn set_source<F: Drop>(space: &mut Space<F>, source: RefSource, to: Addr) -> Result<(), NoMemory>
-    requires stands { SourceStands (view space.old.parts) source }
-    requires value { HasValue source (Some to) }
-    requires live { IsLive (seen (view space.old.parts)) to }
-    ensures row { OnOk result (view space.new.parts ≡ spread (view space.old.parts) source (Some to)) }
-    ensures objects { KeepsObjects (view space.old.parts) (view space.new.parts) }
-    ensures err { OnErr result (view space.new.parts ≡ view space.old.parts) }
-    ensures rest { KeepsRest space.old.parts space.new.parts }
-{
-    a_source_is_set();
-    a_source_or_a_birth_leaves_the_slot_that_moved();
-    space.quiet = 0;
-    spread(&mut space.parts, source, Some(to))
-}
-
 /// A field of the object at an address stores the address of another one, or of the same; cars that hear of it have one
 /// more change waiting. Both stand, and the field is there. After want of memory all is as it was.
 pub fn link<F: Drop>(space: &mut Space<F>, at: Addr, index: u32, to: Addr) -> Result<(), NoMemory>
@@ -91,7 +77,30 @@ pub fn link<F: Drop>(space: &mut Space<F>, at: Addr, index: u32, to: Addr) -> Re
     ensures err { OnErr result (view space.new.parts ≡ view space.old.parts) }
     ensures rest { KeepsRest space.old.parts space.new.parts }
 {
-    set_source(space, RefSource::Field { at, index }, to)
+    a_source_is_set();
+    a_source_or_a_birth_leaves_the_slot_that_moved();
+    space.quiet = 0;
+    spread(&mut space.parts, RefSource::Field { at, index }, Some(to))
+}
+
+// A register stores an address, once there is room for what the cars hear.
+fn hold_with_room<F>(
+    parts: &mut Parts<F>,
+    client: u32,
+    register: u32,
+    at: Addr,
+) -> Result<(), NoMemory>
+    requires client { client < CLIENTS }
+    requires register { register < REGISTERS }
+    requires law { HeapLaw (view parts.old) }
+    ensures ok { OnOk result (view parts.new ≡ spread (view parts.old) (Handle client register) (Some at)) }
+    ensures err { OnErr result (view parts.new ≡ view parts.old) }
+    ensures rest { KeepsRest parts.old parts.new }
+{
+    let old = parts.handles.get(client, register);
+    make_room(&mut parts.links, old, Some(at))?;
+    hold_in_room(parts, client, register, at);
+    Ok(())
 }
 
 /// A register stores the address of an object that stands; cars that hear of it have one more change waiting. After
@@ -112,5 +121,8 @@ pub fn hold<F: Drop>(
     ensures err { OnErr result (view space.new.parts ≡ view space.old.parts) }
     ensures rest { KeepsRest space.old.parts space.new.parts }
 {
-    set_source(space, RefSource::Handle { client, register }, at)
+    a_source_is_set();
+    a_source_or_a_birth_leaves_the_slot_that_moved();
+    space.quiet = 0;
+    hold_with_room(&mut space.parts, client, register, at)
 }

@@ -16,8 +16,8 @@ use pm_types::{
 };
 use std::alloc::Global;
 
-// Lets a register hold an object, in room that was made before.
-fn hold_in_room<F>(parts: &mut Parts<F>, client: u32, register: u32, at: Addr)
+/// Lets a register hold an object, in room that was made before.
+pub(crate) fn hold_in_room<F>(parts: &mut Parts<F>, client: u32, register: u32, at: Addr)
     requires client { client < CLIENTS }
     requires register { register < REGISTERS }
     requires housed { AreHoused (sets_of parts.old.links) parts.old.trains.trains }
