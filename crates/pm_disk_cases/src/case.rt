@@ -7,6 +7,7 @@ use crate::cars::{push_car, push_car_in, push_old_car, push_slots};
 use crate::catalogs::{push_catalog, push_catalog_in, push_entries};
 use crate::disks::push_disk;
 use crate::headers::{push_digest, push_header, seal};
+use crate::peers::{push_asks, push_peer};
 use crate::slots::{push_end, push_old_cut, push_slot};
 use crate::streams::{push_reader, push_sink, push_source, push_writer};
 use pm_case_text::{
@@ -37,6 +38,8 @@ fn push_step(
         "sink" => push_sink(alloc, text, out),
         "reader" => push_reader(alloc, text, out),
         "writer" => push_writer(alloc, text, out),
+        "peer" => push_peer(alloc, text, out),
+        "asks" => push_asks(alloc, text, out),
         _ => push_read(alloc, all, step, text, out),
     }
 }

@@ -9,6 +9,7 @@ mod disks;
 pub mod file_cases;
 mod fuses;
 mod headers;
+mod peers;
 mod slots;
 mod spelling;
 mod streams;

@@ -2,3 +2,4 @@ pub mod Newlines
 pub mod Parts
 pub mod HeardSoFar
 pub mod Answers
+pub mod AskedLines

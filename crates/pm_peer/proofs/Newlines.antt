@@ -16,16 +16,9 @@ right_of : (a b : Bool) → (a || b) ≡ false → b ≡ false
 right_of true b is = absurd (cc)
 right_of false b is = is
 
-left_of : (a b : Bool) → (a || b) ≡ false → a ≡ false
-left_of true b is = is
-left_of false b is = refl
-
 -- there is none among two parts where there is none in either
 pub quiet_both : (xs ys : List ℕ) → has_newline xs ≡ false → has_newline ys ≡ false → has_newline (xs ++ ys) ≡ false
 quiet_both xs ys first then = list_any-append (λ b. nat_eq b 10) xs ys ∙ ap (λ a. a || has_newline ys) first ∙ then
-
-pub quiet_front : (xs ys : List ℕ) → has_newline (xs ++ ys) ≡ false → has_newline xs ≡ false
-quiet_front xs ys none = left_of (has_newline xs) (has_newline ys) (sym (list_any-append (λ b. nat_eq b 10) xs ys) ∙ none)
 
 pub quiet_back : (xs ys : List ℕ) → has_newline (xs ++ ys) ≡ false → has_newline ys ≡ false
 quiet_back xs ys none = right_of (has_newline xs) (has_newline ys) (sym (list_any-append (λ b. nat_eq b 10) xs ys) ∙ none)

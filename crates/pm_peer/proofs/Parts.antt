@@ -1,11 +1,10 @@
 -- Parts of a buffer.
 use Rattle.std.proofs.Common.{◌≡◌, ℕ, ◌+◌, ◌-◌, ◌<◌, ◌≤◌, List, [], ◌++◌, length, take, drop, Option, Some, sym, ap, ◌∙◌, arith, length-drop}
 use Rattle.std.proofs.lemmas.List.{append-nil, drop-drop, drop-take, drop_all, drop_at, length-take, length-take-le, take-append-drop, take-take}
-use Rattle.std.proofs.lemmas.Slice.{between_is, between_from_start}
+use Rattle.std.proofs.lemmas.Slice.{between_is}
 use borrow.Rule.Slice.PartMut.{put_mid, post_of}
-use Rattle.std.proofs.lemmas.List.Edits.{take-paste}
 use Rattle.std.proofs.Math.Seq.{take-add}
-use Rattle.std.specs.List.{slice_range, copy_within}
+use Rattle.std.specs.List.{slice_range}
 use Rattle.pm_io.specs.Streams.{TakesFront}
 use Rattle.pm_peer.specs.declared.said.Said.{Said}
 use Rattle.pm_peer.specs.declared.buffer.TheConstants.{BUFFER_BYTES}
@@ -50,15 +49,6 @@ grown_part xs ys from to n order same =
     ap (λ k. take k (drop from ys)) (more_between from to n order) ∙ take-add (to - from) n (drop from ys)
     ∙ ap (λ zs. zs ++ take n (drop (to - from) (drop from ys))) (between_is ys from to ∙ ap (λ zs. drop from zs) same ∙ sym (between_is xs from to))
     ∙ ap (λ zs. slice_range xs from to ++ take n zs) (drop-drop (to - from) from ys ∙ ap (λ k. drop k ys) (up_to from to order))
-
-from_zero : (n : ℕ) → n ≡ 0 + n
-from_zero n = omega arith
-
--- a part that was moved to the front
-pub moved_part : (xs : List ℕ) (from to : ℕ) → from ≤ to → to ≤ length xs → slice_range (copy_within xs from to 0) 0 (to - from) ≡ slice_range xs from to
-moved_part xs from to order inside =
-    between_from_start (copy_within xs from to 0) (to - from) ∙ ap (λ n. take n (copy_within xs from to 0)) (from_zero (to - from))
-    ∙ take-paste xs 0 (drop from xs) (to - from) (omega arith) (omega (arith, length-drop from xs, order, inside))
 
 -- what was written to the end of a slice stands there
 pub behind_mid : (xs ys : List ℕ) (to : ℕ) → to ≤ length xs → drop to (put_mid to (length xs - to) xs ys) ≡ ys

@@ -4,3 +4,4 @@ pub mod Buffers
 pub mod Hearing
 pub mod Memory
 pub mod Questions
+pub mod Spelled

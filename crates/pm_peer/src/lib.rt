@@ -4,6 +4,7 @@
 mod asked;
 mod buffer;
 mod calls;
+mod laws;
 mod lines;
 mod mem_peer;
 mod next;
@@ -13,6 +14,7 @@ mod said;
 mod streams;
 
 pub use asked::{Asked, read_asked};
+pub use laws::a_line_asks_what_it_spells;
 pub use lines::Lines;
 pub use mem_peer::MemPeer;
 pub use next::Next;

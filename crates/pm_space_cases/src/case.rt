@@ -43,6 +43,7 @@ fn shows(step: &str) -> Option<Shows> {
         "last" => Some(Shows::Last),
         "open" => Some(Shows::Open),
         "dump" => Some(Shows::Dump),
+        "texts" => Some(Shows::Texts),
         "why" => Some(Shows::Why),
         "drawn" | "collected" => Some(Shows::Draws),
         "late" => Some(Shows::Late),

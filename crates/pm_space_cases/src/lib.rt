@@ -16,5 +16,6 @@ mod replayed;
 mod scripted;
 mod searched;
 mod spaced;
+mod told;
 
 pub use case::take;

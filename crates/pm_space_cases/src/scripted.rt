@@ -9,6 +9,7 @@ use crate::late::{Late, carry_late, late_of};
 use crate::lines::script_of;
 use crate::paths::{Found, push_found};
 use crate::spaced::push_open;
+use crate::told::push_texts;
 use pm_case_text::{
     Fault, first_word, push_filled, push_text, push_value_line, push_words, refuse, small,
 };
@@ -40,6 +41,8 @@ pub(crate) enum Shows {
     Open,
     /// The text of the dump at the end.
     Dump,
+    /// What is told of registers and of names at the end.
+    Texts,
     /// A path to an identity at the end.
     Why,
     /// What commands that are drawn came to.
@@ -387,6 +390,7 @@ fn push_behind<F: Drop>(
         Shows::Last => push_words(course.reply.as_str(), out),
         Shows::Open => push_open(space, out),
         Shows::Dump => push_dump(space, alloc, out),
+        Shows::Texts => push_texts(space, alloc, out),
         Shows::Why => push_found(space, alloc, id, Found::Whole, out),
         _ => push_end(space, course, out),
     }

@@ -4,7 +4,7 @@ use Rattle.std.specs.List.{slice_get, AllByRecursion}
 use Rattle.std.specs.Option.{IsSome, IfSome, option_and_then, option_map, unwrap_or}
 use Rattle.std.specs.Cmp.{nat_cmp_total}
 use Rattle.std.specs.Ordering.{nat_cmp}
-use Rattle.std.specs.FinMap.{get, entries, same_map, nat_cmp-IsAntisymmetric}
+use Rattle.std.specs.FinMap.{FinMap, get, entries, same_map, nat_cmp-IsAntisymmetric}
 use Rattle.std.proofs.lemmas.Option.{same_Some}
 use Rattle.pm_types.specs.Mapped.{mapped, mapped_entries}
 use Rattle.pm_types.proofs.Mapped.{get-mapped, entries-mapped}
@@ -86,8 +86,12 @@ module _ (view : SpaceView) (law : HeapLaw view) where
   root_named name None is = refl
   root_named name (Some bound) is = let named = named_there view bound.1 (root_kept view law name bound is) in named.1 ∙ ap Some (sym (ap (λ (n : Option ℕ). unwrap_or n 0) named.1))
 
+  -- names that stand for what the addresses of the space lead to
+  pub names_listed : (roots : FinMap name_cmp ℕ) → ((name : List ℕ) → get roots name ≡ option_and_then (λ (bound : ℕ × Addr). named_by view bound.1) (get view.roots name)) → entries roots ≡ mapped_entries (root_id view) (entries view.roots)
+  names_listed roots led =
+      ap entries (same_map names_total names_antisymmetric roots (mapped (root_id view) view.roots) (λ name. led name ∙ root_named name (get view.roots name) refl ∙ sym (get-mapped name_cmp (root_id view) view.roots name)))
+      ∙ entries-mapped name_cmp (root_id view) view.roots
+
   -- the names of the copy
   pub names_met : entries (copy_in view).roots ≡ mapped_entries (root_id view) (entries view.roots)
-  names_met =
-      ap entries (same_map names_total names_antisymmetric (copy_in view).roots (mapped (root_id view) view.roots) (λ name. names_led view law name ∙ root_named name (get view.roots name) refl ∙ sym (get-mapped name_cmp (root_id view) view.roots name)))
-      ∙ entries-mapped name_cmp (root_id view) view.roots
+  names_met = names_listed (copy_in view).roots (names_led view law)

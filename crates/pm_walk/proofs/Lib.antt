@@ -5,3 +5,4 @@ pub mod Heaps
 pub mod Texts
 pub mod Broad
 pub mod PathsLemmas
+pub mod ToldLines

@@ -1,3 +1,4 @@
 pub mod Walked
 pub mod Lines
+pub mod Told
 pub mod Paths

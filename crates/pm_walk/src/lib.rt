@@ -6,6 +6,6 @@ mod text;
 mod walk;
 mod words;
 
-pub use text::{dump_text, identity};
+pub use text::{dump_text, identity, object_text, root_text};
 pub use walk::{Found, Walk, walk_until};
 pub use words::{append, append_number, append_word};

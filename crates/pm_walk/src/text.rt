@@ -1,15 +1,19 @@
-ghost use Rattle.std.specs.Prelude.{◌≡◌, ◌++◌, ◌∷◌, IsSome, IfOk, OnOk};
+ghost use Rattle.std.specs.Prelude.{◌≡◌, ◌<◌, ◌++◌, ◌∷◌, IsSome, IfOk, OnOk};
 ghost use Rattle.std.specs.List.{flat_map, AllByRecursion};
-ghost use Rattle.std.specs.Option.{unwrap_or};
+ghost use Rattle.std.specs.Option.{unwrap_or, option_map};
 ghost use Rattle.std.specs.FinMap.{entries};
 ghost use Rattle.pm_model.specs.Text.{pairs};
 ghost use Rattle.pm_dump.specs.Dump.{dump_of, dump_text_of, line_text, field_word, HeadLine, ObjectLine, RootLine, EndLine};
-ghost use Rattle.pm_view.specs.Reading.{object_at, named_by};
+ghost use Rattle.pm_view.specs.Reading.{object_at, named_by, resolve};
 ghost use Rattle.pm_view.specs.Represents.{names, meaning};
 ghost use Rattle.pm_copies.specs.Listed.{copy_in};
 ghost use Rattle.pm_space.specs.Shown.{view};
 ghost use Rattle.pm_walk.specs.Walked.{shown};
-ghost use Rattle.pm_walk.specs.Lines.{found_line, named_line};
+ghost use Rattle.pm_walk.specs.Lines.{found_line, named_line, led_line};
+ghost use Rattle.pm_walk.specs.Told.{TellsHeld, TellsNamed};
+ghost use Rattle.pm_model.specs.World.{World};
+ghost use Rattle.pm_view.specs.Represents.{Represents};
+ghost use Rattle.pm_types.specs.declared.limits.TheConstants.{CLIENTS, REGISTERS};
 
 use crate::walk::{Walk, walk_space};
 use crate::words::{append, append_number, append_word};
@@ -185,4 +189,63 @@ pub fn dump_text<F>(alloc: Global, space: &Space<F>) -> Result<Vec<u8>, NoMemory
     append_roots(&mut out, space)?;
     append_end(&mut out)?;
     Ok(out)
+}
+
+// Appends the line of the object to which an address leads.
+fn append_led<F>(
+    alloc: Global,
+    out: &mut Vec<u8>,
+    parts: &Parts<F>,
+    to: Addr,
+) -> Result<(), NoMemory>
+    requires { IsSome (object_at (view parts.now).cars (resolve (view parts.now) to)) }
+    ensures { OnOk result (out.new.items ≡ out.old.items ++ led_line (view parts.now) to) }
+{
+    match object_at(&parts.cars, resolve(&parts.cars, to)) {
+        Some(object) => append_object(alloc, out, parts, object.id, object),
+        None => unreachable!(),
+    }
+}
+
+/// The line of a dump for what this register of this client holds, in each world that the space stands for; `None`
+/// where it is empty. The client is below 8, and the register below 1,024. The line has at most 11,020 bytes: memory is
+/// taken for it, and, while it is written, for its digits.
+pub fn object_text<F>(
+    alloc: Global,
+    space: &Space<F>,
+    client: u32,
+    register: u32,
+) -> Result<Option<Vec<u8>>, NoMemory>
+    requires client { client < CLIENTS }
+    requires register { register < REGISTERS }
+    ensures { IfOk result (λ told. (world : World) → Represents (view space.now.parts) world
+        → TellsHeld world client register (option_map (λ text. text.items) told)) }
+{
+    let Some(to) = space.parts.handles.get(client, register) else {
+        return Ok(None);
+    };
+    let mut out = Vec::new(alloc);
+    append_led(alloc, &mut out, &space.parts, to)?;
+    Ok(Some(out))
+}
+
+/// The line of a dump for the name at this place, counted from 0 in ascending order of the names' bytes, in each world
+/// that the space stands for; `None` where no more names are bound. Memory is taken for the line: at most 81 bytes.
+pub fn root_text<F>(
+    alloc: Global,
+    space: &Space<F>,
+    place: u64,
+) -> Result<Option<Vec<u8>>, NoMemory>
+    ensures { IfOk result (λ told. (world : World) → Represents (view space.now.parts) world
+        → TellsNamed world place (option_map (λ text. text.items) told)) }
+{
+    a_copy_is_walked_by_addresses();
+    space.parts.roots.sound();
+    if place >= space.parts.roots.len() {
+        return Ok(None);
+    }
+    let (name, _, at) = space.parts.roots.nth(place);
+    let mut out = Vec::new(alloc);
+    append_root(&mut out, &space.parts, name, at)?;
+    Ok(Some(out))
 }
