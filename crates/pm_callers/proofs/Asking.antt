@@ -6,17 +6,14 @@ use Rattle.std.specs.declared.collections.VecDeque.{VecDeque}
 use Rattle.std.specs.declared.alloc.Global.{Global}
 use Rattle.std.proofs.lemmas.List.{append-nil}
 use Rattle.pm_types.specs.declared.command.Cmd.{Cmd}
-use Rattle.pm_types.specs.declared.limits.TheConstants.{CLIENTS}
 use Rattle.pm_model.specs.Journal.{commands_of}
 use Rattle.pm_script.specs.declared.line.Line.{Line}
 use Rattle.pm_script.specs.Parted.Asked.{events_asked, flushes_asked, requests_asked, steps_asked}
 use Rattle.pm_script.specs.Parted.Lists.{list_of}
-use Rattle.pm_passes.specs.Numbering.{total}
 use Rattle.pm_seats.specs.declared.limits.TheConstants.{LAST_EVENT}
-use Rattle.pm_turns.specs.declared.limits.TheConstants.{WORKERS}
 use Rattle.pm_callers.specs.declared.task.Task.{Task}
-use Rattle.pm_callers.specs.declared.task.Task.TheVariants.{Client, Collector, Flusher}
-use Rattle.pm_callers.specs.Tasks.{AreApart, IsTask, calls_in, calls_left, client_tasks, collects_in, collects_left, flushes_in, flushes_left, who_of}
+use Rattle.pm_callers.specs.declared.task.Task.TheVariants.{Collector, Flusher}
+use Rattle.pm_callers.specs.Tasks.{AreApart, IsTask, calls_left, client_tasks, collects_left, flushes_left, who_of}
 use Rattle.pm_callers.specs.Runs.{AreAsked}
 
 abbrev Lists : Type 0

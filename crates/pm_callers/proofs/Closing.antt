@@ -1,11 +1,11 @@
 -- What a run comes to, by what the last pass knows.
-use Rattle.std.proofs.Common.{◌≡◌, ◌⊎◌, inl, inr, ⊎_elim, ℕ, ◌+◌, ◌<◌, ◌≤◌, Bool, false, true, if◌then◌else◌, nat_eq, List, [], ◌∷◌, ◌++◌, length, Option as Opt, Some, None, arith, refl, ap, sym, subst, ◌∙◌}
+use Rattle.std.proofs.Common.{◌≡◌, ◌⊎◌, inl, inr, ⊎_elim, ℕ, ◌+◌, ◌<◌, ◌≤◌, ◌^◌, Bool, false, true, if◌then◌else◌, nat_eq, List, [], ◌∷◌, ◌++◌, length, Option as Opt, Some, None, arith, refl, ap, sym, subst, ◌∙◌}
+use lib.Pow.{pow_mono}
 use Rattle.std.specs.VecDeque.{deque_items}
 use Rattle.std.specs.Coded.{Coded-set, coded_list}
 use Rattle.std.specs.List.{AllByRecursion, AllByRecursion-prop}
-use Rattle.std.proofs.Math.Logic.{∥∥₁_elim, ∥∥₁_map}
+use Rattle.std.proofs.Math.Logic.{∥∥₁_map}
 use Rattle.std.proofs.lemmas.List.{append-nil, length-append}
-use Rattle.pm_types.specs.Memory.{no_memory}
 use Rattle.pm_types.specs.Counts.{Rose, greatest_count}
 use Rattle.pm_types.specs.contracts.Cmd as cmd_type
 use Rattle.pm_types.specs.declared.command.Cmd.{Cmd}
@@ -16,26 +16,24 @@ use Rattle.pm_types.specs.declared.fault.EngineFault.TheVariants.{Memory, Disk, 
 use Rattle.pm_disk.specs.declared.disk.Disk.{Ghosts}
 use Rattle.pm_model.specs.Journal.{commands_of, part}
 use Rattle.pm_script.specs.declared.line.Line.{Line}
-use Rattle.pm_script.specs.Parted.Asked.{events_asked, flushes_asked, requests_asked, steps_asked}
+use Rattle.pm_script.specs.Parted.Asked.{requests_asked}
 use Rattle.pm_saving.specs.Serving.{Serving, world}
 use Rattle.pm_saving.specs.Images.{IsSettledCopy, IsTold}
 use Rattle.pm_engine.specs.declared.engine.Engine.{Engine}
 use Rattle.pm_engine.specs.declared.events.stop.Stop.{Stop}
-use Rattle.pm_engine.specs.declared.events.stop.Stop.TheVariants.{Device, Memory as OfMemory}
-use Rattle.pm_engine.specs.Events.Causes.{stop_of}
+use Rattle.pm_engine.specs.declared.events.stop.Stop.TheVariants.{Device}
 use Rattle.pm_engine.specs.Events.Events.{EngineGoesOn}
 use Rattle.pm_engine.specs.Events.Running.{IsFresh}
-use Rattle.pm_engine.specs.Shown.{disk_in, opened_disk, serving}
+use Rattle.pm_engine.specs.Shown.{KeepsStart, disk_in, opened_disk, serving}
 use Rattle.pm_engine.proofs.EventsLemmas.Going.{goes_short, goes_then}
 use Rattle.pm_passes.specs.declared.view.View.{View}
 use Rattle.pm_passes.specs.Views.{HasOwn}
-use Rattle.pm_lock.specs.Crew.Whole.{MakesAllOf}
 use Rattle.pm_lock.proofs.Laws.{below_once, splits_once}
 use Rattle.pm_seats.specs.declared.fault.SeatFault.{SeatFault}
 use Rattle.pm_seats.specs.declared.fault.SeatFault.TheVariants.{Engine as Answered, Spent}
-use Rattle.pm_seats.specs.declared.limits.TheConstants.{LAST_EVENT}
-use Rattle.pm_seats.specs.Kept.{StopsNow, stop_in}
+use Rattle.pm_seats.specs.Kept.{stop_in}
 use Rattle.pm_seats.specs.Sharing.{IsWholeEngine, OpensPass}
+use Rattle.pm_turns.specs.declared.limits.TheConstants.{WORKERS}
 use Rattle.pm_callers.specs.declared.task.Task.{Task}
 use Rattle.pm_callers.specs.declared.task.Task.TheVariants.{Client, Collector, Flusher}
 use Rattle.pm_callers.specs.Tasks.{AreApart, HasLeft, IsDone, IsTask, SomeLeft, calls_in, calls_left, collects_in, collects_left, flushes_in, flushes_left}
@@ -137,6 +135,13 @@ shows_by it base now (Some (Answered (Disk b a))) w told faults events = rose_mo
 shows_by it base now (Some (Answered (Reopen count))) w told faults events = rose_more base w.faults now told faults
 
 -- ---- the tasks
+
+-- the first pass has shares enough for ten
+pub enough_at_first : (base : ℕ) (tasks : List Task) (v : View Entry) → OpensPass base v → length tasks ≤ WORKERS → 2 ^ length tasks ≤ v.shares
+enough_at_first base tasks v opens few =
+    let shares = opens.shares in
+    let most : 2 ^ length tasks ≤ 2 ^ 10 = pow_mono few in
+    omega (arith, shares, most)
 
 module _ {D : Type 0} {F : Type 0} {g : Ghosts D} (first now : Engine D F g) (tasks left : List Task) (v w : View Entry) (fault : Opt SeatFault) (opens : OpensPass (g.count (disk_in first)) v) (works : WorkTogether (g.count (disk_in first)) tasks left v w fault) (whole : IsWholeEngine w now) (own : ∥ HasOwn w ∥₁)
     (are : AllByRecursion IsTask tasks) (apart : AreApart tasks) where
@@ -256,7 +261,7 @@ module _ {D : Type 0} {F : Type 0} {g : Ghosts D} (lines : List Line) (first now
         inr (⊎_elim (λ (p : 0 < collects_left runs.left). inl (omega (arith, p, steps, collects))) (λ (p : 0 < flushes_left runs.left). inr (omega (arith, p, events, flushes))) more))
         has
 
-  says_by : (fault : Opt SeatFault) → RunsTasks tasks first now fault → Says lines (serving now) (g.count (disk_in first)) (g.count (disk_in now)) fault
+  says_by : (fault : Opt SeatFault) → RunsTasks tasks first now fault → Says lines first now fault
   says_by None runs =
       let steps = runs.steps in
       let collects = asked.collects in
@@ -299,14 +304,42 @@ module _ {D : Type 0} {F : Type 0} {g : Ghosts D} (lines : List Line) (first now
 
 -- ---- from the engine of before the room was taken
 
+-- an engine that stays, and stays again
+start_on : {D : Type 0} {F : Type 0} {g : Ghosts D} (a b c : Engine D F g) → KeepsStart a b → KeepsStart b c → KeepsStart a c
+start_on a b c one two = record {
+  opening = record { number = two.opening.number ∙ one.opening.number; opened = two.opening.opened ∙ one.opening.opened };
+  disk = two.disk ∙ one.disk;
+  count = two.count ∙ one.count;
+  chooser = two.chooser ∙ one.chooser;
+}
+
+keeps_on : {D : Type 0} {F : Type 0} {g : Ghosts D} (a b c : Engine D F g) → KeepsEngine a b → KeepsEngine b c → KeepsEngine a c
+keeps_on a b c one two =
+    let room_one = one.room in
+    let room_two = two.room in
+    record {
+      serving_is = two.serving_is ∙ one.serving_is;
+      disk = two.disk ∙ one.disk;
+      start = start_on a b c one.start two.start;
+      entries = two.entries ∙ one.entries;
+      room = omega (arith, room_one, room_two);
+    }
+
 module _ {D : Type 0} {F : Type 0} {g : Ghosts D} (lines : List Line) (old : Engine D F g) where
+  says_before : (first now : Engine D F g) → KeepsEngine old first → (fault : Opt SeatFault) → Says lines first now fault → Says lines old now fault
+  says_before first now keeps None says = says
+  says_before first now keeps (Some (Answered (Memory m))) says = ⊎_elim (λ (same : KeepsEngine first now). inl (keeps_on old first now keeps same)) (λ left. inr left) says
+  says_before first now keeps (Some (Answered (Disk b a))) says = subst (λ (d : D). Rose (g.count d) (g.count (disk_in now))) keeps.disk says
+  says_before first now keeps (Some (Answered (Reopen count))) says = subst (λ (d : D). Rose (g.count d) (g.count (disk_in now))) keeps.disk says
+  says_before first now keeps (Some (Spent n)) says = says
+
   pub from_before : (first now : Engine D F g) → KeepsEngine old first → EngineGoesOn old first None → (fault : Opt SeatFault) → RunsCalls lines first now fault → RunsCalls lines old now fault
   from_before first now keeps goes fault runs = record {
     parts = runs.parts;
     steps = runs.steps;
     flushes = runs.flushes;
     goes = ∥∥₁_map runs.goes (λ on. goes_then old first now (stop_met fault) goes on);
-    says = subst (λ (d : D). Says lines (serving now) (g.count d) (g.count (disk_in now)) fault) keeps.disk runs.says;
+    says = says_before first now keeps fault runs.says;
   }
 
   -- nothing was asked
@@ -320,7 +353,7 @@ module _ {D : Type 0} {F : Type 0} {g : Ghosts D} (lines : List Line) (old : Eng
         steps = omega (arith, steps);
         flushes = omega (arith, events);
         goes = ∣ goes_short old now goes ∣₁;
-        says = inl events;
+        says = inl keeps;
       }
 
   -- the tasks of these lines were asked, or nothing was

@@ -1,8 +1,6 @@
 -- A list of entries is no longer than one of requests of which each client has as many at least.
-use Rattle.std.proofs.Common.{◌≡◌, ℕ, suc, zero, ◌+◌, ◌<◌, ◌≤◌, Bool, true, false, cond, nat_eq, List, [], ◌∷◌, length, map, arith, refl, ap, sym, ◌∙◌}
-use Rattle.std.specs.List.{AllByRecursion, filter}
-use Rattle.std.proofs.lemmas.List.{length-map}
-use Rattle.pm_types.specs.declared.command.Cmd.{Cmd}
+use Rattle.std.proofs.Common.{◌≡◌, ℕ, suc, zero, ◌+◌, ◌<◌, ◌≤◌, Bool, true, false, nat_eq, List, [], ◌∷◌, length, arith, refl, ap}
+use Rattle.std.specs.List.{AllByRecursion}
 use Rattle.pm_types.specs.declared.entry.Entry.{Entry}
 use Rattle.pm_model.specs.declared.request.Request.{Request}
 use Rattle.pm_model.specs.Journal.{commands_of, part, requests_of}

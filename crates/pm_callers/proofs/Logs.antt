@@ -1,14 +1,13 @@
 -- Whose entries those of a log are, where each worker has the entries of its number.
-use Rattle.std.proofs.Common.{◌≡◌, ◌≢◌, ◌⊎◌, inl, inr, ⊎_elim, ℕ, ◌<◌, Bool, true, false, cond, if◌then◌else◌, nat_eq, List, [], ◌∷◌, ◌++◌, map, length, Option, Some, None, arith, refl, ap, sym, subst, ◌∙◌}
+use Rattle.std.proofs.Common.{◌≡◌, ◌≢◌, ◌⊎◌, inl, inr, ⊎_elim, ℕ, ◌<◌, Bool, true, false, cond, if◌then◌else◌, nat_eq, List, [], ◌∷◌, ◌++◌, map, Option, None, arith, refl, ap, sym, subst, ◌∙◌}
 use Rattle.std.specs.List.{AllByRecursion, filter}
 use Rattle.std.specs.VecDeque.{deque_items}
-use Rattle.std.proofs.lemmas.List.{append-nil, append_assoc}
+use Rattle.std.proofs.lemmas.List.{append-nil}
 use Rattle.pm_types.specs.declared.command.Cmd.{Cmd}
 use Rattle.pm_types.specs.declared.entry.Entry.{Entry}
 use Rattle.pm_types.specs.declared.limits.TheConstants.{CLIENTS}
 use Rattle.pm_model.specs.Journal.{part}
 use Rattle.pm_passes.specs.Views.{AreApart as NumbersApart, Has, calls_by}
-use Rattle.pm_lock.specs.declared.workers.TheConstants.{COLLECTOR, FLUSHER}
 use Rattle.pm_seats.specs.declared.fault.SeatFault.{SeatFault}
 use Rattle.pm_seats.specs.Sharing.{entries_of}
 use Rattle.pm_callers.specs.declared.task.Task.{Task}

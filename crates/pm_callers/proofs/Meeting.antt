@@ -1,14 +1,21 @@
 -- What workers do together, where their passes meet.
-use Rattle.std.proofs.Common.{◌≡◌, ◌⊎◌, inl, inr, ⊎_elim, ℕ, ◌+◌, ◌<◌, ◌≤◌, ◌-◌, ◌/◌, max, false, true, List, [], ◌∷◌, ◌++◌, length, Option, Some, None, arith, refl, ap, sym, subst, ◌∙◌}
+use Rattle.std.proofs.Common.{◌≡◌, ◌⊎◌, inl, inr, ⊎_elim, ℕ, ◌+◌, ◌<◌, ◌≤◌, ◌-◌, ◌/◌, max, false, true, List, [], ◌∷◌, ◌++◌, length, Option, Some, None, IfSome, Bool, suc, ◌*◌, ◌==◌, ◌^◌, arith, refl, ap, sym, subst, ◌∙◌}
+use lib.Pow.{pow_pos}
+use native.Mathlib.Nat.{pow-suc}
+use Rattle.std.specs.List.{AllByRecursion}
 use Rattle.std.proofs.lemmas.List.{append-nil, append_assoc}
+use Rattle.std.proofs.lemmas.Bool.Decides.{nat_tests}
 use Rattle.pm_types.specs.declared.entry.Entry.{Entry}
 use Rattle.pm_passes.specs.declared.view.View.{View}
 use Rattle.pm_passes.specs.Numbering.{total}
 use Rattle.pm_passes.specs.Passes.{FindsNoNumber, MeetsPass, SplitsPass}
+use Rattle.pm_types.specs.declared.no_memory.NoMemory.{NoMemory}
+use Rattle.pm_types.specs.declared.fault.EngineFault.TheVariants.{Memory}
 use Rattle.pm_seats.specs.declared.fault.SeatFault.{SeatFault}
+use Rattle.pm_seats.specs.declared.fault.SeatFault.TheVariants.{Engine as Answered}
 use Rattle.pm_callers.specs.declared.task.Task.{Task}
-use Rattle.pm_callers.specs.Tasks.{collects_in, collects_left, flushes_in, flushes_left}
-use Rattle.pm_callers.specs.Faults.{is_disk, worse_of, worst_from, worst_of}
+use Rattle.pm_callers.specs.Tasks.{IsTask, collects_in, flushes_in}
+use Rattle.pm_callers.specs.Faults.{is_disk, worse_of}
 use Rattle.pm_callers.specs.Works.{Answers, Counts, Each, Ends, Told, Works, WorkTogether}
 use Rattle.pm_callers.proofs.Stepping.{told_on}
 use Rattle.pm_callers.proofs.Worst.{neither_disk, worse_none, worse_one, worst_more}
@@ -195,3 +202,83 @@ module _ (base : ℕ) (tasks lefts : List Task) (task : Task) (v v1 one : V) (f 
           told = ⊎_elim (λ (is : worse_of f g ≡ f). subst (Told base one) (sym is) a.told) (λ (is : worse_of f g ≡ g). subst (Told base one) (sym is) silent) (worse_one f g);
         };
       }
+
+-- ---- the last task, cut from the others
+
+all_parts : (rest : List Task) (task : Task) → AllByRecursion IsTask (rest ++ task ∷ []) → AllByRecursion IsTask rest × IsTask task
+all_parts [] task all = (tt, all.0)
+all_parts (t ∷ rest) task all = let more = all_parts rest task all.1 in ((all.0, more.0), more.1)
+
+pub parts_are : (tasks rest : List Task) (task : Task) → tasks ≡ rest ++ task ∷ [] → AllByRecursion IsTask tasks → AllByRecursion IsTask rest × IsTask task
+parts_are tasks rest task is all = all_parts rest task (subst (AllByRecursion IsTask) is all)
+
+pub no_others : (tasks : List Task) (empty : Bool) → empty ≡ (length tasks == 0) → empty ≡ true → tasks ≡ []
+no_others [] empty is is_true = refl
+no_others (task ∷ tasks) empty is is_true =
+    let test : (length (task ∷ tasks) == 0) ≡ true = sym is ∙ is_true in
+    let none : length (task ∷ tasks) ≡ 0 = grind (arith, nat_tests) in
+    absurd (omega (arith, none))
+
+-- a half of the shares is enough for the others
+twice : (n m : ℕ) → n + 1 ≡ m → 2 ^ m ≡ 2 ^ n * 2
+twice n m is = let same : m ≡ suc n = omega (arith, is) in ap (λ (k : ℕ). 2 ^ k) same ∙ pow-suc 2 n
+
+pub half_enough : (n m : ℕ) (v w o : V) → n + 1 ≡ m → 2 ^ m ≤ v.shares → SplitsPass v w o → 2 ^ n ≤ w.shares
+half_enough n m v w o is enough splits =
+    let double = twice n m is in
+    let shares = ap (λ (x : V). x.shares) splits.first in
+    omega (arith, double, enough, shares)
+
+pub still_enough : (n m : ℕ) (v w : V) → n + 1 ≡ m → 2 ^ m ≤ v.shares → FindsNoNumber v w → 2 ^ n ≤ w.shares
+still_enough n m v w is enough none =
+    let double = twice n m is in
+    let shares = ap (λ (x : V). x.shares) none.view in
+    omega (arith, double, enough, shares)
+
+pub two_at_least : (n m s : ℕ) → n + 1 ≡ m → 2 ^ m ≤ s → 2 ≤ s
+two_at_least n m s is enough =
+    let double = twice n m is in
+    let some : 0 < 2 ^ n = pow_pos n in
+    omega (arith, double, enough, some)
+
+-- each pass was told what the first was
+pub told_first : (base : ℕ) (v w o : V) → base ≤ v.faults → SplitsPass v w o → base ≤ w.faults
+told_first base v w o told splits = let faults = ap (λ (x : V). x.faults) splits.first in omega (arith, told, faults)
+
+pub told_second : (base : ℕ) (v w o : V) → base ≤ v.faults → SplitsPass v w o → base ≤ o.faults
+told_second base v w o told splits = let faults = ap (λ (x : V). x.faults) splits.second in omega (arith, told, faults)
+
+pub told_none : (base : ℕ) (v w : V) → base ≤ v.faults → FindsNoNumber v w → base ≤ w.faults
+told_none base v w told none = let faults = ap (λ (x : V). x.faults) none.view in omega (arith, told, faults)
+
+pub told_met : (base : ℕ) (v w u : V) → base ≤ v.faults → MeetsPass v w u → base ≤ u.faults
+told_met base v w u told meets =
+    let faults = ap (λ (x : V). x.faults) meets.view in
+    let most = max_first v.faults w.faults in
+    omega (arith, told, faults, most)
+
+-- want of memory is no fault of the disk, and a pass is told nothing with it
+short_quiet : (base : ℕ) (w : V) (m : NoMemory) (fault : Option SeatFault) → IfSome fault (λ f. f ≡ Answered (Memory m)) → (is_disk fault ≡ false) × Told base w fault
+short_quiet base w m None is = (refl, tt)
+short_quiet base w m (Some f) is = subst (λ (x : SeatFault). (is_disk (Some x) ≡ false) × Told base w (Some x)) (sym is) (refl, tt)
+
+module _ (base : ℕ) (tasks lefts rest still : List Task) (task left : Task) (v u : V) (worst : Option SeatFault) (were : tasks ≡ rest ++ task ∷ []) (are : lefts ≡ still ++ left ∷ []) where
+  as_lists : (fault : Option SeatFault) → worst ≡ fault → WorkTogether base (rest ++ task ∷ []) (still ++ left ∷ []) v u fault → WorkTogether base tasks lefts v u worst
+  as_lists fault is it =
+      subst (λ (x : Option SeatFault). WorkTogether base tasks lefts v u x) (sym is)
+      (subst (λ (l : List Task). WorkTogether base l lefts v u fault) (sym were) (subst (λ (l : List Task). WorkTogether base (rest ++ task ∷ []) l v u fault) (sym are) it))
+
+  pub spread_alone : rest ≡ [] → still ≡ [] → Works base task left v u worst → WorkTogether base tasks lefts v u worst
+  spread_alone none is_none works =
+      as_lists worst refl
+      (subst (λ (l : List Task). WorkTogether base (l ++ task ∷ []) (still ++ left ∷ []) v u worst) (sym none)
+      (subst (λ (l : List Task). WorkTogether base (task ∷ []) (l ++ left ∷ []) v u worst) (sym is_none) (alone base task left v u worst works)))
+
+  pub spread_joined : (v1 v2 one two : V) (f g : Option SeatFault) → worst ≡ worse_of f g → SplitsPass v v1 v2 → WorkTogether base rest still v1 one f → Works base task left v2 two g → MeetsPass one two u → WorkTogether base tasks lefts v u worst
+  spread_joined v1 v2 one two f g is splits together works meets = as_lists (worse_of f g) is (joined base rest still task left v v1 v2 one two u f g splits together works meets)
+
+module _ (base : ℕ) (tasks lefts rest still : List Task) (task : Task) (v u : V) (worst : Option SeatFault) (were : tasks ≡ rest ++ task ∷ []) (are : lefts ≡ still ++ task ∷ []) where
+  pub spread_unjoined : (v1 : V) (f g : Option SeatFault) (m : NoMemory) → worst ≡ worse_of f g → FindsNoNumber v v1 → WorkTogether base rest still v1 u f → Ends task g → IfSome g (λ fault. fault ≡ Answered (Memory m)) → WorkTogether base tasks lefts v u worst
+  spread_unjoined v1 f g m is none together ends memory =
+      let quiet = short_quiet base u m g memory in
+      as_lists base tasks lefts rest still task task v u worst were are (worse_of f g) is (unjoined base rest still task v v1 u f g none together ends quiet.0 quiet.1)

@@ -1,5 +1,5 @@
 -- What one event does, and what events do one behind another.
-use Rattle.std.proofs.Common.{◌≡◌, ◌⊎◌, inl, inr, ⊎_elim, ℕ, suc, ◌+◌, ◌<◌, ◌≤◌, ◌-◌, ◌↔◌, false, true, List, [], ◌∷◌, ◌++◌, map, length, Option, Some, None, Ok, Err, arith, refl, ap, sym, subst, ◌∙◌}
+use Rattle.std.proofs.Common.{◌≡◌, ◌⊎◌, inl, inr, ⊎_elim, ℕ, ◌+◌, ◌<◌, ◌≤◌, ◌-◌, ◌↔◌, false, true, List, [], ◌∷◌, ◌++◌, map, length, Option, Some, None, Ok, Err, arith, refl, ap, sym, subst, ◌∙◌}
 use Rattle.std.specs.List.{AllByRecursion}
 use Rattle.std.specs.Option.{IsSome, is_some, option_to_list}
 use Rattle.std.specs.VecDeque.{deque_items}
@@ -17,13 +17,12 @@ use Rattle.pm_passes.specs.Passes.{view_of}
 use Rattle.pm_seats.specs.declared.events.Seen.{Seen}
 use Rattle.pm_seats.specs.declared.fault.SeatFault.{SeatFault}
 use Rattle.pm_seats.specs.declared.fault.SeatFault.TheVariants.{Engine as Answered, Spent}
-use Rattle.pm_seats.specs.declared.limits.TheConstants.{LAST_EVENT}
 use Rattle.pm_seats.specs.Sharing.{FailsPass, SeesEntry, SeesFlush, SeesMade, entry_of}
 use Rattle.pm_callers.specs.declared.task.Task.{Task}
 use Rattle.pm_callers.specs.declared.task.Task.TheVariants.{Client, Collector, Flusher}
-use Rattle.pm_callers.specs.Tasks.{HasLeft, IsDone, IsTask, collects_in, collects_left, flushes_in, flushes_left}
+use Rattle.pm_callers.specs.Tasks.{IsTask}
 use Rattle.pm_callers.specs.Faults.{is_disk}
-use Rattle.pm_callers.specs.Works.{Answers, Counts, Ends, Steps, TakesNext, Told, Works, events_left}
+use Rattle.pm_callers.specs.Works.{Answers, Counts, Steps, TakesNext, Told, Works}
 
 abbrev V : Type 0
 V = View Entry

@@ -1,11 +1,11 @@
 -- The worse one of two faults.
-use Rattle.std.proofs.Common.{◌≡◌, ◌⊎◌, inl, inr, ⊎_elim, ℕ, ◌<◌, ◌≤◌, Bool, true, false, if◌then◌else◌, nat_lt, List, [], ◌∷◌, ◌++◌, Option, Some, None, arith, refl, ap, sym, subst, ◌∙◌}
+use Rattle.std.proofs.Common.{◌≡◌, ◌⊎◌, inl, inr, ◌<◌, ◌≤◌, Bool, true, false, if◌then◌else◌, nat_lt, List, [], ◌∷◌, ◌++◌, Option, Some, None, arith, refl, ap}
 use Rattle.std.specs.List.{AllByRecursion}
 use Rattle.std.proofs.lemmas.Bool.Decides.{nat_tests}
 use Rattle.pm_types.specs.declared.fault.EngineFault.TheVariants.{Memory, Disk, Reopen}
 use Rattle.pm_seats.specs.declared.fault.SeatFault.{SeatFault}
 use Rattle.pm_seats.specs.declared.fault.SeatFault.TheVariants.{Engine as Answered, Spent}
-use Rattle.pm_callers.specs.Faults.{is_disk, weight, worse_of, worst_from, worst_of}
+use Rattle.pm_callers.specs.Faults.{is_disk, weight, worse_of, worst_from}
 
 abbrev Met : Type 0
 Met = Option SeatFault

@@ -1,5 +1,5 @@
 -- What a whole run comes to.
-use Rattle.std.specs.Prelude.{◌≡◌, ◌≢◌, ◌⊎◌, ℕ, ◌+◌, ◌≤◌, ◌<◌, List, [], ◌∷◌, ◌++◌, length, Option, Some, None}
+use Rattle.std.specs.Prelude.{◌≡◌, ◌⊎◌, ℕ, ◌+◌, ◌≤◌, ◌<◌, List, ◌∷◌, ◌++◌, length, Option, Some, None}
 use Rattle.std.specs.List.{AllByRecursion}
 use Rattle.pm_types.specs.Counts.{Rose}
 use Rattle.pm_types.specs.declared.limits.TheConstants.{CLIENTS}
@@ -12,7 +12,7 @@ use Rattle.pm_script.specs.Parted.Asked.{events_asked, flushes_asked, requests_a
 use Rattle.pm_saving.specs.Serving.{Serving}
 use Rattle.pm_engine.specs.declared.engine.Engine.{Engine}
 use Rattle.pm_engine.specs.Events.Events.{EngineGoesOn}
-use Rattle.pm_engine.specs.Shown.{KeepsStart, disk_in, room, serving}
+use Rattle.pm_engine.specs.Shown.{KeepsStart, disk_in, past_of, room, serving}
 use Rattle.pm_lock.specs.Crew.Whole.{MakesAllOf}
 use Rattle.pm_seats.specs.declared.fault.SeatFault.{SeatFault}
 use Rattle.pm_seats.specs.declared.fault.SeatFault.TheVariants.{Engine as Answered, Spent}
@@ -31,27 +31,35 @@ IsLeft lines it =
     ⊎ ((it.steps < steps_asked lines)
     ⊎ (it.events < length it.journal + it.steps + flushes_asked lines))
 
--- What a fault says of the run, by the disk's count when it began and at its end. Memory: something is left, or no event
--- was made. Disk and Reopen: the count rose. Spent never comes.
-abbrev pub Says : List Line → Serving → ℕ → ℕ → Option SeatFault → Type 0
-Says lines it before after None = MakesAllOf lines it
-Says lines it before after (Some (Answered (Memory _))) = (it.events ≡ 0) ⊎ IsLeft lines it
-Says lines it before after (Some (Answered (Disk _ _))) = Rose before after
-Says lines it before after (Some (Answered (Reopen count))) = Rose before after
-Says lines it before after (Some (Spent events)) = ⊥
+module _ {D : Type 0} {F : Type 0} {g : Ghosts D} where
+  -- an engine is as it was but for its room
+  pub record KeepsEngine (old new : Engine D F g) : Type 0 where
+    pub serving_is : serving new ≡ serving old
+    pub disk : disk_in new ≡ disk_in old
+    pub start : KeepsStart old new
+    pub entries : past_of new ≡ past_of old
+    pub room : room old ≤ room new
 
--- The lines were asked of an engine by workers, each with a pass of its own, and this fault was the worst.
-pub record RunsCalls {D : Type 0} {F : Type 0} {g : Ghosts D} (lines : List Line) (old new : Engine D F g)
-    (fault : Option SeatFault) : Type 0 where
-  -- each client's part of the journal is a first part of its commands
-  pub parts : (client : ℕ) → IsFirstPart (part client (serving new).journal) (commands_of client (requests_asked lines))
-  -- no more events of the collector were made, and no more flush events, than are asked
-  pub steps : (serving new).steps ≤ steps_asked lines
-  pub flushes : (serving new).events ≤ length (serving new).journal + (serving new).steps + flushes_asked lines
-  -- the engine went on as a run does that stops for this fault
-  pub goes : ∥ EngineGoesOn old new (stop_met fault) ∥₁
-  -- what the fault says, and where there is none that all was made
-  pub says : Says lines (serving new) (g.count (disk_in old)) (g.count (disk_in new)) fault
+  -- What a fault says of the run. Memory: something is left, or nothing was begun. Disk and Reopen: the disk's count rose.
+  -- Spent never comes.
+  abbrev pub Says : List Line → Engine D F g → Engine D F g → Option SeatFault → Type 0
+  Says lines old new None = MakesAllOf lines (serving new)
+  Says lines old new (Some (Answered (Memory _))) = KeepsEngine old new ⊎ IsLeft lines (serving new)
+  Says lines old new (Some (Answered (Disk _ _))) = Rose (g.count (disk_in old)) (g.count (disk_in new))
+  Says lines old new (Some (Answered (Reopen _))) = Rose (g.count (disk_in old)) (g.count (disk_in new))
+  Says lines old new (Some (Spent events)) = ⊥
+
+  -- The lines were asked of an engine by workers, each with a pass of its own, and this fault was the worst.
+  pub record RunsCalls (lines : List Line) (old new : Engine D F g) (fault : Option SeatFault) : Type 0 where
+    -- each client's part of the journal is a first part of its commands
+    pub parts : (client : ℕ) → IsFirstPart (part client (serving new).journal) (commands_of client (requests_asked lines))
+    -- no more events of the collector were made, and no more flush events, than are asked
+    pub steps : (serving new).steps ≤ steps_asked lines
+    pub flushes : (serving new).events ≤ length (serving new).journal + (serving new).steps + flushes_asked lines
+    -- the engine went on as a run does that stops for this fault
+    pub goes : ∥ EngineGoesOn old new (stop_met fault) ∥₁
+    -- what the fault says, and where there is none that all was made
+    pub says : Says lines old new fault
 
 -- the tasks of all that lines ask: each client's commands in one task, and all events of the two other kinds
 pub record AreAsked (lines : List Line) (tasks : List Task) : Type 0 where
@@ -91,10 +99,3 @@ pub record RunsTasks {D : Type 0} {F : Type 0} {g : Ghosts D} (tasks : List Task
   pub clients : AllByRecursion (λ entry. entry.client < CLIENTS) (serving new).journal
   pub goes : ∥ EngineGoesOn old new (stop_met fault) ∥₁
   pub shows : Shows (serving new) (g.count (disk_in old)) (g.count (disk_in new)) fault
-
--- an engine is as it was but for its room
-pub record KeepsEngine {D : Type 0} {F : Type 0} {g : Ghosts D} (old new : Engine D F g) : Type 0 where
-  pub serving_is : serving new ≡ serving old
-  pub disk : disk_in new ≡ disk_in old
-  pub start : KeepsStart old new
-  pub room : room old ≤ room new

@@ -1,6 +1,6 @@
 //! What a worker has to do.
 
-ghost use Rattle.std.specs.Prelude.{◌≡◌, ℕ, ◌++◌, ◌∷◌, [], length, IfOk};
+ghost use Rattle.std.specs.Prelude.{◌≡◌, ◌++◌, ◌∷◌, [], length, IfOk};
 ghost use Rattle.pm_types.specs.declared.limits.TheConstants.{CLIENTS};
 ghost use Rattle.pm_callers.specs.declared.task.Task.TheVariants.{Collector, Flusher};
 ghost use Rattle.pm_callers.specs.Tasks.{client_tasks, who_of};

@@ -1,5 +1,6 @@
 //! A line of the input: a case's name, or a step.
 
+use crate::called::push_calls;
 use crate::logged::push_logbook;
 use crate::opened::push_opened;
 use crate::shared::push_passes;
@@ -106,6 +107,18 @@ fn push_failing_threads<R: Threads + Wait + Sync>(
     push_threads(rt, alloc, call, lines, "threads", out)
 }
 
+// `N SCRIPT`: runs it by workers with passes over a disk that fails call N behind those of the opening.
+fn push_failing_calls<R: Threads + Wait + Sync>(
+    rt: &R,
+    alloc: Global,
+    text: &str,
+    out: &mut String,
+) -> Result<(), Fault> {
+    let (call, lines) = parted(text)?;
+    let call = number(call)?.saturating_add(opening(alloc)?);
+    push_calls(rt, alloc, call, lines, "seats", out)
+}
+
 // `N : PART : PART ..`: makes the events of the parts at a logbook over a disk that fails call N behind those of the
 // opening; no call fails where N is 0.
 fn push_logbook_text(alloc: Global, text: &str, out: &mut String) -> Result<(), Fault> {
@@ -148,6 +161,8 @@ fn push_step<R: Threads + Wait + Sync>(
         "turns" | "fails" => push_turned_text(alloc, step == "fails", text, out),
         "threads" | "alone" | "between" => push_threads(rt, alloc, 0, text, step, out),
         "threads-fail" => push_failing_threads(rt, alloc, text, out),
+        "seats" | "seats-between" => push_calls(rt, alloc, 0, text, step, out),
+        "seats-fail" => push_failing_calls(rt, alloc, text, out),
         "logbook" => push_logbook_text(alloc, text, out),
         "passes" | "met" | "unmet" | "split" | "together" => {
             push_passes_text(rt, alloc, step, text, out)

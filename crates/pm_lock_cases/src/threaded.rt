@@ -26,14 +26,14 @@ use std::thread::{self, Threads};
 /// Holds the first event of client 1 until the first of client 0 was made, and the second of client 0 until the first of
 /// client 1 was.
 #[derive(Drop)]
-struct Between {
+pub(crate) struct Between {
     zero: AtomicBool,
     one: AtomicBool,
 }
 
 impl Between {
-    // Where it is open it holds no one.
-    fn new(open: bool) -> Between {
+    /// Where it is open it holds no one.
+    pub(crate) fn new(open: bool) -> Between {
         Between {
             zero: AtomicBool::new(open),
             one: AtomicBool::new(open),
@@ -69,14 +69,14 @@ impl Gate for Between {
     }
 }
 
-// Of how many clients the journal has a first part of their commands in this script, and of how many all of them.
-fn parts_of(alloc: Global, text: &str, journal: &[Entry]) -> Result<(u64, u64), Fault> {
+/// Of how many clients the journal has a first part of their commands in this script, and of how many all of them.
+pub(crate) fn parts_of(alloc: Global, text: &str, journal: &[Entry]) -> Result<(u64, u64), Fault> {
     let lines = script(alloc, text)?;
     count_parts(alloc, lines.as_slice(), journal)
 }
 
-// Adds the fault that stopped a book, and of how many clients a first part was answered.
-fn push_stopped<T: Debug>(fault: &T, first: u64, out: &mut String) -> Result<(), Fault> {
+/// Adds a fault, and of how many clients a first part was answered.
+pub(crate) fn push_stopped<T: Debug>(fault: &T, first: u64, out: &mut String) -> Result<(), Fault> {
     push_value(fault, out)?;
     push_filled(" / first parts %", &[first], out)
 }
@@ -101,8 +101,8 @@ fn push_replies(alloc: Global, journal: &[Entry], out: &mut String) -> Result<()
     push_text(text.as_slice(), out)
 }
 
-// Adds what a journal is, and all its replies, where they are asked for.
-fn push_journal(
+/// Adds what a journal is, and all its replies, where they are asked for.
+pub(crate) fn push_journal(
     alloc: Global,
     journal: &[Entry],
     replies: bool,

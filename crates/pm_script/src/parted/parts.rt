@@ -23,8 +23,9 @@ pub struct Parts {
 }
 
 impl Parts {
-    ghost use Rattle.std.specs.Prelude.{◌≡◌, ◌≢◌, ◌<◌, ◌≤◌, ◌+◌, ℕ, List, [], ◌∷◌, length};
+    ghost use Rattle.std.specs.Prelude.{◌≡◌, ◌≢◌, ◌<◌, ◌≤◌, ◌+◌, ℕ, List, [], ◌∷◌, length, map};
     ghost use Rattle.std.specs.Prelude.{IfNone, IfOk, IfSome, OnSome};
+    ghost use Rattle.std.specs.VecDeque.{deque_items};
     ghost use Rattle.pm_types.specs.declared.command.Cmd.{Cmd as Command};
     ghost use Rattle.pm_types.specs.declared.limits.TheConstants.{CLIENTS, SCRIPT_LINES};
     ghost use Rattle.pm_model.specs.Journal.{commands_of};
@@ -75,6 +76,14 @@ impl Parts {
         let cmd = take_next(self.queues.as_mut_slice(), client)?;
         self.left -= 1;
         Some(cmd)
+    }
+
+    /// The lists of all clients, client 0 first. Nothing is copied.
+    pub fn into_lists(self) -> Vec<VecDeque<Cmd>>
+        ensures lists { map deque_items result.items ≡ lists_in self }
+        ensures eight { length result.items ≡ CLIENTS }
+    {
+        self.queues
     }
 
     /// How many commands are left.

@@ -2,7 +2,7 @@ use Rattle.std.proofs.Common.{rules}
 use Rattle.pm_engine.specs.Shown.{disk_in}
 use Rattle.pm_passes.specs.Passes.{view_of}
 use Rattle.pm_seats.specs.Sharing.{first_engine}
-use Rattle.pm_callers.proofs.Stepping.{begins, ended_next, failed_next, made_next, still_task}
+use Rattle.pm_callers.proofs.Stepping.{begins}
 use Rattle.pm_callers.proofs.workers.work.Goals as goal
 
 pub loop-index-init : goal.loop-index-init
