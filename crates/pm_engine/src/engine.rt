@@ -53,7 +53,7 @@ impl<D: Disk, F: Drop> Engine<D, F> {
     ghost use Rattle.pm_types.specs.Counts.{capped};
     ghost use Rattle.pm_space.specs.Shown.{view};
     ghost use Rattle.pm_engine.specs.Shown.{KeepsEntries, KeepsStart, disk_in, opened_count, opened_disk, pages_in};
-    ghost use Rattle.pm_engine.specs.Shown.{past_of, recent, room, serving, tally_of, total_in, unmade_in};
+    ghost use Rattle.pm_engine.specs.Shown.{chooser, past_of, recent, room, serving, tally_of, total_in, unmade_in};
 
     /// What was asked and answered since the opening, in order, while no entry was let go.
     pub fn journal(&self) -> &[Entry]
@@ -146,6 +146,14 @@ impl<D: Disk, F: Drop> Engine<D, F> {
         tell_watches(&self.works.space, self.works.watches.as_slice())
     }
 
+    /// The heap, lent: it stands for the world that is served, so what it tells of an object or of a name is the world's.
+    pub fn space(&self) -> &Space<F>
+        ensures heap { view result.now.parts ≡ (serving self.now).view }
+        ensures place { result.now.parts.place ≡ chooser self.now }
+    {
+        &self.works.space
+    }
+
     /// Makes room for so many further entries of the journal, so that they take no memory. Where memory runs out all is
     /// as it was.
     pub fn reserve_entries(&mut self, n: u64) -> Result<(), NoMemory>
@@ -173,6 +181,7 @@ impl<D: Disk, F: Drop> Engine<D, F> {
         ensures tally { tally_of result.2 ≡ total_in self }
         ensures honest { AllByRecursion IsHonest (tally_of result.2).lines }
         ensures heap { view result.3.parts ≡ (serving self).view }
+        ensures place { result.3.parts.place ≡ chooser self }
     {
         let Engine { works, unmade, .. } = self;
         let entries = works.entries();

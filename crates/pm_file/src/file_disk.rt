@@ -73,7 +73,8 @@ impl<R: StoreFiles + Drop> FileDisk<R> {
         ensures missed { OnErr result (self.new.file ≡ None) }
         ensures marked { MarksCall kind end self.old.moments.marks self.new.moments.marks result }
         ensures cause { HasCause self.old.faults self.new.faults result }
-        ensures lies { R.lies self.new.rt (string_bytes self.new.path) ≡ R.lies self.old.rt (string_bytes self.old.path) }
+        ensures lies { R.lies self.new.rt (string_bytes self.new.path)
+            ≡ R.lies self.old.rt (string_bytes self.old.path) }
         ensures contents { told_in (λ held. R.File.contents held.file)
             (R.lies self.new.rt (string_bytes self.new.path)) self.new.file ≡
             told_in (λ held. R.File.contents held.file)

@@ -59,11 +59,7 @@ fn reply_lines_are_short(entry: &Entry)
 /// # Errors
 ///
 /// The sink failed: it has a first part of what was gathered and of this line.
-pub(crate) fn tell_reply<K: Sink>(
-    entry: &Entry,
-    output: &mut Output,
-    sink: &mut K,
-) -> Result<(), Failed>
+pub fn tell_reply<K: Sink>(entry: &Entry, output: &mut Output, sink: &mut K) -> Result<(), Failed>
     requires client { entry.now.client < CLIENTS }
     requires short { IsShortReply entry.now.reply }
     ensures adds { OnOk result (GoesOn (reply_line entry.now) (K.written sink.old) (K.written sink.new)

@@ -52,6 +52,7 @@ impl<D: Disk, F: Drop> YoungEngine<D, F> {
     ghost use Rattle.pm_young.specs.Seen.{opened_count, opened_disk, room, serving, young_in};
     ghost use Rattle.pm_young.specs.Seen.{young_tally_in, young_tally_of};
     ghost use Rattle.pm_young.specs.Halts.{IsForDisk, IsForMemory};
+    ghost use Rattle.pm_young.specs.Kept.{IsYoungPart};
     ghost use Rattle.pm_space.specs.Shown.{view};
 
     /// What was asked and answered since the opening, in order.
@@ -176,6 +177,13 @@ impl<D: Disk, F: Drop> YoungEngine<D, F> {
         ensures reached { halt_in self.now ≡ None → (id : ℕ)
             → IsReachable (world (serving self.now)).heap (IsHeld (world (serving self.now))) id
             → ∥ IsStanding (serving self.now).view id ⊎ IsSome (get (young_in self.now).objects id) ∥₁ }
+    {
+        self.nursery.sound();
+    }
+    /// A law of the nursery, while every call is answered: it is the young part of the world at the journal's end. So
+    /// which identities are young says what is in it.
+    pub fn keep_their_nursery(&self)
+        ensures { halt_in self.now ≡ None → ∥ IsYoungPart (world (serving self.now)) (young_in self.now) ∥₁ }
     {
         self.nursery.sound();
     }

@@ -1,9 +1,10 @@
 //! A case: its steps, one a line.
 
+use crate::beside::push_drawn_beside;
 use crate::commands::young_script;
 use crate::failing::{Run, push_failings, push_over};
 use crate::lines::push_run;
-use crate::store::store_of;
+use crate::store::{put_digest, store_of};
 use pm_case_text::{
     Count, Fault, first_word, is_silent, numbered, patch, push_case, push_words, refuse,
     written_out,
@@ -113,10 +114,12 @@ impl Case {
             "case" => self.begin(alloc, text, out),
             "store" => self.store(alloc, text),
             "patch" => patch(alloc, self.disk.as_mut_slice(), text),
+            "digest" => put_digest(self.disk.as_mut_slice(), text),
             "script" => self.script(alloc, text, out),
             "last" => self.script_last(alloc, text, out),
             "look" => self.set_look(alloc, text),
             "fails" => self.fail(alloc, text, out),
+            "drawn" => push_drawn_beside(alloc, text, out),
             "run" => push_run(alloc, self.disk.as_slice(), text, false, out),
             "ends" => push_run(alloc, self.disk.as_slice(), text, true, out),
             _ => Err(refuse("no such step")),

@@ -8,7 +8,7 @@ ghost use Rattle.pm_young.specs.Seen.{chooser};
 
 use crate::events::{push_fault, push_flush, push_steps, push_tally};
 use crate::lines::{push_entered, push_sweep};
-use pm_case_text::{Fault, push_text, push_words, refuse, script_text};
+use pm_case_text::{Count, Fault, push_text, push_words, refuse, script_text, written_out};
 use pm_disk::Disk;
 use pm_place::Placement;
 use pm_script::{Line, YoungLine, YoungScript, read_young, reply_text};
@@ -17,9 +17,11 @@ use pm_young::{YoungEngine, YoungTally};
 use std::alloc::Global;
 use std::fmt::Write;
 
-/// The script for a run with a nursery whose lines ` / ` stands between.
+/// The script for a run with a nursery whose lines ` / ` stands between. An `H` in it is 4,096 bytes 00.
 pub(crate) fn young_script(alloc: Global, text: &str) -> Result<YoungScript, Fault> {
-    let lines = script_text(alloc, text)?;
+    let bytes = written_out(alloc, "{4096 00}", Count::None)?;
+    let text = text.replace(alloc, "H", bytes.as_str())?;
+    let lines = script_text(alloc, text.as_str())?;
     read_young(alloc, lines.as_slice())
         .ok()
         .ok_or(refuse("no script"))
@@ -32,8 +34,12 @@ fn push_entry(alloc: Global, entry: &Entry, out: &mut String) -> Result<(), Faul
     push_text(line.as_slice(), out)
 }
 
-// Adds the reply's line of the journal's last entry.
-fn push_last_entry(alloc: Global, journal: &[Entry], out: &mut String) -> Result<(), Fault> {
+/// Adds the reply's line of the journal's last entry.
+pub(crate) fn push_last_entry(
+    alloc: Global,
+    journal: &[Entry],
+    out: &mut String,
+) -> Result<(), Fault> {
     match journal.last() {
         Some(entry) => push_entry(alloc, entry, out),
         None => Err(refuse("no entry")),
@@ -58,8 +64,8 @@ fn push_answer<D: Disk, F: Drop>(
     }
 }
 
-// Whether a command sets a watch.
-fn is_watch(cmd: &Cmd) -> bool
+/// Whether a command sets a watch.
+pub(crate) fn is_watch(cmd: &Cmd) -> bool
     ensures { result ≡ sets_watch cmd.now }
 {
     match cmd {
@@ -122,8 +128,8 @@ fn push_line<D: Disk, F: Fn(&[u64]) -> usize + Drop>(
     }
 }
 
-// Runs the lines, and adds what each gave, with ` / ` behind it. It goes on behind a line that was not answered.
-fn push_lines<D: Disk, F: Fn(&[u64]) -> usize + Drop>(
+/// Runs the lines, and adds what each gave, with ` / ` behind it. It goes on behind a line that was not answered.
+pub(crate) fn push_lines<D: Disk, F: Fn(&[u64]) -> usize + Drop>(
     alloc: Global,
     engine: &mut YoungEngine<D, F>,
     lines: &[YoungLine],

@@ -2,10 +2,14 @@
 //! written.
 #![tactic(auto)]
 
+mod beside;
+mod cars;
 mod case;
 mod commands;
+mod drawn;
 mod events;
 mod failing;
+mod giving;
 mod lines;
 mod store;
 

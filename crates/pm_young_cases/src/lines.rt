@@ -5,6 +5,7 @@ ghost use Rattle.pm_place.specs.Choosers.{IsChooser};
 ghost use Rattle.pm_young.specs.Seen.{chooser};
 
 use crate::events::{push_fault, push_flush, push_parted, push_steps};
+use crate::giving::push_give;
 use pm_case_text::{Fault, first_word, number, push_filled, push_number, push_words, refuse};
 use pm_disk::{Disk, MemDisk};
 use pm_place::Placement;
@@ -78,6 +79,7 @@ fn push_line<D: Disk, F: Fn(&[u64]) -> usize + Drop>(
 {
     let (word, rest) = first_word(line);
     match word {
+        "give" => push_give(alloc, engine, rest, out),
         "sweep" => push_sweep(alloc, engine, out),
         "collect" => push_steps(alloc, engine, number(rest)?, out),
         "flush" => push_flush(alloc, engine, out),

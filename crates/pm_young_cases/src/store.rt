@@ -1,8 +1,9 @@
 //! Stores that an engine without a nursery has made.
 
-use pm_case_text::{Fault, refuse, script_text};
+use pm_case_text::{Fault, numbered, part, place, placed, put, refuse, script_text};
 use pm_disk::{Disk, MemDisk};
 use pm_engine::Engine;
+use pm_layout::digest;
 use pm_place::Placement;
 use pm_script::{Line, read_script};
 use pm_shadow::init;
@@ -76,4 +77,17 @@ pub(crate) fn store_of(alloc: Global, text: &str) -> Result<Vec<u8>, Fault> {
         Ok(()) => run_over(alloc, disk, script.as_slice()),
         Err(_) => Err(refuse("no memory")),
     }
+}
+
+// The digest of so many bytes from a place on stands where a text says that is.
+fn put_digest_from(bytes: &mut [u8], from: usize, text: &str) -> Result<(), Fault> {
+    let (count, at) = numbered(text)?;
+    let made = digest(part(bytes, from, count as usize)?);
+    put(bytes, place(at)?, &made)
+}
+
+/// `FROM COUNT PLACE`: the digest of that many bytes from there on stands at that place.
+pub(crate) fn put_digest(bytes: &mut [u8], text: &str) -> Result<(), Fault> {
+    let (from, rest) = placed(text)?;
+    put_digest_from(bytes, from, rest)
 }
