@@ -15,6 +15,11 @@
 # journal is a first part of that of the run that is refused nothing. A line that begins with `?` is what the cases
 # themselves were refused, and is passed over.
 #
+# And it does so to an engine with a nursery, by the part `young` of the cases: the call that is refused some answers
+# `no memory`, and each behind it that the store has to be opened again; what entered is a first part of what that call would
+# have let in, and each of it is in a car; entries and events are those before it; and behind a command or a sweep nothing is
+# young.
+#
 # It prints a line for each row: how many numbers, how often each status and each store came. It ends with 0 where all
 # are as they should be. It takes the program that 'scripts/build.sh' left at ./pmos, the one that 'rt ci' built, or the one
 # that PMOS names. Where there is none, or no C compiler, it says so and ends with 0.
@@ -288,11 +293,93 @@ def case_row(name, mode, text):
         print(f"     {it}")
 
 
+# ---- an engine with a nursery, in memory
+
+# Behind what is tried: a call of each kind.
+FURTHER = "0 id 1 / 0 new 5 0 dd / 0 root b 5 / 0 find 6 b / ! young / ! gc 1 / ! flush 1 / 0 save / 0 settle / 0 unsave / 0 close"
+TALLY = re.compile(r"(\d+) entries, (\d+) events, \d+ steps, \d+ completed, (\d+) standing, (\d+) young, \d+ entered$")
+FORTY = [it for n in range(39) for it in ("0 new 1 1 -", "0 store 1 0 0", "0 copy 0 1")]
+YOUNG_ROWS = [
+    ("a sweep", "0 new 1 2 aa / 0 new 2 1 bb / 0 store 1 0 2 / 0 store 1 1 1 / 0 copy 3 2 / 0 new 4 0 cc / 0 drop 4 / ! young".split(" / "), 0),
+    ("a sweep at a birth", [f"0 new {n} 0 -" for n in range(256)] + ["0 new 300 0 -"], 256),
+    ("forty objects that a name lets escape", ["0 new 0 1 -", *FORTY, "0 root a 0"], 118),
+    ("forty that a store into a car does", ["0 new 9 1 -", "0 root a 9", "0 new 0 1 -", *FORTY, "0 store 9 0 0"], 120),
+    ("forty that a store of a car's does", ["0 new 9 1 -", "0 root a 9", "0 new 0 1 -", "0 copy 2 0", *FORTY, "0 store 2 0 9"], 121),
+]
+
+
+def nursery_told(lines, number):
+    """A run over a nursery, with this call for memory refused: the status, the errors, the number of calls; and what each line
+    gave, what entered, and how many entries, events, objects in cars and young objects there are. That is none, where the
+    cases themselves were refused memory."""
+    case = f"part young\ncase a nursery\nscript {' / '.join(lines)}\n".encode()
+    status, out, errors, came = ended([], case, number, program=cases)
+    told = out.decode(errors="replace").splitlines()
+    if len(told) != 3 or any(it.startswith("?") for it in told):
+        return status, errors, came, None
+    *parts, entered, tally = told[2].split(" / ")
+    return status, errors, came, (parts, entered.split()[1:], [int(it) for it in TALLY.match(tally).groups()])
+
+
+def nursery_faults(lines, stood, one):
+    """What is wrong with such a run. `stood` has the run of the first lines for each number of them, with nothing refused."""
+    parts, entered, (entries, events, standing, young) = one
+    at = next((at for at, it in enumerate(parts) if it != stood[-1][0][at]), None)
+    if at is None:
+        return [] if one == stood[-1] else ["all is answered, and comes to something else"]
+    line, faults = lines[at], []
+    is_disk = parts[at] == "disk fault 0 1" and line.endswith((" settle", "! flush 1"))
+    if parts[at] != "no memory" and not is_disk:
+        faults.append(f"it answers {parts[at]}")
+    if set(parts[at + 1 :]) - {f"reopen {int(is_disk)}"}:
+        faults.append("a call behind it is answered")
+    if entered != stood[at + 1][1][: len(entered)] or len(entered) < len(stood[at][1]):
+        faults.append("what entered is no first part")
+    if standing != len(entered):
+        faults.append(f"{standing} stand")
+    if [entries, events] != stood[at][2][:2]:
+        faults.append(f"{entries} entries and {events} events")
+    if young != (stood[at][2][3] if is_disk or line.startswith(("! gc", "! flush")) else 0):
+        faults.append(f"{young} are young")
+    return [f"{line}: {it}" for it in faults]
+
+
+def nursery_row(name, lines, first):
+    """Calls for memory are refused from about those on that the line of this place makes."""
+    global bad
+    lines = [*lines, *FURTHER.split(" / ")]
+    stood = [nursery_told(lines[:at], 0)[3] for at in range(len(lines) + 1)]
+    begin = max(1, nursery_told(lines[:first], 0)[2] - 50)
+    statuses, passed, wrong, begun = collections.Counter(), 0, [], time.time()
+    for number in range(begin, begin + MOST):
+        status, errors, came, one = nursery_told(lines, number)
+        if status not in (0, 1):
+            wrong.append(f"{name}: call {number} refused: the program ended with {status}: {errors}")
+        elif one is None:
+            passed += 1
+        else:
+            statuses["memory" if "no memory" in one[0] else "all" if one[0] == stood[-1][0] else "disk"] += 1
+            wrong += [f"{name}: call {number} refused: {it}" for it in nursery_faults(lines, stood, one)]
+        if came < number:
+            break
+    else:
+        wrong.append(f"{name}: over {MOST} calls for memory")
+    if not statuses["memory"]:
+        wrong.append(f"{name}: no want of memory was told")
+    bad |= bool(wrong)
+    line = ", ".join(f"{it}: {count}" for it, count in sorted(statuses.items()))
+    print(f"{'BAD' if wrong else 'ok':3}  {name:38}  {number:5} calls  {line:28}  {f'passed over: {passed}':32}  {time.time() - begun:.1f} s")
+    for it in wrong[:8]:
+        print(f"     {it}")
+
+
 for it in ROWS:
     row(*it)
 if os.access(cases, os.X_OK):
     for name, text in [("a first copy, in memory", first), ("a collection, in memory", moves), ("a copy beside a client, in memory", beside)]:
         case_row(name, "serial", text)
+    for it in YOUNG_ROWS:
+        nursery_row(*it)
 else:
     print("Skipped: the rows in memory, since rt ci has not built crates/pm_cases.")
 sys.exit(bad)
