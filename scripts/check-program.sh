@@ -460,6 +460,22 @@ came=$?
 row "a copy that settles in threads" "0 0 ok 1,0 ok,0 begun 1,0 saved 1 settled" \
     "$came $(head -n 4 "$work/out" | paste -sd,) $(is_which "$work/store")"
 
+# With a nursery an object that nothing leads to at a sweep never comes into a car; a copy has what its names reach; and no
+# line asks for a watch.
+fresh
+"$pmos" run "$work/store" young <examples/young.script >"$work/out" 2>"$work/err"
+came=$?
+row "what dies young" "0 11 end 0 0 3,young 0 3" "$came $(grep -c '^0 ok' "$work/out") $(tail -n 2 "$work/out" | paste -sd,)"
+fresh
+"$pmos" run "$work/store" young last <"$work/settle.script" >"$work/out" 2>/dev/null
+came=$?
+row "a copy that settles with a nursery" "0 0 ok 1,0 ok,0 begun 1,0 saved 1,end 0 0 1,young 0 1 settled" \
+    "$came $(paste -sd, "$work/out") $(is_which "$work/store")"
+fresh
+printf '0 new 1 0 -\n0 watch\n' | "$pmos" run "$work/store" young >"$work/out" 2>"$work/err"
+came=$?
+row "a watch in a run with a nursery" "2 pmos: script line 2 word made" "$came $(cat "$work/out" "$work/err") $(is_which "$work/store")"
+
 # A word behind FILE and MODE says to which train an object moves. If it is no PLACE, or stands elsewhere, nothing is done.
 counted() { sort "$1" | uniq -c | awk '{ times = $1; $1 = ""; print times " times" $0 }' | paste -sd,; }
 for place in first middle last; do

@@ -4,8 +4,8 @@
 # taken before the first settle holds the empty copy. A standby gets the copy that settled, is given nothing more by a second
 # ship, and replies as the store does.
 # The collector frees what is not reachable. Then come a list from which an element is taken out, with the reports of its
-# store, two clients, a watch whose bound is reached, and a trial of a script that is made from a seed. It takes the program
-# that was proved and built, where there is one, and else builds one without proof.
+# store, two clients, objects that die young, a watch whose bound is reached, and a trial of a script that is made from a
+# seed. It takes the program that was proved and built, where there is one, and else builds one without proof.
 set -euo pipefail
 cd "$(dirname "$0")/.."
 
@@ -30,8 +30,8 @@ show() {
     echo
     echo "The script, $1:"
     sed 's/^/    /' "$1"
-    echo "The replies of 'pmos run $2 serial':"
-    "$pmos" run "$work/$2" serial <"$1" | sed 's/^/    /'
+    echo "The replies of 'pmos run $2 ${3-serial}':"
+    "$pmos" run "$work/$2" "${3-serial}" <"$1" | sed 's/^/    /'
 }
 report() {
     echo
@@ -82,6 +82,10 @@ echo
 echo "Two clients:"
 "$pmos" init "$work/clients.pmos"
 show examples/clients.script clients.pmos
+echo
+echo "With a nursery: two of five objects die young. The last line tells that none is young, and that three came in:"
+"$pmos" init "$work/young.pmos"
+show examples/young.script young.pmos young
 echo
 if [ -n "$unproved" ]; then
     echo "A watch whose bound is reached, examples/bound.script, takes the proved program a few seconds and this one half an hour."

@@ -146,6 +146,7 @@ empty = made()
 first = "0 new 1 2 cafe / 0 root a 1 / 0 save / 0 settle"
 moves = "0 new 1 1 aa / 0 root a 1 / 0 new 2 0 bb / ! gc 6 / 0 store 1 0 2 / ! gc 60 / 0 load 3 1 0"
 beside = "0 new 1 0 00 / 0 root a 1 / 0 save / ! flush 1 / 0 put 1 0 ff / ! flush 9 / 0 id 1 / 0 settle"
+young = "0 new 1 1 aa / 0 root a 1 / 0 save / 0 new 2 0 bb / 0 store 1 0 2 / 0 settle / 0 new 3 0 cc / ! young"
 second = "0 find 1 a / 0 put 1 0 ff / 0 save / 0 settle"
 copied = after(empty, first)
 
@@ -154,6 +155,7 @@ ROWS = [
     ("a collection through an old address", empty, ["run", store, "serial"], moves),
     ("a copy beside a running client", empty, ["run", store, "serial"], beside),
     ("a copy in threads", empty, ["run", store, "threads"], beside),
+    ("a nursery", empty, ["run", store, "young"], young),
     ("opening a copy", copied, ["run", store, "serial"], "0 find 1 a / 0 data 1"),
     ("a second copy", copied, ["run", store, "serial"], second),
     ("init", None, ["init", store], ""),
@@ -273,7 +275,7 @@ def case_row(name, mode, text):
                 faults.append("status 5, and the disk was refused nothing")
             if one[0] == 4 and not one[2]:
                 faults.append("status 4, and the sink was refused nothing")
-            if mode == "serial" and one[3] != whole[3][: len(one[3])]:
+            if mode in ("serial", "young") and one[3] != whole[3][: len(one[3])]:
                 faults.append("another journal")
             if one[0] == 0 and one[3] != whole[3]:
                 faults.append("status 0 without the whole journal")
@@ -376,8 +378,13 @@ def nursery_row(name, lines, first):
 for it in ROWS:
     row(*it)
 if os.access(cases, os.X_OK):
-    for name, text in [("a first copy, in memory", first), ("a collection, in memory", moves), ("a copy beside a client, in memory", beside)]:
-        case_row(name, "serial", text)
+    for name, mode, text in [
+        ("a first copy, in memory", "serial", first),
+        ("a collection, in memory", "serial", moves),
+        ("a copy beside a client, in memory", "serial", beside),
+        ("a nursery, in memory", "young", young),
+    ]:
+        case_row(name, mode, text)
     for it in YOUNG_ROWS:
         nursery_row(*it)
 else:

@@ -4,3 +4,4 @@ pub mod EndsLemmas
 pub mod Ran
 pub mod Stores
 pub mod Openings
+pub mod YoungLemmas

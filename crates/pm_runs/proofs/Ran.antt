@@ -1,5 +1,5 @@
 -- What a run has done, in the words of its end.
-use Rattle.std.proofs.Common.{◌≡◌, inl, inr, ⊎_elim, ℕ, ◌<◌, ◌≤◌, List, [], ◌++◌, map, filter, nat_eq, Option, Some, None, IfSome, IsSome, length, refl, sym, ap, subst, ◌∙◌, arith}
+use Rattle.std.proofs.Common.{◌≡◌, true, inl, inr, ⊎_elim, ℕ, ◌<◌, ◌≤◌, List, [], ◌++◌, map, filter, nat_eq, Option, Some, None, IfSome, IsSome, length, refl, sym, ap, subst, ◌∙◌, arith}
 use Rattle.std.proofs.Math.Logic.{∥∥₁_map}
 use Rattle.std.proofs.Math.Nat.{min-eq_left}
 use Rattle.std.proofs.lemmas.List.{length-map, map-append}
@@ -30,6 +30,7 @@ use Rattle.pm_saving.specs.Images as images
 use Rattle.pm_saving.specs.Images.{IsTold}
 use Rattle.pm_engine.specs.declared.engine.Engine.{Engine}
 use Rattle.pm_engine.specs.declared.tally.Tally.{Tally}
+use Rattle.pm_young.specs.declared.tally.YoungTally.{YoungTally}
 use Rattle.pm_engine.specs.Shown.{KeepsStart, Total, disk_in, opened_disk, serving, tally_in, tally_of, total_in, unmade_in}
 use Rattle.pm_engine.specs.declared.unmade.Unmade.{Unmade}
 use Rattle.pm_engine.specs.declared.events.stop.Stop.{Stop}
@@ -51,7 +52,7 @@ use Rattle.pm_serial.specs.Stepping.{IsOfSink}
 use Rattle.pm_runs.specs.declared.ends.ended.Detail.{Detail}
 use Rattle.pm_runs.specs.declared.ends.ended.Alone.{Alone as Ended}
 use Rattle.pm_runs.specs.declared.writes.Writes.{Writes}
-use Rattle.pm_runs.specs.Ends.Ends.{IsUnwritten, RanShort, stop_in, ended_by}
+use Rattle.pm_runs.specs.Ends.Ends.{IsUnwritten, OneTally, RanShort, is_tallied, stop_in, ended_by}
 use Rattle.pm_runs.specs.Ends.Stages.{IsPast, unreached, the_events, the_output}
 use Rattle.pm_runs.specs.Ends.Disks.{IsLastOf, IsOfDisk, IsOfRun}
 use Rattle.pm_runs.specs.Ends.Tallies.{ComesTo}
@@ -70,8 +71,8 @@ none_begun = record { number = 0; copy = empty_copy; closed = empty_closed; lega
 -- ---- an engine that was just opened
 
 -- nothing was asked of it yet, and no copy is in progress
-pub fresh_engine : {D : Type 0} {F : Type 0} {g : disk.Ghosts D} (it : Engine D F g) (number : ℕ) (view : SpaceView) (saving : Saving) → serving it ≡ just_opened number view saving → (serving it).saving.progress ≡ None → IsFresh (serving it)
-fresh_engine it number view saving is idle = record {
+pub fresh_serving : (it : Serving) (number : ℕ) (view : SpaceView) (saving : Saving) → it ≡ just_opened number view saving → it.saving.progress ≡ None → IsFresh it
+fresh_serving it number view saving is idle = record {
   journal = ap (λ (s : Serving). s.journal) is;
   course = ap (λ (s : Serving). s.course) is;
   watches = ap (λ (s : Serving). s.watches) is;
@@ -80,6 +81,9 @@ fresh_engine it number view saving is idle = record {
   stopped = ap (λ (s : Serving). s.stopped) is;
   progress = idle;
 }
+
+pub fresh_engine : {D : Type 0} {F : Type 0} {g : disk.Ghosts D} (it : Engine D F g) (number : ℕ) (view : SpaceView) (saving : Saving) → serving it ≡ just_opened number view saving → (serving it).saving.progress ≡ None → IsFresh (serving it)
+fresh_engine it number view saving is idle = fresh_serving (serving it) number view saving is idle
 
 -- ---- ends of a run of lines
 
@@ -91,7 +95,7 @@ ended_late (Some StopWriting) a b c d = omega arith
 ended_late (Some StopDevice) a b c d = omega arith
 
 -- why it stopped can be told from its end
-stop_back : (stop : Option Stop) (a b c d : ℕ) → stop ≡ stop_in (ended_by stop a b c d)
+pub stop_back : (stop : Option Stop) (a b c d : ℕ) → stop ≡ stop_in (ended_by stop a b c d)
 stop_back None a b c d = refl
 stop_back (Some (StopMemory _)) a b c d = refl
 stop_back (Some StopWriting) a b c d = refl
@@ -104,7 +108,7 @@ sink_back (Some (StopMemory _)) a b c d unwritten = absurd unwritten
 sink_back (Some StopWriting) a b c d unwritten = tt
 sink_back (Some StopDevice) a b c d unwritten = absurd unwritten
 
-done_back : (stop : Option Stop) (a b c d : ℕ) → IsPast the_output (ended_by stop a b c d) → IsDone stop
+pub done_back : (stop : Option Stop) (a b c d : ℕ) → IsPast the_output (ended_by stop a b c d) → IsDone stop
 done_back None a b c d past = tt
 done_back (Some (StopMemory _)) a b c d past = absurd (omega arith)
 done_back (Some StopWriting) a b c d past = absurd (omega arith)
@@ -117,10 +121,10 @@ disk_back (Some (StopMemory _)) stopped a b c d going some = absurd (cc (subst I
 disk_back (Some StopWriting) stopped a b c d going some = absurd (cc (subst IsSome (going (λ no. no)) some))
 disk_back (Some StopDevice) stopped a b c d going some = tt
 
-of_run : (it : Serving) (stop : Option Stop) (a b c d : ℕ) (left : List ℕ) → ((causes.IsOfDisk stop → ⊥) → it.stopped ≡ None) → images.IsOfRun it left → IsOfRun (ended_by stop a b c d) (opening it) it.journal left
+pub of_run : (it : Serving) (stop : Option Stop) (a b c d : ℕ) (left : List ℕ) → ((causes.IsOfDisk stop → ⊥) → it.stopped ≡ None) → images.IsOfRun it left → IsOfRun (ended_by stop a b c d) (opening it) it.journal left
 of_run it stop a b c d left going = ⊎_elim (λ kept. inl kept) (λ begun. inr (disk_back stop it.stopped a b c d going begun.0, begun.1))
 
-of_last : (it : Serving) (stop : Option Stop) (a b c d : ℕ) (left : List ℕ) → ((causes.IsOfDisk stop → ⊥) → it.stopped ≡ None) → images.IsLast it left → IsLastOf (ended_by stop a b c d) (after (opening it) it.journal) left
+pub of_last : (it : Serving) (stop : Option Stop) (a b c d : ℕ) (left : List ℕ) → ((causes.IsOfDisk stop → ⊥) → it.stopped ≡ None) → images.IsLast it left → IsLastOf (ended_by stop a b c d) (after (opening it) it.journal) left
 of_last it stop a b c d left going = ⊎_elim (λ kept. inl kept) (λ begun. inr (disk_back stop it.stopped a b c d going begun.0, begun.1))
 
 -- what one client asks in two lists, one behind the other
@@ -133,7 +137,7 @@ commands_behind client one two =
 first_parts : (journal : List Entry) (rest asked : List Request) → requests_of journal ++ rest ≡ asked → (client : ℕ) → IsFirstPart (part client journal) (commands_of client asked)
 first_parts journal rest asked served client = (commands_of client rest, sym (commands_behind client (requests_of journal) rest) ∙ ap (commands_of client) served)
 
-short_back : (stop : Option Stop) (a b c d : ℕ) → RanShort (ended_by stop a b c d) → stop ≡ Some (StopMemory no_memory)
+pub short_back : (stop : Option Stop) (a b c d : ℕ) → RanShort (ended_by stop a b c d) → stop ≡ Some (StopMemory no_memory)
 short_back None a b c d ran = absurd ran
 short_back (Some (StopMemory _)) a b c d ran = refl
 short_back (Some StopWriting) a b c d ran = absurd ran
@@ -250,7 +254,7 @@ module _ {D F S K : Type 0} {g : disk.Ghosts D} (k : sink.Ghosts K) where
       → tally_of tally ≡ total_in new
       → AllByRecursion IsHonest (tally_of tally).lines
       → Wrote k writes sink last (text (serving new).journal) (tail_of (tally_in (serving new))) stop
-      → RunsEngine k writes old sink (with_parts it (ended_by stop a b c d) (Some tally) (disk_in new) source last)
+      → RunsEngine k writes old sink (with_parts it (ended_by stop a b c d) (Some tally) None (disk_in new) source last)
   engine_run writes old new tally source sink last it stop a b c d is_journal on_disk start kept closed legal is honest wrote =
       let left = subst (Leaves k writes old (disk_in new) tally sink last (ended_by stop a b c d)) (sym is_journal) leaves in
       record {
@@ -261,6 +265,7 @@ module _ {D F S K : Type 0} {g : disk.Ghosts D} (k : sink.Ghosts K) where
         last = left.2;
         idle = left.3;
         there = refl;
+        no_young = refl;
         comes_to = left.4;
         replies = left.5;
       }
@@ -314,15 +319,15 @@ shows_rise before after was now is_was is_now rose = (is_was, is_now, subst (λ 
 
 module _ {D S K : Type 0} (d : disk.Ghosts D) (s : source.Ghosts S) (k : sink.Ghosts K) where
   -- after a run of lines
-  pub causes_end : (start end : D) (source : S) (sink last : K) (it : Ended D S K) (tally : Tally) (stop : Option Stop) (a b c e : ℕ)
-      → a ≡ d.count start → b ≡ d.count end → c ≡ k.count sink → e ≡ k.count last
+  pub causes_end : (start end : D) (source : S) (sink last : K) (it : Ended D S K) (tally : Option Tally) (young : Option YoungTally) (stop : Option Stop) (a b c e : ℕ)
+      → true ≡ is_tallied tally young → OneTally tally young → a ≡ d.count start → b ≡ d.count end → c ≡ k.count sink → e ≡ k.count last
       → CountsDisk stop (d.count start) (d.count end) → CountsSink stop (k.count sink) (k.count last) → (d.made end).past ≡ (d.made start).past
-      → ShowsCauses d s k start source sink (with_parts it (ended_by stop a b c e) (Some tally) end source last)
-  causes_end start end source sink last it tally None a b c e is_a is_b is_c is_e on_disk on_sink reads =
-      record { reading = refl; writing = on_sink; device = on_disk; rule = tt; opened = tt; reads = reads }
-  causes_end start end source sink last it tally (Some (StopMemory _)) a b c e is_a is_b is_c is_e on_disk on_sink reads =
-      record { reading = refl; writing = tt; device = on_disk; rule = tt; opened = refl; reads = reads }
-  causes_end start end source sink last it tally (Some StopWriting) a b c e is_a is_b is_c is_e on_disk on_sink reads =
-      record { reading = refl; writing = shows_rise c e (k.count sink) (k.count last) is_c is_e on_sink; device = on_disk; rule = tt; opened = tt; reads = reads }
-  causes_end start end source sink last it tally (Some StopDevice) a b c e is_a is_b is_c is_e on_disk on_sink reads =
-      record { reading = refl; writing = tt; device = shows_rise a b (d.count start) (d.count end) is_a is_b on_disk; rule = tt; opened = refl; reads = reads }
+      → ShowsCauses d s k start source sink (with_parts it (ended_by stop a b c e) tally young end source last)
+  causes_end start end source sink last it tally young None a b c e there one is_a is_b is_c is_e on_disk on_sink reads =
+      record { reading = refl; writing = on_sink; device = on_disk; rule = tt; opened = tt; one = one; reads = reads }
+  causes_end start end source sink last it tally young (Some (StopMemory _)) a b c e there one is_a is_b is_c is_e on_disk on_sink reads =
+      record { reading = refl; writing = tt; device = on_disk; rule = tt; opened = there; one = one; reads = reads }
+  causes_end start end source sink last it tally young (Some StopWriting) a b c e there one is_a is_b is_c is_e on_disk on_sink reads =
+      record { reading = refl; writing = shows_rise c e (k.count sink) (k.count last) is_c is_e on_sink; device = on_disk; rule = tt; opened = tt; one = one; reads = reads }
+  causes_end start end source sink last it tally young (Some StopDevice) a b c e there one is_a is_b is_c is_e on_disk on_sink reads =
+      record { reading = refl; writing = tt; device = shows_rise a b (d.count start) (d.count end) is_a is_b on_disk; rule = tt; opened = there; one = one; reads = reads }

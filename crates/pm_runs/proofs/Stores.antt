@@ -38,7 +38,7 @@ module _ {D S K : Type 0} (d : disk.Ghosts D) (k : sink.Ghosts K) where
   -- no store was opened
   pub store_unrun : {F : Type 0} (place : F) (writes : Writes) (start end : D) (source : S) (sink : K) (it : Ended D S K) (detail : Detail) → it.journal.items ≡ []
       → (IsPast the_store detail → ⊥) → LeavesDisk d start end detail [] → SyncsAtMost d start end
-      → RunsStore d k place writes start sink (with_parts it detail None end source sink)
+      → RunsStore d k place writes start sink (with_parts it detail None None end source sink)
   store_unrun place writes start end source sink it detail empty undone leaves synced = record {
     begun = subst IsBegun (sym empty) none_begun;
     none = empty;
@@ -48,6 +48,7 @@ module _ {D S K : Type 0} (d : disk.Ghosts D) (k : sink.Ghosts K) where
       unopened = λ before. refl;
       comes_to = tt;
     };
+    no_young = refl;
     leaves = subst (LeavesDisk d start end detail) (sym empty) leaves;
     synced = synced;
     quiet = refl;
@@ -56,16 +57,17 @@ module _ {D S K : Type 0} (d : disk.Ghosts D) (k : sink.Ghosts K) where
 
   -- lines were run
   pub store_run : {F : Type 0} (place : F) (writes : Writes) (disk : D) (sink : K) (it : Ended D S K) (begun : IsBegun it.journal.items) → the_events < unreached it.detail
-      → IsSome it.tally → ((bytes : List ℕ) → d.contents disk ≡ Some bytes → StandsForCopy bytes begun.number begun.copy)
+      → IsSome it.tally → it.young ≡ None → ((bytes : List ℕ) → d.contents disk ≡ Some bytes → StandsForCopy bytes begun.number begun.copy)
       → IfSome it.tally (λ tally. ComesTo (IsOfEngine d place disk it.disk) (begin begun.number begun.copy) it.journal.items (tally_of tally))
       → LeavesDisk d disk it.disk it.detail it.journal.items
       → IfSome it.tally (λ tally. Wrote k writes sink it.sink (text it.journal.items) (tail_of (tally_of tally)) (stop_in it.detail))
       → RunsStore d k place writes disk sink it
-  store_run place writes disk sink it begun late there stands comes leaves replies = record {
+  store_run place writes disk sink it begun late there no_young stands comes leaves replies = record {
     begun = begun;
     none = told (it.journal.items ≡ []) it.tally there;
     stands = λ is. stands;
     tallies = record { opened = λ past. there; unopened = λ before. absurd (omega (arith, before, late)); comes_to = comes };
+    no_young = no_young;
     leaves = leaves;
     synced = told (SyncsAtMost d disk it.disk) it.tally there;
     quiet = told (it.sink ≡ sink) it.tally there;

@@ -1,5 +1,5 @@
 -- What a run of lines over an engine that was just opened leaves.
-use Rattle.std.specs.Prelude.{◌≡◌, ℕ, ◌<◌, List, [], IsSome, IfSome}
+use Rattle.std.specs.Prelude.{◌≡◌, ℕ, ◌<◌, List, [], None, IsSome, IfSome}
 use Rattle.pm_disk.specs.declared.disk.Disk.{Ghosts}
 use Rattle.pm_disk.specs.Disk.{LeavesOnly}
 use Rattle.pm_io.specs.declared.sink.Sink as sink
@@ -47,6 +47,7 @@ module _ {D F S K : Type 0} {g : Ghosts D} (k : sink.Ghosts K) where
     pub idle : ended.journal.items ≡ [] → ended.disk ≡ disk_in engine
     -- there is a tally, which is that of the engine
     pub there : IsSome ended.tally
+    pub no_young : ended.young ≡ None
     pub comes_to : IfSome ended.tally (λ it. ComesTo (GoesFrom engine ended.disk) (opening (serving engine)) ended.journal.items (tally_of it))
     -- what was written
     pub replies : IfSome ended.tally

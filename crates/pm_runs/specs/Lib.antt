@@ -4,3 +4,4 @@ pub mod Ends
 pub mod Wrote
 pub mod Engines
 pub mod Runs
+pub mod Young

@@ -1,5 +1,5 @@
 -- What a run does over a store, from its start to its end, by how it ended: a record of named facts for each way to run.
-use Rattle.std.specs.Prelude.{◌≡◌, ℕ, List, [], Some, IsSome, IfSome, IfNone}
+use Rattle.std.specs.Prelude.{◌≡◌, ℕ, List, [], Some, None, IsSome, IfSome, IfNone}
 use Rattle.pm_disk.specs.declared.disk.Disk as disk
 use Rattle.pm_io.specs.declared.source.Source as source
 use Rattle.pm_io.specs.declared.sink.Sink as sink
@@ -33,6 +33,8 @@ module _ {D S K : Type 0} (d : disk.Ghosts D) (k : sink.Ghosts K) where
         → StandsForCopy bytes begun.number begun.copy
     -- what the engine came to, from that world
     pub tallies : TalliesRun d place disk ended.disk (begin begun.number begun.copy) ended.detail ended.journal.items ended.tally
+    -- and it has no nursery
+    pub no_young : ended.young ≡ None
     -- what it does to the disk
     pub leaves : LeavesDisk d disk ended.disk ended.detail ended.journal.items
     -- where no store was opened the disk is not called, or synced once; where one was, it was synced first

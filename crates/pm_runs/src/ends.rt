@@ -9,6 +9,6 @@ mod texts;
 
 pub use ended::{Alone, Detail, Ended, end_unopened, end_with, ended_by, not_opened};
 pub use pm_serial::{Engine, Stop, run_lines};
-pub use reading::read_source;
+pub use reading::{read_source, read_young_source};
 pub use texting::write_text;
 pub use texts::{detail_text, line_of, shipped_line};

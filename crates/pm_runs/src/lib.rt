@@ -1,5 +1,5 @@
-//! A run over a store: a script is read, the store is opened, and the lines are run over its copy, in their order or in
-//! threads.
+//! A run over a store: a script is read, the store is opened, and the lines are run over its copy, in their order, with a
+//! nursery or without, or in threads.
 #![tactic(auto)]
 
 pub mod ends;
@@ -9,6 +9,7 @@ pub mod threads;
 mod together;
 pub mod trial;
 mod writes;
+mod young;
 
 pub use crate::ends::{
     Alone, Detail, Ended, detail_text, end_unopened, line_of, not_opened, shipped_line, write_text,
@@ -17,3 +18,4 @@ pub use opening::run_lines;
 pub use running::run_source;
 pub use together::{images_since_now, run_together};
 pub use writes::Writes;
+pub use young::run_young;

@@ -55,7 +55,7 @@ fn run_engine<D: Disk, F: Fn(&[u64]) -> usize + Drop, S: Source, K: Sink>(
     // The process ends behind its run, and gives all memory back at once.
     mem::forget(heap);
     let detail = ended_by(outcome, disk_before, disk.faults(), sink_before, sink_after);
-    end_with(detail, journal, Some(tally), disk, source, sink)
+    end_with(detail, journal, Some(tally), None, disk, source, sink)
 }
 
 /// Opens the store on the disk, and runs the lines over its copy, in their order. The source is not called.

@@ -70,7 +70,7 @@ fn run_engine<
     // The process ends behind its run, and gives all memory back at once.
     mem::forget(heap);
     let detail = ended_by(outcome, disk_before, disk.faults(), sink_before, sink_after);
-    end_with(detail, journal, Some(tally), disk, source, sink)
+    end_with(detail, journal, Some(tally), None, disk, source, sink)
 }
 
 // Opens the store on the disk, and runs the script over its copy.

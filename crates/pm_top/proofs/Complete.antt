@@ -3,20 +3,22 @@ use Rattle.std.proofs.Common.{◌≡◌, ◌⊎◌, inl, inr, ℕ, List, [], Opt
 use Rattle.std.proofs.Math.Logic.{∥∥₁_elim}
 use Rattle.std.proofs.Props.{props}
 use Rattle.pm_types.specs.Counts.{Rose, ShowsRise}
-use Rattle.pm_types.specs.declared.entry.Entry.{Entry}
 use Rattle.pm_disk.specs.declared.disk.Disk as disk
 use Rattle.pm_io.specs.declared.source.Source as source
 use Rattle.pm_io.specs.declared.sink.Sink as sink
+use Rattle.pm_script.specs.declared.fault.ScriptFault.{ScriptFault}
+use Rattle.pm_script.specs.Bad.{IsBad, IsYoungBad}
 use Rattle.pm_script.proofs.BadLaws.{no_fault}
+use Rattle.pm_script.proofs.YoungLaws.{no_young_fault}
 use Rattle.pm_dump.specs.Dump.{Dump as Dumped}
 use Rattle.pm_words.specs.declared.command.Command.{Command}
-use Rattle.pm_words.specs.declared.command.Command.TheVariants.{Init, Run, RunThreads, Inspect, Dump, Restore, Why, Make, Trial}
+use Rattle.pm_words.specs.declared.command.Command.TheVariants.{Init, Run, RunThreads, RunYoung, Inspect, Dump, Restore, Why, Make, Trial}
 use Rattle.pm_runs.specs.declared.ends.ended.Detail.{Detail}
 use Rattle.pm_runs.specs.declared.ends.ended.Detail.TheVariants.{Fine, Usage, Script, Dump as BadDump, Reading, Writing, Device, NotEmpty, Refused, Standby, Ahead, Foreign, OtherDevice, Memory}
 use Rattle.pm_runs.specs.declared.ends.ended.Alone.{Alone as Ended}
 use Rattle.pm_runs.specs.Ends.Ends.{ShowsReading, ShowsWriting, ShowsDevice, status_of}
 use Rattle.pm_runs.specs.Ends.Stages.{IsPast, the_words}
-use Rattle.pm_runs.specs.Ends.Journals.{IsScriptEnd}
+use Rattle.pm_runs.specs.Ends.Journals.{IsScriptEndOf}
 use Rattle.pm_runs.specs.Ends.Disks.{IsRefusedFor}
 use Rattle.pm_top.specs.Stores.{LeavesMade, LeavesRestored}
 use Rattle.pm_top.specs.Dumps.{HoldsDump, RefusesBytes}
@@ -24,7 +26,7 @@ use Rattle.pm_runs.specs.declared.writes.Writes.TheVariants.{Replies}
 use Rattle.pm_runs.specs.Ends.Causes.{ShowsCauses}
 use Rattle.pm_top.specs.Commands.{EndsTelling, EndsMaking, EndsRestoring, EndsTrying, Does}
 use Rattle.pm_runs.specs.Runs.{RunsStore}
-use Rattle.pm_top.specs.Needs.{HasNeeds, HoldsScript, HoldsStore, NothingFails}
+use Rattle.pm_top.specs.Needs.{HasNeeds, HoldsStore, NothingFails}
 use Rattle.pm_runs.proofs.EndsLemmas.Opened.{never_shut}
 use Rattle.pm_top.proofs.Restored.{no_dump_fault}
 
@@ -86,22 +88,22 @@ module _ {D : Type 0} (d : disk.Ghosts D) where
   make_ends start end (Refused fault) makes empty = makes
   make_ends start end (Memory opened _) makes empty = tt
 
-run_ends : (told read : Option (List ℕ)) (store : HoldsStore told) (script : HoldsScript read) (detail : Detail) (journal : List Entry)
-    → IsPast the_words detail → IsScriptEnd script.bytes detail → IsRefusedFor store.bytes detail → MayEnd detail
-run_ends told read store script Fine journal past bad refused = tt
-run_ends told read store script Usage journal past bad refused = absurd (omega (arith, past))
-run_ends told read store script (Script fault) journal past bad refused = no_fault script.bytes fault script.lines bad script.script
-run_ends told read store script (BadDump fault) journal past bad refused = absurd (omega (arith, past))
-run_ends told read store script (Reading before after) journal past bad refused = tt
-run_ends told read store script (Writing before after) journal past bad refused = tt
-run_ends told read store script (Device before after opened) journal past bad refused = tt
-run_ends told read store script (NotEmpty bytes) journal past bad refused = absurd (omega (arith, past))
-run_ends told read store script (Standby fault) journal past bad refused = absurd (omega (arith, past))
-run_ends told read store script (Ahead to from) journal past bad refused = absurd (omega (arith, past))
-run_ends told read store script (Foreign number) journal past bad refused = absurd (omega (arith, past))
-run_ends told read store script (OtherDevice before after) journal past bad refused = absurd (omega (arith, past))
-run_ends told read store script (Refused fault) journal past bad refused = never_shut store.bytes store.number store.copy fault store.stands refused
-run_ends told read store script (Memory opened _) journal past bad refused = tt
+run_ends : (told : Option (List ℕ)) (store : HoldsStore told) (IsFault : ScriptFault → Type 0) (detail : Detail) → ((fault : ScriptFault) → IsFault fault → ⊥)
+    → IsPast the_words detail → IsScriptEndOf IsFault detail → IsRefusedFor store.bytes detail → MayEnd detail
+run_ends told store IsFault Fine none past bad refused = tt
+run_ends told store IsFault Usage none past bad refused = absurd (omega (arith, past))
+run_ends told store IsFault (Script fault) none past bad refused = absurd (none fault bad)
+run_ends told store IsFault (BadDump fault) none past bad refused = absurd (omega (arith, past))
+run_ends told store IsFault (Reading before after) none past bad refused = tt
+run_ends told store IsFault (Writing before after) none past bad refused = tt
+run_ends told store IsFault (Device before after opened) none past bad refused = tt
+run_ends told store IsFault (NotEmpty bytes) none past bad refused = absurd (omega (arith, past))
+run_ends told store IsFault (Standby fault) none past bad refused = absurd (omega (arith, past))
+run_ends told store IsFault (Ahead to from) none past bad refused = absurd (omega (arith, past))
+run_ends told store IsFault (Foreign number) none past bad refused = absurd (omega (arith, past))
+run_ends told store IsFault (OtherDevice before after) none past bad refused = absurd (omega (arith, past))
+run_ends told store IsFault (Refused fault) none past bad refused = never_shut store.bytes store.number store.copy fault store.stands refused
+run_ends told store IsFault (Memory opened _) none past bad refused = tt
 
 telling_ends : (told : Option (List ℕ)) (store : HoldsStore told) (detail : Detail) → EndsTelling detail → IsRefusedFor store.bytes detail → MayEnd detail
 telling_ends told store Fine ends refused = tt
@@ -194,12 +196,15 @@ module _ {D S K : Type 0} (d : disk.Ghosts D) (s : source.Ghosts S) (k : sink.Gh
       → Does d s k place command disk source sink it → HasNeeds d s command disk source → MayEnd it.detail
   may_end place Init disk source sink it does needs = make_ends d disk it.disk it.detail does.makes needs
   may_end place Run disk source sink it does needs =
-      run_ends (d.contents disk) (s.left source) needs.0 needs.1 it.detail it.journal.items does.ends
+      run_ends (d.contents disk) needs.0 (λ fault. IsBad fault needs.1.bytes) it.detail (λ fault bad. no_fault needs.1.bytes fault needs.1.lines bad needs.1.script) does.ends
       (does.script needs.1.bytes needs.1.is_told).refused (does.store.leaves.refused needs.0.bytes needs.0.is_told)
   may_end place RunThreads disk source sink it does needs =
       ∥∥₁_elim does.store (may_once it.detail) (λ (store : RunsStore d k place Replies disk sink it).
-      run_ends (d.contents disk) (s.left source) needs.0 needs.1 it.detail it.journal.items does.ends
+      run_ends (d.contents disk) needs.0 (λ fault. IsBad fault needs.1.bytes) it.detail (λ fault bad. no_fault needs.1.bytes fault needs.1.lines bad needs.1.script) does.ends
       (does.script needs.1.bytes needs.1.is_told).refused (store.leaves.refused needs.0.bytes needs.0.is_told))
+  may_end place RunYoung disk source sink it does needs =
+      run_ends (d.contents disk) needs.0 (λ fault. IsYoungBad fault needs.1.bytes) it.detail (λ fault bad. no_young_fault needs.1.bytes fault needs.1.lines bad needs.1.script) does.ends
+      (does.script needs.1.bytes needs.1.is_told).refused (does.store.leaves.refused needs.0.bytes needs.0.is_told)
   may_end place Inspect disk source sink it does needs =
       telling_ends (d.contents disk) needs it.detail does.ends (does.refused needs.bytes needs.is_told)
   may_end place Dump disk source sink it does needs =

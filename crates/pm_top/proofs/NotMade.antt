@@ -32,7 +32,7 @@ module _ {D S K : Type 0} (d : disk.Ghosts D) (s : source.Ghosts S) (k : sink.Gh
   -- no store was made
   pub init_causes : (disk end : D) (source : S) (sink : K) (it : Ended D S K) (fault : InitFault)
       → IsInitFault (d.count disk) (d.count end) fault → (d.made end).past ≡ (d.made disk).past
-      → ShowsCauses d s k disk source sink (with_parts it (not_made fault) None end source sink)
-  init_causes disk end source sink it (NotEmpty bytes) cause reads = record { reading = refl; writing = refl; device = cause.1; rule = tt; opened = tt; reads = reads }
-  init_causes disk end source sink it (Disk before after) cause reads = record { reading = refl; writing = tt; device = cause; rule = tt; opened = refl; reads = reads }
-  init_causes disk end source sink it (Memory _) cause reads = record { reading = refl; writing = tt; device = cause; rule = tt; opened = refl; reads = reads }
+      → ShowsCauses d s k disk source sink (with_parts it (not_made fault) None None end source sink)
+  init_causes disk end source sink it (NotEmpty bytes) cause reads = record { reading = refl; writing = refl; device = cause.1; rule = tt; opened = tt; one = tt; reads = reads }
+  init_causes disk end source sink it (Disk before after) cause reads = record { reading = refl; writing = tt; device = cause; rule = tt; opened = refl; one = tt; reads = reads }
+  init_causes disk end source sink it (Memory _) cause reads = record { reading = refl; writing = tt; device = cause; rule = tt; opened = refl; one = tt; reads = reads }

@@ -14,7 +14,7 @@ use Rattle.pm_script.specs.Script.{IsScript}
 use Rattle.pm_make.specs.Made.{made_text}
 use Rattle.pm_inspect.specs.Tell.Told.{Telling, Reports, Dumps, GivesPath}
 use Rattle.pm_words.specs.declared.command.Command.{Command}
-use Rattle.pm_words.specs.declared.command.Command.TheVariants.{Init, Run, RunThreads, Inspect, Dump, Restore, Why, Make, Trial}
+use Rattle.pm_words.specs.declared.command.Command.TheVariants.{Init, Run, RunThreads, RunYoung, Inspect, Dump, Restore, Why, Make, Trial}
 use Rattle.pm_runs.specs.declared.ends.ended.Detail.{Detail}
 use Rattle.pm_runs.specs.declared.ends.ended.Detail.TheVariants.{Fine, Usage, Script, Dump as BadDump, Reading, Writing, Device, NotEmpty, Refused, Standby, Ahead, Foreign, OtherDevice, Memory}
 use Rattle.pm_runs.specs.declared.ends.ended.Alone.{Alone as Ended}
@@ -31,6 +31,9 @@ use Rattle.pm_runs.proofs.EndsLemmas.Parts.{with_parts}
 use Rattle.pm_runs.proofs.EndsLemmas.Opened.{uncalled_run}
 use Rattle.pm_runs.specs.Threads.Together.{IsToldScript}
 use Rattle.pm_runs.proofs.Stores.{store_unrun, together_none}
+use Rattle.pm_runs.specs.Young.Journals.{ReadsYoung}
+use Rattle.pm_runs.proofs.YoungLemmas.Read.{young_unordered, young_unread}
+use Rattle.pm_runs.proofs.YoungLemmas.Stores.{young_unrun}
 use Rattle.pm_runs.proofs.EndsLemmas.Scripts.{order_read, script_read, script_unknown, unordered, unserved}
 
 module _ {K : Type 0} (k : sink.Ghosts K) where
@@ -42,19 +45,22 @@ module _ {K : Type 0} (k : sink.Ghosts K) where
 pub unread : (bytes : List ℕ) (journal : List Entry) → journal ≡ [] → ReadsScript bytes (Memory false no_memory) journal None
 unread bytes journal empty = unserved bytes (Memory false no_memory) journal empty (script_unknown bytes (Memory false no_memory) tt (λ fault. tt) (λ past. absurd (omega arith)))
 
+young_script_unread : (bytes : List ℕ) (journal : List Entry) → ReadsYoung bytes (Memory false no_memory) journal None
+young_script_unread bytes journal = young_unread bytes (Memory false no_memory) journal refl (record { refused = tt; told = λ fault is. tt })
+
 module _ {D S K : Type 0} (d : disk.Ghosts D) (k : sink.Ghosts K) where
   -- ---- nothing was called
 
   untouched_store : {F : Type 0} (place : F) (writes : Writes) (disk : D) (source : S) (sink : K) (it : Ended D S K) → it.journal.items ≡ []
       → ((at : List ℕ) → d.since disk (d.moment disk) at → d.image disk at)
-      → RunsStore d k place writes disk sink (with_parts it (Memory false no_memory) None disk source sink)
+      → RunsStore d k place writes disk sink (with_parts it (Memory false no_memory) None None disk source sink)
   untouched_store place writes disk source sink it empty now =
       store_unrun d k place writes disk disk source sink it (Memory false no_memory) empty (λ past. absurd (omega arith))
       (uncalled_run d disk (Memory false no_memory) now (λ past. absurd (omega arith)) (λ bytes. tt)) (inl refl)
 
   pub untouched_trial : {F : Type 0} (place : F) (seed turns : ℕ) (disk : D) (source : S) (sink : K) (it : Ended D S K) → it.journal.items ≡ []
       → ((at : List ℕ) → d.since disk (d.moment disk) at → d.image disk at)
-      → TriesScript d k place seed turns disk source sink (with_parts it (Memory false no_memory) None disk source sink)
+      → TriesScript d k place seed turns disk source sink (with_parts it (Memory false no_memory) None None disk source sink)
   untouched_trial place seed turns disk source sink it empty now = record {
     ends = tt;
     script = unread (made_text seed turns) it.journal.items empty;
@@ -66,7 +72,7 @@ module _ {D S K : Type 0} (d : disk.Ghosts D) (k : sink.Ghosts K) where
 
   pub untouched_telling : (Says : Telling) (disk : D) (source : S) (sink : K) (it : Ended D S K) → it.journal.items ≡ []
       → ((at : List ℕ) → d.since disk (d.moment disk) at → d.image disk at)
-      → TellsStore d k Says disk source sink (with_parts it (Memory false no_memory) None disk source sink)
+      → TellsStore d k Says disk source sink (with_parts it (Memory false no_memory) None None disk source sink)
   untouched_telling Says disk source sink it empty now = record {
     ends = tt;
     text = [];
@@ -81,6 +87,7 @@ module _ {D S K : Type 0} (d : disk.Ghosts D) (k : sink.Ghosts K) where
     source_stays = refl;
     no_event = empty;
     no_tally = refl;
+    no_young = refl;
   }
 
   -- ---- a trial, from the run of its lines
@@ -121,7 +128,7 @@ module _ {D S K : Type 0} (d : disk.Ghosts D) (k : sink.Ghosts K) where
 module _ {D S K : Type 0} (d : disk.Ghosts D) (s : source.Ghosts S) (k : sink.Ghosts K) where
   pub untouched_does : {F : Type 0} (place : F) (command : Command) (disk : D) (source : S) (sink : K) (it : Ended D S K) → it.journal.items ≡ []
       → ((at : List ℕ) → d.since disk (d.moment disk) at → d.image disk at) → SameImages (d.image disk) (d.image disk)
-      → Does d s k place command disk source sink (with_parts it (Memory false no_memory) None disk source sink)
+      → Does d s k place command disk source sink (with_parts it (Memory false no_memory) None None disk source sink)
   untouched_does place Init disk source sink it empty now same = record {
     makes = (refl, same);
     calls = record {
@@ -133,6 +140,7 @@ module _ {D S K : Type 0} (d : disk.Ghosts D) (s : source.Ghosts S) (k : sink.Gh
     sink_stays = refl;
     no_event = empty;
     no_tally = refl;
+    no_young = refl;
   }
   untouched_does place Run disk source sink it empty now same = record {
     ends = omega arith;
@@ -151,6 +159,17 @@ module _ {D S K : Type 0} (d : disk.Ghosts D) (s : source.Ghosts S) (k : sink.Gh
     together = together_none (IsToldScript (s.left source)) (Memory false no_memory) it.journal.items empty (λ past. absurd (omega (arith, past)));
     saved = tt;
   }
+  untouched_does place RunYoung disk source sink it empty now same = record {
+    ends = omega arith;
+    read = λ past. absurd (omega (arith, past));
+    script = λ bytes told. young_script_unread bytes it.journal.items;
+    order = λ bytes told. young_unordered bytes (Memory false no_memory) it.journal.items;
+    store =
+        young_unrun d k place disk disk source sink it (Memory false no_memory) empty (λ past. absurd (omega arith))
+        (uncalled_run d disk (Memory false no_memory) now (λ past. absurd (omega arith)) (λ bytes. tt)) (inl refl);
+    entered = λ bytes told lines script past. tt;
+    saved = tt;
+  }
   untouched_does place Inspect disk source sink it empty now same = untouched_telling d k Reports disk source sink it empty now
   untouched_does place Dump disk source sink it empty now same = untouched_telling d k Dumps disk source sink it empty now
   untouched_does place Restore disk source sink it empty now same = record {
@@ -167,6 +186,7 @@ module _ {D S K : Type 0} (d : disk.Ghosts D) (s : source.Ghosts S) (k : sink.Gh
     sink_stays = refl;
     no_event = empty;
     no_tally = refl;
+    no_young = refl;
   }
   untouched_does place (Why id) disk source sink it empty now same = untouched_telling d k (GivesPath id) disk source sink it empty now
   untouched_does place (Make seed turns) disk source sink it empty now same = record {
@@ -176,9 +196,10 @@ module _ {D S K : Type 0} (d : disk.Ghosts D) (s : source.Ghosts S) (k : sink.Gh
     source_stays = refl;
     no_event = empty;
     no_tally = refl;
+    no_young = refl;
   }
   untouched_does place (Trial seed turns) disk source sink it empty now same = untouched_trial d k place seed turns disk source sink it empty now
 
   -- nothing was called
-  pub memory_causes : (disk : D) (source : S) (sink : K) (it : Ended D S K) → ShowsCauses d s k disk source sink (with_parts it (Memory false no_memory) None disk source sink)
-  memory_causes disk source sink it = record { reading = refl; writing = tt; device = refl; rule = tt; opened = refl; reads = refl }
+  pub memory_causes : (disk : D) (source : S) (sink : K) (it : Ended D S K) → ShowsCauses d s k disk source sink (with_parts it (Memory false no_memory) None None disk source sink)
+  memory_causes disk source sink it = record { reading = refl; writing = tt; device = refl; rule = tt; opened = refl; one = tt; reads = refl }

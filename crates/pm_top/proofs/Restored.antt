@@ -180,7 +180,7 @@ module _ {D S K : Type 0} (d : disk.Ghosts D) (s : source.Ghosts S) (k : sink.Gh
       → ((bytes : List ℕ) → s.left source ≡ Some bytes → s.left left ≡ Some []) → ((bytes : List ℕ) → s.left source ≡ Some bytes → Spells bytes dump)
       → ((bytes : List ℕ) → s.left source ≡ Some bytes → length bytes ≤ SOURCE_BYTES) → LeavesRestored d dump disk end detail
       → ((bytes : List ℕ) → d.contents disk ≡ Some bytes → 0 < length bytes → LeavesOnly d.moment d.since disk end (d.image disk))
-      → RestoresStore d s k disk source sink (with_parts it detail None end left sink)
+      → RestoresStore d s k disk source sink (with_parts it detail None None end left sink)
   restores_read dump disk end source left sink it detail empty ends sound emptied spelled short leaves keeps = record {
     ends = ends_restored detail ends;
     dump = dump;
@@ -195,13 +195,14 @@ module _ {D S K : Type 0} (d : disk.Ghosts D) (s : source.Ghosts S) (k : sink.Gh
     sink_stays = refl;
     no_event = empty;
     no_tally = refl;
+    no_young = refl;
   }
 
   -- none was
   pub restores_unread : (disk : D) (source left : S) (sink : K) (it : Ended D S K) (detail : Detail) → it.journal.items ≡ [] → EndsUnrestored detail
       → ((bytes : List ℕ) → s.left source ≡ Some bytes → RefusesBytes bytes detail) → ((bytes : List ℕ) → s.left source ≡ Some bytes → IsReadWhole detail → s.left left ≡ Some [])
       → ((at : List ℕ) → d.since disk (d.moment disk) at → d.image disk at)
-      → RestoresStore d s k disk source sink (with_parts it detail None disk left sink)
+      → RestoresStore d s k disk source sink (with_parts it detail None None disk left sink)
   restores_unread disk source left sink it detail empty ends refuses emptied now =
       let dump : Dump = record { next = 1; objects = []; roots = [] } in
       record {
@@ -218,4 +219,5 @@ module _ {D S K : Type 0} (d : disk.Ghosts D) (s : source.Ghosts S) (k : sink.Gh
         sink_stays = refl;
         no_event = empty;
         no_tally = refl;
+        no_young = refl;
       }

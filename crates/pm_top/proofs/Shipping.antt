@@ -38,9 +38,9 @@ ShipWrote k old new detail result = MatchResult result (λ shipped. WroteText k 
 module _ {D E S K : Type 0} (d : disk.Ghosts D) (e : disk.Ghosts E) (k : sink.Ghosts K) where
   -- the end of a ship, put together
   pub ship_left : (disk : D) (other : E) (source : S) (old new : K) (end : ShipEnd D E) (detail : Detail) → ShipsDisks d e disk other end → ShipEnds detail end.shipped → ShipWrote k old new detail end.shipped
-      → (ended : Ended D E S K) (it : Alone D S K) → alone ended ≡ it → it.detail ≡ detail → it.journal.items ≡ [] → it.tally ≡ None → it.disk ≡ end.disk → it.source ≡ source → it.sink ≡ new → ended.other ≡ end.other
+      → (ended : Ended D E S K) (it : Alone D S K) → alone ended ≡ it → it.detail ≡ detail → it.journal.items ≡ [] → it.tally ≡ None → it.young ≡ None → it.disk ≡ end.disk → it.source ≡ source → it.sink ≡ new → ended.other ≡ end.other
       → ShipsStore d e k disk other source old ended
-  ship_left disk other source old new end detail ships ends wrote ended it same detail_is journal_is tally_is disk_is source_is sink_is other_is =
+  ship_left disk other source old new end detail ships ends wrote ended it same detail_is journal_is tally_is young_is disk_is source_is sink_is other_is =
       let detail_here : ended.detail ≡ detail = ap (λ (a : Alone D S K). a.detail) same ∙ detail_is in
       let sink_here : ended.sink ≡ new = ap (λ (a : Alone D S K). a.sink) same ∙ sink_is in
       record {
@@ -53,6 +53,7 @@ module _ {D E S K : Type 0} (d : disk.Ghosts D) (e : disk.Ghosts E) (k : sink.Gh
         source_stays = ap (λ (a : Alone D S K). a.source) same ∙ source_is;
         no_event = ap (λ (a : Alone D S K). a.journal.items) same ∙ journal_is;
         no_tally = ap (λ (a : Alone D S K). a.tally) same ∙ tally_is;
+        no_young = ap (λ (a : Alone D S K). a.young) same ∙ young_is;
       }
 
 -- ---- nothing was called

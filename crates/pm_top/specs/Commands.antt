@@ -12,7 +12,7 @@ use Rattle.pm_dump.specs.Sound.{IsSoundDump}
 use Rattle.pm_script.specs.declared.fault.ScriptFault.TheVariants.{TooLong}
 use Rattle.pm_types.specs.declared.limits.TheConstants.{MOST_TURNS}
 use Rattle.pm_words.specs.declared.command.Command.{Command}
-use Rattle.pm_words.specs.declared.command.Command.TheVariants.{Init, Run, RunThreads, Inspect, Dump, Restore, Why, Make, Trial}
+use Rattle.pm_words.specs.declared.command.Command.TheVariants.{Init, Run, RunThreads, RunYoung, Inspect, Dump, Restore, Why, Make, Trial}
 use Rattle.pm_runs.specs.declared.ends.ended.Detail.{Detail}
 use Rattle.pm_runs.specs.declared.ends.ended.Detail.TheVariants.{Fine, Script, Dump as BadDump, Reading, Writing, Device, NotEmpty, Refused, Memory}
 use Rattle.pm_runs.specs.declared.ends.ended.Alone.{Alone as Ended}
@@ -24,6 +24,7 @@ use Rattle.pm_top.specs.Stores.{CallsMaking, LeavesMade, LeavesRestored}
 use Rattle.pm_top.specs.Dumps.{HasDump, ReadsDump}
 use Rattle.pm_runs.specs.Ends.Wrote.{IsWriting, WroteText}
 use Rattle.pm_runs.specs.Runs.{RunsStore, RunsScript, RunsTogether}
+use Rattle.pm_runs.specs.Young.Runs.{RunsYoung}
 
 -- All is as it was.
 pub record IsUntouched {D S K : Type 0} (disk : D) (source : S) (sink : K) (ended : Ended D S K) : Type 0 where
@@ -32,6 +33,7 @@ pub record IsUntouched {D S K : Type 0} (disk : D) (source : S) (sink : K) (ende
   pub sink_stays : ended.sink ≡ sink
   pub no_event : ended.journal.items ≡ []
   pub no_tally : ended.tally ≡ None
+  pub no_young : ended.young ≡ None
 
 -- ---- how a command may end
 
@@ -89,6 +91,7 @@ module _ {D S K : Type 0} (d : disk.Ghosts D) where
     pub sink_stays : ended.sink ≡ sink
     pub no_event : ended.journal.items ≡ []
     pub no_tally : ended.tally ≡ None
+    pub no_young : ended.young ≡ None
 
 module _ {D S K : Type 0} (d : disk.Ghosts D) (k : sink.Ghosts K) where
   -- What a command does that tells of a store: the store is opened, and a text that says so is written.
@@ -112,6 +115,7 @@ module _ {D S K : Type 0} (d : disk.Ghosts D) (k : sink.Ghosts K) where
     pub source_stays : ended.source ≡ source
     pub no_event : ended.journal.items ≡ []
     pub no_tally : ended.tally ≡ None
+    pub no_young : ended.young ≡ None
 
   -- What `inspect FILE` does: its report is written.
   abbrev pub InspectsStore : D → S → K → Ended D S K → Type 0
@@ -148,6 +152,7 @@ module _ {D S K : Type 0} (k : sink.Ghosts K) where
     pub source_stays : ended.source ≡ source
     pub no_event : ended.journal.items ≡ []
     pub no_tally : ended.tally ≡ None
+    pub no_young : ended.young ≡ None
 
 module _ {D S K : Type 0} (d : disk.Ghosts D) (s : source.Ghosts S) (k : sink.Ghosts K) where
   -- What `restore FILE` does: the source is read to its end, the dump is read, a store is made, and the dump is settled in it
@@ -167,12 +172,14 @@ module _ {D S K : Type 0} (d : disk.Ghosts D) (s : source.Ghosts S) (k : sink.Gh
     pub sink_stays : ended.sink ≡ sink
     pub no_event : ended.journal.items ≡ []
     pub no_tally : ended.tally ≡ None
+    pub no_young : ended.young ≡ None
 
   -- what each command does, with this chooser
   abbrev pub Does : {F : Type 0} → F → Command → D → S → K → Ended D S K → Type 0
   Does place Init disk source sink ended = MakesStore d disk source sink ended
   Does place Run disk source sink ended = RunsScript d s k place disk source sink ended
   Does place RunThreads disk source sink ended = RunsTogether d s k place disk source sink ended
+  Does place RunYoung disk source sink ended = RunsYoung d s k place disk source sink ended
   Does place Inspect disk source sink ended = InspectsStore d k disk source sink ended
   Does place Dump disk source sink ended = DumpsStore d k disk source sink ended
   Does place Restore disk source sink ended = RestoresStore disk source sink ended

@@ -7,9 +7,11 @@ use Rattle.pm_io.specs.declared.sink.Sink as sink
 use Rattle.pm_model.specs.World.{Copy}
 use Rattle.pm_image.specs.Stands.{StandsForCopy}
 use Rattle.pm_script.specs.declared.line.Line.{Line}
+use Rattle.pm_script.specs.declared.line.YoungLine.{YoungLine}
 use Rattle.pm_script.specs.Script.{IsScript}
+use Rattle.pm_script.specs.Young.{IsYoungScript}
 use Rattle.pm_words.specs.declared.command.Command.{Command}
-use Rattle.pm_words.specs.declared.command.Command.TheVariants.{Init, Run, RunThreads, Inspect, Dump, Restore, Why, Make, Trial}
+use Rattle.pm_words.specs.declared.command.Command.TheVariants.{Init, Run, RunThreads, RunYoung, Inspect, Dump, Restore, Why, Make, Trial}
 use Rattle.pm_runs.specs.declared.ends.ended.Alone.{Alone as Ended}
 use Rattle.pm_top.specs.Dumps.{HoldsDump}
 
@@ -19,6 +21,13 @@ pub record HoldsScript (told : Option (List ℕ)) : Type 0 where
   pub is_told : told ≡ Some bytes
   pub lines : List Line
   pub script : IsScript bytes lines
+
+-- the source tells that it holds a script for a run with a nursery
+pub record HoldsYoungScript (told : Option (List ℕ)) : Type 0 where
+  pub bytes : List ℕ
+  pub is_told : told ≡ Some bytes
+  pub lines : List YoungLine
+  pub script : IsYoungScript bytes lines
 
 -- the disk tells that it holds a store
 pub record HoldsStore (told : Option (List ℕ)) : Type 0 where
@@ -34,6 +43,7 @@ module _ {D S : Type 0} (d : disk.Ghosts D) (s : source.Ghosts S) where
   HasNeeds Init disk source = d.contents disk ≡ Some []
   HasNeeds Run disk source = HoldsStore (d.contents disk) × HoldsScript (s.left source)
   HasNeeds RunThreads disk source = HoldsStore (d.contents disk) × HoldsScript (s.left source)
+  HasNeeds RunYoung disk source = HoldsStore (d.contents disk) × HoldsYoungScript (s.left source)
   HasNeeds Inspect disk source = HoldsStore (d.contents disk)
   HasNeeds Dump disk source = HoldsStore (d.contents disk)
   HasNeeds Restore disk source = (d.contents disk ≡ Some []) × HoldsDump (s.left source)

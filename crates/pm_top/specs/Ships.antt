@@ -24,6 +24,7 @@ module _ {D E S K : Type 0} (d : disk.Ghosts D) (e : disk.Ghosts E) (k : sink.Gh
     pub source_stays : ended.source ≡ source
     pub no_event : ended.journal.items ≡ []
     pub no_tally : ended.tally ≡ None
+    pub no_young : ended.young ≡ None
 
 module _ {D E : Type 0} (d : disk.Ghosts D) (e : disk.Ghosts E) where
   -- What it needs: both disks tell that they hold a store, and the standby is neither ahead nor foreign.

@@ -21,7 +21,7 @@ use pm_disk::Disk;
 use pm_inspect::tell::{DumpText, ReportText, WhyText};
 use pm_io::{Sink, Source};
 use pm_place::Placement;
-use pm_runs::{Alone, Detail, Ended, end_unopened, images_since_now, run_source, run_together};
+use pm_runs::{Alone, Detail, Ended, end_unopened, images_since_now, run_source, run_together, run_young};
 use pm_turns::Gate;
 use pm_words::{Asked, Command, read_words, words_spell_one_command};
 use std::alloc::Global;
@@ -56,6 +56,7 @@ fn perform<
         Command::Init => make_store(alloc, disk, source, sink),
         Command::Run => run_source(alloc, disk, place, source, sink),
         Command::RunThreads => run_together(rt, alloc, disk, place, source, sink, gate),
+        Command::RunYoung => run_young(alloc, disk, place, source, sink),
         Command::Inspect => write_told(alloc, &ReportText, disk, source, sink),
         Command::Dump => write_told(alloc, &DumpText, disk, source, sink),
         Command::Restore => restore_store(alloc, disk, source, sink),
@@ -82,6 +83,11 @@ fn perform<
 /// those that write pages. Each client's commands are asked in the order of its lines, and nothing else of the order is
 /// promised; around each event the gate is called. The replies are written behind the last event. It waits for the
 /// threads, and all that is promised of it holds once it returns; every other command waits for nobody.
+///
+/// `run FILE young` does the same as `run FILE serial` over an engine with a nursery: a new object is young, outside the
+/// cars, until it escapes, and a young object that nothing reaches is dropped by the next sweep. A sweep is made by the line
+/// `! young`, and where 256 objects are young by a `new`. No line asks for a watch. Behind the end line comes one more:
+/// how many objects are young, and how many entered a car.
 ///
 /// `inspect FILE` opens the store and writes its report. Nothing is written to the disk.
 ///

@@ -1,22 +1,29 @@
 -- Words ask for one thing at most.
-use Rattle.std.proofs.Common.{◌≡◌, ℕ, ◌+◌, ◌*◌, List, [], ◌∷◌, length, refl, ap, ap₂, sym, ◌∙◌, arith, codes}
+use Rattle.std.proofs.Common.{◌≡◌, ℕ, ◌+◌, ◌*◌, List, [], ◌∷◌, length, refl, ap, ap₂, sym, ◌∙◌, arith, codes, cond, nat_eq}
 use Rattle.std.proofs.lemmas.Fmt.{decimal_injective}
 use Rattle.pm_words.specs.declared.asked.Asked.{Asked}
 use Rattle.pm_words.specs.declared.asked.Asked.TheVariants.{Alone, Ship}
 use Rattle.pm_words.specs.declared.command.Command.{Command}
-use Rattle.pm_words.specs.declared.command.Command.TheVariants.{Init, Run, RunThreads, Inspect, Dump, Restore, Why, Make, Trial}
-use Rattle.pm_words.specs.Words.{IsNumber, IsTurns, AreMake, AreRun, AreRunThreads, AreTrial, AreShip, AreWhy, Spells, SpellsAlone, SpellsNoneAlone, SpellsNothing}
+use Rattle.pm_words.specs.declared.command.Command.TheVariants.{Init, Run, RunThreads, RunYoung, Inspect, Dump, Restore, Why, Make, Trial}
+use Rattle.pm_words.specs.Words.{IsNumber, IsTurns, AreMake, AreTrial, AreShip, AreWhy, Spells, SpellsAlone, SpellsNoneAlone, SpellsNothing}
 
--- how many letters of the first word follow its first one, and that letter
+-- how many letters of a word follow its first one, and that letter
+letters_of : List ℕ → ℕ
+letters_of [] = 0
+letters_of (letter ∷ letters) = length letters + 10 * letter
+
+-- those of the first word, and of a run those of the third too
 tag : List (List ℕ) → ℕ
 tag [] = 0
-tag ([] ∷ words) = 0
-tag ((letter ∷ letters) ∷ words) = length letters + 10 * letter
+tag (verb ∷ []) = letters_of verb
+tag (verb ∷ file ∷ []) = letters_of verb
+tag (verb ∷ file ∷ mode ∷ words) = letters_of verb + cond (nat_eq (letters_of verb) 1142) (10000 * letters_of mode) 0
 
 tag_of : Command → ℕ
 tag_of Init = 1053
-tag_of Run = 1142
-tag_of RunThreads = 1142
+tag_of Run = 11551142
+tag_of RunThreads = 11661142
+tag_of RunYoung = 12141142
 tag_of Inspect = 1056
 tag_of Dump = 1003
 tag_of Restore = 1146
@@ -25,10 +32,11 @@ tag_of (Make seed turns) = 1093
 tag_of (Trial seed turns) = 1164
 
 tagged : (words : List (List ℕ)) (command : Command) → SpellsAlone words command → tag words ≡ tag_of command
-unfolding tag tag_of
+unfolding letters_of tag tag_of
 tagged words Init are = ap tag are.are
 tagged words Run are = ap tag are.are
 tagged words RunThreads are = ap tag are.are
+tagged words RunYoung are = ap tag are.are
 tagged words Inspect are = ap tag are.are
 tagged words Dump are = ap tag are.are
 tagged words Restore are = ap tag are.are
@@ -72,21 +80,12 @@ why_same words i j a b =
     let word : a.word ≡ b.word = cc same in
     ap Why (number_same a.word b.word i j a.is_identity.is_number b.is_identity.is_number word)
 
--- the order is told by the third word
-orders_differ : (words : List (List ℕ)) → AreRun words → AreRunThreads words → ⊥
-orders_differ words a b =
-    let same : codes "run" ∷ a.file ∷ codes "serial" ∷ a.rest ≡ codes "run" ∷ b.file ∷ codes "threads" ∷ b.rest = sym a.are ∙ b.are in
-    let third : codes "serial" ≡ codes "threads" = cc same in
-    let long : 6 ≡ 7 = ap length third in
-    absurd (omega (arith, long))
-
 one_command : (words : List (List ℕ)) (one other : Command) → SpellsAlone words one → SpellsAlone words other → one ≡ other
 unfolding tag_of
 one_command words Init Init a b = refl
 one_command words Run Run a b = refl
-one_command words Run RunThreads a b = absurd (orders_differ words a b)
-one_command words RunThreads Run a b = absurd (orders_differ words b a)
 one_command words RunThreads RunThreads a b = refl
+one_command words RunYoung RunYoung a b = refl
 one_command words Inspect Inspect a b = refl
 one_command words Dump Dump a b = refl
 one_command words Restore Restore a b = refl
@@ -96,7 +95,7 @@ one_command words (Trial s n) (Trial t m) a b = trial_same words s n t m a b
 one_command words one other a b = let same : tag_of one ≡ tag_of other = sym (tagged words one a) ∙ tagged words other b in absurd (omega (arith, same))
 
 tagged_ship : (words : List (List ℕ)) → AreShip words → tag words ≡ 1153
-unfolding tag
+unfolding letters_of tag
 tagged_ship words are = ap tag are.are
 
 apart : (command : Command) → tag_of command ≡ 1153 → ⊥
@@ -104,6 +103,7 @@ unfolding tag_of
 apart Init same = absurd (omega (arith, same))
 apart Run same = absurd (omega (arith, same))
 apart RunThreads same = absurd (omega (arith, same))
+apart RunYoung same = absurd (omega (arith, same))
 apart Inspect same = absurd (omega (arith, same))
 apart Dump same = absurd (omega (arith, same))
 apart Restore same = absurd (omega (arith, same))

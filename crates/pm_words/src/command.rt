@@ -7,6 +7,9 @@ pub enum Command {
     Run,
     /// `run FILE threads` or `run FILE threads PLACE`: run it in threads, each client's lines in their order.
     RunThreads,
+    /// `run FILE young` or `run FILE young PLACE`: run it in the order of its lines, with new objects held outside the
+    /// heap until they escape.
+    RunYoung,
     /// `inspect FILE`: write the report of a store.
     Inspect,
     /// `dump FILE`: write the dump of a store's copy.

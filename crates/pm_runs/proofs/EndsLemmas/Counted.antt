@@ -13,13 +13,13 @@ use Rattle.pm_script.specs.Parted.Asked.{events_asked, flushes_asked, flushes_of
 use Rattle.pm_runs.specs.Ends.Journals.{MakesAll}
 
 -- what a line asks for is below 2^32
-line_steps : (line : Line) (words : List (List ℕ)) → AreSpelled (said line).1 words → steps_of line ≤ 4294967295
+pub line_steps : (line : Line) (words : List (List ℕ)) → AreSpelled (said line).1 words → steps_of line ≤ 4294967295
 line_steps (Client client cmd) words spelled = omega arith
 line_steps (Gc count) [] spelled = absurd spelled
 line_steps (Gc count) (word ∷ words) spelled = let below : count < 4294967296 = spelled.0.0 in omega arith
 line_steps (Flush count) words spelled = omega arith
 
-line_flushes : (line : Line) (words : List (List ℕ)) → AreSpelled (said line).1 words → flushes_of line ≤ 4294967295
+pub line_flushes : (line : Line) (words : List (List ℕ)) → AreSpelled (said line).1 words → flushes_of line ≤ 4294967295
 line_flushes (Client client cmd) words spelled = omega arith
 line_flushes (Gc count) words spelled = omega arith
 line_flushes (Flush count) [] spelled = absurd spelled
@@ -43,13 +43,13 @@ few_flushes (body ∷ bodies) (line ∷ lines) are =
     let more = few_flushes bodies lines are.1 in
     omega (arith, one, more, sum_by-cons flushes_of line lines)
 
-few_requests : (lines : List Line) → length (requests_asked lines) ≤ length lines
+pub few_requests : (lines : List Line) → length (requests_asked lines) ≤ length lines
 few_requests [] = omega arith
 few_requests (Client client cmd ∷ lines) = let more = few_requests lines in omega (arith, more)
 few_requests (Gc count ∷ lines) = let more = few_requests lines in omega (arith, more)
 few_requests (Flush count ∷ lines) = let more = few_requests lines in omega (arith, more)
 
-summed : (n r s f : ℕ) → n ≤ 65536 → r ≤ n → s ≤ n * 4294967295 → f ≤ n * 4294967295 → r + s + f ≤ 18446744073709551615
+pub summed : (n r s f : ℕ) → n ≤ 65536 → r ≤ n → s ≤ n * 4294967295 → f ≤ n * 4294967295 → r + s + f ≤ 18446744073709551615
 summed n r s f few is_r is_s is_f = omega arith
 
 -- no count comes to its end over the lines of a script

@@ -54,13 +54,13 @@ module _ {D S K : Type 0} (d : disk.Ghosts D) (s : source.Ghosts S) (k : sink.Gh
   -- no store was opened
   pub open_causes : (disk end : D) (source : S) (sink : K) (it : Ended D S K) (fault : OpenFault)
       → IsOpenFault (d.count disk) (d.count end) fault → (d.made end).past ≡ (d.made disk).past
-      → ShowsCauses d s k disk source sink (with_parts it (not_opened fault) None end source sink)
-  open_causes disk end source sink it NotAStore cause reads = record { reading = refl; writing = refl; device = cause; rule = tt; opened = tt; reads = reads }
-  open_causes disk end source sink it (Version version) cause reads = record { reading = refl; writing = refl; device = cause; rule = tt; opened = tt; reads = reads }
-  open_causes disk end source sink it (Damaged page kept found) cause reads = record { reading = refl; writing = refl; device = cause; rule = tt; opened = tt; reads = reads }
-  open_causes disk end source sink it (Malformed page at) cause reads = record { reading = refl; writing = refl; device = cause; rule = tt; opened = tt; reads = reads }
-  open_causes disk end source sink it (Disk before after) cause reads = record { reading = refl; writing = tt; device = cause; rule = tt; opened = refl; reads = reads }
-  open_causes disk end source sink it (NoRoom _) cause reads = record { reading = refl; writing = tt; device = cause; rule = tt; opened = refl; reads = reads }
+      → ShowsCauses d s k disk source sink (with_parts it (not_opened fault) None None end source sink)
+  open_causes disk end source sink it NotAStore cause reads = record { reading = refl; writing = refl; device = cause; rule = tt; opened = tt; one = tt; reads = reads }
+  open_causes disk end source sink it (Version version) cause reads = record { reading = refl; writing = refl; device = cause; rule = tt; opened = tt; one = tt; reads = reads }
+  open_causes disk end source sink it (Damaged page kept found) cause reads = record { reading = refl; writing = refl; device = cause; rule = tt; opened = tt; one = tt; reads = reads }
+  open_causes disk end source sink it (Malformed page at) cause reads = record { reading = refl; writing = refl; device = cause; rule = tt; opened = tt; one = tt; reads = reads }
+  open_causes disk end source sink it (Disk before after) cause reads = record { reading = refl; writing = tt; device = cause; rule = tt; opened = refl; one = tt; reads = reads }
+  open_causes disk end source sink it (NoRoom _) cause reads = record { reading = refl; writing = tt; device = cause; rule = tt; opened = refl; one = tt; reads = reads }
 
   -- the disk was looked at before
   pub causes_after : (first disk : D) (source : S) (sink : K) (it : Ended D S K) → d.count disk ≡ d.count first → (d.made disk).past ≡ (d.made first).past
@@ -71,6 +71,7 @@ module _ {D S K : Type 0} (d : disk.Ghosts D) (s : source.Ghosts S) (k : sink.Gh
     device = subst (λ (n : ℕ). ShowsDevice it.detail n (d.count it.disk)) counted causes.device;
     rule = causes.rule;
     opened = causes.opened;
+    one = causes.one;
     reads = causes.reads ∙ read;
   }
 
@@ -83,5 +84,6 @@ module _ {D S K : Type 0} (d : disk.Ghosts D) (s : source.Ghosts S) (k : sink.Gh
     device = causes.device;
     rule = causes.rule;
     opened = causes.opened;
+    one = causes.one;
     reads = causes.reads;
   }

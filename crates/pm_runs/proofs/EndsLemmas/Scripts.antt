@@ -8,6 +8,7 @@ use Rattle.pm_script.specs.declared.fault.ScriptFault.{ScriptFault}
 use Rattle.pm_types.specs.declared.command.Cmd.TheVariants.{Settle}
 use Rattle.pm_script.specs.declared.line.Line.{Line}
 use Rattle.pm_script.specs.declared.line.Line.TheVariants.{Client}
+use Rattle.pm_script.specs.Bad.{IsBad}
 use Rattle.pm_script.specs.Script.{IsScript}
 use Rattle.pm_script.proofs.BadLaws.{no_fault}
 use Rattle.pm_script.proofs.ScriptLaws.{one_reading}
@@ -21,27 +22,27 @@ use Rattle.pm_runs.specs.declared.ends.ended.Detail.{Detail}
 use Rattle.pm_runs.specs.declared.ends.ended.Detail.TheVariants.{Fine, Usage, Script, Dump as BadDump, Reading, Writing, Device, NotEmpty, Refused, Standby, Ahead, Foreign, OtherDevice, Memory}
 use Rattle.pm_runs.specs.Ends.Ends.{stop_in}
 use Rattle.pm_runs.specs.Ends.Stages.{IsPast, unreached, the_script, the_store, the_output}
-use Rattle.pm_runs.specs.Ends.Journals.{EndsFor, IsScriptEnd, KeepsOrder, MakesAll, ReadsScript, ServesInOrder, ServesLines}
+use Rattle.pm_runs.specs.Ends.Journals.{EndsFor, IsScriptEnd, IsScriptEndOf, KeepsOrder, MakesAll, ReadsScript, ServesInOrder, ServesLines}
 use Rattle.pm_runs.proofs.EndsLemmas.Counted.{few_events, made_all}
 use Rattle.pm_serial.proofs.Answering.{events_cons}
 use Rattle.pm_serial.proofs.Ordering.{events_append}
 
 -- a run that came to the store does not refuse the script
-tried_read : (bytes : List ℕ) (detail : Detail) → the_store < unreached detail → IsScriptEnd bytes detail
-tried_read bytes Fine tried = tt
-tried_read bytes Usage tried = tt
-tried_read bytes (Script fault) tried = absurd (omega arith)
-tried_read bytes (BadDump fault) tried = tt
-tried_read bytes (Reading before after) tried = tt
-tried_read bytes (Writing before after) tried = tt
-tried_read bytes (Device before after opened) tried = tt
-tried_read bytes (NotEmpty n) tried = tt
-tried_read bytes (Standby fault) tried = tt
-tried_read bytes (Ahead to from) tried = tt
-tried_read bytes (Foreign number) tried = tt
-tried_read bytes (OtherDevice before after) tried = tt
-tried_read bytes (Refused fault) tried = tt
-tried_read bytes (Memory opened _) tried = tt
+pub tried_read : (IsFault : ScriptFault → Type 0) (detail : Detail) → the_store < unreached detail → IsScriptEndOf IsFault detail
+tried_read IsFault Fine tried = tt
+tried_read IsFault Usage tried = tt
+tried_read IsFault (Script fault) tried = absurd (omega arith)
+tried_read IsFault (BadDump fault) tried = tt
+tried_read IsFault (Reading before after) tried = tt
+tried_read IsFault (Writing before after) tried = tt
+tried_read IsFault (Device before after opened) tried = tt
+tried_read IsFault (NotEmpty n) tried = tt
+tried_read IsFault (Standby fault) tried = tt
+tried_read IsFault (Ahead to from) tried = tt
+tried_read IsFault (Foreign number) tried = tt
+tried_read IsFault (OtherDevice before after) tried = tt
+tried_read IsFault (Refused fault) tried = tt
+tried_read IsFault (Memory opened _) tried = tt
 
 -- every event was made
 made : (lines : List Line) (detail : Detail) (journal : List Entry) (tally : Option Tally) → ServesLines lines detail journal tally → IsPast the_output detail
@@ -53,12 +54,19 @@ made lines detail journal (Some tally) serves past = made_all lines journal (tal
 pub script_read : (bytes : List ℕ) (lines : List Line) (detail : Detail) (journal : List Entry) (tally : Option Tally) → IsScript bytes lines → ServesLines lines detail journal tally → ReadsScript bytes detail journal tally
 script_read bytes lines detail journal tally script serves =
     record {
-      refused = tried_read bytes detail serves.tried;
+      refused = tried_read (λ fault. IsBad fault bytes) detail serves.tried;
       told = λ fault is. absurd (no_fault bytes fault lines is script);
       ran = λ past. record { lines = lines; script = script; parts = serves.parts };
       serves = λ past others other client. serves.serves past client ∙ ap (λ (ls : List Line). commands_of client (requests_asked ls)) (one_reading bytes lines others script other);
       made = λ past others other. subst (λ (ls : List Line). IfSome tally (λ it. MakesAll ls journal (tally_of it))) (one_reading bytes lines others script other) (made lines detail journal tally serves past);
     }
+
+-- no count comes to its end before a `settle` among lines over which none does
+pub settle_within : (lines done more : List Line) (client : ℕ) → lines ≡ done ++ Client client Settle ∷ more → events_asked lines ≤ greatest_count → events_asked done < greatest_count
+settle_within lines done more client parted few =
+    let all : events_asked lines ≡ events_asked done + events_asked (Client client Settle ∷ more) = ap events_asked parted ∙ events_append done (Client client Settle ∷ more) in
+    let one = events_cons (Client client Settle) more in
+    omega (arith, all, one, few)
 
 -- and its lines were run in their order
 pub order_read : (bytes : List ℕ) (lines : List Line) (detail : Detail) (journal : List Entry) (tally : Option Tally) → IsScript bytes lines → ServesInOrder lines detail journal tally → KeepsOrder bytes detail journal tally
@@ -75,15 +83,9 @@ order_read bytes lines detail journal tally script serves =
           (stopped_at tally (stop_in detail) serves.stopped few);
       short = λ ran others done more client other parted.
           let same : others ≡ lines = sym (one_reading bytes lines others script other) in
-          serves.short ran done more client (sym same ∙ parted) (settle_within done more client (sym same ∙ parted) few);
+          serves.short ran done more client (sym same ∙ parted) (settle_within lines done more client (sym same ∙ parted) few);
     }
   where
-    settle_within : (done more : List Line) (client : ℕ) → lines ≡ done ++ Client client Settle ∷ more → events_asked lines ≤ greatest_count → events_asked done < greatest_count
-    settle_within done more client parted few =
-        let all : events_asked lines ≡ events_asked done + events_asked (Client client Settle ∷ more) = ap events_asked parted ∙ events_append done (Client client Settle ∷ more) in
-        let one = events_cons (Client client Settle) more in
-        omega (arith, all, one, few)
-
     stopped_at : (tally : Option Tally) (stop : Option Stop) → OnStop stop (events_asked lines ≤ greatest_count → IfSome tally (λ it. StopsAmong lines journal (tally_of it).steps (tally_of it).events stop))
         → events_asked lines ≤ greatest_count → IfSome tally (λ it. OnStop stop (StopsAmong lines journal (tally_of it).steps (tally_of it).events stop))
     stopped_at None stop stops few = tt

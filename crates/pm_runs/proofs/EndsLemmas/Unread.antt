@@ -98,12 +98,12 @@ reads_unread bytes detail journal empty ends stops =
 
 module _ {D S K : Type 0} (d : disk.Ghosts D) (s : source.Ghosts S) (k : sink.Ghosts K) where
   pub causes_unread : (disk : D) (source : S) (left : S) (sink : K) (it : Ended D S K) (detail : Detail) → EndsReading detail → ShowsReading detail (s.count source) (s.count left)
-      → ShowsCauses d s k disk source sink (with_parts it detail None disk left sink)
+      → ShowsCauses d s k disk source sink (with_parts it detail None None disk left sink)
   causes_unread disk source left sink it Fine ends shown = absurd ends
   causes_unread disk source left sink it Usage ends shown = absurd ends
-  causes_unread disk source left sink it (Script fault) ends shown = record { reading = shown; writing = refl; device = refl; rule = ends; opened = tt; reads = refl }
+  causes_unread disk source left sink it (Script fault) ends shown = record { reading = shown; writing = refl; device = refl; rule = ends; opened = tt; one = tt; reads = refl }
   causes_unread disk source left sink it (BadDump fault) ends shown = absurd ends
-  causes_unread disk source left sink it (Reading before after) ends shown = record { reading = shown; writing = refl; device = refl; rule = tt; opened = tt; reads = refl }
+  causes_unread disk source left sink it (Reading before after) ends shown = record { reading = shown; writing = refl; device = refl; rule = tt; opened = tt; one = tt; reads = refl }
   causes_unread disk source left sink it (Writing before after) ends shown = absurd ends
   causes_unread disk source left sink it (Device before after opened) ends shown = absurd ends
   causes_unread disk source left sink it (NotEmpty bytes) ends shown = absurd ends
@@ -112,4 +112,4 @@ module _ {D S K : Type 0} (d : disk.Ghosts D) (s : source.Ghosts S) (k : sink.Gh
   causes_unread disk source left sink it (Foreign number) ends shown = absurd ends
   causes_unread disk source left sink it (OtherDevice before after) ends shown = absurd ends
   causes_unread disk source left sink it (Refused fault) ends shown = absurd ends
-  causes_unread disk source left sink it (Memory opened _) ends shown = record { reading = shown; writing = tt; device = refl; rule = tt; opened = ends; reads = refl }
+  causes_unread disk source left sink it (Memory opened _) ends shown = record { reading = shown; writing = tt; device = refl; rule = tt; opened = ends; one = tt; reads = refl }

@@ -9,6 +9,7 @@ alone ended = record {
   detail = ended.detail;
   journal = ended.journal;
   tally = ended.tally;
+  young = ended.young;
   disk = ended.disk;
   source = ended.source;
   sink = ended.sink;

@@ -1,5 +1,5 @@
 -- How the program ends.
-use Rattle.std.specs.Prelude.{◌≡◌, ℕ, true, false, codes, decimal, List, [], ◌++◌, Option, Some, None}
+use Rattle.std.specs.Prelude.{◌≡◌, ℕ, Bool, true, false, codes, decimal, List, [], ◌++◌, Option, Some, None}
 use Rattle.std.specs.Option.{is_some}
 use Rattle.hex.specs.Hex.{encode_lower}
 use Rattle.pm_types.specs.Memory.{no_memory}
@@ -24,6 +24,7 @@ use Rattle.pm_script.specs.declared.fault.ScriptFault.TheVariants.{Line as BadLi
 use Rattle.pm_engine.specs.declared.events.stop.Stop.{Stop}
 use Rattle.pm_engine.specs.declared.events.stop.Stop.TheVariants.{Memory as StopMemory, Writing as StopWriting, Device as StopDevice}
 use Rattle.pm_engine.specs.declared.tally.Tally.{Tally}
+use Rattle.pm_young.specs.declared.tally.YoungTally.{YoungTally}
 use Rattle.pm_runs.specs.declared.ends.ended.Detail.{Detail}
 use Rattle.pm_runs.specs.declared.ends.ended.Detail.TheVariants.{Fine, Usage, Script, Dump as BadDump, Reading, Writing, Device, NotEmpty, Refused, Standby, Ahead, Foreign, OtherDevice, Memory}
 
@@ -159,11 +160,22 @@ NamesRule (Script fault) = IsOfScript fault
 NamesRule (BadDump fault) = IsOfDump fault
 NamesRule detail = Unit {0}
 
+-- there is a tally, of an engine or of one with a nursery
+abbrev pub is_tallied : Option Tally → Option YoungTally → Bool
+is_tallied None young = is_some young
+is_tallied (Some tally) young = true
+
+-- there is none, or one
+abbrev pub OneTally : Option Tally → Option YoungTally → Type 0
+OneTally None young = Unit {0}
+OneTally (Some tally) None = Unit {0}
+OneTally (Some tally) (Some young) = ⊥
+
 -- whether a store was opened for a run is told where memory ran out or the disk failed
-abbrev pub ShowsOpened : Detail → Option Tally → Type 0
-ShowsOpened (Device before after opened) tally = opened ≡ is_some tally
-ShowsOpened (Memory opened _) tally = opened ≡ is_some tally
-ShowsOpened detail tally = Unit {0}
+abbrev pub ShowsOpened : Detail → Option Tally → Option YoungTally → Type 0
+ShowsOpened (Device before after opened) tally young = opened ≡ is_tallied tally young
+ShowsOpened (Memory opened _) tally young = opened ≡ is_tallied tally young
+ShowsOpened detail tally young = Unit {0}
 
 -- memory ran out
 abbrev pub RanShort : Detail → Type 0

@@ -85,10 +85,14 @@ pub record ServesAll (lines : List Line) (journal : List Entry) (tally : Option 
   pub serves : ServesLines lines Fine journal tally
   pub order : ServesInOrder lines Fine journal tally
 
+-- a script that is refused has a fault of which this is said
+abbrev pub IsScriptEndOf : (ScriptFault → Type 0) → Detail → Type 0
+IsScriptEndOf IsFault (Script fault) = IsFault fault
+IsScriptEndOf IsFault detail = Unit {0}
+
 -- a script that is refused has this fault
 abbrev pub IsScriptEnd : List ℕ → Detail → Type 0
-IsScriptEnd bytes (Script fault) = IsBad fault bytes
-IsScriptEnd bytes detail = Unit {0}
+IsScriptEnd bytes detail = IsScriptEndOf (λ fault. IsBad fault bytes) detail
 
 -- Bytes with this fault are refused for it, unless memory ran out or the source failed.
 abbrev pub EndsFor : ScriptFault → Detail → Type 0
@@ -104,11 +108,15 @@ EndsReading (Reading before after) = Unit {0}
 EndsReading (Memory opened _) = opened ≡ false
 EndsReading detail = ⊥
 
--- What is said of bytes that were not read as a script: they are refused for no fault but the first that applies, and where
+-- What is said of bytes that were not read, by the first fault that applies to them: they are refused for no other, and where
 -- one applies they are refused, unless memory ran out or the source failed.
-pub record StopsReading (bytes : List ℕ) (detail : Detail) : Type 0 where
-  pub refused : IsScriptEnd bytes detail
-  pub told : (fault : ScriptFault) → IsBad fault bytes → EndsFor fault detail
+pub record StopsReadingOf (IsFault : ScriptFault → Type 0) (detail : Detail) : Type 0 where
+  pub refused : IsScriptEndOf IsFault detail
+  pub told : (fault : ScriptFault) → IsFault fault → EndsFor fault detail
+
+-- the same of a script
+abbrev pub StopsReading : List ℕ → Detail → Type 0
+StopsReading bytes detail = StopsReadingOf (λ fault. IsBad fault bytes) detail
 
 -- Every event was made for which the lines ask: so many are the collector's, and beside them and those that write pages
 -- there is one for each entry of the journal.

@@ -8,6 +8,7 @@ use pm_io::{Sink, Source};
 use pm_script::ScriptFault;
 use pm_serial::{Stop, Tally};
 use pm_types::{Entry, NoMemory, OpenFault};
+use pm_young::YoungTally;
 use std::alloc::Global;
 
 /// How the program ended.
@@ -34,7 +35,7 @@ pub enum Detail {
         after: u64,
     },
     /// The disk failed: its count of faults rose, from `before` to `after`. Status 5. `opened` tells whether a store had
-    /// been opened for a run: then there is a tally.
+    /// been opened for a run: then there is a tally, of one kind.
     Device {
         before: u64,
         after: u64,
@@ -60,7 +61,7 @@ pub enum Detail {
         before: u64,
         after: u64,
     },
-    /// Memory ran out. Status 7. `opened` tells whether a store had been opened for a run: then there is a tally.
+    /// Memory ran out. Status 7. `opened` tells whether a store had been opened for a run: then there is a tally, of one kind.
     Memory {
         opened: bool,
         /// The evidence.
@@ -77,8 +78,10 @@ pub struct Ended<D: Disk, E: Disk, S: Source, K: Sink> {
     pub detail: Detail,
     /// One entry for each command that was answered, in their order.
     pub journal: Vec<Entry>,
-    /// What the engine came to. It is there where a store was opened for a script.
+    /// What the engine came to. It is there where a store was opened for a script, unless for `run FILE young`.
     pub tally: Option<Tally>,
+    /// The same of an engine with a nursery. It is there where a store was opened for `run FILE young`.
+    pub young: Option<YoungTally>,
     pub disk: D,
     /// The disk of the standby, which `ship` alone calls.
     pub other: E,
@@ -93,6 +96,7 @@ pub struct Alone<D: Disk, S: Source, K: Sink> {
     pub detail: Detail,
     pub journal: Vec<Entry>,
     pub tally: Option<Tally>,
+    pub young: Option<YoungTally>,
     pub disk: D,
     pub source: S,
     pub sink: K,
@@ -111,6 +115,7 @@ impl<D: Disk, S: Source, K: Sink> Alone<D, S, K> {
             detail,
             journal,
             tally,
+            young,
             disk,
             source,
             sink,
@@ -120,6 +125,7 @@ impl<D: Disk, S: Source, K: Sink> Alone<D, S, K> {
             detail,
             journal,
             tally,
+            young,
             disk,
             other,
             source,
@@ -202,6 +208,7 @@ pub fn end_with<D: Disk, S: Source, K: Sink>(
     detail: Detail,
     journal: Vec<Entry>,
     tally: Option<Tally>,
+    young: Option<YoungTally>,
     disk: D,
     source: S,
     sink: K,
@@ -210,6 +217,7 @@ pub fn end_with<D: Disk, S: Source, K: Sink>(
     ensures detail { result.detail ≡ detail }
     ensures journal { result.journal ≡ journal }
     ensures tally { result.tally ≡ tally }
+    ensures young { result.young ≡ young }
     ensures disk { result.disk ≡ disk }
     ensures source { result.source ≡ source }
     ensures sink { result.sink ≡ sink }
@@ -219,6 +227,7 @@ pub fn end_with<D: Disk, S: Source, K: Sink>(
         detail,
         journal,
         tally,
+        young,
         disk,
         source,
         sink,
@@ -237,9 +246,10 @@ pub fn end_unopened<D: Disk, S: Source, K: Sink>(
     ensures detail { result.detail ≡ detail }
     ensures journal { result.journal.items ≡ [] }
     ensures tally { result.tally ≡ None }
+    ensures young { result.young ≡ None }
     ensures disk { result.disk ≡ disk }
     ensures source { result.source ≡ source }
     ensures sink { result.sink ≡ sink }
 {
-    end_with(detail, Vec::new(alloc), None, disk, source, sink)
+    end_with(detail, Vec::new(alloc), None, None, disk, source, sink)
 }

@@ -42,7 +42,7 @@ returns-in-Err-clause-runs g c =
     let e = c.end_unopened.ensures in
     let detail = c.in-Err.detail in
     let f = c.in-Err.ensures in
-    at_end (λ it. RunsScript g.D.Disk g.S.Source g.K.Sink c.args.place c.args.disk c.args.source c.args.sink it) it e.detail e.tally e.disk e.source e.sink
+    at_end (λ it. RunsScript g.D.Disk g.S.Source g.K.Sink c.args.place c.args.disk c.args.source c.args.sink it) it e.detail e.tally e.young e.disk e.source e.sink
     (record {
       ends = ends_unread detail f.ends;
       read = λ past. absurd (script_unread detail f.ends past);
@@ -58,5 +58,5 @@ pub returns-in-Err-clause-causes : goal.returns-in-Err-clause-causes
 returns-in-Err-clause-causes g c =
     let it = c.end_unopened.result in
     let e = c.end_unopened.ensures in
-    at_end (λ it. ShowsCauses g.D.Disk g.S.Source g.K.Sink c.args.disk c.args.source c.args.sink it) it e.detail e.tally e.disk e.source e.sink
+    at_end (λ it. ShowsCauses g.D.Disk g.S.Source g.K.Sink c.args.disk c.args.source c.args.sink it) it e.detail e.tally e.young e.disk e.source e.sink
     (causes_unread g.D.Disk g.S.Source g.K.Sink c.args.disk c.args.source c.read_source.new.source c.args.sink it c.in-Err.detail c.in-Err.ensures.ends c.in-Err.ensures.cause)

@@ -44,7 +44,7 @@ returns-in-Ok-clause-store g c =
     ∥∥₁_map c.run_engine.ensures.runs (λ ran.
     store_run g.D.Disk g.K.Sink c.args.place Replies c.args.disk c.args.sink it
     (record { number = (serving engine).number; copy = copy_in (serving engine).opened; closed = ran.closed; legal = ran.legal })
-    ran.late ran.there opens.stands
+    ran.late ran.there ran.no_young opens.stands
     (comes_opened g.D.Disk c.args.place c.args.disk engine it.disk opens.chooser opens.opening opens.told opens.made it.tally (opening (serving engine)) it.journal.items ran.idle ran.comes_to)
     (opened_run g.D.Disk c.args.disk (disk_in engine) it.disk (serving engine).number (copy_in (serving engine).opened) it.detail it.journal.items
     opens.told opens.leaves opens.stands ran.legal (λ told. ran.images (told_then told)) (λ told. ran.last (told_then told)) ran.idle ran.late)
@@ -59,7 +59,7 @@ pub returns-in-Err-clause-serves : goal.returns-in-Err-clause-serves
 returns-in-Err-clause-serves g c =
     let e = c.end_unopened.ensures in
     let fault = c.in-Err.fault in
-    at_end (λ it. ServesLines c.args.script it.detail it.journal.items it.tally) c.end_unopened.result (e.detail ∙ c.not_opened.ensures) e.tally e.disk e.source e.sink
+    at_end (λ it. ServesLines c.args.script it.detail it.journal.items it.tally) c.end_unopened.result (e.detail ∙ c.not_opened.ensures) e.tally e.young e.disk e.source e.sink
     (subst (λ (j : List Entry). ServesLines c.args.script (not_opened fault) j None) (sym e.journal)
     (serves_none c.args.script (not_opened fault) (ends_open fault) (tried_open fault) (undone_open fault)))
 
@@ -68,7 +68,7 @@ returns-in-Err-clause-store g c =
     let it = c.end_unopened.result in
     let e = c.end_unopened.ensures in
     let f = c.in-Err in
-    at_end (λ it. ∥ RunsStore g.D.Disk g.K.Sink c.args.place Replies c.args.disk c.args.sink it ∥₁) it (e.detail ∙ c.not_opened.ensures) e.tally e.disk e.source e.sink
+    at_end (λ it. ∥ RunsStore g.D.Disk g.K.Sink c.args.place Replies c.args.disk c.args.sink it ∥₁) it (e.detail ∙ c.not_opened.ensures) e.tally e.young e.disk e.source e.sink
     ∣ store_unrun g.D.Disk g.K.Sink c.args.place Replies c.args.disk f.disk c.args.source c.args.sink it (not_opened f.fault) e.journal (none_opened f.fault)
     (refused_run g.D.Disk c.args.disk f.disk (not_opened f.fault) (none_opened f.fault) (tried_open f.fault) f.ensures.told f.ensures.leaves
     (λ bytes told. refused_for bytes f.fault (f.ensures.fault bytes told))) (inr f.ensures.made) ∣₁
@@ -77,7 +77,7 @@ pub returns-in-Err-clause-together : goal.returns-in-Err-clause-together
 returns-in-Err-clause-together g c =
     let e = c.end_unopened.ensures in
     let fault = c.in-Err.fault in
-    at_end (λ it. ServesTogether (λ lines. lines ≡ c.args.script) it.detail it.journal.items it.tally) c.end_unopened.result (e.detail ∙ c.not_opened.ensures) e.tally e.disk e.source e.sink
+    at_end (λ it. ServesTogether (λ lines. lines ≡ c.args.script) it.detail it.journal.items it.tally) c.end_unopened.result (e.detail ∙ c.not_opened.ensures) e.tally e.young e.disk e.source e.sink
     (together_none (λ lines. lines ≡ c.args.script) (not_opened fault) c.end_unopened.result.journal.items e.journal (undone_open fault))
 
 pub returns-in-Ok-clause-saved : goal.returns-in-Ok-clause-saved
@@ -93,11 +93,11 @@ returns-in-Err-clause-causes g c =
     let it = c.end_unopened.result in
     let e = c.end_unopened.ensures in
     let f = c.in-Err in
-    at_end (λ it. ShowsCauses g.D.Disk g.S.Source g.K.Sink c.args.disk c.args.source c.args.sink it) it (e.detail ∙ c.not_opened.ensures) e.tally e.disk e.source e.sink
+    at_end (λ it. ShowsCauses g.D.Disk g.S.Source g.K.Sink c.args.disk c.args.source c.args.sink it) it (e.detail ∙ c.not_opened.ensures) e.tally e.young e.disk e.source e.sink
     (open_causes g.D.Disk g.S.Source g.K.Sink c.args.disk f.disk c.args.source c.args.sink it f.fault f.ensures.cause (ap (λ (made : Made). made.past) f.ensures.made))
 
 pub returns-in-Err-clause-last : goal.returns-in-Err-clause-last
 returns-in-Err-clause-last g c =
     let e = c.end_unopened.ensures in
-    at_end (λ it. IsUnwritten it.detail → ServesLines c.args.script Fine it.journal.items it.tally) c.end_unopened.result (e.detail ∙ c.not_opened.ensures) e.tally e.disk e.source e.sink
+    at_end (λ it. IsUnwritten it.detail → ServesLines c.args.script Fine it.journal.items it.tally) c.end_unopened.result (e.detail ∙ c.not_opened.ensures) e.tally e.young e.disk e.source e.sink
     (λ unwritten. absurd (unopened_unwritten c.in-Err.fault unwritten))

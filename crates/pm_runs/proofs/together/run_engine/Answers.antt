@@ -1,4 +1,4 @@
-use Rattle.std.proofs.Common.{◌≡◌, ◌∙◌, ap, sym, subst, List, None, Some}
+use Rattle.std.proofs.Common.{◌≡◌, ◌∙◌, ap, refl, sym, subst, List, None, Some}
 use Rattle.std.proofs.Math.Logic.{∥∥₁_map₂}
 use Rattle.pm_types.specs.declared.entry.Entry.{Entry}
 use Rattle.pm_engine.specs.Shown.{disk_in, past_of, serving, tally_in, unmade_in}
@@ -30,7 +30,7 @@ returns-clause-serves g c =
     let whole = whole_kept (serving new).journal (past_of new) parts.result.1.items run.ensures.whole parts.ensures.journal in
     let e = c.end_with.ensures in
     at_end (λ it. ServesLines c.args.script it.detail it.journal.items it.tally) c.end_with.result {detail = ended_by stop a b x y} {disk = disk_in new}
-    (◌∙◌ {c = ended_by stop a b x y} e.detail c.ended_by-detail.ensures) e.tally (e.disk ∙ parts.ensures.disk) e.source e.sink
+    (◌∙◌ {c = ended_by stop a b x y} e.detail c.ended_by-detail.ensures) e.tally e.young (e.disk ∙ parts.ensures.disk) e.source e.sink
     (subst (λ (j : List Entry). ServesLines c.args.script (ended_by stop a b x y) j (Some parts.result.2)) (sym (ap (λ v. v.items) e.journal ∙ whole))
     (clients_served c.args.script (serving new) (unmade_in new) parts.result.2 stop a b x y parts.ensures.tally run.ensures.answers))
 
@@ -49,7 +49,7 @@ returns-clause-runs g c =
     let e = c.end_with.ensures in
     ∥∥₁_map₂ run.ensures.disk run.ensures.start (λ on_disk start.
     at_end (λ it. RunsEngine g.K.Sink Replies c.args.engine c.args.sink it) c.end_with.result {detail = ended_by stop a b x y} {disk = disk_in new}
-    (◌∙◌ {c = ended_by stop a b x y} e.detail c.ended_by-detail.ensures) e.tally (e.disk ∙ parts.ensures.disk) e.source e.sink
+    (◌∙◌ {c = ended_by stop a b x y} e.detail c.ended_by-detail.ensures) e.tally e.young (e.disk ∙ parts.ensures.disk) e.source e.sink
     (engine_run g.K.Sink Replies c.args.engine new parts.result.2 c.args.source c.args.sink run.new.sink c.end_with.result stop a b x y
     (ap (λ v. v.items) e.journal ∙ whole) on_disk start
     (record {
@@ -78,7 +78,7 @@ returns-clause-together g c =
     let whole = whole_kept (serving new).journal (past_of new) parts.result.1.items run.ensures.whole parts.ensures.journal in
     let e = c.end_with.ensures in
     at_end (λ it. ServesTogether (λ lines. lines ≡ c.args.script) it.detail it.journal.items it.tally) c.end_with.result {detail = ended_by stop a b x y} {disk = disk_in new}
-    (◌∙◌ {c = ended_by stop a b x y} e.detail c.ended_by-detail.ensures) e.tally (e.disk ∙ parts.ensures.disk) e.source e.sink
+    (◌∙◌ {c = ended_by stop a b x y} e.detail c.ended_by-detail.ensures) e.tally e.young (e.disk ∙ parts.ensures.disk) e.source e.sink
     (clients_together c.args.script (serving new) (unmade_in new) c.end_with.result.journal.items parts.result.2 stop a b x y parts.ensures.tally (ap (λ v. v.items) e.journal ∙ whole) run.ensures.answers run.ensures.order)
 
 pub returns-clause-saved : goal.returns-clause-saved
@@ -94,7 +94,7 @@ returns-clause-saved g c =
     let whole = whole_kept (serving new).journal (past_of new) parts.result.1.items run.ensures.whole parts.ensures.journal in
     let e = c.end_with.ensures in
     at_end (λ it. AcknowledgesLast g.K.Sink c.args.sink it.sink it.journal.items (stop_in it.detail)) c.end_with.result {detail = ended_by stop a b x y} {disk = disk_in new}
-    (◌∙◌ {c = ended_by stop a b x y} e.detail c.ended_by-detail.ensures) e.tally (e.disk ∙ parts.ensures.disk) e.source e.sink
+    (◌∙◌ {c = ended_by stop a b x y} e.detail c.ended_by-detail.ensures) e.tally e.young (e.disk ∙ parts.ensures.disk) e.source e.sink
     (acknowledged_last g.K.Sink c.args.sink run.new.sink (tail_of (tally_in (serving new))) (serving new).journal c.end_with.result.journal.items stop a b x y
     (ap (λ v. v.items) e.journal ∙ whole) run.ensures.sink)
 
@@ -110,8 +110,8 @@ returns-clause-causes g c =
     let parts = c.into_parts-disk in
     let e = c.end_with.ensures in
     at_end (λ it. ShowsCauses g.D.Disk g.S.Source g.K.Sink (disk_in c.args.engine) c.args.source c.args.sink it) c.end_with.result {detail = ended_by stop a b x y} {disk = disk_in new}
-    (◌∙◌ {c = ended_by stop a b x y} e.detail c.ended_by-detail.ensures) e.tally (e.disk ∙ parts.ensures.disk) e.source e.sink
-    (causes_end g.D.Disk g.S.Source g.K.Sink (disk_in c.args.engine) (disk_in new) c.args.source c.args.sink run.new.sink c.end_with.result parts.result.2 stop a b x y
+    (◌∙◌ {c = ended_by stop a b x y} e.detail c.ended_by-detail.ensures) e.tally e.young (e.disk ∙ parts.ensures.disk) e.source e.sink
+    (causes_end g.D.Disk g.S.Source g.K.Sink (disk_in c.args.engine) (disk_in new) c.args.source c.args.sink run.new.sink c.end_with.result (Some parts.result.2) None stop a b x y refl tt
     c.requires.count (c.faults.ensures ∙ ap g.D.Disk.count parts.ensures.disk) c.faults-sink_before.ensures c.faults-sink_after.ensures run.ensures.cause run.ensures.sink.cause run.ensures.past)
 
 pub returns-clause-last : goal.returns-clause-last
@@ -127,6 +127,6 @@ returns-clause-last g c =
     let whole = whole_kept (serving new).journal (past_of new) parts.result.1.items run.ensures.whole parts.ensures.journal in
     let e = c.end_with.ensures in
     at_end (λ it. IsUnwritten it.detail → ServesLines c.args.script Fine it.journal.items it.tally) c.end_with.result {detail = ended_by stop a b x y} {disk = disk_in new}
-    (◌∙◌ {c = ended_by stop a b x y} e.detail c.ended_by-detail.ensures) e.tally (e.disk ∙ parts.ensures.disk) e.source e.sink
+    (◌∙◌ {c = ended_by stop a b x y} e.detail c.ended_by-detail.ensures) e.tally e.young (e.disk ∙ parts.ensures.disk) e.source e.sink
     (λ unwritten. subst (λ (j : List Entry). ServesLines c.args.script Fine j (Some parts.result.2)) (sym (ap (λ v. v.items) e.journal ∙ whole))
     (clients_served c.args.script (serving new) (unmade_in new) parts.result.2 None a b x y parts.ensures.tally (run.ensures.last (sink_back stop a b x y unwritten))))

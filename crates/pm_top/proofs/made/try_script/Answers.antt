@@ -23,12 +23,12 @@ pub returns-in-Err-clause-causes : goal.returns-in-Err-clause-causes
 returns-in-Err-clause-causes g c =
     let it = c.end_unopened.result in
     let e = c.end_unopened.ensures in
-    at_end (λ it. ShowsCauses g.D.Disk g.S.Source g.K.Sink c.args.disk c.args.source c.args.sink it) it e.detail e.tally e.disk e.source e.sink
+    at_end (λ it. ShowsCauses g.D.Disk g.S.Source g.K.Sink c.args.disk c.args.source c.args.sink it) it e.detail e.tally e.young e.disk e.source e.sink
     (memory_causes g.D.Disk g.S.Source g.K.Sink c.args.disk c.args.source c.args.sink it)
 
 pub returns-in-Err-clause-tries : goal.returns-in-Err-clause-tries
 returns-in-Err-clause-tries g c =
     let it = c.end_unopened.result in
     let e = c.end_unopened.ensures in
-    at_end (λ it. TriesScript g.D.Disk g.K.Sink c.args.place c.args.seed c.args.turns c.args.disk c.args.source c.args.sink it) it e.detail e.tally e.disk e.source e.sink
+    at_end (λ it. TriesScript g.D.Disk g.K.Sink c.args.place c.args.seed c.args.turns c.args.disk c.args.source c.args.sink it) it e.detail e.tally e.young e.disk e.source e.sink
     (untouched_trial g.D.Disk g.K.Sink c.args.place c.args.seed c.args.turns c.args.disk c.args.source c.args.sink it e.journal (g.met.D.Disk.only_now c.args.disk))

@@ -12,13 +12,13 @@ use Rattle.pm_top.proofs.making.make_store.Goals as goal
 pub returns-in-Ok-clause-causes : goal.returns-in-Ok-clause-causes
 returns-in-Ok-clause-causes g c =
     let e = c.end_unopened.ensures in
-    at_end (λ it. ShowsCauses g.D.Disk g.S.Source g.K.Sink c.args.disk c.args.source c.args.sink it) c.end_unopened.result e.detail e.tally e.disk e.source e.sink
-    (record { reading = refl; writing = refl; device = c.in-Ok.ensures.cause; rule = tt; opened = tt; reads = c.init.ensures.made.most.past })
+    at_end (λ it. ShowsCauses g.D.Disk g.S.Source g.K.Sink c.args.disk c.args.source c.args.sink it) c.end_unopened.result e.detail e.tally e.young e.disk e.source e.sink
+    (record { reading = refl; writing = refl; device = c.in-Ok.ensures.cause; rule = tt; opened = tt; one = tt; reads = c.init.ensures.made.most.past })
 
 pub returns-in-Ok-clause-makes : goal.returns-in-Ok-clause-makes
 returns-in-Ok-clause-makes g c =
     let e = c.end_unopened.ensures in
-    at_end (λ it. MakesStore g.D.Disk c.args.disk c.args.source c.args.sink it) c.end_unopened.result e.detail e.tally e.disk e.source e.sink
+    at_end (λ it. MakesStore g.D.Disk c.args.disk c.args.source c.args.sink it) c.end_unopened.result e.detail e.tally e.young e.disk e.source e.sink
     (record {
       makes = λ bytes told.
           let is = c.in-Ok.ensures.blank bytes told in
@@ -29,13 +29,14 @@ returns-in-Ok-clause-makes g c =
       sink_stays = refl;
       no_event = e.journal;
       no_tally = refl;
+      no_young = refl;
     })
 
 pub returns-in-Err-clause-causes : goal.returns-in-Err-clause-causes
 returns-in-Err-clause-causes g c =
     let it = c.end_unopened-in-Err.result in
     let e = c.end_unopened-in-Err.ensures in
-    at_end (λ it. ShowsCauses g.D.Disk g.S.Source g.K.Sink c.args.disk c.args.source c.args.sink it) it (e.detail ∙ c.not_made.ensures) e.tally e.disk e.source e.sink
+    at_end (λ it. ShowsCauses g.D.Disk g.S.Source g.K.Sink c.args.disk c.args.source c.args.sink it) it (e.detail ∙ c.not_made.ensures) e.tally e.young e.disk e.source e.sink
     (init_causes g.D.Disk g.S.Source g.K.Sink c.args.disk c.init.new.disk c.args.source c.args.sink it c.in-Err.fault c.in-Err.ensures.cause c.init.ensures.made.most.past)
 
 pub returns-in-Err-clause-makes : goal.returns-in-Err-clause-makes
@@ -43,7 +44,7 @@ returns-in-Err-clause-makes g c =
     let e = c.end_unopened-in-Err.ensures in
     let f = c.in-Err.ensures in
     let now = c.init.new.disk in
-    at_end (λ it. MakesStore g.D.Disk c.args.disk c.args.source c.args.sink it) c.end_unopened-in-Err.result (e.detail ∙ c.not_made.ensures) e.tally e.disk e.source e.sink
+    at_end (λ it. MakesStore g.D.Disk c.args.disk c.args.source c.args.sink it) c.end_unopened-in-Err.result (e.detail ∙ c.not_made.ensures) e.tally e.young e.disk e.source e.sink
     (record {
       makes = none_made g.D.Disk (g.D.Disk.count c.args.disk) (g.D.Disk.count now) c.args.disk now c.in-Err.fault f.fault f.cause f.still f.kept;
       calls = record {
@@ -55,4 +56,5 @@ returns-in-Err-clause-makes g c =
       sink_stays = refl;
       no_event = e.journal;
       no_tally = refl;
+      no_young = refl;
     })

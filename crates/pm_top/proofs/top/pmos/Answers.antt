@@ -76,7 +76,7 @@ returns-in-Err-clause-does g c command spells =
     let e = c.end_unopened-in-Err.ensures in (
       subst (λ (end : OneEnd g.row.D.Denot g.row.S.Denot g.row.K.Denot). Does g.D.Disk g.S.Source g.K.Sink c.args.place command c.args.disk c.args.source c.args.sink end) (sym c.beside-in-Err.ensures.alone)
           (at_end (λ end. Does g.D.Disk g.S.Source g.K.Sink c.args.place command c.args.disk c.args.source c.args.sink end) it
-          e.detail e.tally e.disk e.source e.sink
+          e.detail e.tally e.young e.disk e.source e.sink
           (untouched_does g.D.Disk g.S.Source g.K.Sink c.args.place command c.args.disk c.args.source c.args.sink it e.journal
           c.images_since_now.ensures (record { no_more = λ image is. is; no_fewer = λ image is. is }))),
       c.beside-in-Err.ensures.other,
@@ -87,4 +87,4 @@ returns-in-Err-clause-ships g c are =
     let e = c.end_unopened-in-Err.ensures in
     ship_left g.D.Disk g.E.Disk g.K.Sink c.args.disk c.args.other c.args.source c.args.sink c.args.sink _ (Memory false no_memory)
     (none_shipped g.D.Disk g.E.Disk c.args.disk c.args.other c.images_since_now.ensures c.images_since_now-2.ensures) refl refl
-    c.beside-in-Err.result c.end_unopened-in-Err.result c.beside-in-Err.ensures.alone e.detail e.journal e.tally e.disk e.source e.sink c.beside-in-Err.ensures.other
+    c.beside-in-Err.result c.end_unopened-in-Err.result c.beside-in-Err.ensures.alone e.detail e.journal e.tally e.young e.disk e.source e.sink c.beside-in-Err.ensures.other

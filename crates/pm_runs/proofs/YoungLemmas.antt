@@ -1,0 +1,4 @@
+pub mod Counted
+pub mod Read
+pub mod Ended
+pub mod Stores

@@ -1,0 +1,4 @@
+pub mod Journals
+pub mod Tallies
+pub mod Engines
+pub mod Runs
