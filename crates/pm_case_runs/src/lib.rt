@@ -11,6 +11,7 @@ pub mod meeting_cases;
 mod restored;
 mod running;
 mod shown;
+mod tallies;
 
 pub use disks::{named, push_digits_at, put_digest_of, seal};
 pub use drawn::push_drawn;

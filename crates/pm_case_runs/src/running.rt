@@ -6,12 +6,14 @@ use pm_case_text::Fault;
 use pm_case_text::told::Setting;
 use pm_disk::MemDisk;
 use pm_disk::fuse::FuseDisk;
+use pm_engine::Tally;
 use pm_io::{MemSink, MemSource};
 use pm_place::{Placement, first_of, last_of, middle_of};
 use pm_top::{Detail, Ended, pmos};
 use pm_turns::OpenGate;
 use pm_types::Entry;
 use pm_words::{Chosen, read_place};
+use pm_young::YoungTally;
 use std::alloc::Global;
 use std::mem;
 use std::sync::Wait;
@@ -28,6 +30,9 @@ pub struct RunEnd {
     pub(crate) sink: MemSink,
     /// One entry for each command that was answered.
     pub(crate) journal: Vec<Entry>,
+    /// What the engine came to, and the same of one with a nursery.
+    pub(crate) tally: Option<Tally>,
+    pub(crate) young: Option<YoungTally>,
     /// The disk, and the other one.
     pub(crate) disk: MemDisk,
     pub(crate) other: MemDisk,
@@ -92,6 +97,8 @@ fn left(ended: Fused) -> RunEnd {
         detail: ended.detail,
         sink: ended.sink,
         journal: ended.journal,
+        tally: ended.tally,
+        young: ended.young,
         disk: ended.disk.into_inner(),
         other: ended.other.into_inner(),
     }

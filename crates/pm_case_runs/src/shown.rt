@@ -2,6 +2,7 @@
 
 use crate::ends::push_end;
 use crate::running::RunEnd;
+use crate::tallies::{push_tally, push_young};
 use pm_case_text::told::push_digest_of;
 use pm_case_text::{Fault, push_filled, push_said, push_text, push_words, refuse};
 use pm_disk::DiskCall;
@@ -137,6 +138,8 @@ pub fn push_named(alloc: Global, run: &RunEnd, word: &str, out: &mut String) -> 
         "output" => push_text(run.written(), out),
         "entries" => push_entries(alloc, run, out),
         "refused" => push_refused(run, out),
+        "tally" => push_tally(run, out),
+        "young" => push_young(run, out),
         "calls" => push_calls(run.disk.calls(), out),
         "sha256" => push_digest_of(alloc, run.disk.contents(), out),
         "output-sha256" => push_digest_of(alloc, run.written(), out),
