@@ -68,7 +68,7 @@ _pmos() {
     1:*) words="init run inspect dump restore why ship make trial" ;;
     2:make) ;;
     2:* | 3:ship) file=yes ;;
-    3:run) words="serial threads" ;;
+    3:run) words="serial threads young" ;;
     4:run) words="first last middle" ;;
     esac
     if [ -n "$file" ]; then
