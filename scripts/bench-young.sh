@@ -5,8 +5,8 @@
 #
 #     scripts/bench-young.sh
 #
-# Then it makes one sweep of 256 young objects, 64 of them held, a hundred times over, beside 1,000 old objects and beside
-# 100,000 of them: what a sweep costs is the difference to the same run without sweeps.
+# Then 256 objects are born, of which registers hold 64, and a sweep is made, a hundred times over, beside 1,000 old objects
+# and beside 100,000 of them. What opening takes is not counted. The same with no object held tells what 64 that come in cost.
 #
 # 'scripts/build.sh' builds the program; PMOS names another one. Needs python3 and GNU time; where one is missing it says so
 # and ends with 0.
@@ -22,7 +22,7 @@ work=$(mktemp -d)
 trap 'rm -rf "$work"' EXIT
 
 python3 - "$pmos" "$work" <<'PYTHON'
-import os, random, subprocess, sys
+import os, random, resource, subprocess, sys
 
 pmos, work = sys.argv[1:]
 ROUNDS = int(os.environ.get("ROUNDS", "5"))
@@ -91,15 +91,12 @@ def old_objects(count):
     return text
 
 
-def sweeps(times, swept):
-    """So many times 256 objects are born, of which registers hold 64, and a sweep is made, or none."""
+def rounds(times, held):
+    """So many times 256 objects are born, registers hold so many of them, a sweep is made, and the registers are emptied."""
     text = []
     for _ in range(times):
-        for index in range(256):
-            text.append(f"1 new {index % 64 if index >= 192 else 64} 0 -")
-        if swept:
-            text.append("! young")
-        text.append("1 close")
+        text += [f"1 new {index if index < held else held} 0 -" for index in range(256)]
+        text += [f"1 drop {held}", "! young", "1 close"]
     return text
 
 
@@ -114,13 +111,16 @@ def fresh():
 def run(mode, store, lines):
     """Replies, last lines, processors' seconds and kilobytes of one run."""
     text = "".join(it + "\n" for it in lines).encode()
-    ran = subprocess.run(["/usr/bin/time", "-f", "%U %S %M", "-o", f"{work}/time", pmos, "run", store, mode], input=text, capture_output=True)
+    before = resource.getrusage(resource.RUSAGE_CHILDREN)
+    ran = subprocess.run(["/usr/bin/time", "-f", "%M", "-o", f"{work}/memory", pmos, "run", store, mode], input=text, capture_output=True)
+    after = resource.getrusage(resource.RUSAGE_CHILDREN)
     if ran.returncode:
         sys.exit(f"{mode}: status {ran.returncode}: {ran.stderr.decode()}")
-    user, system, memory = open(f"{work}/time").read().split()[-3:]
+    seconds = after.ru_utime + after.ru_stime - before.ru_utime - before.ru_stime
+    memory = int(open(f"{work}/memory").read().split()[-1])
     out = ran.stdout.decode().splitlines()
     at = next(index for index, it in enumerate(out) if it.startswith("end "))
-    return out[:at], out[at:], float(user) + float(system), int(memory)
+    return out[:at], out[at:], seconds, memory
 
 
 def beside(name, lines):
@@ -137,27 +137,27 @@ def beside(name, lines):
         print(f"{name:34}  {mode:7}  {seconds:7.3f} s  {memory / 1024:8.1f} MiB  {' / '.join(tail)}")
 
 
-def a_sweep(old):
-    """Microseconds of one sweep beside so many old objects."""
+def a_round(old):
+    """Microseconds of a round beside so many old objects, with 64 objects held and with none."""
     TIMES = 100
     lines = old_objects(old)
-    parts = [lines[at : at + 60000] for at in range(0, len(lines), 60000)]
     store = fresh()
-    for part in parts:
-        run("serial", store, [*part, "0 save", "0 settle"])
+    for at in range(0, len(lines), 60000):
+        run("serial", store, [*lines[at : at + 60000], "0 save", "0 settle"])
     kept = open(store, "rb").read()
     best = {}
     for _ in range(ROUNDS):
-        for swept in (True, False):
+        for times, held in ((0, 0), (TIMES, 0), (TIMES, 64)):
             open(store, "wb").write(kept)
-            took = run("young", store, sweeps(TIMES, swept))[2]
-            best[swept] = min(best.get(swept, took), took)
-    print(f"{f'a sweep beside {old:,} old objects':34}  {(best[True] - best[False]) / TIMES * 1e6:7.0f} us  ({best[True]:.3f} s with sweeps, {best[False]:.3f} s without)")
+            took = run("young", store, rounds(times, held))[2]
+            best[times, held] = min(best.get((times, held), took), took)
+    none, many = ((best[TIMES, held] - best[0, 0]) / TIMES * 1e6 for held in (0, 64))
+    print(f"{f'a round beside {old:,} old objects':34}  {many:7.0f} us, with none held {none:7.0f} us")
 
 
 beside("births into one register", births(LINES))
 beside("lines of all kinds", mixed(LINES))
 beside("births named at once", named_at_once(LINES))
-a_sweep(1000)
-a_sweep(100000)
+a_round(1000)
+a_round(100000)
 PYTHON
