@@ -3,6 +3,7 @@
 use crate::called::push_calls;
 use crate::logged::push_logbook;
 use crate::opened::push_opened;
+use crate::reopened::push_reopened;
 use crate::shared::push_passes;
 use crate::spelling::workers;
 use crate::threaded::push_threads;
@@ -163,6 +164,7 @@ fn push_step<R: Threads + Wait + Sync>(
         "threads-fail" => push_failing_threads(rt, alloc, text, out),
         "seats" | "seats-between" => push_calls(rt, alloc, 0, text, step, out),
         "seats-fail" => push_failing_calls(rt, alloc, text, out),
+        "seats-open" => push_reopened(rt, alloc, text, out),
         "logbook" => push_logbook_text(alloc, text, out),
         "passes" | "met" | "unmet" | "split" | "together" => {
             push_passes_text(rt, alloc, step, text, out)

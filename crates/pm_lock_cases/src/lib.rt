@@ -7,6 +7,7 @@ mod called;
 mod case;
 mod logged;
 mod opened;
+mod reopened;
 mod served;
 mod shared;
 mod spelling;

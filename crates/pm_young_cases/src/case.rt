@@ -5,6 +5,7 @@ use crate::commands::young_script;
 use crate::failing::{Run, push_failings, push_over};
 use crate::lines::push_run;
 use crate::store::{put_digest, store_of};
+use crate::texts::{push_failing_sinks, push_swept, push_written};
 use pm_case_text::{
     Count, Fault, first_word, is_silent, numbered, patch, push_case, push_words, refuse,
     written_out,
@@ -122,6 +123,9 @@ impl Case {
             "drawn" => push_drawn_beside(alloc, text, out),
             "run" => push_run(alloc, self.disk.as_slice(), text, false, out),
             "ends" => push_run(alloc, self.disk.as_slice(), text, true, out),
+            "writes" => push_written(alloc, self.disk.as_slice(), text, out),
+            "sinks" => push_failing_sinks(alloc, self.disk.as_slice(), text, out),
+            "swept" => push_swept(alloc, self.disk.as_slice(), text, out),
             _ => Err(refuse("no such step")),
         }
     }

@@ -42,10 +42,10 @@ fn calls_of(alloc: Global, run: &Run) -> Result<u64, Fault> {
     Ok(disk.calls().len() as u64)
 }
 
-// How many calls opening makes of the disk.
-fn opening(alloc: Global, run: &Run) -> Result<u64, Fault> {
+/// How many calls opening makes of a disk with these bytes.
+pub(crate) fn calls_of_opening(alloc: Global, disk: &[u8]) -> Result<u64, Fault> {
     let run = Run {
-        disk: run.disk,
+        disk,
         lines: &[],
         look: &[],
     };
@@ -142,7 +142,7 @@ fn push_each(
 /// call's number behind the opening, from 1, and what that run gives, and, a line for each that is different, how often the
 /// look gives it, on the images that a crash at that call may leave.
 pub(crate) fn push_failings(alloc: Global, run: &Run, out: &mut String) -> Result<(), Fault> {
-    let first = opening(alloc, run)?;
+    let first = calls_of_opening(alloc, run.disk)?;
     let last = calls_of(alloc, run)?;
     push_each(alloc, run, first, last, out)
 }

@@ -11,6 +11,8 @@ mod events;
 mod failing;
 mod giving;
 mod lines;
+mod serial;
 mod store;
+mod texts;
 
 pub use case::Case;
