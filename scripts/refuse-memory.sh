@@ -12,13 +12,17 @@
 #
 # Then it does the same to `pm_cases`, which runs the program over a disk and a sink in memory: what they are refused is a
 # call of theirs that fails, so status 5 comes only where the disk was refused some, and 4 only where the sink was; and the
-# journal is a first part of that of the run that is refused nothing. A line that begins with `?` is what the cases
+# journal is a first part of that of the run that is refused nothing; where the run ends with 5 or 7 its replies, and nothing
+# else, are written and finished. A line that begins with `?` is what the cases
 # themselves were refused, and is passed over.
 #
 # And it does so to an engine with a nursery, by the part `young` of the cases: the call that is refused some answers
 # `no memory`, and each behind it that the store has to be opened again; what entered is a first part of what that call would
 # have let in, and each of it is in a car; entries and events are those before it; and behind a command or a sweep nothing is
 # young.
+#
+# And it does so to workers with passes, by the part `lock`: where want of memory is told just one worker has something left,
+# since the others go on, or no event was made; and the store opens with the last copy that was told as saved.
 #
 # It prints a line for each row: how many numbers, how often each status and each store came. It ends with 0 where all
 # are as they should be. It takes the program that 'scripts/build.sh' left at ./pmos, the one that 'rt ci' built, or the one
@@ -243,16 +247,17 @@ def told(out):
     lines = out.decode(errors="replace").splitlines()
     if any(it.startswith("?") for it in lines):
         return None
-    found = re.search(r"(?m)^status (\d+)\nwritten \d+\njournal \d+\nrefused (\d+) (\d+)$", "\n".join(lines))
+    found = re.search(r"(?m)^status (\d+)\nwritten (\d+)\nfinished (\d+)\njournal \d+\nrefused (\d+) (\d+)$", "\n".join(lines))
     if not found:
         return None
     end = [at for at, it in enumerate(lines) if it.startswith("refused ")][0]
-    return int(found[1]), int(found[2]), int(found[3]), lines[end + 1 :]
+    status, written, finished, disk, sink = (int(it) for it in found.groups())
+    return status, disk, sink, lines[end + 1 :], (written, finished)
 
 
 def case_row(name, mode, text):
     global bad
-    case = f"part program\ncase {name}\ndisk new\nwords run store.pmos {mode}\ndo {text}\nshow status written journal refused entries\n".encode()
+    case = f"part program\ncase {name}\ndisk new\nwords run store.pmos {mode}\ndo {text}\nshow status written finished journal refused entries\n".encode()
     status, out, _, _ = ended([], case, 0, program=cases)
     whole = told(out)
     if status or not whole or whole[0]:
@@ -279,6 +284,10 @@ def case_row(name, mode, text):
                 faults.append("another journal")
             if one[0] == 0 and one[3] != whole[3]:
                 faults.append("status 0 without the whole journal")
+            # What is written is the replies of the journal, and no line behind them; all is finished.
+            replies = sum(len(it) + 1 for it in one[3])
+            if one[0] in (5, 7) and one[4] != (replies, replies):
+                faults.append(f"{one[4]} written and finished, of {replies}")
             if faults:
                 wrong.append(f"{name}: call {number} refused: {'; '.join(faults)}")
         if came < number:
@@ -375,6 +384,81 @@ def nursery_row(name, lines, first):
         print(f"     {it}")
 
 
+# ---- workers with passes, in memory
+
+SEATS_ROWS = [
+    ("clients with passes", "0 new 1 0 00 / 0 root a 1 / 1 new 1 1 aa / 1 copy 2 1 / 1 store 1 0 2 / 2 new 1 1 bb / 2 data 1 / 2 id 1 / 3 new 1 0 - / 3 root b 1 / 3 find 2 b / ! gc 6 / ! flush 2"),
+    ("a copy beside clients with passes", "0 new 1 0 00 / 0 root a 1 / 0 save / 0 settle / 0 put 1 0 ff / 0 save / 0 settle / 1 new 1 1 aa / 1 copy 2 1 / 1 id 1 / 7 new 1 0 - / 7 data 1 / ! gc 8 / ! flush 3"),
+]
+SEATS = re.compile(r"(.+) / answered((?: \d+){8}) / (\d+) events, (\d+) steps / saved (\d+), opens with (\d+)$")
+
+
+def seats_told(text, number):
+    """A run of workers with passes, with this call for memory refused: the status, the errors, the number of calls; and the
+    fault, how many events each worker made, and the copies that were told as saved and found. That is none, where the cases
+    themselves were refused memory."""
+    case = f"part lock\ncase passes\nseats-open {text}\n".encode()
+    status, out, errors, came = ended([], case, number, program=cases)
+    told = out.decode(errors="replace").splitlines()
+    found = SEATS.match(told[2]) if len(told) == 3 else None
+    if not found:
+        return status, errors, came, None
+    answered = [int(it) for it in found[2].split()]
+    events, steps, saved, opened = (int(it) for it in found.groups()[2:])
+    return status, errors, came, (found[1], [*answered, steps, events - steps - sum(answered)], saved, opened)
+
+
+def seats_faults(asked, one):
+    """What is wrong with such a run, of whose workers each was asked so much."""
+    fault, made, saved, opened = one
+    left = [worker for worker, (most, came) in enumerate(zip(asked, made)) if came < most]
+    faults = []
+    if any(came > most for most, came in zip(asked, made)):
+        faults.append("more is made than is asked")
+    if fault == "no fault" and left:
+        faults.append(f"no fault, and workers {left} have something left")
+    if fault == "no memory" and len(left) != 1 and sum(made):
+        faults.append(f"no memory, and workers {left} have something left")
+    if fault not in ("no fault", "no memory", "disk fault"):
+        faults.append(fault)
+    if opened != saved and not (fault == "disk fault" and opened == saved + 1):
+        faults.append(f"copy {saved} was told, and copy {opened} is there")
+    return faults
+
+
+def seats_row(name, text):
+    global bad
+    lines = text.split(" / ")
+    asked = [sum(it.startswith(f"{client} ") for it in lines) for client in range(8)]
+    asked += [sum(int(it.split()[2]) for it in lines if it.startswith(word)) for word in ("! gc", "! flush")]
+    status, _, _, whole = seats_told(text, 0)
+    if status or not whole or whole[:2] != ("no fault", asked):
+        sys.exit(f"{name}: {whole} with nothing refused")
+    kinds, left, passed, wrong, begun = collections.Counter(), set(), 0, [], time.time()
+    for number in range(1, MOST + 1):
+        status, errors, came, one = seats_told(text, number)
+        if status not in (0, 1):
+            wrong.append(f"{name}: call {number} refused: the program ended with {status}: {errors}")
+        elif one is None:
+            passed += 1
+        else:
+            kinds[one[0]] += 1
+            wrong += [f"{name}: call {number} refused: {it}" for it in seats_faults(asked, one)]
+            if one[0] == "no memory" and sum(one[1]):
+                left |= {worker for worker, (most, came_to) in enumerate(zip(asked, one[1])) if came_to < most}
+        if came < number:
+            break
+    else:
+        wrong.append(f"{name}: over {MOST} calls for memory")
+    if len(left) < 3:
+        wrong.append(f"{name}: want of memory was told of workers {sorted(left)} alone")
+    bad |= bool(wrong)
+    line = ", ".join(f"{it}: {count}" for it, count in sorted(kinds.items()))
+    print(f"{'BAD' if wrong else 'ok':3}  {name:38}  {number:5} calls  {line:28}  {f'passed over: {passed}':32}  {time.time() - begun:.1f} s")
+    for it in wrong[:8]:
+        print(f"     {it}")
+
+
 for it in ROWS:
     row(*it)
 if os.access(cases, os.X_OK):
@@ -387,6 +471,8 @@ if os.access(cases, os.X_OK):
         case_row(name, mode, text)
     for it in YOUNG_ROWS:
         nursery_row(*it)
+    for it in SEATS_ROWS:
+        seats_row(*it)
 else:
     print("Skipped: the rows in memory, since rt ci has not built crates/pm_cases.")
 sys.exit(bad)
