@@ -21,7 +21,9 @@ use pm_disk::Disk;
 use pm_inspect::tell::{DumpText, ReportText, WhyText};
 use pm_io::{Sink, Source};
 use pm_place::Placement;
-use pm_runs::{Alone, Detail, Ended, end_unopened, images_since_now, run_source, run_together, run_young};
+use pm_runs::{
+    Alone, Detail, Ended, end_unopened, images_since_now, run_source, run_together, run_young,
+};
 use pm_turns::Gate;
 use pm_words::{Asked, Command, read_words, words_spell_one_command};
 use std::alloc::Global;

@@ -94,7 +94,7 @@ pub record KeepsYoungOrder (bytes : List ℕ) (detail : Detail) (journal : List 
   -- a run that stopped has made all events of the lines that are done, and of the next one, if there is one, some
   pub stopped : (lines : List YoungLine) → IsYoungScript bytes lines
       → IfSome young (λ it. OnStop (stop_in detail)
-        (StopsAmong (as_lines lines) journal (young_tally_of it).steps (young_tally_of it).events (stop_in detail)))
+      (StopsAmong (as_lines lines) journal (young_tally_of it).steps (young_tally_of it).events (stop_in detail)))
   -- where memory runs out in a `settle`, which is the event that was not made where so many were made as the lines before it
   -- ask for, something of the copy is left to be written, unless no event was made: a copy that was flushed whole settles
   pub short : RanShort detail → (lines : List YoungLine) (done more : List Line) (client : ℕ) → IsYoungScript bytes lines
