@@ -11,10 +11,10 @@
 #   and the one after it wherever `saved` was told.
 #
 # Then it does the same to `pm_cases`, which runs the program over a disk and a sink in memory: what they are refused is a
-# call of theirs that fails, so status 5 comes only where the disk was refused some, and 4 only where the sink was; and the
-# journal is a first part of that of the run that is refused nothing; where the run ends with 5 or 7 its replies, and nothing
-# else, are written and finished. A line that begins with `?` is what the cases
-# themselves were refused, and is passed over.
+# call of theirs that fails, so status 5 comes only where the disk was refused some, and 4 only where the sink was; the
+# journal is a first part of that of the run that is refused nothing; the tally is of the engine's kind, with so many entries;
+# and where the run ends with 5 or 7 its replies, and nothing else, are written and finished. A line that begins with `?` is
+# what the cases themselves were refused, and is passed over.
 #
 # And it does so to an engine with a nursery, by the part `young` of the cases: the call that is refused some answers
 # `no memory`, and each behind it that the store has to be opened again; what entered is a first part of what that call would
@@ -242,22 +242,26 @@ def row(name, kept, words, text):
 
 
 def told(out):
-    """Of one run of a case: its status, what was refused to its disk and its sink, and the reply lines of its journal; or
+    """Of one run of a case: its status, what was refused to its disk and its sink, the reply lines of its journal, how many
+    entries the tally of an engine tells, without a nursery and with one, and how many bytes were written and finished; or
     none, where the cases themselves were refused memory."""
     lines = out.decode(errors="replace").splitlines()
     if any(it.startswith("?") for it in lines):
         return None
-    found = re.search(r"(?m)^status (\d+)\nwritten (\d+)\nfinished (\d+)\njournal \d+\nrefused (\d+) (\d+)$", "\n".join(lines))
+    tallies = r"(?:no tally|tally: (\d+) entries.*)\n(?:no tally of a nursery|tally of a nursery: (\d+) entries.*)"
+    numbers = r"status (\d+)\nwritten (\d+)\nfinished (\d+)\njournal \d+\nrefused (\d+) (\d+)"
+    found = re.search(rf"(?m)^{tallies}\n{numbers}$", "\n".join(lines))
     if not found:
         return None
     end = [at for at, it in enumerate(lines) if it.startswith("refused ")][0]
-    status, written, finished, disk, sink = (int(it) for it in found.groups())
-    return status, disk, sink, lines[end + 1 :], (written, finished)
+    counted = [it and int(it) for it in found.group(1, 2)]
+    status, written, finished, disk, sink = (int(it) for it in found.groups()[2:])
+    return status, disk, sink, lines[end + 1 :], counted, (written, finished)
 
 
 def case_row(name, mode, text):
     global bad
-    case = f"part program\ncase {name}\ndisk new\nwords run store.pmos {mode}\ndo {text}\nshow status written finished journal refused entries\n".encode()
+    case = f"part program\ncase {name}\ndisk new\nwords run store.pmos {mode}\ndo {text}\nshow tally young status written finished journal refused entries\n".encode()
     status, out, _, _ = ended([], case, 0, program=cases)
     whole = told(out)
     if status or not whole or whole[0]:
@@ -284,10 +288,12 @@ def case_row(name, mode, text):
                 faults.append("another journal")
             if one[0] == 0 and one[3] != whole[3]:
                 faults.append("status 0 without the whole journal")
+            if (one[4][mode == "young"] or 0) != len(one[3]) or one[4][mode != "young"] is not None:
+                faults.append(f"a tally of {one[4]} entries")
             # What is written is the replies of the journal, and no line behind them; all is finished.
             replies = sum(len(it) + 1 for it in one[3])
-            if one[0] in (5, 7) and one[4] != (replies, replies):
-                faults.append(f"{one[4]} written and finished, of {replies}")
+            if one[0] in (5, 7) and one[5] != (replies, replies):
+                faults.append(f"{one[5]} written and finished, of {replies}")
             if faults:
                 wrong.append(f"{name}: call {number} refused: {'; '.join(faults)}")
         if came < number:
