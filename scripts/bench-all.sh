@@ -6,7 +6,7 @@
 set -euo pipefail
 cd "$(dirname "$0")/.."
 
-for bench in bench bench-collect bench-digest bench-remembered bench-table bench-parts; do
+for bench in bench bench-collect bench-young bench-digest bench-remembered bench-table bench-parts; do
     echo "== scripts/$bench.sh"
     "scripts/$bench.sh"
     echo
