@@ -1,0 +1,19 @@
+use Rattle.std.proofs.Common.{ap}
+use Rattle.pm_saving.specs.Serving.{Serving}
+use Rattle.pm_young_cases.proofs.texts.left_on.Goals as goal
+
+pub left_by-requires-clause-fresh : goal.left_by-requires-clause-fresh
+left_by-requires-clause-fresh g c =
+    let begins = c.in-Ok.ensures.begins in
+    record {
+      serves = record {
+        journal = ap (λ (it : Serving). it.journal) begins;
+        course = ap (λ (it : Serving). it.course) begins;
+        watches = ap (λ (it : Serving). it.watches) begins;
+        events = ap (λ (it : Serving). it.events) begins;
+        steps = ap (λ (it : Serving). it.steps) begins;
+        stopped = ap (λ (it : Serving). it.stopped) begins;
+        progress = c.in-Ok.ensures.idle;
+      };
+      young = c.in-Ok.ensures.young;
+    }
