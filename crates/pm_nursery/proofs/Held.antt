@@ -1,37 +1,22 @@
 -- The registers that hold an identity, as they are read from the index, and those that are emptied.
-use Rattle.std.proofs.Common.{◌≡◌, ◌⊎◌, ⊎_elim, inl, inr, ℕ, ◌+◌, ◌-◌, ◌<◌, ◌||◌, nat_eq, not, Bool, true, false, cond, if◌then◌else◌, List, [], ◌∷◌, ◌++◌, length, map, take, get_or, Option, Some, None, append_assoc, append-nil, refl, sym, ap, subst, ◌∙◌, arith}
-use Rattle.std.specs.declared.ops.Bound.TheVariants.{Included, Excluded}
-use Rattle.std.specs.List.{Contains, list_any}
+use Rattle.std.proofs.Common.{◌≡◌, ◌⊎◌, ⊎_elim, inl, inr, ℕ, ◌+◌, ◌-◌, ◌<◌, ◌||◌, nat_eq, Bool, true, false, cond, if◌then◌else◌, List, [], ◌∷◌, length, map, take, get_or, Option, Some, None, refl, sym, ap, subst, ◌∙◌, arith}
+use Rattle.std.specs.List.{Contains}
 use Rattle.std.specs.List.Sorted.{IsStrictlySortedBy}
 use Rattle.std.specs.Option.{is_some}
-use Rattle.std.specs.Ordering.{nat_cmp, eq_by_cmp}
-use Rattle.std.specs.Cmp.{IsTotalOrder, nat_cmp_total, then_total, on_total}
-use Rattle.std.specs.FinMap.{IsAntisymmetric, nat_cmp-IsAntisymmetric, get, len, remove, empty_of_len, get-empty, len-remove}
-use Rattle.std.specs.BTreeMap.{is_at}
-use Rattle.std.specs.BTreeMap.Range.{range_contains}
-use Rattle.std.specs.BTreeSet.{BTreeSet, IsKeyRangeOf, keys_between, contains}
-use Rattle.std.specs.BTreeSet as sorted
+use Rattle.std.specs.Ordering.{eq_by_cmp}
+use Rattle.std.specs.Map.{keys_of}
+use Rattle.std.specs.FinMap.{get, len, remove, from_entries, empty_of_len, get-empty, len-remove}
 use Rattle.std.proofs.lemmas.Bool.Decides.{nat_tests}
-use Rattle.std.proofs.lemmas.List.Kept.{IsStrictlySortedBy-filter}
-use Rattle.std.proofs.lemmas.Map.Lookups.{exact_pairs}
-use Rattle.std.proofs.lemmas.Map.Views.{any-filter_same, btree_set_contains_iff, Contains-from_any}
-use Rattle.pm_types.specs.declared.limits.TheConstants.{CLIENTS}
 use Rattle.pm_types.specs.Orders.{place_cmp}
 use Rattle.pm_types.proofs.Orders.{places_total, places_antisymmetric}
-use Rattle.pm_types.proofs.Shown.{tied}
 use Rattle.pm_model.specs.World.{Registers}
 use Rattle.pm_model.proofs.Maps.{remove_here, remove_other, tied_key}
-use Rattle.pm_nursery.specs.Young.{IsRegister}
 use Rattle.pm_nursery.specs.Sweeping.{among, left_held}
-use Rattle.pm_nursery.specs.Holding.{AreFree, AreHeld, AreHolders, IsTurned, holder_cmp, is_id}
-use Rattle.pm_nursery.proofs.Beside.{each_of, in_map, of_map}
+use Rattle.pm_nursery.specs.Turned.{AreOfId, Pair}
+use Rattle.pm_nursery.specs.Holding.{AreFree, AreHeld, AreHolders, IsTurned, is_id}
+use Rattle.pm_nursery.proofs.Beside.{in_map, of_map}
 use Rattle.pm_nursery.proofs.Changed.{among-more}
-
-holders_total : IsTotalOrder holder_cmp
-holders_total = then_total (on_total (λ (p : ℕ × (ℕ × ℕ)). p.0) nat_cmp_total) (on_total (λ (p : ℕ × (ℕ × ℕ)). p.1) places_total)
-
-holders_antisymmetric : IsAntisymmetric holder_cmp
-holders_antisymmetric = exact_pairs nat_cmp place_cmp nat_cmp-IsAntisymmetric places_antisymmetric
+use Rattle.pm_nursery.proofs.Rows.{listed}
 
 found_id : (found : Option ℕ) (id : ℕ) → is_id found id ≡ true → found ≡ Some id
 found_id None id is = cc is
@@ -40,65 +25,29 @@ found_id (Some x) id is = grind (arith, nat_tests, is)
 id_itself : (id : ℕ) → is_id (Some id) id ≡ true
 id_itself id = grind (arith, nat_tests)
 
-module _ (registers : Registers) (turned : BTreeSet (ℕ × (ℕ × ℕ))) (kept : IsTurned registers turned) where
-  -- a register holds an identity just where the index has both
-  from_index : (p : ℕ × (ℕ × ℕ)) → contains holder_cmp turned p ≡ true → get registers p.1 ≡ Some p.0
-  from_index p has = found_id (get registers p.1) p.0 (sym (kept.same p.0 p.1) ∙ has)
+-- ---- those of one identity, as the index has them
 
-  in_index : (id : ℕ) (place : ℕ × ℕ) → get registers place ≡ Some id → contains holder_cmp turned (id, place) ≡ true
-  in_index id place is = kept.same id place ∙ ap (λ f. is_id f id) is ∙ id_itself id
+pub are_holders : (registers : Registers) (turned : List Pair) → IsTurned registers turned → (id : ℕ) (part : List Pair) → AreOfId turned id part → AreHolders registers id part
+are_holders registers turned kept id part of_id = record {
+  ascending = of_id.rise;
+  each = λ p within.
+      let it = of_id.each p within in
+      let held : get registers p.1 ≡ Some p.0 = found_id (get registers p.1) p.0 (sym (kept.same p.0 p.1) ∙ it.1) in
+      (it.0, held ∙ ap (λ x. Some x) it.0);
+  all = λ place is. of_id.all place (kept.same id place ∙ ap (λ f. is_id f id) is ∙ id_itself id);
+}
 
-  -- ---- those of one identity
+-- ---- all of them
 
-  module _ (id : ℕ) (r : List (ℕ × (ℕ × ℕ))) (between : r ≡ keys_between holder_cmp (Included (id, (0, 0))) (Excluded (id, (CLIENTS, 0))) turned)
-      (part : IsKeyRangeOf holder_cmp (Included (id, (0, 0))) (Excluded (id, (CLIENTS, 0))) turned r) (ordered : sorted.IsOrdered holder_cmp turned) where
-    abbrev InPart : ℕ × (ℕ × ℕ) → Type 0
-    InPart = sorted.IsKeyInRange holder_cmp (Included (id, (0, 0))) (Excluded (id, (CLIENTS, 0))) turned
-
-    of_id : (p : ℕ × (ℕ × ℕ)) → InPart p → p.0 ≡ id
-    of_id p inside = let from = inside.0.0 in let below = inside.0.1 in grind (arith, nat_tests, from, below)
-
-    same_pair : (p q : ℕ × (ℕ × ℕ)) → is_at (holder_cmp p) q ≡ true → p ≡ q
-    same_pair p q at = holders_antisymmetric p q (tied (holder_cmp p q) at)
-
-    in_bounds : (place : ℕ × ℕ) → IsRegister place → range_contains holder_cmp (Included (id, (0, 0))) (Excluded (id, (CLIENTS, 0))) (id, place) ≡ true
-    in_bounds place is_register = let few : place.0 < 8 = is_register.0 in grind (arith, nat_tests, few)
-
-    in_part : (place : ℕ × ℕ) → get registers place ≡ Some id → Contains r (id, place)
-    in_part place is =
-        Contains-from_any {eq = eq_by_cmp holder_cmp} same_pair (id, place) r
-        (ap (list_any (is_at (holder_cmp (id, place)))) between
-        ∙ any-filter_same (is_at (holder_cmp (id, place))) _ true (λ q at. subst (λ q. range_contains holder_cmp (Included (id, (0, 0))) (Excluded (id, (CLIENTS, 0))) q ≡ true) (same_pair (id, place) q at) (in_bounds place (kept.places place id is))) turned.keys
-        ∙ in_index id place is)
-
-    pub are_holders : AreHolders registers id r
-    are_holders = record {
-      ascending = subst (IsStrictlySortedBy holder_cmp) (sym between) (IsStrictlySortedBy-filter holder_cmp _ turned.keys ordered);
-      each = λ p within. let inside = each_of InPart r p part.0 within in (of_id p inside, from_index p inside.1 ∙ ap (λ x. Some x) (of_id p inside));
-      all = in_part;
-    }
-
-  -- ---- all of them
-
-  pub are_held : (ids : List ℕ) → ids ≡ map (λ (p : ℕ × (ℕ × ℕ)). p.0) turned.keys → AreHeld registers ids
-  are_held ids is = record {
-    each = λ id within.
-        let pair = of_map (λ (p : ℕ × (ℕ × ℕ)). p.0) turned.keys id (subst (λ xs. Contains xs id) is within) in
-        (pair.0.1, from_index pair.0 ((btree_set_contains_iff holders_total holders_antisymmetric turned pair.0).1 pair.1) ∙ ap (λ x. Some x) pair.2);
-    all = λ place id holds.
-        subst (λ xs. Contains xs id) (sym is)
-        (in_map (λ (p : ℕ × (ℕ × ℕ)). p.0) turned.keys (id, place) ((btree_set_contains_iff holders_total holders_antisymmetric turned (id, place)).0 (in_index id place holds)));
-  }
-
--- the identities so far, and those that are left, are all
-pub listing_goes_on : (ids after all : List ℕ) (left : List (ℕ × (ℕ × ℕ))) (p : ℕ × (ℕ × ℕ)) (rest : List (ℕ × (ℕ × ℕ))) → left ≡ p ∷ rest → after ≡ ids ++ p.0 ∷ [] → ids ++ map (λ (p : ℕ × (ℕ × ℕ)). p.0) left ≡ all
-    → after ++ map (λ (p : ℕ × (ℕ × ℕ)). p.0) rest ≡ all
-listing_goes_on ids after all left p rest is pushed before =
-    ap (λ xs. xs ++ map (λ (p : ℕ × (ℕ × ℕ)). p.0) rest) pushed ∙ append_assoc ids (p.0 ∷ []) (map (λ (p : ℕ × (ℕ × ℕ)). p.0) rest)
-    ∙ ap (λ (ps : List (ℕ × (ℕ × ℕ))). ids ++ map (λ (p : ℕ × (ℕ × ℕ)). p.0) ps) (sym is) ∙ before
-
-pub listing_ends : (ids all : List ℕ) (left : List (ℕ × (ℕ × ℕ))) → left ≡ [] → ids ++ map (λ (p : ℕ × (ℕ × ℕ)). p.0) left ≡ all → ids ≡ all
-listing_ends ids all left none before = sym (append-nil ids) ∙ ap (λ (ps : List (ℕ × (ℕ × ℕ))). ids ++ map (λ (p : ℕ × (ℕ × ℕ)). p.0) ps) (sym none) ∙ before
+pub are_held : (held : List ((ℕ × ℕ) × ℕ)) → IsStrictlySortedBy place_cmp (keys_of held) → (ids : List ℕ) → ids ≡ map (λ (e : (ℕ × ℕ) × ℕ). e.1) held → AreHeld (from_entries held) ids
+are_held held rise ids is = record {
+  each = λ id within.
+      let entry = of_map (λ (e : (ℕ × ℕ) × ℕ). e.1) held id (subst (λ xs. Contains xs id) is within) in
+      (entry.0.0, (listed places_total places_antisymmetric held rise entry.0.0 entry.0.1).1 entry.1 ∙ ap (λ x. Some x) entry.2);
+  all = λ place id holds.
+      subst (λ xs. Contains xs id) (sym is)
+      (in_map (λ (e : (ℕ × ℕ) × ℕ). e.1) held (place, id) ((listed places_total places_antisymmetric held rise place id).0 holds));
+}
 
 -- ---- registers that are emptied
 

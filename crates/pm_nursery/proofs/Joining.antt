@@ -1,7 +1,11 @@
 -- What is joined to an object is the least that has it and is detached.
-use Rattle.std.proofs.Common.{◌≡◌, inl, inr, ⊎_elim, ℕ, Bool, true, false, List, [], ◌∷◌, ◌++◌, refl, sym, subst}
+use Rattle.std.proofs.Common.{◌≡◌, inl, inr, ⊎_elim, ℕ, Bool, true, false, List, [], ◌∷◌, ◌++◌, refl, sym, subst, arith}
+use Rattle.std.specs.List.Sorted.{IsStrictlySortedBy}
+use Rattle.std.proofs.lemmas.Bool.Decides.{nat_tests}
 use Rattle.pm_model.specs.Heap.{Heap, Holds}
 use Rattle.pm_nursery.specs.Sweeping.{among, IsDetached}
+use Rattle.pm_nursery.specs.Escaping.{IsAscending}
+use Rattle.pm_nursery.specs.Walking.{HoldsNothing}
 use Rattle.pm_nursery.specs.Joined.{Touches, Joins, IsJoined, AreJoined}
 
 touches_back : (objects : Heap) (one other : ℕ) → Touches objects one other → Touches objects other one
@@ -39,3 +43,25 @@ joined_detached objects id ids are from to holds =
     same_test (among ids from) (among ids to)
     (λ inside. are.all to (joined_next objects id from to (are.each from inside) (inl holds)))
     (λ inside. are.all from (joined_next objects id to from (are.each to inside) (inr holds)))
+
+-- ---- where no object holds another
+
+pub one_ascends : (id : ℕ) → IsAscending (id ∷ [])
+unfolding IsStrictlySortedBy
+one_ascends id = (tt, tt)
+
+pub alone_joined : (objects : Heap) → HoldsNothing objects → (id : ℕ) → AreJoined objects id (id ∷ [])
+alone_joined objects alone id = record {
+  each = λ other inside. ([], first id other inside);
+  all = λ other joined. back other joined.0 joined.1;
+}
+  where
+    first : (id other : ℕ) → among (id ∷ []) other ≡ true → id ≡ other
+    first id other inside = grind (arith, nat_tests, inside)
+
+    itself : (id : ℕ) → among (id ∷ []) id ≡ true
+    itself id = grind (arith, nat_tests)
+
+    back : (other : ℕ) (path : List ℕ) → Joins objects id path other → among (id ∷ []) other ≡ true
+    back other [] joins = subst (λ x. among (id ∷ []) x ≡ true) joins (itself id)
+    back other (next ∷ path) joins = absurd (⊎_elim (λ (holds : Holds objects id next). alone id next holds) (λ (holds : Holds objects next id). alone next id holds) joins.0)

@@ -1,9 +1,12 @@
 pub mod Parts
+pub mod Rows
+pub mod Together
 pub mod Counted
 pub mod Named
 pub mod Sound
 pub mod Joining
 pub mod Changed
+pub mod Alone
 pub mod Beside
 pub mod Paired
 pub mod Walks

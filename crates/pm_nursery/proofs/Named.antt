@@ -19,7 +19,7 @@ field_named None index to is = cc is
 field_named (Some object) index to is = has_place object.fields index (Some to) is
 
 -- what is in a list where one was set was set, or was in it
-set_or_was : (fields : List (Option ℕ)) (index to : ℕ) (value : Option ℕ) → Contains (slice_set fields index value) (Some to) → (value ≡ Some to) ⊎ Contains fields (Some to)
+pub set_or_was : (fields : List (Option ℕ)) (index to : ℕ) (value : Option ℕ) → Contains (slice_set fields index value) (Some to) → (value ≡ Some to) ⊎ Contains fields (Some to)
 set_or_was [] index to value within = absurd (in_none (Some to) within)
 set_or_was (field ∷ fields) zero to value within =
     ⊎_elim

@@ -62,14 +62,6 @@ of_all (first ∷ es) pair within =
     (λ (there : Contains (flat_map pairs_of es) pair). let rest = of_all es pair there in (rest.0, in_rest first rest.0 es rest.1, rest.2))
     (Contains-append_cases (pairs_of first) (flat_map pairs_of es) pair within)
 
--- the pairs so far, and those that are left, are all
-pub listing_goes_on : (pairs after : List (ℕ × ℕ)) (left : List (ℕ × Object)) (e : ℕ × Object) (rest : List (ℕ × Object)) (all : List (ℕ × ℕ)) → left ≡ e ∷ rest → after ≡ pairs ++ pairs_of e → pairs ++ flat_map pairs_of left ≡ all → after ++ flat_map pairs_of rest ≡ all
-listing_goes_on pairs after left e rest all is pushed before =
-    ap (λ xs. xs ++ flat_map pairs_of rest) pushed ∙ append_assoc pairs (pairs_of e) (flat_map pairs_of rest) ∙ ap (λ (es : List (ℕ × Object)). pairs ++ flat_map pairs_of es) (sym is) ∙ before
-
-pub listing_ends : (pairs : List (ℕ × ℕ)) (left : List (ℕ × Object)) (all : List (ℕ × ℕ)) → left ≡ [] → pairs ++ flat_map pairs_of left ≡ all → pairs ≡ all
-listing_ends pairs left all none before = sym (append-nil pairs) ∙ ap (λ (es : List (ℕ × Object)). pairs ++ flat_map pairs_of es) (sym none) ∙ before
-
 same_pair : (p q : ℕ × ℕ) → eq_by_cmp place_cmp p q ≡ true → p ≡ q
 same_pair p q at = places_antisymmetric p q (tied (place_cmp p q) at)
 

@@ -1,18 +1,13 @@
 -- Registers that hold an identity, and the index of who holds which.
 use Rattle.std.specs.Prelude.{◌≡◌, ℕ, Bool, false, nat_eq, List, Option, Some, None, Contains}
-use Rattle.std.specs.declared.cmp.Ordering.{Ordering}
-use Rattle.std.specs.Ordering.{nat_cmp, ordering_then}
 use Rattle.std.specs.List.Sorted.{IsStrictlySortedBy}
-use Rattle.std.specs.FinMap.{get}
-use Rattle.std.specs.BTreeSet.{BTreeSet, contains}
+use Rattle.std.specs.Map.{keys_of}
+use Rattle.std.specs.FinMap.{get, from_entries}
 use Rattle.pm_types.specs.Orders.{place_cmp}
 use Rattle.pm_model.specs.World.{Registers}
 use Rattle.pm_nursery.specs.Young.{IsRegister}
 use Rattle.pm_nursery.specs.Sweeping.{left_held}
-
--- an identity and a register that holds it are ordered by the identity, and then by the register
-abbrev pub holder_cmp : ℕ × (ℕ × ℕ) → ℕ × (ℕ × ℕ) → Ordering
-holder_cmp p q = ordering_then (nat_cmp p.0 q.0) (place_cmp p.1 q.1)
+use Rattle.pm_nursery.specs.Turned.{Pair, Rise, has, holder_cmp}
 
 -- these are the registers that hold the identity, each behind it, ascending
 pub record AreHolders (registers : Registers) (id : ℕ) (holders : List (ℕ × (ℕ × ℕ))) : Type 0 where
@@ -34,8 +29,14 @@ abbrev pub is_id : Option ℕ → ℕ → Bool
 is_id None id = false
 is_id (Some found) id = nat_eq found id
 
--- The index has an identity and a register just where the register holds the identity; and each register is one that a
--- client has.
-pub record IsTurned (registers : Registers) (turned : BTreeSet (ℕ × (ℕ × ℕ))) : Type 0 where
-  pub same : (id : ℕ) (place : ℕ × ℕ) → contains holder_cmp turned (id, place) ≡ is_id (get registers place) id
+-- The index has an identity and a register just where the register holds the identity, in ascending order; and each
+-- register is one that a client has.
+pub record IsTurned (registers : Registers) (turned : List Pair) : Type 0 where
+  pub rise : Rise turned
+  pub same : (id : ℕ) (place : ℕ × ℕ) → has turned (id, place) ≡ is_id (get registers place) id
   pub places : (place : ℕ × ℕ) (id : ℕ) → get registers place ≡ Some id → IsRegister place
+
+-- entries of registers ascend, and the index is that of what they hold
+pub record AreIndexed (held : List ((ℕ × ℕ) × ℕ)) (turned : List Pair) : Type 0 where
+  pub rise : IsStrictlySortedBy place_cmp (keys_of held)
+  pub index : IsTurned (from_entries held) turned

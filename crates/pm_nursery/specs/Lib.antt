@@ -4,5 +4,7 @@ pub mod Joined
 pub mod Moving
 pub mod Escaping
 pub mod Answering
+pub mod Rows
+pub mod Turned
 pub mod Holding
 pub mod Walking

@@ -1,19 +1,29 @@
 -- Young objects that are met on the way from some of them.
-use Rattle.std.specs.Prelude.{◌≡◌, ◌⊎◌, ℕ, ◌+◌, true, cond, if◌then◌else◌, List, [], ◌∷◌, length, Option, Some, None}
+use Rattle.std.specs.Prelude.{◌≡◌, ◌⊎◌, ℕ, ◌+◌, Bool, true, false, cond, if◌then◌else◌, List, [], ◌∷◌, length, Option, Some, None}
 use Rattle.std.specs.Prelude.{IsSome, Contains}
 use Rattle.std.specs.List.{flat_map}
 use Rattle.std.specs.List.Sorted.{IsStrictlySortedBy}
 use Rattle.std.specs.Ordering.{nat_cmp}
-use Rattle.std.specs.FinMap.{get}
+use Rattle.std.specs.Map.{keys_of}
+use Rattle.std.specs.FinMap.{get, from_entries}
 use Rattle.std.specs.BTreeMap.{is_at}
 use Rattle.std.specs.BTreeSet.{BTreeSet, contains}
 use Rattle.pm_types.specs.Orders.{place_cmp}
-use Rattle.pm_model.specs.Heap.{Heap, Holds}
+use Rattle.pm_model.specs.Heap.{Heap, Object, Holds}
 use Rattle.pm_nursery.specs.Sweeping.{among}
 
 -- the objects without those of these identities
 abbrev pub AreGone : Heap → List ℕ → Heap → Type 0
 AreGone objects ids after = (id : ℕ) → get after id ≡ (if among ids id then None else get objects id)
+
+-- no object holds one
+abbrev pub HoldsNothing : Heap → Type 0
+HoldsNothing objects = (from to : ℕ) → Holds objects from to → ⊥
+
+-- Objects behind their identities, which ascend; and whether one of them may hold another, or does not.
+pub record AreListed (young : List (ℕ × Object)) (may_hold : Bool) : Type 0 where
+  pub rise : IsStrictlySortedBy nat_cmp (keys_of young)
+  pub alone : may_hold ≡ false → HoldsNothing (from_entries young)
 
 -- what a field holds, beside who holds it
 abbrev pub pair_of : ℕ → Option ℕ → List (ℕ × ℕ)

@@ -21,7 +21,7 @@ use crate::walk::walk;
 use crate::young::Young;
 use pm_types::{CLIENTS, Id, NoMemory, REGISTERS};
 use std::alloc::Global;
-use std::collections::{BTreeSet, btree_set};
+use std::collections::BTreeSet;
 use std::marker::Model;
 
 /// Young objects, at most 256 of them, and the registers that hold one. What a field or a register names is one of
@@ -150,16 +150,19 @@ impl Nursery {
 
     /// The young objects that are joined to this one, itself among them, ascending, each once: no other object holds
     /// one of them, and none of them holds another object. It takes time by the number of young fields that are not
-    /// null, and its logarithm.
+    /// null, and its logarithm; and next to none where no field was set since there was no young object.
     pub fn joined(&self, alloc: Global, id: Id) -> Result<Vec<Id>, NoMemory>
         requires { IsSome (map.get self.now.objects id) }
         ensures ascending { IfOk result (λ ids. IsAscending ids.items) }
         ensures joined { IfOk result (λ ids. AreJoined self.now.objects id ids.items) }
         ensures detached { IfOk result (λ ids. IsDetached self.now.objects ids.items) }
     {
-        let holders = held_beside_holder(alloc, &self.objects)?;
         let mut pending = Vec::new(alloc);
         pending.push(id)?;
+        if !self.objects.may_hold() {
+            return Ok(pending);
+        }
+        let holders = held_beside_holder(alloc, &self.objects)?;
         walk(alloc, &self.objects, &holders, pending)
     }
 
@@ -173,10 +176,10 @@ impl Nursery {
         walk(alloc, &self.objects, &BTreeSet::new(alloc), held)
     }
 
-    /// Goes over the registers that hold this young object, in ascending order: each item is the identity, and then the
-    /// client and the register. It takes no memory.
-    pub fn holders(&self, id: Id) -> btree_set::Range<'_, (Id, (u32, u32))>
-        ensures { AreHolders self.now.registers id result }
+    /// The registers that hold this young object, lent, in ascending order: each item is the identity, and then the
+    /// client and the register.
+    pub fn holders(&self, id: Id) -> &[(Id, (u32, u32))]
+        ensures { AreHolders self.now.registers id result.now }
     {
         self.registers.holders(id)
     }

@@ -14,9 +14,10 @@ pub(crate) fn held_beside_holder(
 ) -> Result<BTreeSet<(Id, Id)>, NoMemory>
     ensures { IfOk result (λ pairs. AreHeldBy objects.now pairs) }
 {
+    let young = objects.as_slice();
     let mut pairs = Vec::new(alloc);
-    for (id, young) in objects.iter() {
-        push_pairs(*id, young.fields(), &mut pairs)?;
+    for (id, object) in young {
+        push_pairs(*id, object.fields(), &mut pairs)?;
     }
     let sorted = pairs.into_iter().collect(alloc)?;
     Ok(sorted)

@@ -179,7 +179,8 @@ fn hold_one<F: Drop>(
     ensures rest { KeepsRest space.old.parts space.new.parts }
 {
     nursery.sound();
-    for (_, (client, register)) in nursery.holders(id) {
+    let holders = nursery.holders(id);
+    for (_, (client, register)) in holders {
         hold(space, *client, *register, at)?;
     }
     Ok(())

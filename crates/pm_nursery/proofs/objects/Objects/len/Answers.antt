@@ -1,8 +1,10 @@
-use Rattle.std.proofs.Common.{sym, ap, ◌∙◌}
+use Rattle.std.proofs.Common.{◌≡◌, length, sym, ap, ◌∙◌, rules}
 use Rattle.std.specs.Cmp.{nat_cmp_total}
-use Rattle.std.specs.FinMap.{len}
-use Rattle.pm_types.proofs.Shown.{len_shown}
+use Rattle.std.specs.FinMap.{len, nat_cmp-IsAntisymmetric}
+use Rattle.pm_nursery.proofs.Rows.{counted}
 use Rattle.pm_nursery.proofs.objects.Objects.len.Goals as goal
 
 pub returns : goal.returns
-returns c = c.len.ensures.len ∙ sym (len_shown nat_cmp_total c.self.inside.young c.len.ensures.ordered) ∙ ap len c.self.view_is
+returns c =
+    let long : c.len.result ≡ length c.self.inside.young.items = search rules in
+    long ∙ sym (counted nat_cmp_total nat_cmp-IsAntisymmetric c.self.inside.young.items c.self.invariant.rise) ∙ ap len c.self.view_is

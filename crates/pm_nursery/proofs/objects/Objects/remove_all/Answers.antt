@@ -1,11 +1,12 @@
-use Rattle.std.proofs.Common.{get_or}
-use Rattle.std.specs.Cmp.{nat_cmp_total}
-use Rattle.std.specs.FinMap.{nat_cmp-IsAntisymmetric}
-use Rattle.pm_types.proofs.Shown.{remove_shown}
+use Rattle.std.proofs.Common.{◌<◌, ◌≤◌, ℕ, List, length, refl, subst, arith}
+use Rattle.std.proofs.lemmas.List.{take_all}
+use Rattle.pm_nursery.specs.Walking.{AreGone}
 use Rattle.pm_nursery.proofs.Changed.{gone_more}
 use Rattle.pm_nursery.proofs.objects.Objects.remove_all.Goals as goal
 
-pub loop-id-preserved : goal.loop-id-preserved
-loop-id-preserved c =
-    gone_more _ _ _ c.args.ids.now c.loop-id.id-index c.loop-id-test.true c.loop-id.invariant
-    (remove_shown nat_cmp_total nat_cmp-IsAntisymmetric c.loop-id.self-inside.young c.remove.new.self (get_or c.args.ids.now c.loop-id.id-index 0) c.remove.ensures.updates)
+pub returns-in-len1 : goal.returns-in-len1
+returns-in-len1 c =
+    let ids = c.args.ids.now in
+    let one : 0 < length ids = omega (arith, c.in-len1.len_at_least) in
+    let no_more : length ids ≤ 1 = omega (arith, c.in-len1.len_below) in
+    subst (λ (xs : List ℕ). AreGone c.args.self.now xs c.remove.new.self) (take_all 1 ids no_more) (gone_more c.args.self.now c.args.self.now c.remove.new.self ids 0 one (λ q. refl) c.remove.ensures)

@@ -1,8 +1,14 @@
-use Rattle.std.proofs.Common.{ℕ, List, ap}
-use Rattle.std.specs.FinMap.{from_entries}
-use Rattle.pm_types.specs.Orders.{place_cmp}
+use Rattle.std.specs.FinMap as map
+use Rattle.pm_types.proofs.Orders.{places_total, places_antisymmetric}
+use Rattle.pm_nursery.proofs.Rows.{none_listed, none_sorted}
 use Rattle.pm_nursery.proofs.Turned.{none_turned}
 use Rattle.pm_nursery.proofs.registers.Registers.clear.Goals as goal
 
 pub invariant_of-self : goal.invariant_of-self
-invariant_of-self c = none_turned _ c.clear-2.new.self (ap (λ (es : List ((ℕ × ℕ) × ℕ)). from_entries {R = place_cmp} es) c.clear.ensures.empty) c.clear-2.ensures.empty
+invariant_of-self c = record {
+  rise = none_sorted places_total places_antisymmetric c.new.result.items c.new.ensures.items;
+  index = none_turned (map.from_entries c.new.result.items) c.new-2.result.items (none_listed places_total places_antisymmetric c.new.result.items c.new.ensures.items) c.new-2.ensures.items;
+}
+
+pub returns : goal.returns
+returns c = none_listed places_total places_antisymmetric c.new.result.items c.new.ensures.items

@@ -1,6 +1,6 @@
-use Rattle.std.proofs.Common.{◌≡◌, ◌++◌, ℕ, map}
+use Rattle.std.proofs.Common.{◌≡◌, ℕ, map, take}
 use Rattle.pm_nursery.proofs.registers.Registers.ids.Given as goal
 
--- the identities so far, and those that are left, are all
+-- what the registers so far hold
 abbrev pub invariant-loop-id : goal.invariant-loop-id
-invariant-loop-id l = l.ids.items ++ map (λ (p : ℕ × (ℕ × ℕ)). p.0) l.id-iterator ≡ map (λ (p : ℕ × (ℕ × ℕ)). p.0) l.initial.id-iterator
+invariant-loop-id l = l.ids.items ≡ map (λ (e : (ℕ × ℕ) × ℕ). e.1) (take l.id-index l.held)
