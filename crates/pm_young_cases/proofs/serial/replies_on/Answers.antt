@@ -3,7 +3,7 @@ use Rattle.pm_saving.specs.Serving.{Serving}
 use Rattle.pm_young_cases.proofs.serial.replies_on.Goals as goal
 
 pub replies_of-requires-clause-fresh : goal.replies_of-requires-clause-fresh
-replies_of-requires-clause-fresh g c =
+replies_of-requires-clause-fresh c =
     let begins = c.in-Ok.ensures.begins in
     record {
       journal = ap (λ (it : Serving). it.journal) begins;

@@ -3,7 +3,7 @@ use Rattle.pm_saving.specs.Serving.{Serving}
 use Rattle.pm_young_cases.proofs.texts.left_on.Goals as goal
 
 pub left_by-requires-clause-fresh : goal.left_by-requires-clause-fresh
-left_by-requires-clause-fresh g c =
+left_by-requires-clause-fresh c =
     let begins = c.in-Ok.ensures.begins in
     record {
       serves = record {
