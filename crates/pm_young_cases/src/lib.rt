@@ -9,7 +9,7 @@ mod commands;
 mod drawn;
 mod events;
 mod failing;
-mod giving;
+mod given;
 mod lines;
 mod serial;
 mod store;

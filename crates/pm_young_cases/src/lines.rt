@@ -5,7 +5,7 @@ ghost use Rattle.pm_place.specs.Choosers.{IsChooser};
 ghost use Rattle.pm_young.specs.Seen.{chooser};
 
 use crate::events::{push_fault, push_flush, push_parted, push_steps};
-use crate::giving::push_give;
+use crate::given::push_give;
 use pm_case_text::{Fault, first_word, number, push_filled, push_number, push_words, refuse};
 use pm_disk::{Disk, MemDisk};
 use pm_place::Placement;

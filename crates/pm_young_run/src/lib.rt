@@ -2,9 +2,9 @@
 //! young.
 #![tactic(auto)]
 
-mod ending;
 mod event;
 mod kind;
+mod last_lines;
 mod laws;
 mod line;
 mod run;

@@ -10,7 +10,7 @@ ghost use Rattle.pm_young.specs.Seen.{KeepsStart, KeepsYoung, chooser, disk_in, 
 ghost use Rattle.pm_young_run.specs.Asked.{as_line, as_lines};
 ghost use Rattle.pm_young_run.specs.Running.{IsFreshYoung, RunsYoungLines};
 
-use crate::ending::end;
+use crate::last_lines::end;
 use crate::line::run_all;
 use pm_disk::Disk;
 use pm_engine::events::Stop;

@@ -3,7 +3,7 @@ use Rattle.pm_serial.specs.Output.Gathered.{gathered}
 use Rattle.pm_serial.proofs.Gathering.{all_then, finished_then, some_then}
 use Rattle.pm_young.specs.Seen.{young_tally_in}
 use Rattle.pm_young_run.specs.Writing.{young_tail_of}
-use Rattle.pm_young_run.proofs.ending.finish_run.Goals as goal
+use Rattle.pm_young_run.proofs.last_lines.finish_run.Goals as goal
 
 pub returns-clause-all : goal.returns-clause-all
 returns-clause-all g c =

@@ -4,7 +4,7 @@ use Rattle.pm_serial.specs.Output.Gathered.{gathered}
 use Rattle.pm_serial.specs.Output.Writing.{GoesOn, PutsPart}
 use Rattle.pm_young.specs.Seen.{young_tally_in}
 use Rattle.pm_young_run.specs.Writing.{young_line, young_tail_of}
-use Rattle.pm_young_run.proofs.ending.add_last_lines.Goals as goal
+use Rattle.pm_young_run.proofs.last_lines.add_last_lines.Goals as goal
 
 pub returns-clause-adds : goal.returns-clause-adds
 returns-clause-adds g c =

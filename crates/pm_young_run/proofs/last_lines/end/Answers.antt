@@ -5,7 +5,7 @@ use Rattle.pm_serial.specs.Output.Gathered.{gathered}
 use Rattle.pm_serial.proofs.Gathering.{ends_elsewhere, ends_well}
 use Rattle.pm_young.specs.Seen.{young_tally_in}
 use Rattle.pm_young_run.specs.Writing.{young_tail_of}
-use Rattle.pm_young_run.proofs.ending.end.Goals as goal
+use Rattle.pm_young_run.proofs.last_lines.end.Goals as goal
 
 pub returns-in-Ok-finish_run : goal.returns-in-Ok-finish_run
 returns-in-Ok-finish_run g c =

@@ -5,7 +5,7 @@ use Rattle.pm_serial.specs.Output.Gathered.{gathered}
 use Rattle.pm_serial.specs.Output.Writing.{GoesOn, PutsPart}
 use Rattle.pm_serial.proofs.OutputLemmas.Gathering.{goes_then, part_longer, part_then}
 use Rattle.pm_young_run.specs.Writing.{young_line}
-use Rattle.pm_young_run.proofs.ending.add_both_lines.Goals as goal
+use Rattle.pm_young_run.proofs.last_lines.add_both_lines.Goals as goal
 
 pub returns-in_err-add_tail-clause-part : goal.returns-in_err-add_tail-clause-part
 returns-in_err-add_tail-clause-part g c =
