@@ -4,7 +4,7 @@ use Rattle.std.proofs.lemmas.Fmt.{decimal_injective}
 use Rattle.pm_words.specs.declared.asked.Asked.{Asked}
 use Rattle.pm_words.specs.declared.asked.Asked.TheVariants.{Alone, Ship}
 use Rattle.pm_words.specs.declared.command.Command.{Command}
-use Rattle.pm_words.specs.declared.command.Command.TheVariants.{Init, Run, RunThreads, RunYoung, Inspect, Dump, Restore, Why, Make, Trial}
+use Rattle.pm_words.specs.declared.command.Command.TheVariants.{Init, Run, RunThreads, RunSeats, RunYoung, Inspect, Dump, Restore, Why, Make, Trial}
 use Rattle.pm_words.specs.Words.{IsNumber, IsTurns, AreMake, AreTrial, AreShip, AreWhy, Spells, SpellsAlone, SpellsNoneAlone, SpellsNothing}
 
 -- how many letters of a word follow its first one, and that letter
@@ -23,6 +23,7 @@ tag_of : Command → ℕ
 tag_of Init = 1053
 tag_of Run = 11551142
 tag_of RunThreads = 11661142
+tag_of RunSeats = 11541142
 tag_of RunYoung = 12141142
 tag_of Inspect = 1056
 tag_of Dump = 1003
@@ -36,6 +37,7 @@ unfolding letters_of tag tag_of
 tagged words Init are = ap tag are.are
 tagged words Run are = ap tag are.are
 tagged words RunThreads are = ap tag are.are
+tagged words RunSeats are = ap tag are.are
 tagged words RunYoung are = ap tag are.are
 tagged words Inspect are = ap tag are.are
 tagged words Dump are = ap tag are.are
@@ -85,6 +87,7 @@ unfolding tag_of
 one_command words Init Init a b = refl
 one_command words Run Run a b = refl
 one_command words RunThreads RunThreads a b = refl
+one_command words RunSeats RunSeats a b = refl
 one_command words RunYoung RunYoung a b = refl
 one_command words Inspect Inspect a b = refl
 one_command words Dump Dump a b = refl
@@ -103,6 +106,7 @@ unfolding tag_of
 apart Init same = absurd (omega (arith, same))
 apart Run same = absurd (omega (arith, same))
 apart RunThreads same = absurd (omega (arith, same))
+apart RunSeats same = absurd (omega (arith, same))
 apart RunYoung same = absurd (omega (arith, same))
 apart Inspect same = absurd (omega (arith, same))
 apart Dump same = absurd (omega (arith, same))

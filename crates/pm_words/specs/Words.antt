@@ -6,7 +6,7 @@ use Rattle.pm_words.specs.declared.asked.Asked.TheVariants.{Alone, Ship}
 use Rattle.pm_words.specs.declared.chosen.Chosen.{Chosen}
 use Rattle.pm_words.specs.declared.chosen.Chosen.TheVariants.{First, Last, Middle}
 use Rattle.pm_words.specs.declared.command.Command.{Command}
-use Rattle.pm_words.specs.declared.command.Command.TheVariants.{Init, Run, RunThreads, RunYoung, Inspect, Dump, Restore, Why, Make, Trial}
+use Rattle.pm_words.specs.declared.command.Command.TheVariants.{Init, Run, RunThreads, RunSeats, RunYoung, Inspect, Dump, Restore, Why, Make, Trial}
 
 -- a file's name: it is not empty, and does not begin with a dash, which is 45
 pub record IsFile (word : List ℕ) : Type 0 where
@@ -38,7 +38,7 @@ pub record AreInit (words : List (List ℕ)) : Type 0 where
 
 -- the word is a MODE
 abbrev pub IsMode : List ℕ → Type 0
-IsMode word = (word ≡ codes "serial") ⊎ ((word ≡ codes "threads") ⊎ (word ≡ codes "young"))
+IsMode word = (word ≡ codes "serial") ⊎ ((word ≡ codes "threads") ⊎ ((word ≡ codes "seats") ⊎ (word ≡ codes "young")))
 
 -- the word is the PLACE of this choice
 abbrev pub IsPlace : List ℕ → Chosen → Type 0
@@ -72,6 +72,10 @@ AreRun words = AreRunIn (codes "serial") words
 -- `run FILE threads`
 abbrev pub AreRunThreads : List (List ℕ) → Type 0
 AreRunThreads words = AreRunIn (codes "threads") words
+
+-- `run FILE seats`
+abbrev pub AreRunSeats : List (List ℕ) → Type 0
+AreRunSeats words = AreRunIn (codes "seats") words
 
 -- `run FILE young`
 abbrev pub AreRunYoung : List (List ℕ) → Type 0
@@ -126,6 +130,7 @@ abbrev pub SpellsAlone : List (List ℕ) → Command → Type 0
 SpellsAlone words Init = AreInit words
 SpellsAlone words Run = AreRun words
 SpellsAlone words RunThreads = AreRunThreads words
+SpellsAlone words RunSeats = AreRunSeats words
 SpellsAlone words RunYoung = AreRunYoung words
 SpellsAlone words Inspect = AreInspect words
 SpellsAlone words Dump = AreDump words

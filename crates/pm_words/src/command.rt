@@ -7,6 +7,8 @@ pub enum Command {
     Run,
     /// `run FILE threads` or `run FILE threads PLACE`: run it in threads, each client's lines in their order.
     RunThreads,
+    /// `run FILE seats` or `run FILE seats PLACE`: run it in threads, each with a pass of its own.
+    RunSeats,
     /// `run FILE young` or `run FILE young PLACE`: run it in the order of its lines, with new objects held outside the
     /// heap until they escape.
     RunYoung,

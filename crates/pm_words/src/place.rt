@@ -10,7 +10,7 @@ fn is_mode(word: &str) -> bool
     ensures yes { result ≡ true → IsMode word.now }
     ensures no { result ≡ false → IsMode word.now → ⊥ }
 {
-    word == "serial" || word == "threads" || word == "young"
+    word == "serial" || word == "threads" || word == "seats" || word == "young"
 }
 
 // The choice of which a word is the PLACE.

@@ -120,6 +120,8 @@ fn of_run(file: &str, mode: &str) -> Option<Command>
         Some(Command::Run)
     } else if mode == "threads" {
         Some(Command::RunThreads)
+    } else if mode == "seats" {
+        Some(Command::RunSeats)
     } else if mode == "young" {
         Some(Command::RunYoung)
     } else {
