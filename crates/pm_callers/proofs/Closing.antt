@@ -22,7 +22,7 @@ use Rattle.pm_saving.specs.Images.{IsSettledCopy, IsTold}
 use Rattle.pm_engine.specs.declared.engine.Engine.{Engine}
 use Rattle.pm_engine.specs.declared.events.stop.Stop.{Stop}
 use Rattle.pm_engine.specs.declared.events.stop.Stop.TheVariants.{Device}
-use Rattle.pm_engine.specs.Events.Events.{EngineGoesOn}
+use Rattle.pm_engine.specs.Events.Events.{EngineGoesOn, FitsLine}
 use Rattle.pm_engine.specs.Events.Running.{IsFresh}
 use Rattle.pm_engine.specs.Shown.{KeepsStart, disk_in, opened_disk, serving}
 use Rattle.pm_engine.proofs.EventsLemmas.Going.{goes_short, goes_then}
@@ -40,7 +40,7 @@ use Rattle.pm_callers.specs.Tasks.{AreApart, HasLeft, IsDone, IsTask, SomeLeft, 
 use Rattle.pm_callers.specs.Faults.{is_disk, stop_met, weight, worse_of, worst_from}
 use Rattle.pm_callers.specs.Works.{Answers, Each, Ends, Told, WorkTogether}
 use Rattle.pm_callers.specs.Runs.{AreAsked, IsLeft, KeepsEngine, Leaves, RunsCalls, RunsTasks, Says, Shows}
-use Rattle.pm_callers.proofs.Counting.{no_longer}
+use Rattle.pm_serial.proofs.TogetherLemmas.Counting.{no_longer}
 use Rattle.pm_callers.proofs.Logs.{Pairs, all_clients, its_part}
 use Rattle.pm_callers.proofs.Stepping.{rose_more}
 use Rattle.pm_callers.proofs.Worst.{weightless, worse_one, worst_each}
@@ -168,8 +168,8 @@ module _ {D : Type 0} {F : Type 0} {g : Ghosts D} (first now : Engine D F g) (ta
   running : is_disk fault ≡ false → (serving now).stopped ≡ None
   running none = whole.stopped (works.counts.struck none ∙ opens.struck)
 
-  pub runs_tasks : (law : (serving now).stopped ≡ None → IsTold (g.contents (opened_disk now)) → (left : List ℕ) → g.image (disk_in now) left → IsSettledCopy (world (serving now)) left) → ∥ EngineGoesOn first now (stop_in (serving now).stopped) ∥₁ → w.faults ≤ g.count (disk_in now) → w.events ≤ (serving now).events → RunsTasks tasks first now fault
-  runs_tasks law goes faults events =
+  pub runs_tasks : (law : (serving now).stopped ≡ None → IsTold (g.contents (opened_disk now)) → (left : List ℕ) → g.image (disk_in now) left → IsSettledCopy (world (serving now)) left) → ∥ EngineGoesOn first now (stop_in (serving now).stopped) ∥₁ → w.faults ≤ g.count (disk_in now) → w.events ≤ (serving now).events → AllByRecursion FitsLine (serving now).journal → RunsTasks tasks first now fault
+  runs_tasks law goes faults events fits =
       let made = works.counts.made in
       let none_made = opens.made in
       let flushed = works.counts.flushed in
@@ -183,6 +183,7 @@ module _ {D : Type 0} {F : Type 0} {g : Ghosts D} (first now : Engine D F g) (ta
         steps = omega (arith, made, none_made, steps_are);
         events = omega (arith, flushed, none_flushed, steps_are, events_are);
         clients = clients_are;
+        lines_are = fits;
         goes = ∥∥₁_map goes (λ on. goes_by first now law fault w works.counts.told faults running whole.struck on);
         shows = shows_by (serving now) (g.count (disk_in first)) (g.count (disk_in now)) fault w works.counts.told faults events;
       }
@@ -294,10 +295,14 @@ module _ {D : Type 0} {F : Type 0} {g : Ghosts D} (lines : List Line) (first now
       let collects = asked.collects in
       let events = runs.events in
       let flushes = asked.flushes in
+      let entries = entries_few fault runs in
+      let few = asked.few in
       record {
         parts = λ client. (calls_left client runs.left, parted fault runs client);
         steps = omega (arith, steps, collects);
         flushes = omega (arith, events, flushes);
+        few = omega (arith, events, flushes, steps, collects, entries, few);
+        lines_are = runs.lines_are;
         goes = runs.goes;
         says = says_by fault runs;
       }
@@ -338,6 +343,8 @@ module _ {D : Type 0} {F : Type 0} {g : Ghosts D} (lines : List Line) (old : Eng
     parts = runs.parts;
     steps = runs.steps;
     flushes = runs.flushes;
+    few = runs.few;
+    lines_are = runs.lines_are;
     goes = ∥∥₁_map runs.goes (λ on. goes_then old first now (stop_met fault) goes on);
     says = says_before first now keeps fault runs.says;
   }
@@ -352,6 +359,8 @@ module _ {D : Type 0} {F : Type 0} {g : Ghosts D} (lines : List Line) (old : Eng
         parts = λ client. (commands_of client (requests_asked lines), ap (λ (l : List Entry). part client l ++ commands_of client (requests_asked lines)) journal);
         steps = omega (arith, steps);
         flushes = omega (arith, events);
+        few = omega (arith, events);
+        lines_are = subst (AllByRecursion FitsLine) (sym journal) tt;
         goes = ∣ goes_short old now goes ∣₁;
         says = inl keeps;
       }

@@ -35,6 +35,12 @@ is_disk (Some (Answered (Memory _))) = false
 is_disk (Some (Answered (Reopen count))) = false
 is_disk (Some (Answered (Disk before after))) = true
 
+-- a fault that is told is one of the engine
+abbrev pub IsOfEngine : Option SeatFault → Type 0
+IsOfEngine None = Unit {0}
+IsOfEngine (Some (Spent events)) = ⊥
+IsOfEngine (Some (Answered fault)) = Unit {0}
+
 -- why a run stops after it
 abbrev pub stop_met : Option SeatFault → Option Stop
 stop_met None = None

@@ -4,6 +4,7 @@ use Rattle.std.specs.List.{AllByRecursion}
 use Rattle.pm_types.specs.Counts.{Rose}
 use Rattle.pm_types.specs.declared.limits.TheConstants.{CLIENTS}
 use Rattle.pm_types.specs.declared.command.Cmd.{Cmd}
+use Rattle.pm_types.specs.declared.entry.Entry.{Entry}
 use Rattle.pm_types.specs.declared.fault.EngineFault.TheVariants.{Memory, Disk, Reopen}
 use Rattle.pm_disk.specs.declared.disk.Disk.{Ghosts}
 use Rattle.pm_model.specs.Journal.{IsFirstPart, commands_of, part}
@@ -11,7 +12,7 @@ use Rattle.pm_script.specs.declared.line.Line.{Line}
 use Rattle.pm_script.specs.Parted.Asked.{events_asked, flushes_asked, requests_asked, steps_asked}
 use Rattle.pm_saving.specs.Serving.{Serving}
 use Rattle.pm_engine.specs.declared.engine.Engine.{Engine}
-use Rattle.pm_engine.specs.Events.Events.{EngineGoesOn}
+use Rattle.pm_engine.specs.Events.Events.{EngineGoesOn, FitsLine}
 use Rattle.pm_engine.specs.Shown.{KeepsStart, disk_in, past_of, room, serving}
 use Rattle.pm_lock.specs.Crew.Whole.{MakesAllOf}
 use Rattle.pm_seats.specs.declared.fault.SeatFault.{SeatFault}
@@ -24,12 +25,16 @@ use Rattle.pm_callers.specs.Faults.{stop_met}
 
 -- something that the lines ask is not among what was answered and made: a client's command, an event of the collector, or
 -- a flush event
-abbrev pub IsLeft : List Line → Serving → Type 0
-IsLeft lines it =
+abbrev pub LeavesSome : List Line → List Entry → ℕ → ℕ → Type 0
+LeavesSome lines journal steps events =
     ((client : ℕ) × (cmd : Cmd) × (rest : List Cmd)
-    × (part client it.journal ++ cmd ∷ rest ≡ commands_of client (requests_asked lines)))
-    ⊎ ((it.steps < steps_asked lines)
-    ⊎ (it.events < length it.journal + it.steps + flushes_asked lines))
+    × (part client journal ++ cmd ∷ rest ≡ commands_of client (requests_asked lines)))
+    ⊎ ((steps < steps_asked lines)
+    ⊎ (events < length journal + steps + flushes_asked lines))
+
+-- the same of an engine
+abbrev pub IsLeft : List Line → Serving → Type 0
+IsLeft lines it = LeavesSome lines it.journal it.steps it.events
 
 module _ {D : Type 0} {F : Type 0} {g : Ghosts D} where
   -- an engine is as it was but for its room
@@ -56,6 +61,10 @@ module _ {D : Type 0} {F : Type 0} {g : Ghosts D} where
     -- no more events of the collector were made, and no more flush events, than are asked
     pub steps : (serving new).steps ≤ steps_asked lines
     pub flushes : (serving new).events ≤ length (serving new).journal + (serving new).steps + flushes_asked lines
+    -- so few events were made that no count came to its end
+    pub few : (serving new).events < LAST_EVENT
+    -- each entry's text is a line
+    pub lines_are : AllByRecursion FitsLine (serving new).journal
     -- the engine went on as a run does that stops for this fault
     pub goes : ∥ EngineGoesOn old new (stop_met fault) ∥₁
     -- what the fault says, and where there is none that all was made
@@ -97,5 +106,6 @@ pub record RunsTasks {D : Type 0} {F : Type 0} {g : Ghosts D} (tasks : List Task
   pub events : (serving new).events + flushes_left left
       ≡ length (serving new).journal + (serving new).steps + flushes_left tasks
   pub clients : AllByRecursion (λ entry. entry.client < CLIENTS) (serving new).journal
+  pub lines_are : AllByRecursion FitsLine (serving new).journal
   pub goes : ∥ EngineGoesOn old new (stop_met fault) ∥₁
   pub shows : Shows (serving new) (g.count (disk_in old)) (g.count (disk_in new)) fault

@@ -30,7 +30,7 @@ use std::sync::Wait;
 use std::thread::Threads;
 
 // A law of an engine's disk: what may be left since this moment may be left at it.
-fn images_since_now<D: Disk, F: Drop>(engine: &Engine<D, F>)
+pub(crate) fn images_since_now<D: Disk, F: Drop>(engine: &Engine<D, F>)
     ensures { (left : List ℕ) → D.since (disk_in engine.now) (D.moment (disk_in engine.now)) left
         → D.image (disk_in engine.now) left }
 {}

@@ -5,10 +5,12 @@
 mod calls;
 mod fault;
 mod next;
+mod passes;
 mod task;
 mod workers;
 
 pub use calls::run_calls;
 pub use fault::worse;
+pub use passes::run_passes;
 pub use task::{Task, tasks_of};
 pub use workers::{spread, work};

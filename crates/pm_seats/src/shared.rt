@@ -27,6 +27,7 @@ pub struct Shared<D: Disk + Drop, F: Drop> {
 
 impl<D: Disk + Drop, F: Drop> Shared<D, F> {
     ghost use Rattle.std.specs.Prelude.{◌≡◌, ◌≤◌, ◌<◌, [], false, IfOk, IfErr, MatchResult};
+    ghost use Rattle.std.specs.List.{AllByRecursion};
     ghost use Rattle.std.specs.Thread.{IsSend, IsSync};
     ghost use Rattle.pm_types.specs.declared.limits.TheConstants.{CLIENTS};
     ghost use Rattle.pm_model.specs.Frames.{is_settle};
@@ -34,7 +35,7 @@ impl<D: Disk + Drop, F: Drop> Shared<D, F> {
     ghost use Rattle.pm_saving.specs.Serving.{opening};
     ghost use Rattle.pm_engine.specs.Shown.{disk_in, past_of, serving};
     ghost use Rattle.pm_engine.specs.Events.Running.{IsFresh};
-    ghost use Rattle.pm_engine.specs.Events.Events.{EngineGoesOn};
+    ghost use Rattle.pm_engine.specs.Events.Events.{EngineGoesOn, FitsLine};
     ghost use Rattle.pm_passes.specs.Numbering.{every};
     ghost use Rattle.pm_passes.specs.Views.{HasOwn};
     ghost use Rattle.pm_passes.specs.Passes.{FindsNoNumber, MeetsPass, SplitsPass, view_of};
@@ -163,6 +164,8 @@ impl<D: Disk + Drop, F: Drop> Shared<D, F> {
         ensures goes { ∥ EngineGoesOn (first_engine self) result (stop_in (serving result).stopped) ∥₁ }
         // It let no entry go.
         ensures past { past_of result ≡ [] }
+        // Each entry's text is a line.
+        ensures lines { AllByRecursion FitsLine (serving result).journal }
         ensures stopped { StopsNow (serving result).stopped
             (D.count (disk_in (first_engine self))) (D.count (disk_in result)) }
         ensures legal { IsLegal (opening (serving (first_engine self))) (serving result).journal }

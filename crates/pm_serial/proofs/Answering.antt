@@ -1,26 +1,21 @@
 -- What parts of a run answer, one behind another.
-use Rattle.std.proofs.Common.{◌≡◌, ◌⊎◌, ℕ, ◌+◌, ◌<◌, ◌≤◌, min, length, arith, List, [], ◌∷◌, ◌++◌, Option, Some, refl, ap, sym, ◌∙◌, append_assoc, length-append}
+use Rattle.std.proofs.Common.{◌≡◌, ℕ, ◌+◌, ◌≤◌, min, length, arith, List, [], ◌∷◌, ◌++◌, Option, refl, ap, sym, ◌∙◌, append_assoc, length-append}
 use Rattle.std.proofs.lemmas.List.{append-nil, length-map}
 use Rattle.std.proofs.lemmas.List.Sums.{sum_by-cons, sum_by_push}
 use Rattle.std.proofs.lemmas.Grind.{flat_map-append}
-use Rattle.pm_types.specs.Memory.{no_memory}
 use Rattle.pm_types.specs.Counts.{greatest_count}
-use Rattle.pm_types.specs.declared.command.Cmd.TheVariants.{Settle}
 use Rattle.pm_types.specs.declared.entry.Entry.{Entry}
 use Rattle.pm_model.specs.declared.request.Request.{Request}
 use Rattle.pm_model.specs.Journal.{IsFirstPart, requests_of}
 use Rattle.pm_script.specs.declared.line.Line.{Line}
-use Rattle.pm_script.specs.declared.line.Line.TheVariants.{Client}
-use Rattle.pm_saving.specs.Paging.{left_of}
 use Rattle.pm_saving.specs.Serving.{Serving}
 use Rattle.pm_serial.specs.declared.kind.Kind.{Kind}
 use Rattle.pm_serial.specs.declared.kind.Kind.TheVariants.{Collect, Flush}
 use Rattle.pm_engine.specs.declared.events.stop.Stop.{Stop}
-use Rattle.pm_engine.specs.declared.events.stop.Stop.TheVariants.{Memory}
 use Rattle.pm_script.specs.Parted.Asked.{events_asked, flushes_of, request_of, requests_asked, steps_asked, steps_of}
 use Rattle.pm_engine.specs.Events.Causes.{IsDone, OnStop}
 use Rattle.pm_serial.specs.Ordered.{StopsAmong, course_of}
-use Rattle.pm_serial.specs.Running.{AnswersLines}
+use Rattle.pm_serial.specs.Running.{AnswersLines, IsShortAt}
 use Rattle.pm_engine.specs.Events.Running.{IsFresh}
 use Rattle.pm_engine.specs.Events.Events.{AnswersPart}
 use Rattle.pm_serial.specs.Stepping.{events_of, steps_made}
@@ -96,20 +91,21 @@ from_zero n most = omega arith
 pub answers_lines : (lines : List Line) (old new : Serving) (stop : Option Stop) → IsFresh old → (part : AnswersPart (requests_asked lines) (events_asked lines) (steps_asked lines) old new stop)
     → (events_asked lines ≤ greatest_count → IsFirstPart new.course (course_of 0 0 lines)) → (IsDone stop → events_asked lines ≤ greatest_count → new.course ≡ course_of 0 0 lines)
     → OnStop stop (events_asked lines ≤ greatest_count → StopsAmong lines new.journal new.steps new.events stop)
-    → (stop ≡ Some (Memory no_memory) → (done more : List Line) (client : ℕ) → lines ≡ done ++ Client client Settle ∷ more → new.events ≡ events_asked done → events_asked done < greatest_count → (new.events ≡ 0) ⊎ 0 < left_of new.saving.progress)
-    → AnswersLines lines new stop
+    → IsShortAt lines new stop → AnswersLines lines new stop
 answers_lines lines old new stop fresh part ordered all_ordered stopped short =
     let none : requests_of old.journal ≡ [] = ap requests_of fresh.journal in
     let begun = fresh.events in
     let first = fresh.steps in
     record {
-      rest = part.rest;
-      served = part.served ∙ ap (λ (r : List Request). r ++ requests_asked lines) none;
-      all = λ done. part.all done ∙ ap (λ (r : List Request). r ++ requests_asked lines) none;
-      events = λ done. part.events done (omega (arith, begun)) ∙ ap (λ (e : ℕ). min (e + events_asked lines) greatest_count) begun ∙ from_zero (events_asked lines) greatest_count;
-      steps = λ done. part.steps done (omega (arith, first)) ∙ ap (λ (e : ℕ). min (e + steps_asked lines) greatest_count) first ∙ from_zero (steps_asked lines) greatest_count;
-      ordered = ordered;
-      all_ordered = all_ordered;
-      stopped = stopped;
+      order = record {
+        rest = part.rest;
+        served = part.served ∙ ap (λ (r : List Request). r ++ requests_asked lines) none;
+        all = λ done. part.all done ∙ ap (λ (r : List Request). r ++ requests_asked lines) none;
+        events = λ done. part.events done (omega (arith, begun)) ∙ ap (λ (e : ℕ). min (e + events_asked lines) greatest_count) begun ∙ from_zero (events_asked lines) greatest_count;
+        steps = λ done. part.steps done (omega (arith, first)) ∙ ap (λ (e : ℕ). min (e + steps_asked lines) greatest_count) first ∙ from_zero (steps_asked lines) greatest_count;
+        ordered = ordered;
+        all_ordered = all_ordered;
+        stopped = stopped;
+      };
       short = short;
     }

@@ -255,28 +255,30 @@ stopped_first lines it fresh = record {
 -- a run that was done, whose lines behind the last reply the sink did not take
 pub answers_unwritten : (lines : List Line) (new : Serving) → AnswersLines lines new None → AnswersLines lines new (Some Writing)
 answers_unwritten lines new answers = record {
-  rest = answers.rest;
-  served = answers.served;
-  all = λ done. absurd done;
-  events = λ done. absurd done;
-  steps = λ done. absurd done;
-  ordered = answers.ordered;
-  all_ordered = λ done. absurd done;
-  stopped = λ few.
-      let events = answers.events tt in
-      let steps = answers.steps tt in
-      let less = few_steps lines in
-      record {
-        done = lines;
-        rest = [];
-        lines_are = sym (append-nil lines);
-        made = 0;
-        within = omega arith;
-        served = answers.all tt ∙ sym (append-nil (requests_asked lines));
-        events_are = counted (events_asked lines) new.events few events;
-        steps_are = counted (steps_asked lines) new.steps (omega (arith, few, less)) steps;
-        last = λ _. inl refl;
-      };
+  order = record {
+    rest = answers.order.rest;
+    served = answers.order.served;
+    all = λ done. absurd done;
+    events = λ done. absurd done;
+    steps = λ done. absurd done;
+    ordered = answers.order.ordered;
+    all_ordered = λ done. absurd done;
+    stopped = λ few.
+        let events = answers.order.events tt in
+        let steps = answers.order.steps tt in
+        let less = few_steps lines in
+        record {
+          done = lines;
+          rest = [];
+          lines_are = sym (append-nil lines);
+          made = 0;
+          within = omega arith;
+          served = answers.order.all tt ∙ sym (append-nil (requests_asked lines));
+          events_are = counted (events_asked lines) new.events few events;
+          steps_are = counted (steps_asked lines) new.steps (omega (arith, few, less)) steps;
+          last = λ _. inl refl;
+        };
+  };
   short = λ is. let never : Some Writing ≡ Some (Memory no_memory) = is in absurd (cc never);
 }
   where

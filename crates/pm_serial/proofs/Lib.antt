@@ -7,3 +7,4 @@ pub mod Ordering
 pub mod Acknowledging
 pub mod Stopping
 pub mod Making
+pub mod TogetherLemmas

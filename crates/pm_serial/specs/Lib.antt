@@ -7,3 +7,4 @@ pub mod Ordered
 pub mod Acknowledged
 pub mod Whole
 pub mod Made
+pub mod Together

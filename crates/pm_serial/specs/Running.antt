@@ -15,8 +15,16 @@ use Rattle.pm_script.specs.Parted.Asked.{events_asked, requests_asked, steps_ask
 use Rattle.pm_engine.specs.Events.Causes.{IsDone, OnStop}
 use Rattle.pm_serial.specs.Ordered.{StopsAmong, course_of}
 
--- What a run of lines answers, by why it stopped, if it did. That each reply is the world's is a law of every engine.
-pub record AnswersLines (lines : List Line) (new : Serving) (stop : Option Stop) : Type 0 where
+-- Where memory ran out in a `settle` of these lines, which is the event that was not made where as many were made as the
+-- lines before it ask for, something of the copy is left to be written, unless no event was made at all.
+abbrev pub IsShortAt : List Line → Serving → Option Stop → Type 0
+IsShortAt lines new stop =
+    stop ≡ Some (Memory no_memory) → (done more : List Line) (client : ℕ) → lines ≡ done ++ Client client Settle ∷ more
+    → new.events ≡ events_asked done → events_asked done < greatest_count → (new.events ≡ 0) ⊎ (0 < left_of new.saving.progress)
+
+-- What is answered of lines in their order, by why the run stopped, if it did. That each reply is the world's is a law of
+-- every engine.
+pub record AnswersInOrder (lines : List Line) (new : Serving) (stop : Option Stop) : Type 0 where
   -- a first part of what the lines ask was answered, which may be none or all
   pub rest : List Request
   pub served : requests_of new.journal ++ rest ≡ requests_asked lines
@@ -30,8 +38,10 @@ pub record AnswersLines (lines : List Line) (new : Serving) (stop : Option Stop)
   pub all_ordered : IsDone stop → events_asked lines ≤ greatest_count → new.course ≡ course_of 0 0 lines
   -- where it stopped: all of the lines that are done was made, and of the next one, if there is one, some events
   pub stopped : OnStop stop (events_asked lines ≤ greatest_count → StopsAmong lines new.journal new.steps new.events stop)
-  -- where memory runs out in a `settle`, something of the copy is left to be written, unless no event was made at all: so it
-  -- does not where all of it was flushed. It is that event which was not made, where as many were made as the lines before
-  -- it ask for
-  pub short : stop ≡ Some (Memory no_memory) → (done more : List Line) (client : ℕ) → lines ≡ done ++ Client client Settle ∷ more → new.events ≡ events_asked done → events_asked done < greatest_count
-      → (new.events ≡ 0) ⊎ (0 < left_of new.saving.progress)
+
+-- What a run of lines answers, by why it stopped, if it did.
+pub record AnswersLines (lines : List Line) (new : Serving) (stop : Option Stop) : Type 0 where
+  -- in the order of the lines
+  pub order : AnswersInOrder lines new stop
+  -- memory does not run out in a `settle` of a copy that was flushed whole
+  pub short : IsShortAt lines new stop

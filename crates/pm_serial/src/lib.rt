@@ -13,7 +13,7 @@ mod run;
 mod telling;
 
 pub use ending::finish_with_last_lines;
-pub use journal::write_journal;
+pub use journal::end_workers;
 pub use pm_engine::events::{Engine, Stop, Tally, stop_after};
 pub use run::{answer_lines, run_lines};
 pub use telling::tell_reply;

@@ -1,5 +1,5 @@
 -- Lines of what is left of a script, of which each client's commands were parted from the rest.
-use Rattle.std.proofs.Common.{◌≡◌, ⊎_elim, ℕ, suc, zero, ◌+◌, ◌<◌, List, [], ◌∷◌, ◌++◌, length, length-append, arith, refl, ap, sym, ◌∙◌}
+use Rattle.std.proofs.Common.{◌≡◌, ⊎_elim, ℕ, suc, zero, ◌+◌, ◌<◌, ◌≤◌, List, [], ◌∷◌, ◌++◌, arith, refl, ap, sym, ◌∙◌}
 use Rattle.std.specs.List.{sum_by}
 use Rattle.std.proofs.lemmas.Bool.{cases_eq}
 use Rattle.std.proofs.lemmas.List.{append-nil}
@@ -10,8 +10,25 @@ use Rattle.pm_model.specs.Journal.{commands_of}
 use Rattle.pm_script.specs.declared.line.Line.{Line}
 use Rattle.pm_script.specs.declared.line.Line.TheVariants.{Client, Gc, Flush}
 use Rattle.pm_script.specs.Parted.Asked.{flushes_asked, flushes_of, request_of, requests_asked, steps_asked, steps_of}
-use Rattle.pm_script.specs.Parted.Lists.{count_left, list_of}
+use Rattle.pm_script.specs.Parted.Lists.{list_of}
 use Rattle.pm_script.proofs.PartedLemmas.Parting.{commands_both, commands_elsewhere, commands_here}
+
+-- ---- lists
+
+-- the lists of so many clients from this one on, where each client has one
+abbrev pub lists_from : (ℕ → List Cmd) → ℕ → ℕ → List (List Cmd)
+lists_from each client zero = []
+lists_from each client (suc n) = each client ∷ lists_from each (suc client) n
+
+their_list : (each : ℕ → List Cmd) (from n j client : ℕ) → client ≡ from + j → (from + n ≤ client → each client ≡ []) → list_of (lists_from each from n) j ≡ each client
+their_list each from zero zero client is none = sym (none (omega (arith, is)))
+their_list each from zero (suc j) client is none = sym (none (omega (arith, is)))
+their_list each from (suc n) zero client is none = ap each (omega (arith, is))
+their_list each from (suc n) (suc j) client is none = their_list each (suc from) n j client (omega (arith, is)) (λ most. none (omega (arith, most)))
+
+-- each client has its own there, where those behind have none
+pub own_list : (each : ℕ → List Cmd) (n : ℕ) → ((client : ℕ) → n ≤ client → each client ≡ []) → (client : ℕ) → list_of (lists_from each 0 n) client ≡ each client
+own_list each n none client = their_list each 0 n client client (omega arith) (λ most. none client (omega (arith, most)))
 
 -- ---- lines of one kind
 
@@ -108,55 +125,6 @@ pub none_asked : (line : Line) (n : ℕ) → request_of line ≡ [] → requests
 none_asked line zero none = refl
 none_asked line (suc n) none = (λ i. none i ++ none_asked line n none i)
 
--- ---- how many commands they ask for
-
-asked_long : (one two : List Line) → length (requests_asked (one ++ two)) ≡ length (requests_asked one) + length (requests_asked two)
-asked_long one two = ap length (asked_both one two) ∙ length-append (requests_asked one) (requests_asked two)
-
-client_long : (client : ℕ) (cmds : List Cmd) → length (requests_asked (client_lines client cmds)) ≡ length cmds
-client_long client [] = refl
-client_long client (cmd ∷ cmds) = ap suc (client_long client cmds)
-
-counted : (list : List Cmd) (lists : List (List Cmd)) → count_left (list ∷ lists) ≡ length list + count_left lists
-counted list lists = sum_by-cons (length {A = Cmd}) list lists
-
-from_long : (client : ℕ) (lists : List (List Cmd)) → length (requests_asked (lines_from client lists)) ≡ count_left lists
-from_long client [] = refl
-from_long client (list ∷ lists) =
-    let all = asked_long (client_lines client list) (lines_from (suc client) lists) in
-    let own = client_long client list in
-    let more = from_long (suc client) lists in
-    let sum = counted list lists in
-    omega (arith, all, own, more, sum)
-
-without_long : (client : ℕ) (lists : List (List Cmd)) → length (list_of lists client) + count_left (without client lists) ≡ count_left lists
-without_long zero [] = refl
-without_long (suc client) [] = refl
-without_long zero (list ∷ lists) =
-    let one = counted [] lists in
-    let other = counted list lists in
-    let none : length {A = Cmd} [] ≡ 0 = refl in
-    omega (arith, one, other, none)
-without_long (suc client) (list ∷ lists) =
-    let one = counted list (without client lists) in
-    let other = counted list lists in
-    let more = without_long client lists in
-    omega (arith, one, other, more)
-
-pub clients_long : (first : ℕ) (lists : List (List Cmd)) → length (requests_asked (clients_lines first lists)) ≡ count_left lists
-clients_long first lists =
-    let all = asked_long (client_lines first (list_of lists first)) (lines_from 0 (without first lists)) in
-    let own = client_long first (list_of lists first) in
-    let more = from_long 0 (without first lists) in
-    let sum = without_long first lists in
-    omega (arith, all, own, more, sum)
-
-three_long : (one two more : List Line) → length (requests_asked (one ++ (two ++ more))) ≡ length (requests_asked one) + (length (requests_asked two) + length (requests_asked more))
-three_long one two more =
-    let all = asked_long one (two ++ more) in
-    let behind = asked_long two more in
-    omega (arith, all, behind)
-
 -- ---- how many events they ask for
 
 module _ (count : Line → ℕ) where
@@ -215,7 +183,6 @@ clients_empty first lists empty = (λ i. client_lines first (empty first i) ++ f
 -- these lines ask for what is left: each client's commands, so many events of the collector and so many that write pages
 pub record AreLeft (lines : List Line) (lists : List (List Cmd)) (collects flushes : ℕ) : Type 0 where
   pub clients : (client : ℕ) → commands_of client (requests_asked lines) ≡ list_of lists client
-  pub commands : length (requests_asked lines) ≡ count_left lists
   pub steps : steps_asked lines ≡ collects
   pub flushes_are : flushes_asked lines ≡ flushes
   pub none : ((client : ℕ) → list_of lists client ≡ []) → collects ≡ 0 → flushes ≡ 0 → lines ≡ []
@@ -250,19 +217,12 @@ module _ (lists : List (List Cmd)) (collects flushes : ℕ) where
     all_flushes : (flushes_asked (clients_lines first lists) ≡ 0) × (flushes_asked (collecting collects) ≡ 0) × (flushes_asked (flushing flushes) ≡ flushes)
     all_flushes = (clients_none flushes_of first lists (λ cmd who. refl), repeated_none flushes_of (Gc 1) collects refl, repeated_ones flushes_of (Flush 1) flushes refl)
 
-    all_commands : (length (requests_asked (clients_lines first lists)) ≡ count_left lists) × (length (requests_asked (collecting collects)) ≡ 0) × (length (requests_asked (flushing flushes)) ≡ 0)
-    all_commands = (clients_long first lists, ap length (none_asked (Gc 1) collects refl), ap length (none_asked (Flush 1) flushes refl))
-
     -- a client's commands first
     pub clients_first : AreLeft (clients_lines first lists ++ (collecting collects ++ flushing flushes)) lists collects flushes
     clients_first =
         let clients = clients_lines first lists in
         record {
           clients = λ client. three_asked client clients (collecting collects) (flushing flushes) ∙ (λ i. by_all client first lists i ++ (by_collecting client i ++ by_flushing client i)) ∙ append-nil (list_of lists client);
-          commands =
-              let all = three_long clients (collecting collects) (flushing flushes) in
-              let each = all_commands in
-              omega (arith, all, each.0, each.1, each.2);
           steps =
               let all = three_counted steps_of clients (collecting collects) (flushing flushes) in
               let each = all_steps in
@@ -280,10 +240,6 @@ module _ (lists : List (List Cmd)) (collects flushes : ℕ) where
         let clients = clients_lines first lists in
         record {
           clients = λ client. three_asked client (collecting collects) clients (flushing flushes) ∙ (λ i. by_collecting client i ++ (by_all client first lists i ++ by_flushing client i)) ∙ append-nil (list_of lists client);
-          commands =
-              let all = three_long (collecting collects) clients (flushing flushes) in
-              let each = all_commands in
-              omega (arith, all, each.0, each.1, each.2);
           steps =
               let all = three_counted steps_of (collecting collects) clients (flushing flushes) in
               let each = all_steps in
@@ -301,10 +257,6 @@ module _ (lists : List (List Cmd)) (collects flushes : ℕ) where
         let clients = clients_lines first lists in
         record {
           clients = λ client. three_asked client (flushing flushes) clients (collecting collects) ∙ (λ i. by_flushing client i ++ (by_all client first lists i ++ by_collecting client i)) ∙ append-nil (list_of lists client);
-          commands =
-              let all = three_long (flushing flushes) clients (collecting collects) in
-              let each = all_commands in
-              omega (arith, all, each.0, each.1, each.2);
           steps =
               let all = three_counted steps_of (flushing flushes) clients (collecting collects) in
               let each = all_steps in

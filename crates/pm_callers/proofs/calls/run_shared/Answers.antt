@@ -27,4 +27,4 @@ returns g c =
     subst (λ (tasks : List Task). WorkTogether (g.D.Disk.count (disk_in first)) tasks c.spread-fault.new.tasks v w c.spread-fault.result) c.as_mut_slice.ensures.value
     c.spread-fault.ensures.works in
     runs_tasks first now c.args.tasks.items c.spread-fault.new.tasks v w c.spread-fault.result opens works (closed.whole (works.counts.shares ∙ opens.shares)) c.keep_its_pass.ensures.own c.requires.tasks c.requires.apart
-    c.keep_their_images.ensures.settled closed.goes closed.faults closed.events
+    c.keep_their_images.ensures.settled closed.goes closed.faults closed.events closed.lines

@@ -121,7 +121,7 @@ returns g c =
     client parted made few)) in
     record {
       answers = answers;
-      events = λ done. answers.events done ∙ ap (λ (n : ℕ). capped n) (events_same c.args.lines.items);
+      events = λ done. answers.order.events done ∙ ap (λ (n : ℕ). capped n) (events_same c.args.lines.items);
       disk = runs_on_disk old new after first.serves (run_ended old new before after c.end.ensures.why goes)
           c.keep_their_images-2.ensures.settled;
       start = goes.start;

@@ -1,6 +1,8 @@
-use Rattle.std.proofs.Common.{ap, ◌∙◌}
+use Rattle.std.proofs.Common.{ap, sym, subst, ◌∙◌}
+use Rattle.std.specs.List.{AllByRecursion}
 use Rattle.pm_engine.specs.declared.engine.Engine.{Engine}
-use Rattle.pm_engine.specs.Shown.{past_of}
+use Rattle.pm_engine.specs.Shown.{past_of, serving}
+use Rattle.pm_engine.specs.Events.Events.{FitsLine}
 use Rattle.pm_seats.specs.Sharing.{first_engine}
 use Rattle.pm_seats.proofs.Closing.{closes_first, closes_legal, closes_whole}
 use Rattle.pm_seats.proofs.shared.Shared.close.Goals as goal
@@ -20,3 +22,6 @@ returns-clause-whole g c = λ all.
 
 pub returns-clause-past : goal.returns-clause-past
 returns-clause-past g c = ap (λ (e : Engine g.row.D.Denot g.row.F.Denot g.D.Disk). past_of e) c.into_engine.ensures ∙ c.keep_its_engine.ensures.whole
+
+pub returns-clause-lines : goal.returns-clause-lines
+returns-clause-lines g c = subst (λ (e : Engine g.row.D.Denot g.row.F.Denot g.D.Disk). AllByRecursion FitsLine (serving e).journal) (sym c.into_engine.ensures) c.keep_its_log.ensures.lines
