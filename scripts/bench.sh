@@ -8,7 +8,8 @@
 # - the report of these stores, their dump, a store that is restored of it, and why their first object is kept, which is a
 #   path through all of them;
 # - scripts of 16,384 and of 65,536 lines of mixed commands;
-# - a large run of four clients, one of eight clients and one of one client alone, each serially and in threads;
+# - a large run of four clients, and 64,000 mixed commands by 1, 2, 4 and 8 clients, each serially, in threads that take turns
+#   and by workers with passes;
 # - a script that is made, and a trial of it, of 4,000 and of 16,000 turns.
 #
 # 'scripts/build.sh' builds the program; PMOS names another one. Needs python3, dd, sha256sum and GNU time.
@@ -152,18 +153,20 @@ def commands(clients):
     """64,000 commands of so many clients, eight of one behind another."""
     return [re.sub("^[0-7]", str(i // 8 % clients), line(i)) for i in range(64000)]
 
-print("in threads beside serially: seconds of the clock, of the processors, KiB; what an event takes more, in nanoseconds")
+MODES = ("serial", "threads", "seats")
+print("by workers beside serially: seconds of the clock, of the processors, KiB; what an event takes more, in nanoseconds")
 for name, lines, events in (
     ("a large run of four clients", large(), 32010 + 50000 + 100),
-    ("eight clients", commands(8), 64000),
-    ("one client", commands(1), 64000),
+    *((f"{clients} client{'s' * (clients > 1)}", commands(clients), 64000) for clients in (1, 2, 4, 8)),
 ):
     text = "".join(line + "\n" for line in lines).encode()
-    told = [measured(run(store, mode), text, lambda: fresh(store)) for mode in ("serial", "threads")]
-    for mode, (clock, busy, memory) in zip(("serial", "threads"), told):
-        print(f"  {name:28}  {mode:8}  {clock:6.3f} s  {busy:6.3f} s  {memory >> 10:6d}")
-    more = [(told[1][i] - told[0][i]) / events * 1e9 for i in (0, 1)]
-    print(f"    an event {more[0]:.0f} ns more by the clock, {more[1]:.0f} ns by the processors")
+    told = {mode: measured(run(store, mode), text, lambda: fresh(store)) for mode in MODES}
+    for mode, (clock, busy, memory) in told.items():
+        more = [(told[mode][i] - told["serial"][i]) / events * 1e9 for i in (0, 1)]
+        beside = "" if mode == "serial" else f"  an event {more[0]:.0f} ns more by the clock, {more[1]:.0f} ns by the processors"
+        print(f"  {name:28}  {mode:8}  {clock:6.3f} s  {busy:6.3f} s  {memory >> 10:6d}{beside}")
+    clock, memory = told["seats"][0] / told["threads"][0], (told["seats"][2] - told["threads"][2]) / 2**20
+    print(f"    with passes {clock:.2f} of the clock of turns (1.1 at most), {memory:.1f} MiB more (1 at most), {told['seats'][0] / told['serial'][0]:.1f} of the serial run")
 
 print("scripts that are made from a seed, and trials of them on a new store: turns, seconds, KiB")
 for turns in (4000, 16000):

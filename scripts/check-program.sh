@@ -435,8 +435,7 @@ wait "$first" 2>/dev/null
 started=()
 row "a settle is told before the run ends" "0 ok 1,0 ok,0 begun 1,0 saved 1 settled" "$came $(is_which "$work/store")"
 
-# In threads the lines of each client keep their order, and nothing else does.
-fresh
+# By workers, which take turns or have passes, the lines of each client keep their order, and nothing else does.
 for client in 0 1 2 3 4 5 6 7; do
     echo "$client new 1 0 0$client"
     echo "$client root c$client 1"
@@ -444,21 +443,24 @@ for client in 0 1 2 3 4 5 6 7; do
     echo "$client data 2"
 done >"$work/threads.script"
 printf '! gc 500\n! flush 20\n' >>"$work/threads.script"
-"$pmos" run "$work/store" threads <"$work/threads.script" >"$work/out"
-came=$?
-wrong=""
-for client in 0 1 2 3 4 5 6 7; do
-    [ "$(grep "^$client " "$work/out" | sed 's/ok [1-8]$/ok ID/' | paste -sd,)" = "$client ok ID,$client ok,$client ok ID,$client 0$client" ] ||
-        wrong="$wrong $client"
-done
-row "eight clients in threads" "0 32 end 500 none" \
-    "$came $(grep -c '^[0-7] ' "$work/out") $(tail -n 1 "$work/out" | cut -d ' ' -f 1,2) ${wrong:-none}"
+for mode in threads seats; do
+    fresh
+    "$pmos" run "$work/store" "$mode" <"$work/threads.script" >"$work/out"
+    came=$?
+    wrong=""
+    for client in 0 1 2 3 4 5 6 7; do
+        [ "$(grep "^$client " "$work/out" | sed 's/ok [1-8]$/ok ID/' | paste -sd,)" = "$client ok ID,$client ok,$client ok ID,$client 0$client" ] ||
+            wrong="$wrong $client"
+    done
+    row "eight clients, $mode" "0 32 end 500 none" \
+        "$came $(grep -c '^[0-7] ' "$work/out") $(tail -n 1 "$work/out" | cut -d ' ' -f 1,2) ${wrong:-none}"
 
-fresh
-"$pmos" run "$work/store" threads <"$work/settle.script" >"$work/out" 2>/dev/null
-came=$?
-row "a copy that settles in threads" "0 0 ok 1,0 ok,0 begun 1,0 saved 1 settled" \
-    "$came $(head -n 4 "$work/out" | paste -sd,) $(is_which "$work/store")"
+    fresh
+    "$pmos" run "$work/store" "$mode" <"$work/settle.script" >"$work/out" 2>/dev/null
+    came=$?
+    row "a copy that settles, $mode" "0 0 ok 1,0 ok,0 begun 1,0 saved 1 settled" \
+        "$came $(head -n 4 "$work/out" | paste -sd,) $(is_which "$work/store")"
+done
 
 # With a nursery an object that nothing leads to at a sweep never comes into a car; a copy has what its names reach; and no
 # line asks for a watch.

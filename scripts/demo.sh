@@ -4,8 +4,8 @@
 # taken before the first settle holds the empty copy. A standby gets the copy that settled, is given nothing more by a second
 # ship, and replies as the store does.
 # The collector frees what is not reachable. Then come a list from which an element is taken out, with the reports of its
-# store, two clients, objects that die young, a watch whose bound is reached, and a trial of a script that is made from a
-# seed. It takes the program that was proved and built, where there is one, and else builds one without proof.
+# store, two clients, four clients in three modes, objects that die young, a watch whose bound is reached, and a trial of a
+# script that is made from a seed. It takes the program that was proved and built, where there is one, and else builds one without proof.
 set -euo pipefail
 cd "$(dirname "$0")/.."
 
@@ -82,6 +82,22 @@ echo
 echo "Two clients:"
 "$pmos" init "$work/clients.pmos"
 show examples/clients.script clients.pmos
+echo
+echo "Four clients make 500 objects each, beside 3,000 steps of the collector, on three stores: one after another, by threads"
+echo "that take turns, and by threads with passes. Each reply line is there, in whichever order; the end lines tell the steps,"
+echo "the collections and how many objects stand:"
+for client in 0 1 2 3; do
+    for _ in $(seq 500); do
+        echo "$client new 1 0 0$client"
+    done
+    echo "$client root c$client 1"
+done >"$work/four.script"
+echo '! gc 3000' >>"$work/four.script"
+for mode in serial threads seats; do
+    "$pmos" init "$work/$mode.pmos"
+    "$pmos" run "$work/$mode.pmos" "$mode" <"$work/four.script" >"$work/$mode.replies"
+    printf '    %-8s %s replies, %s\n' "$mode" "$(grep -c '^[0-3] ' "$work/$mode.replies")" "$(tail -n 1 "$work/$mode.replies")"
+done
 echo
 echo "With a nursery: two of five objects die young. The last line tells that none is young, and that three came in:"
 "$pmos" init "$work/young.pmos"

@@ -10,6 +10,9 @@
 # - with a store that opens again, and is one of those that the same script leaves: the copy before it or after it, whole,
 #   and the one after it wherever `saved` was told.
 #
+# Of four clients it tells how many lack replies: where one worker is refused memory those with passes go on, and those that
+# take turns stop.
+#
 # Then it does the same to `pm_cases`, which runs the program over a disk and a sink in memory: what they are refused is a
 # call of theirs that fails, so status 5 comes only where the disk was refused some, and 4 only where the sink was; the
 # journal is a first part of that of the run that is refused nothing; the tally is of the engine's kind, with so many entries;
@@ -159,6 +162,7 @@ ROWS = [
     ("a collection through an old address", empty, ["run", store, "serial"], moves),
     ("a copy beside a running client", empty, ["run", store, "serial"], beside),
     ("a copy in threads", empty, ["run", store, "threads"], beside),
+    ("a copy by workers with passes", empty, ["run", store, "seats"], beside),
     ("a nursery", empty, ["run", store, "young"], young),
     ("opening a copy", copied, ["run", store, "serial"], "0 find 1 a / 0 data 1"),
     ("a second copy", copied, ["run", store, "serial"], second),
@@ -234,6 +238,44 @@ def row(name, kept, words, text):
     told = ", ".join(f"{status}: {count}" for status, count in sorted(statuses.items()))
     kinds = ", ".join(f"{which}: {count}" for which, count in sorted(stores.items()))
     print(f"{'BAD' if wrong else 'ok':3}  {name:38}  {number:5} calls  {told:28}  {kinds:32}  {time.time() - begun:.1f} s")
+    for it in wrong[:8]:
+        print(f"     {it}")
+
+
+# ---- workers
+
+EACH = 40
+FOUR = "".join(f"{client} new {register} 1 aa\n" for register in range(1, EACH + 1) for client in range(4)) + "! gc 20\n"
+
+
+def workers_row(name, mode):
+    """Four clients. Where one worker is refused memory, those with passes go on, so no second client lacks a reply; and those
+    that take turns stop. Where the run finds no memory before its first event, there is no reply."""
+    global bad
+    short, wrong, begun = collections.Counter(), [], time.time()
+    for number in range(1, MOST + 1):
+        begin(empty)
+        status, out, errors, came = ended(["run", store, mode], FOUR.encode(), number)
+        lacking = sum(out.count(f"\n{client} ".encode()) + out.startswith(f"{client} ".encode()) < EACH for client in range(4))
+        if status not in TEXTS or errors != TEXTS[status]:
+            wrong.append(f"{name}: call {number} refused: status {status} with the text {errors!r}")
+        elif status == 0 and lacking:
+            wrong.append(f"{name}: call {number} refused: status 0 without all replies")
+        elif status == 7:
+            short["nothing" if not out else lacking] += 1
+            if mode == "seats" and out and lacking > 1:
+                wrong.append(f"{name}: call {number} refused: {lacking} clients lack replies")
+        if came < number:
+            break
+    else:
+        wrong.append(f"{name}: over {MOST} calls for memory")
+    if mode == "seats" and not short[1]:
+        wrong.append(f"{name}: no client lacked a reply alone")
+    if mode == "threads" and not sum(short[lacking] for lacking in (2, 3, 4)):
+        wrong.append(f"{name}: no two clients lacked a reply")
+    bad |= bool(wrong)
+    line = ", ".join(f"{lacking}: {count}" for lacking, count in sorted(short.items(), key=str))
+    print(f"{'BAD' if wrong else 'ok':3}  {name:38}  {number:5} calls  {f'clients short {line}':62}  {time.time() - begun:.1f} s")
     for it in wrong[:8]:
         print(f"     {it}")
 
@@ -467,6 +509,8 @@ def seats_row(name, text):
 
 for it in ROWS:
     row(*it)
+workers_row("four clients that take turns", "threads")
+workers_row("four clients with passes", "seats")
 if os.access(cases, os.X_OK):
     for name, mode, text in [
         ("a first copy, in memory", "serial", first),

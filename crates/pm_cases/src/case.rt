@@ -232,15 +232,16 @@ impl Case {
         push_failings(rt, &repeated, part, out)
     }
 
-    // Adds what runs in threads of drawn scripts give, each on this disk.
+    // Adds what runs by workers of drawn scripts give, each on this disk.
     fn push_drawn<R: AllocGlobal + Threads + Wait + Sync>(
         &self,
         rt: &R,
         text: &str,
         out: &mut String,
     ) -> Result<(), Fault> {
-        let (runs, lines) = two_numbers(text)?;
-        push_drawn(rt, self.disk.as_slice(), runs, lines, out)
+        let (mode, numbers) = first_word(text);
+        let (runs, lines) = two_numbers(numbers)?;
+        push_drawn(rt, self.disk.as_slice(), mode, runs, lines, out)
     }
 
     // Adds the text of the last run's journal, or how many of its replies the plain slow program gives alike.

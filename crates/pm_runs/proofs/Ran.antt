@@ -1,5 +1,5 @@
 -- What a run has done, in the words of its end.
-use Rattle.std.proofs.Common.{◌≡◌, true, inl, inr, ⊎_elim, ℕ, ◌<◌, ◌≤◌, List, [], ◌++◌, map, filter, nat_eq, Option, Some, None, IfSome, IsSome, length, refl, sym, ap, subst, ◌∙◌, arith}
+use Rattle.std.proofs.Common.{◌≡◌, ◌⊎◌, true, inl, inr, ⊎_elim, ℕ, ◌<◌, ◌≤◌, List, [], ◌++◌, map, filter, nat_eq, Option, Some, None, IfSome, IsSome, length, refl, sym, ap, subst, ◌∙◌, arith}
 use Rattle.std.proofs.Math.Logic.{∥∥₁_map}
 use Rattle.std.proofs.Math.Nat.{min-eq_left}
 use Rattle.std.proofs.lemmas.List.{length-map, map-append}
@@ -36,13 +36,17 @@ use Rattle.pm_engine.specs.declared.unmade.Unmade.{Unmade}
 use Rattle.pm_engine.specs.declared.events.stop.Stop.{Stop}
 use Rattle.pm_engine.specs.declared.events.stop.Stop.TheVariants.{Memory as StopMemory, Writing as StopWriting, Device as StopDevice}
 use Rattle.pm_engine.specs.Events.Causes as causes
-use Rattle.pm_engine.specs.Events.Causes.{IsDone, CountsDisk, OnStop}
+use Rattle.pm_engine.specs.Events.Causes.{IsDone, CountsDisk, OnMemory, OnStop}
 use Rattle.pm_serial.specs.Causes.{CountsSink}
 use Rattle.pm_script.specs.Parted.Asked.{events_asked, requests_asked, steps_asked}
-use Rattle.pm_serial.specs.Running.{AnswersLines}
-use Rattle.pm_runs.specs.Threads.Running.{AnswersClients, LeavesEvent}
-use Rattle.pm_runs.specs.Threads.Ordered.{AnswersInSomeOrder, ServesInSomeOrder, StopsAt}
-use Rattle.pm_runs.specs.Threads.Together.{ServesTogether}
+use Rattle.pm_serial.specs.Running.{AnswersInOrder, AnswersLines, IsShortAt}
+use Rattle.pm_serial.specs.Together.{AnswersClients, AnswersInSomeOrder}
+use Rattle.pm_callers.specs.Runs.{IsLeft, LeavesSome}
+use Rattle.pm_runs.specs.declared.way.Way.{Way}
+use Rattle.pm_runs.specs.declared.way.Way.TheVariants.{Turns, Passes}
+use Rattle.pm_runs.specs.Threads.Running.{AnswersBy, AnswersByPasses, AnswersInTurns, LeavesEvent}
+use Rattle.pm_runs.specs.Threads.Ordered.{EndsInSomeOrder, ServesInSomeOrder, StopsAt, StopsInSomeOrder}
+use Rattle.pm_runs.specs.Threads.Together.{ServesBy, ServesByPasses, ServesInTurns, ServesTogether}
 use Rattle.pm_engine.specs.Events.Running.{IsFresh, RunsOnDisk}
 use Rattle.pm_serial.specs.Writing.{WroteRun, tail_of}
 use Rattle.pm_serial.specs.Acknowledged.{AcknowledgesLast}
@@ -58,7 +62,7 @@ use Rattle.pm_runs.specs.Ends.Disks.{IsLastOf, IsOfDisk, IsOfRun}
 use Rattle.pm_runs.specs.Ends.Tallies.{ComesTo}
 use Rattle.pm_runs.specs.Engines.{GoesFrom, RunsEngine}
 use Rattle.pm_runs.specs.Wrote.{AcknowledgesFor, Wrote}
-use Rattle.pm_runs.specs.Ends.Journals.{IsBegun, ServesAll, ServesInOrder, ServesLines}
+use Rattle.pm_runs.specs.Ends.Journals.{FollowsLines, IsBegun, IsShortRun, ServesAll, ServesInOrder, ServesLines}
 use Rattle.pm_runs.specs.Ends.Causes.{ShowsCauses}
 use Rattle.pm_runs.proofs.EndsLemmas.Parts.{with_parts}
 use Rattle.pm_runs.proofs.EndsLemmas.Faults.{late_past}
@@ -144,22 +148,33 @@ short_back (Some StopWriting) a b c d ran = absurd ran
 short_back (Some StopDevice) a b c d ran = absurd ran
 
 -- what was answered, in the order of the lines
-pub order_served : (lines : List Line) (it : Serving) (unmade : Option Unmade) (tally : Tally) (stop : Option Stop) (a b c d : ℕ) → tally_of tally ≡ noting it unmade
-    → AnswersLines lines it stop → ServesInOrder lines (ended_by stop a b c d) it.journal (Some tally)
-order_served lines it unmade tally stop a b c d is answers = record {
+pub follows_lines : (lines : List Line) (it : Serving) (unmade : Option Unmade) (tally : Tally) (stop : Option Stop) (a b c d : ℕ) → tally_of tally ≡ noting it unmade
+    → AnswersInOrder lines it stop → FollowsLines lines (ended_by stop a b c d) it.journal (Some tally)
+follows_lines lines it unmade tally stop a b c d is answers = record {
   rest = answers.rest;
   served = answers.served;
   all = λ past. answers.all (done_back stop a b c d past);
   ordered = λ few. subst (λ (total : Total). IsFirstPart total.course (course_of 0 0 lines)) (sym is) (answers.ordered few);
   all_ordered = λ past few. ap (λ (total : Total). total.course) is ∙ answers.all_ordered (done_back stop a b c d past) few;
-  short = λ ran done more client parted few made.
-      let same = ap (λ (total : Total). total.events) is in
-      let left = ap (λ (total : Total). total.left) is in
-      ⊎_elim (λ (none : it.events ≡ 0). inl (same ∙ none)) (λ (some : 0 < left_of it.saving.progress). inr (omega (arith, some, left)))
-      (answers.short (short_back stop a b c d ran) done more client parted (sym same ∙ made) few);
   stopped =
       subst (λ (why : Option Stop). OnStop why (events_asked lines ≤ greatest_count → StopsAmong lines it.journal (tally_of tally).steps (tally_of tally).events why)) (stop_back stop a b c d)
       (subst (λ (total : Total). OnStop stop (events_asked lines ≤ greatest_count → StopsAmong lines it.journal total.steps total.events stop)) (sym is) answers.stopped);
+}
+
+-- memory does not run out in a `settle` of a copy that was flushed whole
+pub short_run : (lines : List Line) (it : Serving) (unmade : Option Unmade) (tally : Tally) (stop : Option Stop) (a b c d : ℕ) → tally_of tally ≡ noting it unmade
+    → IsShortAt lines it stop → IsShortRun lines (ended_by stop a b c d) (Some tally)
+short_run lines it unmade tally stop a b c d is short = λ ran done more client parted few made.
+    let same = ap (λ (total : Total). total.events) is in
+    let left = ap (λ (total : Total). total.left) is in
+    ⊎_elim (λ (none : it.events ≡ 0). inl (same ∙ none)) (λ (some : 0 < left_of it.saving.progress). inr (omega (arith, some, left)))
+    (short (short_back stop a b c d ran) done more client parted (sym same ∙ made) few)
+
+pub order_served : (lines : List Line) (it : Serving) (unmade : Option Unmade) (tally : Tally) (stop : Option Stop) (a b c d : ℕ) → tally_of tally ≡ noting it unmade
+    → AnswersLines lines it stop → ServesInOrder lines (ended_by stop a b c d) it.journal (Some tally)
+order_served lines it unmade tally stop a b c d is answers = record {
+  order = follows_lines lines it unmade tally stop a b c d is answers.order;
+  short = short_run lines it unmade tally stop a b c d is answers.short;
 }
 
 -- and by each client
@@ -171,11 +186,11 @@ lines_served lines it unmade tally stop a b c d few is answers =
     record {
       ends = late_past (ended_by stop a b c d) late;
       tried = omega (arith, late);
-      parts = first_parts it.journal answers.rest (requests_asked lines) answers.served;
-      serves = λ past client. ap (commands_of client) (answers.all (done_back stop a b c d past));
-      long = λ past. sym (length-map it.journal _) ∙ ap length (answers.all (done_back stop a b c d past));
-      steps = λ past. ap (λ (total : Total). total.steps) is ∙ answers.steps (done_back stop a b c d past) ∙ min-eq_left few_steps;
-      events = λ past. ap (λ (total : Total). total.events) is ∙ answers.events (done_back stop a b c d past) ∙ min-eq_left few;
+      parts = first_parts it.journal answers.order.rest (requests_asked lines) answers.order.served;
+      serves = λ past client. ap (commands_of client) (answers.order.all (done_back stop a b c d past));
+      long = λ past. sym (length-map it.journal _) ∙ ap length (answers.order.all (done_back stop a b c d past));
+      steps = λ past. ap (λ (total : Total). total.steps) is ∙ answers.order.steps (done_back stop a b c d past) ∙ min-eq_left few_steps;
+      events = λ past. ap (λ (total : Total). total.events) is ∙ answers.order.events (done_back stop a b c d past) ∙ min-eq_left few;
     }
 
 -- all of it
@@ -184,7 +199,7 @@ all_served lines it unmade tally few is answers = record { serves = lines_served
 
 -- where the clients' commands were asked in any order
 pub clients_served : (lines : List Line) (it : Serving) (unmade : Option Unmade) (tally : Tally) (stop : Option Stop) (a b c d : ℕ) → tally_of tally ≡ noting it unmade
-    → AnswersClients lines it unmade stop → ServesLines lines (ended_by stop a b c d) it.journal (Some tally)
+    → AnswersClients lines it stop → ServesLines lines (ended_by stop a b c d) it.journal (Some tally)
 clients_served lines it unmade tally stop a b c d is answers =
     let late = ended_late stop a b c d in
     record {
@@ -197,42 +212,64 @@ clients_served lines it unmade tally stop a b c d is answers =
       events = λ past. ap (λ (total : Total). total.events) is ∙ answers.events (done_back stop a b c d past);
     }
 
--- where memory ran out the event that was noted is left
-clients_short : (lines : List Line) (it : Serving) (unmade : Option Unmade) (journal : List Entry) (tally : Tally) (stop : Option Stop) (a b c d : ℕ) → tally_of tally ≡ noting it unmade → journal ≡ it.journal
-    → AnswersClients lines it unmade stop → RanShort (ended_by stop a b c d) → ∥ LeavesEvent (tally_of tally).unmade lines journal (tally_of tally).steps (tally_of tally).events (tally_of tally).left ∥₁
-clients_short lines it unmade journal tally stop a b c d is is_journal answers ran =
-    subst (λ (total : Total). ∥ LeavesEvent total.unmade lines journal total.steps total.events total.left ∥₁) (sym is)
-    (subst (λ (j : List Entry). ∥ LeavesEvent unmade lines j it.steps it.events (left_of it.saving.progress) ∥₁) (sym is_journal) (answers.short (short_back stop a b c d ran)))
+-- ---- by workers
 
--- where it did not none was noted
-clients_noted : (lines : List Line) (it : Serving) (unmade : Option Unmade) (tally : Tally) (stop : Option Stop) (a b c d : ℕ) → tally_of tally ≡ noting it unmade
-    → AnswersClients lines it unmade stop → (RanShort (ended_by stop a b c d) → ⊥) → (tally_of tally).unmade ≡ None
-clients_noted lines it unmade tally stop a b c d is answers whole =
-    ap (λ (total : Total). total.unmade) is ∙ answers.noted (λ short. whole (subst (λ (why : Option Stop). RanShort (ended_by why a b c d)) (sym short) tt))
+module _ (lines : List Line) (it : Serving) (unmade : Option Unmade) (journal : List Entry) (tally : Tally) (stop : Option Stop) (a b c d : ℕ) (is : tally_of tally ≡ noting it unmade) (is_journal : journal ≡ it.journal) where
+  -- what was answered is what the lines ask in some order
+  some_order : AnswersInSomeOrder lines it stop → ServesInSomeOrder lines (ended_by stop a b c d) it.journal (Some tally)
+  some_order answers = record {
+    other = answers.other;
+    is_order = answers.is_order;
+    as_many = answers.as_many;
+    serves = follows_lines answers.other it unmade tally stop a b c d is answers.answers;
+  }
 
--- what was answered is what the lines ask in some order
-clients_order : (lines : List Line) (it : Serving) (unmade : Option Unmade) (tally : Tally) (stop : Option Stop) (a b c d : ℕ) → tally_of tally ≡ noting it unmade
-    → AnswersInSomeOrder lines it unmade stop → ServesInSomeOrder lines (ended_by stop a b c d) it.journal (Some tally)
-clients_order lines it unmade tally stop a b c d is answers = record {
-  other = answers.other;
-  is_order = answers.is_order;
-  as_many = answers.as_many;
-  serves = order_served answers.other it unmade tally stop a b c d is answers.answers;
-  stops = subst (λ (total : Total). IfSome total.unmade (StopsAt answers.other total.events)) (sym is) answers.stops;
-}
-
--- what it serves
-pub clients_together : (lines : List Line) (it : Serving) (unmade : Option Unmade) (journal : List Entry) (tally : Tally) (stop : Option Stop) (a b c d : ℕ) → tally_of tally ≡ noting it unmade → journal ≡ it.journal
-    → AnswersClients lines it unmade stop → ∥ AnswersInSomeOrder lines it unmade stop ∥₁ → ServesTogether (λ asked. asked ≡ lines) (ended_by stop a b c d) journal (Some tally)
-clients_together lines it unmade journal tally stop a b c d is is_journal answers order = record {
-  order = λ asked same.
+  pub served_together : ∥ AnswersInSomeOrder lines it stop ∥₁ → ServesTogether (λ asked. asked ≡ lines) (ended_by stop a b c d) journal (Some tally)
+  served_together order = λ asked same.
       subst (λ (ls : List Line). ∥ ServesInSomeOrder ls (ended_by stop a b c d) journal (Some tally) ∥₁) (sym same)
-      (subst (λ (j : List Entry). ∥ ServesInSomeOrder lines (ended_by stop a b c d) j (Some tally) ∥₁) (sym is_journal) (∥∥₁_map order (clients_order lines it unmade tally stop a b c d is)));
-  short = λ ran asked same.
-      subst (λ (ls : List Line). ∥ LeavesEvent (tally_of tally).unmade ls journal (tally_of tally).steps (tally_of tally).events (tally_of tally).left ∥₁) (sym same)
-      (clients_short lines it unmade journal tally stop a b c d is is_journal answers ran);
-  noted = clients_noted lines it unmade tally stop a b c d is answers;
-}
+      (subst (λ (j : List Entry). ∥ ServesInSomeOrder lines (ended_by stop a b c d) j (Some tally) ∥₁) (sym is_journal) (∥∥₁_map order some_order))
+
+  -- up to the event that was noted
+  ends_order : StopsInSomeOrder lines it unmade stop → EndsInSomeOrder lines (ended_by stop a b c d) it.journal (Some tally)
+  ends_order answers = record {
+    some = record {
+      other = answers.some.other;
+      is_order = answers.some.is_order;
+      as_many = answers.some.as_many;
+      serves = follows_lines answers.some.other it unmade tally stop a b c d is answers.some.answers;
+    };
+    short = short_run answers.some.other it unmade tally stop a b c d is answers.short;
+    stops = subst (λ (total : Total). IfSome total.unmade (StopsAt answers.some.other total.events)) (sym is) answers.stops;
+  }
+
+  -- where memory ran out the event that was noted is left
+  turns_short : AnswersInTurns lines it unmade stop → RanShort (ended_by stop a b c d) → ∥ LeavesEvent (tally_of tally).unmade lines journal (tally_of tally).steps (tally_of tally).events (tally_of tally).left ∥₁
+  turns_short answers ran =
+      subst (λ (total : Total). ∥ LeavesEvent total.unmade lines journal total.steps total.events total.left ∥₁) (sym is)
+      (subst (λ (j : List Entry). ∥ LeavesEvent unmade lines j it.steps it.events (left_of it.saving.progress) ∥₁) (sym is_journal) (answers.short (short_back stop a b c d ran)))
+
+  served_turns : AnswersInTurns lines it unmade stop → ServesInTurns (λ asked. asked ≡ lines) (ended_by stop a b c d) journal (Some tally)
+  served_turns answers = record {
+    order = λ asked same.
+        subst (λ (ls : List Line). ∥ EndsInSomeOrder ls (ended_by stop a b c d) journal (Some tally) ∥₁) (sym same)
+        (subst (λ (j : List Entry). ∥ EndsInSomeOrder lines (ended_by stop a b c d) j (Some tally) ∥₁) (sym is_journal) (∥∥₁_map answers.order ends_order));
+    short = λ ran asked same.
+        subst (λ (ls : List Line). ∥ LeavesEvent (tally_of tally).unmade ls journal (tally_of tally).steps (tally_of tally).events (tally_of tally).left ∥₁) (sym same) (turns_short answers ran);
+    noted = λ whole. ap (λ (total : Total). total.unmade) is ∙ answers.noted (λ short. whole (subst (λ (why : Option Stop). RanShort (ended_by why a b c d)) (sym short) tt));
+  }
+
+  -- something is left
+  served_passes : AnswersByPasses lines it stop → ServesByPasses (λ asked. asked ≡ lines) (ended_by stop a b c d) journal (Some tally)
+  served_passes answers = λ ran asked same.
+      subst (λ (ls : List Line). ((tally_of tally).events ≡ 0) ⊎ LeavesSome ls journal (tally_of tally).steps (tally_of tally).events) (sym same)
+      (subst (λ (total : Total). (total.events ≡ 0) ⊎ LeavesSome lines journal total.steps total.events) (sym is)
+      (subst (λ (j : List Entry). (it.events ≡ 0) ⊎ LeavesSome lines j it.steps it.events) (sym is_journal)
+      (subst (λ (why : Option Stop). OnMemory why ((it.events ≡ 0) ⊎ IsLeft lines it)) (short_back stop a b c d ran) answers)))
+
+  -- what is served besides
+  pub served_by : (way : Way) → AnswersBy way lines it unmade stop → ServesBy way (λ asked. asked ≡ lines) (ended_by stop a b c d) journal (Some tally)
+  served_by Turns answers = served_turns answers
+  served_by Passes answers = served_passes answers
 
 module _ {D F K : Type 0} {g : disk.Ghosts D} (k : sink.Ghosts K) where
   -- what a run over this engine leaves that ended so, by its journal

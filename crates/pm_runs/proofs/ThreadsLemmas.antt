@@ -1,4 +1,3 @@
 pub mod Clients
 pub mod Ended
-pub mod Left
 pub mod Ordered

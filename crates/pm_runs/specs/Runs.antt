@@ -9,9 +9,11 @@ use Rattle.pm_image.specs.Stands.{StandsForCopy}
 use Rattle.pm_engine.specs.Shown.{tally_of}
 use Rattle.pm_serial.specs.Acknowledged.{Acknowledges, AcknowledgesLast}
 use Rattle.pm_serial.specs.Writing.{tail_of}
-use Rattle.pm_runs.specs.Threads.Together.{IsToldScript, ServesTogether}
+use Rattle.pm_runs.specs.Threads.Together.{IsToldScript, ServesByPasses, ServesInTurns, ServesTogether}
 use Rattle.pm_runs.specs.declared.ends.ended.Alone.{Alone as Ended}
 use Rattle.pm_runs.specs.declared.ends.ended.Detail.TheVariants.{Fine}
+use Rattle.pm_runs.specs.declared.way.Way.{Way}
+use Rattle.pm_runs.specs.declared.way.Way.TheVariants.{Turns, Passes}
 use Rattle.pm_runs.specs.declared.writes.Writes.{Writes}
 use Rattle.pm_runs.specs.declared.writes.Writes.TheVariants.{Replies}
 use Rattle.pm_runs.specs.Ends.Ends.{IsUnwritten, stop_in}
@@ -65,8 +67,8 @@ module _ {D S K : Type 0} (d : disk.Ghosts D) (s : source.Ghosts S) (k : sink.Gh
     -- acknowledged is told: unless the sink failed, the text through each reply `saved` is finished
     pub saved : IfSome ended.tally (λ it. Acknowledges k sink ended.sink ended.journal.items (stop_in ended.detail))
 
-  -- What `run FILE threads` does: the source is read to its end, the script is read, the store is opened, and each client's
-  -- lines are run in their order, in threads that take turns. The journal has the commands in the order of the turns.
+  -- What a run by workers does: the source is read to its end, the script is read, the store is opened, and each client's
+  -- lines are run in their order, in threads. The journal has the commands in the order in which the engine was asked.
   pub record RunsTogether {F : Type 0} (place : F) (disk : D) (source : S) (sink : K) (ended : Ended D S K) : Type 0 where
     -- the words were read, so it ends as no other command does
     pub ends : IsPast the_words ended.detail
@@ -81,7 +83,24 @@ module _ {D S K : Type 0} (d : disk.Ghosts D) (s : source.Ghosts S) (k : sink.Gh
     -- where the sink failed all was made that the script asks for, as where the run is done
     pub last : IsUnwritten ended.detail → (bytes : List ℕ) → s.left source ≡ Some bytes
         → ReadsScript bytes Fine ended.journal.items ended.tally
-    -- it is a run of the script's lines in some order, and where memory runs out the tally tells the event that is left
-    pub together : ServesTogether (IsToldScript (s.left source)) ended.detail ended.journal.items ended.tally
+    -- it is a run of the script's lines in some order
+    pub order : ServesTogether (IsToldScript (s.left source)) ended.detail ended.journal.items ended.tally
     -- acknowledged is told: unless the sink failed, the text through each reply `saved` is finished
     pub saved : IfSome ended.tally (λ it. AcknowledgesLast k sink ended.sink ended.journal.items (stop_in ended.detail))
+
+  -- What `run FILE threads` does: the workers take turns, and the first fault ends them all. Where memory runs out the tally
+  -- tells the event that is left.
+  pub record RunsInTurns {F : Type 0} (place : F) (disk : D) (source : S) (sink : K) (ended : Ended D S K) : Type 0 where
+    pub together : RunsTogether place disk source sink ended
+    pub turns : ServesInTurns (IsToldScript (s.left source)) ended.detail ended.journal.items ended.tally
+
+  -- What `run FILE seats` does: each worker has a pass of its own and ends at the first fault that it meets, and the others
+  -- go on. Where memory runs out something is left, unless no event was made.
+  pub record RunsByPasses {F : Type 0} (place : F) (disk : D) (source : S) (sink : K) (ended : Ended D S K) : Type 0 where
+    pub together : RunsTogether place disk source sink ended
+    pub left : ServesByPasses (IsToldScript (s.left source)) ended.detail ended.journal.items ended.tally
+
+  -- what a run by workers does that share the engine this way
+  abbrev pub RunsBy : {F : Type 0} → Way → F → D → S → K → Ended D S K → Type 0
+  RunsBy Turns place disk source sink ended = RunsInTurns place disk source sink ended
+  RunsBy Passes place disk source sink ended = RunsByPasses place disk source sink ended

@@ -1,3 +1,3 @@
-pub mod Running
 pub mod Ordered
+pub mod Running
 pub mod Together

@@ -8,6 +8,7 @@ mod running;
 pub mod threads;
 mod together;
 pub mod trial;
+mod way;
 mod writes;
 mod young;
 
@@ -17,5 +18,6 @@ pub use crate::ends::{
 pub use opening::run_lines;
 pub use running::run_source;
 pub use together::{images_since_now, run_together};
+pub use way::Way;
 pub use writes::Writes;
 pub use young::run_young;

@@ -12,7 +12,7 @@ use Rattle.pm_script.proofs.BadLaws.{no_fault}
 use Rattle.pm_script.proofs.YoungLaws.{no_young_fault}
 use Rattle.pm_dump.specs.Dump.{Dump as Dumped}
 use Rattle.pm_words.specs.declared.command.Command.{Command}
-use Rattle.pm_words.specs.declared.command.Command.TheVariants.{Init, Run, RunThreads, RunYoung, Inspect, Dump, Restore, Why, Make, Trial}
+use Rattle.pm_words.specs.declared.command.Command.TheVariants.{Init, Run, RunThreads, RunSeats, RunYoung, Inspect, Dump, Restore, Why, Make, Trial}
 use Rattle.pm_runs.specs.declared.ends.ended.Detail.{Detail}
 use Rattle.pm_runs.specs.declared.ends.ended.Detail.TheVariants.{Fine, Usage, Script, Dump as BadDump, Reading, Writing, Device, NotEmpty, Refused, Standby, Ahead, Foreign, OtherDevice, Memory}
 use Rattle.pm_runs.specs.declared.ends.ended.Alone.{Alone as Ended}
@@ -25,8 +25,8 @@ use Rattle.pm_top.specs.Dumps.{HoldsDump, RefusesBytes}
 use Rattle.pm_runs.specs.declared.writes.Writes.TheVariants.{Replies}
 use Rattle.pm_runs.specs.Ends.Causes.{ShowsCauses}
 use Rattle.pm_top.specs.Commands.{EndsTelling, EndsMaking, EndsRestoring, EndsTrying, Does}
-use Rattle.pm_runs.specs.Runs.{RunsStore}
-use Rattle.pm_top.specs.Needs.{HasNeeds, HoldsStore, NothingFails}
+use Rattle.pm_runs.specs.Runs.{RunsStore, RunsTogether}
+use Rattle.pm_top.specs.Needs.{HasNeeds, HoldsScript, HoldsStore, NothingFails}
 use Rattle.pm_runs.proofs.EndsLemmas.Opened.{never_shut}
 use Rattle.pm_top.proofs.Restored.{no_dump_fault}
 
@@ -192,16 +192,21 @@ stands_done (Refused fault) a b c d e f may reading writing device source sink d
 stands_done (Memory opened _) a b c d e f may reading writing device source sink disk = inr refl
 
 module _ {D S K : Type 0} (d : disk.Ghosts D) (s : source.Ghosts S) (k : sink.Ghosts K) where
+  -- a run by workers
+  together_ends : {F : Type 0} (place : F) (disk : D) (source : S) (sink : K) (it : Ended D S K) → RunsTogether d s k place disk source sink it → HoldsStore (d.contents disk) → HoldsScript (s.left source) → MayEnd it.detail
+  together_ends place disk source sink it runs holds script =
+      ∥∥₁_elim runs.store (may_once it.detail) (λ (store : RunsStore d k place Replies disk sink it).
+      run_ends (d.contents disk) holds (λ fault. IsBad fault script.bytes) it.detail (λ fault bad. no_fault script.bytes fault script.lines bad script.script) runs.ends
+      (runs.script script.bytes script.is_told).refused (store.leaves.refused holds.bytes holds.is_told))
+
   may_end : {F : Type 0} (place : F) (command : Command) (disk : D) (source : S) (sink : K) (it : Ended D S K)
       → Does d s k place command disk source sink it → HasNeeds d s command disk source → MayEnd it.detail
   may_end place Init disk source sink it does needs = make_ends d disk it.disk it.detail does.makes needs
   may_end place Run disk source sink it does needs =
       run_ends (d.contents disk) needs.0 (λ fault. IsBad fault needs.1.bytes) it.detail (λ fault bad. no_fault needs.1.bytes fault needs.1.lines bad needs.1.script) does.ends
       (does.script needs.1.bytes needs.1.is_told).refused (does.store.leaves.refused needs.0.bytes needs.0.is_told)
-  may_end place RunThreads disk source sink it does needs =
-      ∥∥₁_elim does.store (may_once it.detail) (λ (store : RunsStore d k place Replies disk sink it).
-      run_ends (d.contents disk) needs.0 (λ fault. IsBad fault needs.1.bytes) it.detail (λ fault bad. no_fault needs.1.bytes fault needs.1.lines bad needs.1.script) does.ends
-      (does.script needs.1.bytes needs.1.is_told).refused (store.leaves.refused needs.0.bytes needs.0.is_told))
+  may_end place RunThreads disk source sink it does needs = together_ends place disk source sink it does.together needs.0 needs.1
+  may_end place RunSeats disk source sink it does needs = together_ends place disk source sink it does.together needs.0 needs.1
   may_end place RunYoung disk source sink it does needs =
       run_ends (d.contents disk) needs.0 (λ fault. IsYoungBad fault needs.1.bytes) it.detail (λ fault bad. no_young_fault needs.1.bytes fault needs.1.lines bad needs.1.script) does.ends
       (does.script needs.1.bytes needs.1.is_told).refused (does.store.leaves.refused needs.0.bytes needs.0.is_told)

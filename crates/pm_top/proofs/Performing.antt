@@ -14,7 +14,7 @@ use Rattle.pm_script.specs.Script.{IsScript}
 use Rattle.pm_make.specs.Made.{made_text}
 use Rattle.pm_inspect.specs.Tell.Told.{Telling, Reports, Dumps, GivesPath}
 use Rattle.pm_words.specs.declared.command.Command.{Command}
-use Rattle.pm_words.specs.declared.command.Command.TheVariants.{Init, Run, RunThreads, RunYoung, Inspect, Dump, Restore, Why, Make, Trial}
+use Rattle.pm_words.specs.declared.command.Command.TheVariants.{Init, Run, RunThreads, RunSeats, RunYoung, Inspect, Dump, Restore, Why, Make, Trial}
 use Rattle.pm_runs.specs.declared.ends.ended.Detail.{Detail}
 use Rattle.pm_runs.specs.declared.ends.ended.Detail.TheVariants.{Fine, Usage, Script, Dump as BadDump, Reading, Writing, Device, NotEmpty, Refused, Standby, Ahead, Foreign, OtherDevice, Memory}
 use Rattle.pm_runs.specs.declared.ends.ended.Alone.{Alone as Ended}
@@ -25,12 +25,12 @@ use Rattle.pm_runs.specs.Ends.Ends.{IsUnwritten}
 use Rattle.pm_runs.specs.Ends.Journals.{ReadsScript, ServesAll, ServesInOrder, ServesLines}
 use Rattle.pm_runs.specs.Ends.Wrote.{WroteText}
 use Rattle.pm_runs.specs.Ends.Causes.{ShowsCauses}
-use Rattle.pm_runs.specs.Runs.{RunsStore}
+use Rattle.pm_runs.specs.Runs.{RunsStore, RunsTogether}
 use Rattle.pm_top.specs.Commands.{EndsTrying, TriesScript, TellsStore, Does}
 use Rattle.pm_runs.proofs.EndsLemmas.Parts.{with_parts}
 use Rattle.pm_runs.proofs.EndsLemmas.Opened.{uncalled_run}
 use Rattle.pm_runs.specs.Threads.Together.{IsToldScript}
-use Rattle.pm_runs.proofs.Stores.{store_unrun, together_none}
+use Rattle.pm_runs.proofs.Stores.{passes_none, store_unrun, together_none, turns_none}
 use Rattle.pm_runs.specs.Young.Journals.{ReadsYoung}
 use Rattle.pm_runs.proofs.YoungLemmas.Read.{young_unordered, young_unread}
 use Rattle.pm_runs.proofs.YoungLemmas.Stores.{young_unrun}
@@ -126,6 +126,20 @@ module _ {D S K : Type 0} (d : disk.Ghosts D) (k : sink.Ghosts K) where
       by (Memory opened _) past reached = tt
 
 module _ {D S K : Type 0} (d : disk.Ghosts D) (s : source.Ghosts S) (k : sink.Ghosts K) where
+  -- a run by workers
+  untouched_together : {F : Type 0} (place : F) (disk : D) (source : S) (sink : K) (it : Ended D S K) → it.journal.items ≡ []
+      → ((at : List ℕ) → d.since disk (d.moment disk) at → d.image disk at)
+      → RunsTogether d s k place disk source sink (with_parts it (Memory false no_memory) None None disk source sink)
+  untouched_together place disk source sink it empty now = record {
+    ends = omega arith;
+    read = λ past. absurd (omega (arith, past));
+    script = λ bytes told. unread bytes it.journal.items empty;
+    store = ∣ untouched_store d k place Replies disk source sink it empty now ∣₁;
+    last = λ unwritten. absurd unwritten;
+    order = together_none (IsToldScript (s.left source)) (Memory false no_memory) it.journal.items empty (λ past. absurd (omega (arith, past)));
+    saved = tt;
+  }
+
   pub untouched_does : {F : Type 0} (place : F) (command : Command) (disk : D) (source : S) (sink : K) (it : Ended D S K) → it.journal.items ≡ []
       → ((at : List ℕ) → d.since disk (d.moment disk) at → d.image disk at) → SameImages (d.image disk) (d.image disk)
       → Does d s k place command disk source sink (with_parts it (Memory false no_memory) None None disk source sink)
@@ -151,13 +165,12 @@ module _ {D S K : Type 0} (d : disk.Ghosts D) (s : source.Ghosts S) (k : sink.Gh
     saved = tt;
   }
   untouched_does place RunThreads disk source sink it empty now same = record {
-    ends = omega arith;
-    read = λ past. absurd (omega (arith, past));
-    script = λ bytes told. unread bytes it.journal.items empty;
-    store = ∣ untouched_store d k place Replies disk source sink it empty now ∣₁;
-    last = λ unwritten. absurd unwritten;
-    together = together_none (IsToldScript (s.left source)) (Memory false no_memory) it.journal.items empty (λ past. absurd (omega (arith, past)));
-    saved = tt;
+    together = untouched_together place disk source sink it empty now;
+    turns = turns_none (IsToldScript (s.left source)) (Memory false no_memory) it.journal.items empty (λ past. absurd (omega (arith, past)));
+  }
+  untouched_does place RunSeats disk source sink it empty now same = record {
+    together = untouched_together place disk source sink it empty now;
+    left = passes_none (IsToldScript (s.left source)) (Memory false no_memory) it.journal.items;
   }
   untouched_does place RunYoung disk source sink it empty now same = record {
     ends = omega arith;

@@ -12,7 +12,7 @@ use Rattle.pm_dump.specs.Sound.{IsSoundDump}
 use Rattle.pm_script.specs.declared.fault.ScriptFault.TheVariants.{TooLong}
 use Rattle.pm_types.specs.declared.limits.TheConstants.{MOST_TURNS}
 use Rattle.pm_words.specs.declared.command.Command.{Command}
-use Rattle.pm_words.specs.declared.command.Command.TheVariants.{Init, Run, RunThreads, RunYoung, Inspect, Dump, Restore, Why, Make, Trial}
+use Rattle.pm_words.specs.declared.command.Command.TheVariants.{Init, Run, RunThreads, RunSeats, RunYoung, Inspect, Dump, Restore, Why, Make, Trial}
 use Rattle.pm_runs.specs.declared.ends.ended.Detail.{Detail}
 use Rattle.pm_runs.specs.declared.ends.ended.Detail.TheVariants.{Fine, Script, Dump as BadDump, Reading, Writing, Device, NotEmpty, Refused, Memory}
 use Rattle.pm_runs.specs.declared.ends.ended.Alone.{Alone as Ended}
@@ -23,7 +23,7 @@ use Rattle.pm_runs.specs.Ends.Disks.{IsRefusedFor}
 use Rattle.pm_top.specs.Stores.{CallsMaking, LeavesMade, LeavesRestored}
 use Rattle.pm_top.specs.Dumps.{HasDump, ReadsDump}
 use Rattle.pm_runs.specs.Ends.Wrote.{IsWriting, WroteText}
-use Rattle.pm_runs.specs.Runs.{RunsStore, RunsScript, RunsTogether}
+use Rattle.pm_runs.specs.Runs.{RunsByPasses, RunsInTurns, RunsScript, RunsStore}
 use Rattle.pm_runs.specs.Young.Runs.{RunsYoung}
 
 -- All is as it was.
@@ -178,7 +178,8 @@ module _ {D S K : Type 0} (d : disk.Ghosts D) (s : source.Ghosts S) (k : sink.Gh
   abbrev pub Does : {F : Type 0} → F → Command → D → S → K → Ended D S K → Type 0
   Does place Init disk source sink ended = MakesStore d disk source sink ended
   Does place Run disk source sink ended = RunsScript d s k place disk source sink ended
-  Does place RunThreads disk source sink ended = RunsTogether d s k place disk source sink ended
+  Does place RunThreads disk source sink ended = RunsInTurns d s k place disk source sink ended
+  Does place RunSeats disk source sink ended = RunsByPasses d s k place disk source sink ended
   Does place RunYoung disk source sink ended = RunsYoung d s k place disk source sink ended
   Does place Inspect disk source sink ended = InspectsStore d k disk source sink ended
   Does place Dump disk source sink ended = DumpsStore d k disk source sink ended

@@ -11,7 +11,7 @@ use Rattle.pm_script.specs.declared.line.YoungLine.{YoungLine}
 use Rattle.pm_script.specs.Script.{IsScript}
 use Rattle.pm_script.specs.Young.{IsYoungScript}
 use Rattle.pm_words.specs.declared.command.Command.{Command}
-use Rattle.pm_words.specs.declared.command.Command.TheVariants.{Init, Run, RunThreads, RunYoung, Inspect, Dump, Restore, Why, Make, Trial}
+use Rattle.pm_words.specs.declared.command.Command.TheVariants.{Init, Run, RunThreads, RunSeats, RunYoung, Inspect, Dump, Restore, Why, Make, Trial}
 use Rattle.pm_runs.specs.declared.ends.ended.Alone.{Alone as Ended}
 use Rattle.pm_top.specs.Dumps.{HoldsDump}
 
@@ -43,6 +43,7 @@ module _ {D S : Type 0} (d : disk.Ghosts D) (s : source.Ghosts S) where
   HasNeeds Init disk source = d.contents disk ≡ Some []
   HasNeeds Run disk source = HoldsStore (d.contents disk) × HoldsScript (s.left source)
   HasNeeds RunThreads disk source = HoldsStore (d.contents disk) × HoldsScript (s.left source)
+  HasNeeds RunSeats disk source = HoldsStore (d.contents disk) × HoldsScript (s.left source)
   HasNeeds RunYoung disk source = HoldsStore (d.contents disk) × HoldsYoungScript (s.left source)
   HasNeeds Inspect disk source = HoldsStore (d.contents disk)
   HasNeeds Dump disk source = HoldsStore (d.contents disk)

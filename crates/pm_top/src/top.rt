@@ -22,7 +22,7 @@ use pm_inspect::tell::{DumpText, ReportText, WhyText};
 use pm_io::{Sink, Source};
 use pm_place::Placement;
 use pm_runs::{
-    Alone, Detail, Ended, end_unopened, images_since_now, run_source, run_together, run_young,
+    Alone, Detail, Ended, Way, end_unopened, images_since_now, run_source, run_together, run_young,
 };
 use pm_turns::Gate;
 use pm_words::{Asked, Command, read_words, words_spell_one_command};
@@ -30,7 +30,7 @@ use std::alloc::Global;
 use std::sync::Wait;
 use std::thread::Threads;
 
-// Does what a command asks for. A run in threads alone waits.
+// Does what a command asks for. The two runs in threads alone wait.
 fn perform<
     R: Threads + Wait + Sync,
     D: Disk + Drop + Send,
@@ -57,7 +57,10 @@ fn perform<
     match command {
         Command::Init => make_store(alloc, disk, source, sink),
         Command::Run => run_source(alloc, disk, place, source, sink),
-        Command::RunThreads => run_together(rt, alloc, disk, place, source, sink, gate),
+        Command::RunThreads => {
+            run_together(rt, alloc, Way::Turns, disk, place, source, sink, gate)
+        }
+        Command::RunSeats => run_together(rt, alloc, Way::Passes, disk, place, source, sink, gate),
         Command::RunYoung => run_young(alloc, disk, place, source, sink),
         Command::Inspect => write_told(alloc, &ReportText, disk, source, sink),
         Command::Dump => write_told(alloc, &DumpText, disk, source, sink),
@@ -84,7 +87,10 @@ fn perform<
 /// `run FILE threads` does the same in threads: one for each client, one for the events of the collector and one for
 /// those that write pages. Each client's commands are asked in the order of its lines, and nothing else of the order is
 /// promised; around each event the gate is called. The replies are written behind the last event. It waits for the
-/// threads, and all that is promised of it holds once it returns; every other command waits for nobody.
+/// threads, and all that is promised of it holds once it returns. The first fault ends them all.
+///
+/// `run FILE seats` does the same by workers each of which has a pass of its own, and ends at the first fault that it
+/// meets: where memory runs out for one, the others go on. It waits too; every other command waits for nobody.
 ///
 /// `run FILE young` does the same as `run FILE serial` over an engine with a nursery: a new object is young, outside the
 /// cars, until it escapes, and a young object that nothing reaches is dropped by the next sweep. A sweep is made by the line

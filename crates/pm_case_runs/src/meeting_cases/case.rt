@@ -27,13 +27,14 @@ fn push_met(gate: &Meeting, run: &Run, out: &mut String) -> Result<(), Fault> {
     push_last(run, out)
 }
 
-// Runs the program through a new gate, and adds whether the workers met.
+// Runs the program in this mode through a new gate, and adds whether the workers met.
 fn push_meeting<R: AllocGlobal + Threads + Wait + Sync>(
     rt: &R,
+    mode: &str,
     out: &mut String,
 ) -> Result<(), Fault> {
     let gate = Meeting::new();
-    push_met(&gate, &run(rt, &gate), out)
+    push_met(&gate, &run(rt, mode, &gate), out)
 }
 
 /// Takes a line of the input, and adds what it gives. A line that begins with `#`, and one that is empty, say nothing.
@@ -48,7 +49,7 @@ pub fn take<R: AllocGlobal + Threads + Wait + Sync>(
     let (step, name) = first_word(line);
     match step {
         "case" => push_case(name, out),
-        "meeting" => push_meeting(rt, out),
+        "meeting" => push_meeting(rt, name, out),
         _ => Err(refuse("no such step")),
     }
 }

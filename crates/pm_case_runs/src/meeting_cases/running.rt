@@ -1,4 +1,4 @@
-//! The program, run in threads through the meeting.
+//! The program, run by workers through the meeting.
 
 use crate::meeting_cases::meeting::Meeting;
 use pm_disk::MemDisk;
@@ -48,10 +48,14 @@ fn new_store<R: AllocGlobal + Threads + Wait + Sync>(rt: &R) -> MemDisk {
     run_words(rt, words, empty, Vec::new(alloc), &OpenGate).disk
 }
 
-/// Makes a store, and runs the script on it in threads.
-pub(crate) fn run<R: AllocGlobal + Threads + Wait + Sync>(rt: &R, gate: &Meeting) -> Run {
+/// Makes a store, and runs the script on it in this mode.
+pub(crate) fn run<R: AllocGlobal + Threads + Wait + Sync>(
+    rt: &R,
+    mode: &str,
+    gate: &Meeting,
+) -> Run {
     let alloc = rt.alloc();
     let disk = new_store(rt);
     let script = SCRIPT.to_vec(alloc).unwrap_or(Vec::new(alloc));
-    run_words(rt, &["run", "store.pmos", "threads"], disk, script, gate)
+    run_words(rt, &["run", "store.pmos", mode], disk, script, gate)
 }

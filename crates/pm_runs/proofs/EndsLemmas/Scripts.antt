@@ -73,14 +73,14 @@ pub order_read : (bytes : List ℕ) (lines : List Line) (detail : Detail) (journ
 order_read bytes lines detail journal tally script serves =
     let few = few_events bytes lines script in
     record {
-      ran = λ past. record { lines = lines; rest = serves.rest; script = script; served = serves.served };
-      all = λ past others other. serves.all past ∙ ap requests_asked (one_reading bytes lines others script other);
-      ordered = λ others other. subst (λ (ls : List Line). IfSome tally (λ it. IsFirstPart (tally_of it).course (course_of 0 0 ls))) (one_reading bytes lines others script other) (serves.ordered few);
+      ran = λ past. record { lines = lines; rest = serves.order.rest; script = script; served = serves.order.served };
+      all = λ past others other. serves.order.all past ∙ ap requests_asked (one_reading bytes lines others script other);
+      ordered = λ others other. subst (λ (ls : List Line). IfSome tally (λ it. IsFirstPart (tally_of it).course (course_of 0 0 ls))) (one_reading bytes lines others script other) (serves.order.ordered few);
       all_ordered = λ past others other.
-          subst (λ (ls : List Line). IfSome tally (λ it. (tally_of it).course ≡ course_of 0 0 ls)) (one_reading bytes lines others script other) (serves.all_ordered past few);
+          subst (λ (ls : List Line). IfSome tally (λ it. (tally_of it).course ≡ course_of 0 0 ls)) (one_reading bytes lines others script other) (serves.order.all_ordered past few);
       stopped = λ others other.
           subst (λ (ls : List Line). IfSome tally (λ it. OnStop (stop_in detail) (StopsAmong ls journal (tally_of it).steps (tally_of it).events (stop_in detail)))) (one_reading bytes lines others script other)
-          (stopped_at tally (stop_in detail) serves.stopped few);
+          (stopped_at tally (stop_in detail) serves.order.stopped few);
       short = λ ran others done more client other parted.
           let same : others ≡ lines = sym (one_reading bytes lines others script other) in
           serves.short ran done more client (sym same ∙ parted) (settle_within lines done more client (sym same ∙ parted) few);

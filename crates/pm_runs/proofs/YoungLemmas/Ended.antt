@@ -69,20 +69,20 @@ module _ {D F : Type 0} {g : disk.Ghosts D} where
       record {
         ends = late_past (ended_by stop a b c d) late;
         tried = omega (arith, late);
-        rest = answers.rest;
-        served = answers.served;
-        all = λ past. answers.all (done_back stop a b c d past);
+        rest = answers.order.rest;
+        served = answers.order.served;
+        all = λ past. answers.order.all (done_back stop a b c d past);
         made = λ past.
             made_young lines it.journal (young_tally_of young) (ap (λ (total : YoungTotal). total.entries) is)
-            (sym (length-map it.journal _) ∙ ap length (answers.all (done_back stop a b c d past)))
-            (ap (λ (total : YoungTotal). total.steps) is ∙ answers.steps (done_back stop a b c d past) ∙ min-eq_left few_steps)
-            (ap (λ (total : YoungTotal). total.events) is ∙ answers.events (done_back stop a b c d past) ∙ min-eq_left few);
-        ordered = subst (λ (total : YoungTotal). IsFirstPart total.course (course_of 0 0 (as_lines lines))) (sym is) (answers.ordered few);
-        all_ordered = λ past. ap (λ (total : YoungTotal). total.course) is ∙ answers.all_ordered (done_back stop a b c d past) few;
+            (sym (length-map it.journal _) ∙ ap length (answers.order.all (done_back stop a b c d past)))
+            (ap (λ (total : YoungTotal). total.steps) is ∙ answers.order.steps (done_back stop a b c d past) ∙ min-eq_left few_steps)
+            (ap (λ (total : YoungTotal). total.events) is ∙ answers.order.events (done_back stop a b c d past) ∙ min-eq_left few);
+        ordered = subst (λ (total : YoungTotal). IsFirstPart total.course (course_of 0 0 (as_lines lines))) (sym is) (answers.order.ordered few);
+        all_ordered = λ past. ap (λ (total : YoungTotal). total.course) is ∙ answers.order.all_ordered (done_back stop a b c d past) few;
         stopped =
             subst (λ (why : Option Stop). OnStop why (StopsAmong (as_lines lines) it.journal (young_tally_of young).steps (young_tally_of young).events why)) (stop_back stop a b c d)
             (subst (λ (total : YoungTotal). OnStop stop (StopsAmong (as_lines lines) it.journal total.steps total.events stop)) (sym is)
-            (stops_few (events_asked (as_lines lines) ≤ greatest_count) (StopsAmong (as_lines lines) it.journal it.steps it.events stop) stop answers.stopped few));
+            (stops_few (events_asked (as_lines lines) ≤ greatest_count) (StopsAmong (as_lines lines) it.journal it.steps it.events stop) stop answers.order.stopped few));
         short = λ ran done more client parted made.
             let same = ap (λ (total : YoungTotal). total.events) is in
             let left = ap (λ (total : YoungTotal). total.left) is in

@@ -48,8 +48,14 @@ pub record ServesClients (bytes : List ℕ) (journal : List Entry) : Type 0 wher
 abbrev pub IsShortIn : ℕ → Total → Type 0
 IsShortIn before total = total.events ≡ before → (total.events ≡ 0) ⊎ (0 < total.left)
 
--- What a run answers of these lines in their order, once they were read.
-pub record ServesInOrder (lines : List Line) (detail : Detail) (journal : List Entry) (tally : Option Tally) : Type 0 where
+-- Where memory runs out in a `settle` of these lines, something of the copy is left to be written, unless no event was made.
+abbrev pub IsShortRun : List Line → Detail → Option Tally → Type 0
+IsShortRun lines detail tally =
+    RanShort detail → (done more : List Line) (client : ℕ) → lines ≡ done ++ Client client Settle ∷ more
+    → events_asked done < greatest_count → IfSome tally (λ it. IsShortIn (events_asked done) (tally_of it))
+
+-- What a run answers of these lines in their order, once they were read, whatever the worker does that memory ran out for.
+pub record FollowsLines (lines : List Line) (detail : Detail) (journal : List Entry) (tally : Option Tally) : Type 0 where
   -- a first part of what the lines ask is served, which may be none or all
   pub rest : List Request
   pub served : requests_of journal ++ rest ≡ requests_asked lines
@@ -60,12 +66,14 @@ pub record ServesInOrder (lines : List Line) (detail : Detail) (journal : List E
   pub ordered : events_asked lines ≤ greatest_count → IfSome tally (λ it. IsFirstPart (tally_of it).course (course_of 0 0 lines))
   pub all_ordered : IsPast the_output detail → events_asked lines ≤ greatest_count
       → IfSome tally (λ it. (tally_of it).course ≡ course_of 0 0 lines)
-  -- where memory runs out in a `settle`, something of the copy is left to be written, unless no event was made
-  pub short : RanShort detail → (done more : List Line) (client : ℕ) → lines ≡ done ++ Client client Settle ∷ more
-      → events_asked done < greatest_count → IfSome tally (λ it. IsShortIn (events_asked done) (tally_of it))
   -- where it stopped
   pub stopped : OnStop (stop_in detail) (events_asked lines ≤ greatest_count
       → IfSome tally (λ it. StopsAmong lines journal (tally_of it).steps (tally_of it).events (stop_in detail)))
+
+-- The same of a run that makes nothing more where memory runs out.
+pub record ServesInOrder (lines : List Line) (detail : Detail) (journal : List Entry) (tally : Option Tally) : Type 0 where
+  pub order : FollowsLines lines detail journal tally
+  pub short : IsShortRun lines detail tally
 
 -- What a run answers of these lines, once they were read, in whichever order the clients' commands are asked.
 pub record ServesLines (lines : List Line) (detail : Detail) (journal : List Entry) (tally : Option Tally) : Type 0 where

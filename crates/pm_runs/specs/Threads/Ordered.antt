@@ -1,4 +1,4 @@
--- A run in threads is a run of the same lines in some order.
+-- A run by workers is a run of the same lines in some order.
 use Rattle.std.specs.Prelude.{◌≡◌, ℕ, List, ◌∷◌, ◌++◌, Option, IfSome}
 use Rattle.pm_types.specs.declared.entry.Entry.{Entry}
 use Rattle.pm_script.specs.declared.line.Line.{Line}
@@ -11,9 +11,10 @@ use Rattle.pm_engine.specs.declared.unmade.Unmade.{Unmade}
 use Rattle.pm_engine.specs.declared.unmade.Unmade.TheVariants.{OfClient, OfCollector, OfFlusher}
 use Rattle.pm_engine.specs.declared.events.stop.Stop.{Stop}
 use Rattle.pm_serial.specs.Made.{IsOrderOf}
-use Rattle.pm_serial.specs.Running.{AnswersLines}
+use Rattle.pm_serial.specs.Running.{IsShortAt}
+use Rattle.pm_serial.specs.Together.{AnswersInSomeOrder}
 use Rattle.pm_runs.specs.declared.ends.ended.Detail.{Detail}
-use Rattle.pm_runs.specs.Ends.Journals.{ServesInOrder}
+use Rattle.pm_runs.specs.Ends.Journals.{FollowsLines, IsShortRun}
 
 -- the line asks for this event: a command of that client, an event of the collector, or one that writes a page
 abbrev pub AsksFor : Unmade → Line → Type 0
@@ -36,18 +37,23 @@ pub record StopsAt (lines : List Line) (events : ℕ) (event : Unmade) : Type 0 
   pub events_are : events ≡ events_asked done
   pub asks : AsksFor event line
 
--- An engine that noted this has answered the lines in some order, one line behind another, by why it stopped, if it did.
-pub record AnswersInSomeOrder (lines : List Line) (new : Serving) (unmade : Option Unmade) (stop : Option Stop) : Type 0 where
-  pub other : List Line
-  pub is_order : IsOrderOf lines other
-  pub as_many : events_asked other ≡ events_asked lines
-  pub answers : AnswersLines other new stop
-  pub stops : IfSome unmade (StopsAt other new.events)
+-- An engine that noted this has answered the lines in some order, one line behind another, by why it stopped, if it did:
+-- memory does not run out in a `settle` of a copy that was flushed whole, and the noted event is the first that is left.
+pub record StopsInSomeOrder (lines : List Line) (new : Serving) (unmade : Option Unmade) (stop : Option Stop) : Type 0 where
+  pub some : AnswersInSomeOrder lines new stop
+  pub short : IsShortAt some.other new stop
+  pub stops : IfSome unmade (StopsAt some.other new.events)
 
--- The same of a run that ended so.
+-- A run that ended so is a run of the lines in some order, one line behind another.
 pub record ServesInSomeOrder (lines : List Line) (detail : Detail) (journal : List Entry) (tally : Option Tally) : Type 0 where
   pub other : List Line
   pub is_order : IsOrderOf lines other
   pub as_many : events_asked other ≡ events_asked lines
-  pub serves : ServesInOrder other detail journal tally
-  pub stops : IfSome tally (λ it. IfSome (tally_of it).unmade (StopsAt other (tally_of it).events))
+  pub serves : FollowsLines other detail journal tally
+
+-- The same of workers that take turns: where memory runs out the first line that is not made asks for the event that the
+-- tally tells, and it is no `settle` of a copy that was flushed whole.
+pub record EndsInSomeOrder (lines : List Line) (detail : Detail) (journal : List Entry) (tally : Option Tally) : Type 0 where
+  pub some : ServesInSomeOrder lines detail journal tally
+  pub short : IsShortRun some.other detail tally
+  pub stops : IfSome tally (λ it. IfSome (tally_of it).unmade (StopsAt some.other (tally_of it).events))

@@ -12,33 +12,19 @@ ghost use Rattle.pm_serial.specs.Stepping.{IsOfSink};
 ghost use Rattle.pm_serial.specs.Writing.{WroteRun, tail_of};
 ghost use Rattle.pm_lock.specs.Kept.{stop_kept};
 ghost use Rattle.pm_lock.specs.Shown.{engine_in, fault_in};
-ghost use Rattle.pm_runs.specs.Threads.Running.{AnswersClients};
-ghost use Rattle.pm_runs.specs.Threads.Ordered.{AnswersInSomeOrder};
+ghost use Rattle.pm_serial.specs.Together.{AnswersClients, AnswersInSomeOrder};
+ghost use Rattle.pm_runs.specs.Threads.Running.{AnswersInTurns};
 
 use pm_disk::Disk;
 use pm_io::Sink;
 use pm_lock::crew::{Book, run_all};
 use pm_script::Script;
 use pm_serial::output::Output;
-use pm_serial::{Engine, Stop, stop_after, write_journal};
+use pm_serial::{Engine, Stop, end_workers};
 use pm_turns::Gate;
-use pm_types::EngineFault;
 use std::alloc::Global;
 use std::sync::Wait;
 use std::thread::Threads;
-
-// Why a run stops where this fault is kept.
-fn stopped_for(fault: Option<EngineFault>) -> Result<(), Stop>
-    ensures { why result ≡ stop_kept fault }
-{
-    match fault {
-        None => Ok(()),
-        Some(fault) => {
-            let answer: Result<(), EngineFault> = Err(fault);
-            stop_after(answer)
-        }
-    }
-}
 
 // A law of an engine's disk: what may be left since this moment may be left at it.
 fn images_since_now<D: Disk, F: Drop>(engine: &Engine<D, F>)
@@ -61,10 +47,10 @@ fn end_book<D: Disk, F: Drop, K: Sink>(
         (text (serving (engine_in book)).journal) (tail_of (tally_in (serving (engine_in book)))) (why result.0) }
 {
     book.keep_its_script();
-    let ran = stopped_for(book.fault());
+    let fault = book.fault();
     let engine = book.into_engine();
-    let wrote = write_journal(ran, &engine, output, sink);
-    (wrote, engine)
+    let ran = end_workers(fault, &engine, output, sink);
+    (ran, engine)
 }
 
 /// Makes what a script asks of an engine that was just opened: each client's commands in the order of its lines, the
@@ -98,9 +84,11 @@ pub fn run_script<
     // No call of it has answered that memory ran out.
     requires unmade { unmade_in engine ≡ None }
     requires chooser { IsChooser F.Fn (chooser engine) }
-    ensures answers { AnswersClients script (serving result.1) (unmade_in result.1) (why result.0) }
+    ensures answers { AnswersClients script (serving result.1) (why result.0) }
     // What was made is what the lines ask in some order, one line behind another.
-    ensures order { ∥ AnswersInSomeOrder script (serving result.1) (unmade_in result.1) (why result.0) ∥₁ }
+    ensures order { ∥ AnswersInSomeOrder script (serving result.1) (why result.0) ∥₁ }
+    // Where memory ran out, the event is left for which it did.
+    ensures turns { AnswersInTurns script (serving result.1) (unmade_in result.1) (why result.0) }
     // What a crash at any moment leaves, and what it leaves at the end.
     ensures disk { ∥ RunsOnDisk engine result.1 (why result.0) ∥₁ }
     ensures sink { WroteRun K.written K.finished K.count sink.old sink.new
@@ -112,7 +100,7 @@ pub fn run_script<
     ensures start { ∥ KeepsStart engine result.1 ∥₁ }
     // Where the sink failed all was answered, as where the run is done: it is called behind the last event alone.
     ensures last { IsOfSink (why result.0)
-        → AnswersClients script (serving result.1) (unmade_in result.1) None }
+        → AnswersClients script (serving result.1) None }
 {
     engine.keep_their_images();
     images_since_now(&engine);

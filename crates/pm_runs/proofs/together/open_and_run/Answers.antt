@@ -10,7 +10,7 @@ use Rattle.pm_place.specs.Choosers.{IsChooser}
 use Rattle.pm_engine.specs.declared.tally.Tally.{Tally}
 use Rattle.pm_engine.specs.Shown.{disk_in, opened_disk, serving}
 use Rattle.pm_serial.specs.Acknowledged.{AcknowledgesLast}
-use Rattle.pm_runs.specs.Threads.Together.{ServesTogether}
+use Rattle.pm_runs.specs.Threads.Together.{ServesBy, ServesTogether}
 use Rattle.pm_runs.specs.declared.ends.ended.Detail.TheVariants.{Fine}
 use Rattle.pm_runs.specs.declared.writes.Writes.TheVariants.{Replies}
 use Rattle.pm_runs.specs.Ends.Ends.{IsUnwritten, not_opened, stop_in}
@@ -22,7 +22,7 @@ use Rattle.pm_runs.proofs.Ran.{fresh_engine}
 use Rattle.pm_runs.proofs.EndsLemmas.Faults.{ends_open, undone_open, open_causes, causes_after}
 use Rattle.pm_runs.proofs.EndsLemmas.Opened.{opened_run, refused_run, refused_for, none_opened, tried_open, unopened_unwritten}
 use Rattle.pm_runs.proofs.Openings.{comes_opened}
-use Rattle.pm_runs.proofs.Stores.{if_there, store_run, store_unrun, serves_none, together_none}
+use Rattle.pm_runs.proofs.Stores.{by_none, if_there, store_run, store_unrun, serves_none, together_none}
 use Rattle.pm_runs.proofs.together.open_and_run.Goals as goal
 
 pub run_engine-requires-clause-fresh : goal.run_engine-requires-clause-fresh
@@ -79,6 +79,13 @@ returns-in-Err-clause-together g c =
     let fault = c.in-Err.fault in
     at_end (λ it. ServesTogether (λ lines. lines ≡ c.args.script) it.detail it.journal.items it.tally) c.end_unopened.result (e.detail ∙ c.not_opened.ensures) e.tally e.young e.disk e.source e.sink
     (together_none (λ lines. lines ≡ c.args.script) (not_opened fault) c.end_unopened.result.journal.items e.journal (undone_open fault))
+
+pub returns-in-Err-clause-by : goal.returns-in-Err-clause-by
+returns-in-Err-clause-by g c =
+    let e = c.end_unopened.ensures in
+    let fault = c.in-Err.fault in
+    at_end (λ it. ServesBy c.args.way (λ lines. lines ≡ c.args.script) it.detail it.journal.items it.tally) c.end_unopened.result (e.detail ∙ c.not_opened.ensures) e.tally e.young e.disk e.source e.sink
+    (by_none c.args.way (λ lines. lines ≡ c.args.script) (not_opened fault) c.end_unopened.result.journal.items e.journal (undone_open fault))
 
 pub returns-in-Ok-clause-saved : goal.returns-in-Ok-clause-saved
 returns-in-Ok-clause-saved g c = if_there c.run_engine.result.tally c.run_engine.ensures.saved

@@ -8,18 +8,18 @@ use Rattle.pm_runs.specs.declared.ends.ended.Detail.TheVariants.{Fine}
 use Rattle.pm_runs.specs.declared.writes.Writes.TheVariants.{Replies}
 use Rattle.pm_serial.specs.Acknowledged.{AcknowledgesLast}
 use Rattle.pm_serial.specs.Writing.{tail_of}
-use Rattle.pm_runs.specs.Threads.Together.{ServesTogether}
+use Rattle.pm_runs.specs.Threads.Together.{ServesBy, ServesTogether}
 use Rattle.pm_runs.specs.Ends.Ends.{IsUnwritten, ended_by, stop_in}
 use Rattle.pm_runs.specs.Ends.Journals.{ServesLines}
 use Rattle.pm_runs.specs.Ends.Causes.{ShowsCauses}
 use Rattle.pm_runs.specs.Engines.{RunsEngine}
 use Rattle.pm_runs.proofs.EndsLemmas.Parts.{at_end}
-use Rattle.pm_runs.proofs.Ran.{acknowledged_last, engine_run, clients_served, clients_together, causes_end, sink_back}
+use Rattle.pm_runs.proofs.Ran.{acknowledged_last, engine_run, clients_served, causes_end, served_by, served_together, sink_back}
 use Rattle.pm_runs.proofs.together.run_engine.Goals as goal
 
 pub returns-clause-serves : goal.returns-clause-serves
 returns-clause-serves g c =
-    let run = c.run_script-outcome in
+    let run = c.run_workers-outcome in
     let new = run.result.1 in
     let stop = why run.result.0 in
     let a = c.args.disk_before in
@@ -36,7 +36,7 @@ returns-clause-serves g c =
 
 pub returns-clause-runs : goal.returns-clause-runs
 returns-clause-runs g c =
-    let run = c.run_script-outcome in
+    let run = c.run_workers-outcome in
     let new = run.result.1 in
     let stop = why run.result.0 in
     let a = c.args.disk_before in
@@ -67,7 +67,7 @@ returns-clause-runs g c =
 
 pub returns-clause-together : goal.returns-clause-together
 returns-clause-together g c =
-    let run = c.run_script-outcome in
+    let run = c.run_workers-outcome in
     let new = run.result.1 in
     let stop = why run.result.0 in
     let a = c.args.disk_before in
@@ -79,11 +79,27 @@ returns-clause-together g c =
     let e = c.end_with.ensures in
     at_end (λ it. ServesTogether (λ lines. lines ≡ c.args.script) it.detail it.journal.items it.tally) c.end_with.result {detail = ended_by stop a b x y} {disk = disk_in new}
     (◌∙◌ {c = ended_by stop a b x y} e.detail c.ended_by-detail.ensures) e.tally e.young (e.disk ∙ parts.ensures.disk) e.source e.sink
-    (clients_together c.args.script (serving new) (unmade_in new) c.end_with.result.journal.items parts.result.2 stop a b x y parts.ensures.tally (ap (λ v. v.items) e.journal ∙ whole) run.ensures.answers run.ensures.order)
+    (served_together c.args.script (serving new) (unmade_in new) c.end_with.result.journal.items parts.result.2 stop a b x y parts.ensures.tally (ap (λ v. v.items) e.journal ∙ whole) run.ensures.order)
+
+pub returns-clause-by : goal.returns-clause-by
+returns-clause-by g c =
+    let run = c.run_workers-outcome in
+    let new = run.result.1 in
+    let stop = why run.result.0 in
+    let a = c.args.disk_before in
+    let b = c.faults.result in
+    let x = c.faults-sink_before.result in
+    let y = c.faults-sink_after.result in
+    let parts = c.into_parts-disk in
+    let whole = whole_kept (serving new).journal (past_of new) parts.result.1.items run.ensures.whole parts.ensures.journal in
+    let e = c.end_with.ensures in
+    at_end (λ it. ServesBy c.args.way (λ lines. lines ≡ c.args.script) it.detail it.journal.items it.tally) c.end_with.result {detail = ended_by stop a b x y} {disk = disk_in new}
+    (◌∙◌ {c = ended_by stop a b x y} e.detail c.ended_by-detail.ensures) e.tally e.young (e.disk ∙ parts.ensures.disk) e.source e.sink
+    (served_by c.args.script (serving new) (unmade_in new) c.end_with.result.journal.items parts.result.2 stop a b x y parts.ensures.tally (ap (λ v. v.items) e.journal ∙ whole) c.args.way run.ensures.by)
 
 pub returns-clause-saved : goal.returns-clause-saved
 returns-clause-saved g c =
-    let run = c.run_script-outcome in
+    let run = c.run_workers-outcome in
     let new = run.result.1 in
     let stop = why run.result.0 in
     let a = c.args.disk_before in
@@ -100,7 +116,7 @@ returns-clause-saved g c =
 
 pub returns-clause-causes : goal.returns-clause-causes
 returns-clause-causes g c =
-    let run = c.run_script-outcome in
+    let run = c.run_workers-outcome in
     let new = run.result.1 in
     let stop = why run.result.0 in
     let a = c.args.disk_before in
@@ -116,7 +132,7 @@ returns-clause-causes g c =
 
 pub returns-clause-last : goal.returns-clause-last
 returns-clause-last g c =
-    let run = c.run_script-outcome in
+    let run = c.run_workers-outcome in
     let new = run.result.1 in
     let stop = why run.result.0 in
     let a = c.args.disk_before in
