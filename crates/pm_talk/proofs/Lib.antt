@@ -1,0 +1,7 @@
+pub mod Going
+pub mod Wiring
+pub mod Making
+pub mod Turning
+pub mod Saying
+pub mod Commanding
+pub mod Finishing

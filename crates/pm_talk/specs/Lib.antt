@@ -1,0 +1,11 @@
+pub mod Wires
+pub mod Texts
+pub mod Events
+pub mod Flushing
+pub mod Replies
+pub mod Saying
+pub mod Turns
+pub mod Ends
+pub mod Talks
+pub mod Going
+pub mod Stepping
