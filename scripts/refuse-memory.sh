@@ -374,7 +374,8 @@ def nursery_told(lines, number):
     case = f"part young\ncase a nursery\nscript {' / '.join(lines)}\n".encode()
     status, out, errors, came = ended([], case, number, program=cases)
     told = out.decode(errors="replace").splitlines()
-    if len(told) != 3 or any(it.startswith("?") for it in told):
+    # (where the cases run out of memory while they print, the line has no end)
+    if len(told) != 3 or any(it.startswith("?") for it in told) or not TALLY.search(told[2]):
         return status, errors, came, None
     *parts, entered, tally = told[2].split(" / ")
     return status, errors, came, (parts, entered.split()[1:], [int(it) for it in TALLY.match(tally).groups()])
